@@ -3,7 +3,7 @@
     python3 bench/readings_hold_no_lock.py
 
 All of TRIES are made in a copy of the crate crush_editor, and the compiler has to say of each what stands beside it, of
-sources alone. No contract is asked: a dial has no lock, and the editor's is private to its door. Ends with status 1
+sources alone. No contract is asked: a reader without lock has none, and the editor's is private to its state lock. Ends with status 1
 where one is taken, or is refused for another reason.
 """
 
@@ -20,16 +20,16 @@ CRATE = "crush_editor"
 PROGRAM = "crush_two_operators"
 
 # A file, the line before which the lock is tried, how it is tried, and what the compiler has to say.
-NO_FIELD = "no field `desk` on type `Dial<N>`"
-PRIVATE = "field `desk` of struct `Door` is private"
-NO_METHOD = "no method named `try_lock` found for type `Door<N, O>`"
+NO_FIELD = "no field `desk` on type `LockFreeReader<N>`"
+PRIVATE = "field `desk` of struct `StateLock` is private"
+NO_METHOD = "no method named `try_lock` found for type `StateLock<N, O>`"
 TRIES = [
-    ("dial.rt", "        self.gauge.read(&mut seat.reader)", "self.desk.try_lock()", NO_FIELD),
-    ("dial.rt", "        let note = self.gauge.note(&mut seat.reader);", "self.desk.try_lock()", NO_FIELD),
-    ("dial.rt", "        let Note { note, of: _ } = note;", "self.desk.try_lock()", NO_FIELD),
-    ("editor.rt", "        self.dial.reading(seat)", "self.door.desk.try_lock()", PRIVATE),
-    ("editor.rt", "        self.dial.note(seat)", "self.door.try_lock()", NO_METHOD),
-    ("editor.rt", "        self.dial.learn(seat, note);", "self.door.desk.try_lock()", PRIVATE),
+    ("lock_free_reader.rt", "        self.gauge.read(&mut seat.reader)", "self.desk.try_lock()", NO_FIELD),
+    ("lock_free_reader.rt", "        let note = self.gauge.note(&mut seat.reader);", "self.desk.try_lock()", NO_FIELD),
+    ("lock_free_reader.rt", "        let Note { note, of: _ } = note;", "self.desk.try_lock()", NO_FIELD),
+    ("editor.rt", "        self.lock_free_reader.reading(seat)", "self.state_lock.desk.try_lock()", PRIVATE),
+    ("editor.rt", "        self.lock_free_reader.note(seat)", "self.state_lock.try_lock()", NO_METHOD),
+    ("editor.rt", "        self.lock_free_reader.learn(seat, note);", "self.state_lock.desk.try_lock()", PRIVATE),
 ]
 
 

@@ -8,8 +8,8 @@ be there, and each file of src/, specs/ and proofs/ that names all variants of a
 of NAMED, has to stand in its section. Each public function that may answer one of several faults, or fails and is lent
 what it changes, has a clause that says which and what is left, by the names that PROVED.md tells, or is told there to
 have none. Each must-fail edit has a function of its crate in its name. What pages tell in words and numbers told.py
-compares. The index of examples/ names each job and each folder. In the drawing of crates/README.md each crate has a
-place, and code calls downward. The version of the command line stands in VERSIONS; what the scripts of MADE_BY write is
+compares. The index of examples/ names each job and each folder. The table of crates/README.md has each crate in a room,
+and each call of code between rooms. The version of the command line stands in VERSIONS; what the scripts of MADE_BY write is
 what they would write now; and `--version` and PROVED.md name the toolchain, where `rt` is there to tell its line.
 Prints what is missing, and ends with status 1 where anything is.
 """
@@ -172,20 +172,20 @@ def calls_of(crate):
 
 
 def room_faults():
-    """What is wrong with the drawing of the rooms: a crate without a place, or a call that goes upward in it."""
-    text = (TOP / "crates/README.md").read_text()
-    drawing = text.split("```")[1].split("\n the model")[0]
-    crates = [line.split(":")[0] for line in (TOP / "crates.txt").read_text().splitlines() if line[:1] not in {"", "#"}]
-    rooms = {crate: number for number, line in enumerate(drawing.splitlines()) for crate in re.findall(r"crush\w+", line)}
-    model = {"crush_table", "crush_edits"}
-    for crate in crates:
-        if crate.endswith("_tests") or crate in PROGRAMS - {"crushedit"}:
-            continue
-        if f"`{crate}`" not in text or calls_of(crate) and crate not in rooms | dict.fromkeys(model):
-            yield f"no room has {crate}, or it isn't drawn"
-        for called in sorted(calls_of(crate) - model):
-            if crate in rooms and rooms.get(called, -1) < rooms[crate]:
-                yield f"{crate} calls {called}, which isn't drawn below it"
+    """What is wrong with the table of the rooms: a crate without a room, or calls that differ from those of the code, or go upward."""
+    rows = re.findall(r"(?m)^\| ([a-z ]+) \| (`crush.*?) \| .*? \| (.*?) ?\| \[", (TOP / "crates/README.md").read_text())
+    rooms = {room: quoted(crates) for room, crates, _ in rows}
+    room_of = {crate: room for room, crates in rooms.items() for crate in crates}
+    for line in (TOP / "crates.txt").read_text().splitlines():
+        crate = line.split(":")[0]
+        if line[:1] not in {"", "#"} and not crate.endswith("_tests") and crate not in {*room_of, *PROGRAMS}:
+            yield f"no room has {crate}"
+    for place, (room, crates, listed) in enumerate(rows):
+        called = {room_of[name] for crate in quoted(crates) for name in calls_of(crate)} - {room}
+        for other in sorted(called ^ set(filter(None, listed.split(", ")))):
+            yield f"the room {room} {'calls' if other in called else 'does not call'} {other}"
+        for other in sorted(called & {name for name, _, _ in rows[:place]}):
+            yield f"the room {room} calls {other}, which stands above it"
 
 
 def main():

@@ -16,11 +16,11 @@ import re
 import sys
 
 TOP = pathlib.Path(__file__).resolve().parent.parent
-PROGRAMS = {"crush_examples", "crush_growths", "crush_one_edit", "crush_two_operators", "crushedit"}
+PROGRAMS = {"crush_examples", "crush_one_edit", "crush_two_operators", "crushedit"}
 # What the library offers, whether or not the program calls it: its surface, as docs/CALLING.md and docs/SIGNATURES.md
 # tell it, the tests by which a caller meets what a call requires, and what contracts of others name.
 OFFERED = {
-    "crush_units": {"LONGEST_SHORT_NAME"},
+    "crush_units": {"LONGEST_SHORT_NAME", "is_name_byte"},
     "crush_nodes": {"Node::has_room"},
     "crush_index": {"Hashing::keyed"},
     "crush_builder": {"MapBuilder::is_idle", "MapBuilder::is_begun", "MapBuilder::is_numbered", "MapBuilder::is_filling"},
@@ -29,17 +29,16 @@ OFFERED = {
         "Forest::weight_by", "Forest::set_weight_by", "Forest::set_subtree_by", "Forest::fits_weight_by", "Forest::fits_subtree_by",
     },
     "crush_map": {
-        "CrushMap::blamed", "CrushMap::class_of", "CrushMap::contains", "CrushMap::kind_of", "CrushMap::weight_of_class",
+        "CrushMap::culprit", "CrushMap::class_of", "CrushMap::contains", "CrushMap::kind_of", "CrushMap::weight_of_class",
     },
-    "crush_print": {"buckets", "devices"},
-    "crush_view": {"Part::whole", "Step::view", "walk", "walk_below", "walk_part", "write_tree"},
-    "crush_since": {"count_changes", "is_changed", "is_part_changed", "same_kinds", "same_rules", "same_tunables", "since_part_text", "told_ids"},
+    "crush_print": {"buckets", "devices", "Part::whole", "Step::view", "walk", "walk_below", "walk_part", "write_tree"},
+    "crush_since": {"count_changes", "is_changed", "is_part_changed", "same_kinds", "same_rules", "same_tunables", "since_part_text", "listed_ids"},
     "crush_json": {"write_map_document", "write_plan_document", "write_since_document", "write_tree_document"},
     "crush_names": {"is_changed_by_name", "is_in", "stays", "write_since_by_name", "write_since_by_name_part"},
     "crush_reasons": {"explained_text"},
     "crush_plan": {"Plan::count_differences", "find_plan", "plan_text"},
     "crush_editor": {
-        "Book::opening", "Dial::learn", "Dial::note", "Editor::dial", "Editor::learn", "Editor::note", "Seat::slips",
+        "Book::opening", "LockFreeReader::learn", "LockFreeReader::note", "Editor::lock_free_reader", "Editor::learn", "Editor::note", "Seat::slips",
     },
 }
 ITEM = re.compile(r"^(?P<in> *)pub (?:const |unsafe )?(?P<kind>fn|const) (?P<name>\w+)", re.M)

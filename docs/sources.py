@@ -8,7 +8,7 @@ TOP = pathlib.Path(__file__).resolve().parent.parent
 MADE = TOP / "docs/SIGNATURES.md"
 PAGES = sorted(set((TOP / "docs").glob("*.md")) - {MADE}) + [TOP / "README.md", TOP / "bench/README.md"]
 # Crates of which nobody calls a function.
-PROGRAMS = {"crush_examples", "crush_growths", "crush_one_edit", "crush_two_operators", "crushedit"}
+PROGRAMS = {"crush_examples", "crush_one_edit", "crush_two_operators", "crushedit"}
 # The words of the command line, the help and the version.
 COMMAND_LINE = "crates/crush_options/src/command_line.rt"
 # The sections of RULES.md that have a row for each variant of an enum.

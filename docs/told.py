@@ -53,7 +53,7 @@ def sentence_faults():
 
 def run_sentence_faults():
     """Which sentences of runs RULES.md hasn't, or has another of."""
-    report = (TOP / "crates/crush_report/specs/Report.antt").read_text()
+    report = (TOP / "crates/crush_input/specs/Report.antt").read_text()
     said = {sentence for sentence in re.findall(r'codes "  (.*?)\\n"', report)}
     told = {row[1] for _, rows in tables(sections_of("RULES.md")["Sentences of runs"]) for row in rows}
     for sentence in sorted(said ^ told):

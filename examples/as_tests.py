@@ -1,21 +1,27 @@
 #!/usr/bin/env python3
-"""Writes the examples into what the program crush_examples runs, and what it must print of them.
+"""Writes the examples into what the program crush_examples runs, and what each run has to come to.
 
-Each NAME.job of this folder, of maps/ and of worked/ has a NAME.out, which must be written for it, and, if
-standard error must get anything, a NAME.err. It becomes a file of crates/crush_examples/data, a line of `jobs`
-there for each mode that it is run in, and a part of the crate's `stdout`. A job of several operators is run
-with --in-turn, since without it there may be several outputs; others are run without. A job of at_once/ has
-them all, a NAME.OPERATOR.out for each operator whose script may be the first: there the job is run in turn
-with that operator's section before the others (NAME.OPERATOR.job). A job of asked/ is run with each line of
-NAME.words before its name, beside the files NAME.txt there, and NAME.status has the status where a run that is done
-ends with another than 0. What is written has the history, which is left out of it for a line with --no-history. Of an example of this folder or of
-maps/ that is no refused one, what is written is run again and gives the same map (NAME.again.job), and the
-job's map alone is printed as it is, or, where there is a NAME.map, as that (NAME.alone.job). What a run is
-summed up as is counted here from the history. Each row of a table of refused/ is a job that is refused; these
-are one file, `records`, in which a record separator stands between two. Behind them stand jobs of chance, of one
-seed, with what the plain model of bench/model.py prints of them. What crush_growths runs and prints is written
-beside that (`growths`). With --check nothing is written, and the status is 1 where a crate has other files or
-other bytes.
+Each NAME.job of this folder, of maps/ and of worked/ has a NAME.out, which must be written for it, and, if standard
+error must get anything, a NAME.err. It becomes a file of crates/crush_examples/data, and, for each mode that it is
+run in, a line of `jobs` there and a part of `expected`, which the program compares with what the run writes: of
+that the crate's `stdout` has one short line. A NUL byte stands between two parts, so that grep takes `expected` for
+a binary file and shows nothing of it.
+
+A job of several operators is run with --in-turn, since without it there may be several outputs; others are run
+without. A job of at_once/ has them all, a NAME.OPERATOR.out for each operator whose script may be the first: there
+the job is run in turn with that operator's section before the others (NAME.OPERATOR.job). A job of asked/ is run
+with each line of NAME.words before its name, beside the files NAME.txt there, and NAME.status has the status where
+a run that is done ends with another than 0. What is written has the history, which is left out of it for a line
+with --no-history. Of an example of this folder or of maps/ that is no refused one, what is written is run again and
+gives the same map (NAME.again.job), and the job's map alone is printed as it is, or, where there is a NAME.map, as
+that (NAME.alone.job). What a run is summed up as is counted here from the history.
+
+Each row of a table of refused/ is a job that is refused; these are one file, `records`, in which a record separator
+stands between two, with a part of `expected` each, and one line of `stdout` for them all. Behind them stand jobs of
+chance, of one seed, with what the plain model of bench/model.py prints of them. The file `growths` has jobs that
+the program runs with each growth refused in turn, each with what it comes to.
+
+With --check nothing is written, and the status is 1 where the crate has other files or other bytes.
 """
 import json
 import pathlib
@@ -29,11 +35,12 @@ from chance import numbered  # noqa: E402
 from reading import read_map  # noqa: E402
 
 CRATE = HERE.parent / "crates/crush_examples"
-GROWTHS = HERE.parent / "crates/crush_growths"
-# What stands between two jobs that are refused: no text and no command has it.
+# What stands between two jobs of one file: no text and no command has it.
 SEPARATOR = "\x1e"
-# What stands between the parts of a job of crush_growths.
-PART_SEPARATOR = "\x1f"
+# What stands between the parts of a job of `growths`.
+GROWTH_SEPARATOR = "\x1f"
+# What stands between what two runs come to.
+EXPECTED_SEPARATOR = "\0"
 # What standard error is told first of a run that was not done, where the status is another than 1.
 STATUSES = {"crushedit: refused ": 5, "crushedit: made ": 5, "crushedit: differs ": 5, "crushedit: read fault": 3,
             "crushedit: to: read fault": 3}
@@ -91,12 +98,12 @@ def summary(out, err):
     return f"adjusted {adjusted.group(1) if adjusted else 0} calls {len(history)} changes {changed}"
 
 
-def printed(line, out, err, done=0):
-    """What the program prints of a run, which ends with this status if it is done. Of a job or a strict run that is
+def expected(words, out, err, done=0):
+    """What a run by these words comes to, which ends with this status if it is done. Of a job or a strict run that is
     refused nothing is written."""
     status = next((status for told, status in STATUSES.items() if err.startswith(told)), 1)
     ending = f"< {summary(out, err)}\n{err}< status {done}\n" if out else f"< not done\n{err}< status {status}\n"
-    return f"> {line}\n{map_of(out) if '--no-history' in line else out}{ending}"
+    return f"{map_of(out) if '--no-history' in words else out}{ending}"
 
 
 def runs(job):
@@ -154,48 +161,63 @@ def refused(table):
             fault = line
 
 
-def wanted():
-    """What each file of the crate beside src/ has to hold."""
+def each_run():
+    """The runs of command lines."""
     jobs = [job for folder in (HERE, HERE / "maps", HERE / "worked") for job in sorted(folder.glob("*.job"))]
     at_once = sorted((HERE / "at_once").glob("*.job"))
     asked_for = sorted((HERE / "asked").glob("*.job"))
     names = {job.name for job in jobs + at_once + asked_for}
     assert len(names) == len(jobs + at_once + asked_for), "two examples have one name"
-    files, lines, stdout = {}, [], []
-    each_run = [run for job in jobs for run in runs(job)] + [run for job in at_once for run in orders(job)]
-    each_run += [run for job in asked_for for run in asked(job)]
-    for words, name, text, *told in each_run:
-        files[CRATE / "data" / name] = text
-        lines.append(f"{words}{name}\n")
-        stdout.append(printed(f"{words}{name}", *told))
-    records = [(text, "", err) for table in sorted((HERE / "refused").glob("*.txt")) for text, err in refused(table)]
-    records += [(text, out, "") for text, out in numbered(CHANCE, SEED)]
-    assert not any(SEPARATOR in text for text, _, _ in records), "a job has the byte that separates jobs"
-    stdout += [printed(f"record {number}", out, err) for number, (_, out, err) in enumerate(records)]
-    files[CRATE / "data/records"] = SEPARATOR.join(text for text, _, _ in records)
-    files |= {CRATE / "data" / script.name: read(script) for script in (HERE / "asked").glob("*.txt")}
-    return files | {CRATE / "data/jobs": "".join(lines), CRATE / "stdout": "".join(stdout)}
+    yield from (run for job in jobs for run in runs(job))
+    yield from (run for job in at_once for run in orders(job))
+    yield from (run for job in asked_for for run in asked(job))
 
 
-def growths():
-    """What crush_growths runs, and what it must print: each job of this folder and of worked/ whose output has its
-    whole history and is the only one, as its name, its map's text, that map as the plain model prints it, the job and
-    the output."""
-    jobs = [job for folder in (HERE, HERE / "worked") for job in sorted(folder.glob("*.job"))]
-    runs = [(job.stem, lines_before(read(job), "%"), read(job), read(job.with_suffix(".out"))) for job in jobs]
-    runs = [(name, text, read_map(text)[0].text(), job, out) for name, text, job, out in runs if out]
-    return {
-        GROWTHS / "stdin": SEPARATOR.join(PART_SEPARATOR.join(run) for run in runs),
-        GROWTHS / "stdout": "".join(f"{name}: each growth was refused\n" for name, *_ in runs),
-    }
+def each_record():
+    """The jobs of `records`, each with what is written and told of it."""
+    for table in sorted((HERE / "refused").glob("*.txt")):
+        yield from ((text, "", err) for text, err in refused(table))
+    yield from ((text, out, "") for text, out in numbered(CHANCE, SEED))
+
+
+def each_growth():
+    """The jobs of `growths`: each of this folder and of worked/ whose output has its whole history and is the only one,
+    as its name, its map's text, that map as the plain model prints it, the job and the output."""
+    for job in [job for folder in (HERE, HERE / "worked") for job in sorted(folder.glob("*.job"))]:
+        text, out = lines_before(read(job), "%"), read(job.with_suffix(".out"))
+        if out:
+            yield job.stem, text, read_map(text)[0].text(), read(job), out
+
+
+def joined(separator, parts):
+    """The parts as one text, in which this stands between two."""
+    assert not any(separator in part for part in parts), f"a part has {separator!r}"
+    return separator.join(parts)
+
+
+def wanted():
+    """What each file of the crate that is written here has to hold."""
+    run, records, growths = list(each_run()), list(each_record()), list(each_growth())
+    lines = [f"{words}{name}" for words, name, *_ in run]
+    parts = [expected(words, *told) for words, _, _, *told in run] + [expected("", *told) for _, *told in records]
+    told = [f"{line}: as expected" for line in lines] + [f"{len(records)} records: as expected"]
+    told += [f"{name}: each growth was refused" for name, *_ in growths]
+    data = {name: text for _, name, text, *_ in run}
+    data |= {script.name: read(script) for script in (HERE / "asked").glob("*.txt")}
+    data["jobs"] = "".join(f"{line}\n" for line in lines)
+    data["records"] = joined(SEPARATOR, [text for text, *_ in records])
+    data["expected"] = joined(EXPECTED_SEPARATOR, parts)
+    data["growths"] = joined(SEPARATOR, [joined(GROWTH_SEPARATOR, growth) for growth in growths])
+    files = {CRATE / "data" / name: text for name, text in data.items()}
+    return files | {CRATE / "stdout": "".join(f"{line}\n" for line in told)}
 
 
 def main():
-    files = wanted() | growths()
-    there = {CRATE / "stdout", *(CRATE / "data").glob("*"), GROWTHS / "stdin", GROWTHS / "stdout"}
+    files = wanted()
+    there = {CRATE / "stdout", *(CRATE / "data").glob("*")}
     if sys.argv[1:] == ["--check"]:
         same = there == files.keys() and all(read(path) == text for path, text in files.items())
-        sys.exit(0 if same else "crush_examples or crush_growths is older than the examples: run examples/as_tests.py")
+        sys.exit(0 if same else "crush_examples is older than the examples: run examples/as_tests.py")
     (CRATE / "data").mkdir(exist_ok=True)
     for path in there - files.keys():
         path.unlink()

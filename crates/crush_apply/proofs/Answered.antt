@@ -1,12 +1,12 @@
 -- What is answered, by the way in which a call ends.
 use Rattle.std.proofs.Common.{◌≡◌, ℕ, Bool, true, false, List, ap, sym, subst, ◌∙◌, refl}
 use Rattle.std.specs.Prelude.{not, length, Result, Ok, Err, IsErrAnd}
-use Rattle.crush_table.specs.Table.{Row}
-use Rattle.crush_table.specs.Forest.{ForestData}
-use Rattle.crush_table.specs.Stands.{Stands}
-use Rattle.crush_table.specs.Lawful.{Lawful, is_too_heavy, has_too_many}
-use Rattle.crush_table.proofs.Passing.{lawful_room}
-use Rattle.crush_table.proofs.Weighs.{lawful_light}
+use Rattle.crush_model.specs.Table.{Row}
+use Rattle.crush_model.specs.Forest.{ForestData}
+use Rattle.crush_model.specs.Stands.{Stands}
+use Rattle.crush_model.specs.Lawful.{Lawful, is_too_heavy, has_too_many}
+use Rattle.crush_model.proofs.Passing.{lawful_room}
+use Rattle.crush_model.proofs.Weighs.{lawful_light}
 use Rattle.crush_edits.specs.declared.refusal.Refusal.{Refusal}
 use Rattle.crush_edits.specs.declared.refusal.Refusal.TheVariants.{NoRoom, SumTooLarge}
 use Rattle.crush_edits.specs.declared.refusal.Done.{Done}

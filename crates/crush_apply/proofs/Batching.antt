@@ -3,9 +3,9 @@ use Rattle.std.proofs.Common.{◌≡◌, ℕ, ◌+◌, ◌<◌, Bool, true, List
 use Rattle.std.specs.Prelude.{Result, Ok, Err, IsErrAnd, IfOk, OnErr}
 use Rattle.std.proofs.lemmas.Bool.{and_parts}
 use Rattle.std.proofs.lemmas.List.{length-drop}
-use Rattle.crush_table.specs.Table.{Row}
-use Rattle.crush_table.specs.Forest.{ForestData}
-use Rattle.crush_table.specs.Stands.{Stands}
+use Rattle.crush_model.specs.Table.{Row}
+use Rattle.crush_model.specs.Forest.{ForestData}
+use Rattle.crush_model.specs.Stands.{Stands}
 use Rattle.crush_nodes.specs.Room.{room}
 use Rattle.crush_edits.specs.declared.refusal.Refusal.{Refusal}
 use Rattle.crush_edits.specs.declared.refusal.Dones.{Dones}
@@ -17,8 +17,8 @@ use Rattle.crush_edits.specs.Answer.{refused, done}
 use Rattle.crush_edits.specs.Edit.{edit}
 use Rattle.crush_edits.specs.Batch.{batch_refused, with_done, and_then, batch, batch_from}
 use Rattle.crush_apply.specs.AsBefore.{IsAsBefore}
-use Rattle.crush_apply.specs.declared.noted.Undo.{Undo}
-use Rattle.crush_apply.specs.Noted.{is_noted, stays, are_in_place, GiveBack}
+use Rattle.crush_apply.specs.declared.undo_log.Undo.{Undo}
+use Rattle.crush_apply.specs.UndoLog.{is_logged, stays, are_in_place, RollsBack}
 
 -- index and refusal of a fault are those of one that is equal
 pub fault_parts : {X : Type 0} (k index : ℕ) (q r : Refusal) → ◌≡◌ {A = Result X BatchFault} (Err (RefusedAt k q)) (Err (RefusedAt index r)) → (k ≡ index) × (q ≡ r)
@@ -45,7 +45,7 @@ goes_on s t u v es left rest d e c m begun is told = begun ∙ ap (λ l. batch_f
 -- IN PLACE: what is left can be, and where something is left, the log gives the forest back
 pub record IsNotedSoFar {A : Type 0} (es : List Edit) (f : ForestData) (k : ℕ) (g : ForestData) (log : List (Undo A)) : Type 0 where
   pub left : are_in_place (drop k es) ≡ true
-  pub back : k < length es → GiveBack log g f
+  pub back : k < length es → RollsBack log g f
 
 -- what can be made in place, and the rest of it
 pub first_stays : (e : Edit) (left rest : List Edit) → left ≡ e ∷ rest → are_in_place left ≡ true → stays e rest ≡ true
@@ -55,11 +55,11 @@ pub rest_stays : (e : Edit) (left rest : List Edit) → left ≡ e ∷ rest → 
 rest_stays e left rest is in_place = (and_parts (stays e rest) (are_in_place rest) (ap are_in_place (sym is) ∙ in_place)).1
 
 -- what takes an edit back is noted where another comes behind it
-more_behind : (e : Edit) (later : List Edit) → stays e later ≡ true → 0 < length later → is_noted e ≡ true
+more_behind : (e : Edit) (later : List Edit) → stays e later ≡ true → 0 < length later → is_logged e ≡ true
 more_behind e [] h some = absurd (omega (arith, some))
 more_behind e (f ∷ later) h some = h
 
-pub noted_before : (e : Edit) (es : List Edit) (k : ℕ) → stays e (drop (k + 1) es) ≡ true → k + 1 < length es → is_noted e ≡ true
+pub noted_before : (e : Edit) (es : List Edit) (k : ℕ) → stays e (drop (k + 1) es) ≡ true → k + 1 < length es → is_logged e ≡ true
 noted_before e es k h more = more_behind e (drop (k + 1) es) h (omega (arith, more, length-drop (k + 1) es))
 
 -- what holds anyway
@@ -68,8 +68,8 @@ anyway (Ok d) p = tt
 anyway (Err e) p = p
 
 -- where an edit isn't made, the log gives back what was done before it
-pub kept_back : {A : Type 0} (f g h : ForestData) (log now : List (Undo A)) → GiveBack log g f → h ≡ g → now ≡ log → GiveBack now h f
-kept_back f g h log now back same kept = subst (λ z. GiveBack now z f) (sym same) (subst (λ l. GiveBack l g f) (sym kept) back)
+pub kept_back : {A : Type 0} (f g h : ForestData) (log now : List (Undo A)) → RollsBack log g f → h ≡ g → now ≡ log → RollsBack now h f
+kept_back f g h log now back same kept = subst (λ z. RollsBack now z f) (sym same) (subst (λ l. RollsBack l g f) (sym kept) back)
 
 -- A HIERARCHY that is the same is as it was before
 pub same_before : {X Y : Type 0} (x : Result X Y) (f g : ForestData) → OnErr x (g ≡ f) → OnErr x (IsAsBefore f g)

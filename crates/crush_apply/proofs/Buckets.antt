@@ -4,8 +4,8 @@ use Rattle.std.specs.Prelude.{All}
 use Rattle.std.proofs.lemmas.List.{take_rest}
 use Rattle.std.proofs.lemmas.List.Elements.{All-head, All-tail}
 use Rattle.crush_units.specs.declared.limits.TheConstants.{HEAVIEST_BUCKET}
-use Rattle.crush_table.specs.Items.{Items, none, bucket}
-use Rattle.crush_table.specs.Stored.{weight_sum}
+use Rattle.crush_model.specs.Items.{Items, none, bucket}
+use Rattle.crush_model.specs.Stored.{weight_sum}
 use Rattle.crush_nodes.specs.Held.{bucket_with}
 use Rattle.crush_edits.specs.declared.location.Pair.{Pair}
 use Rattle.crush_edits.specs.Stops.{StopData}

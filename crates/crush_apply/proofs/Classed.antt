@@ -3,11 +3,11 @@ use Rattle.std.proofs.Common.{◌≡◌, ℕ, List, true, false, not, refl, ap, 
 use Rattle.std.specs.Prelude.{Option, Some, None, is_some, bytes_eq}
 use Rattle.std.specs.Option.{option_eq}
 use Rattle.crush_units.specs.declared.id.ItemId.TheVariants.{Device}
-use Rattle.crush_table.specs.Columns.{set_class}
-use Rattle.crush_table.specs.Lawful.{Lawful}
-use Rattle.crush_table.specs.Table.{Row, id_named}
-use Rattle.crush_table.proofs.Classes.{class_kept}
-use Rattle.crush_table.proofs.Tested.{bytes_itself}
+use Rattle.crush_model.specs.Columns.{set_class}
+use Rattle.crush_model.specs.Lawful.{Lawful}
+use Rattle.crush_model.specs.Table.{Row, id_named}
+use Rattle.crush_model.proofs.Classes.{class_kept}
+use Rattle.crush_model.proofs.Tested.{bytes_itself}
 use Rattle.crush_edits.specs.Setting.{SettingData}
 use Rattle.crush_edits.specs.declared.edit.Edit.TheVariants.{SetClass, RemoveClass}
 use Rattle.crush_edits.specs.Answer.{done, answer}

@@ -7,14 +7,14 @@ use Rattle.std.proofs.lemmas.List.{length-take-le}
 use Rattle.std.proofs.lemmas.List.Sums.{prefix_len-le-length}
 use Rattle.std.proofs.lemmas.List.Elements.{All-head, All-take}
 use Rattle.crush_units.specs.declared.id.ItemId.TheVariants.{Bucket}
-use Rattle.crush_table.specs.Items.{Items, none, bucket}
-use Rattle.crush_table.specs.ItemRows.{rows}
-use Rattle.crush_table.specs.Forest.{ForestData, OnlyBuckets}
-use Rattle.crush_table.specs.Stored.{weight_sum}
-use Rattle.crush_table.specs.Table.{Row, is_there, member, used_ids, free_ids}
-use Rattle.crush_table.proofs.Appended.{unused_fresh}
+use Rattle.crush_model.specs.Items.{Items, none, bucket}
+use Rattle.crush_model.specs.ItemRows.{rows}
+use Rattle.crush_model.specs.Forest.{ForestData, OnlyBuckets}
+use Rattle.crush_model.specs.Stored.{weight_sum}
+use Rattle.crush_model.specs.Table.{Row, is_there, member, used_ids, free_ids}
+use Rattle.crush_model.proofs.Appended.{unused_fresh}
 use Rattle.crush_nodes.specs.Ops.{FitsPlace, is_place}
-use Rattle.crush_table.specs.Count.{one_if}
+use Rattle.crush_model.specs.Count.{one_if}
 use Rattle.crush_nodes.specs.Room.{parent_at, same_place, room, room_in, bucket_room}
 use Rattle.crush_nodes.specs.declared.place.Place.{Place}
 use Rattle.crush_nodes.specs.declared.place.Place.TheVariants.{Bucket as AtBucket}

@@ -10,13 +10,13 @@ use Rattle.crush_units.specs.Id.{same_id}
 use Rattle.crush_units.specs.Name.{IsName}
 use Rattle.crush_units.proofs.Ids.{same_id_equal}
 use Rattle.crush_units.specs.declared.limits.TheConstants.{DEVICE_IDS}
-use Rattle.crush_table.specs.Items.{LeafData}
-use Rattle.crush_table.specs.ItemRows.{device_row}
-use Rattle.crush_table.specs.Table.{Row, row_of, id_named, is_named, is_there, kind_of, name_of, class_of}
-use Rattle.crush_table.specs.Lawful.{Lawful, is_too_heavy, has_too_many}
-use Rattle.crush_table.proofs.Found.{row_of-absent, times-absent}
-use Rattle.crush_table.proofs.Moved.{row_id}
-use Rattle.crush_table.proofs.Weighs.{or_left, or_right}
+use Rattle.crush_model.specs.Items.{LeafData}
+use Rattle.crush_model.specs.ItemRows.{device_row}
+use Rattle.crush_model.specs.Table.{Row, row_of, id_named, is_named, is_there, kind_of, name_of, class_of}
+use Rattle.crush_model.specs.Lawful.{Lawful, is_too_heavy, has_too_many}
+use Rattle.crush_model.proofs.Found.{row_of-absent, times-absent}
+use Rattle.crush_model.proofs.Moved.{row_id}
+use Rattle.crush_model.proofs.Weighs.{or_left, or_right}
 use Rattle.crush_edits.specs.Answer.{meets}
 use Rattle.crush_edits.specs.Changed.{same_table}
 use Rattle.crush_edits.specs.LawPut.{IsApart}

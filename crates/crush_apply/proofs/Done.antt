@@ -5,9 +5,9 @@ use Rattle.std.specs.Option.{option_map}
 use Rattle.crush_units.specs.declared.id.ItemId.{ItemId}
 use Rattle.crush_units.specs.declared.id.ItemId.TheVariants.{Device}
 use Rattle.crush_units.specs.declared.limits.TheConstants.{HEAVIEST_DEVICE}
-use Rattle.crush_table.specs.Table.{Row, row_of, parent_of, is_placed, weight_of, item_weight, id_named}
-use Rattle.crush_table.specs.Lawful.{Lawful, IsRowOf}
-use Rattle.crush_table.proofs.Moved.{row_id}
+use Rattle.crush_model.specs.Table.{Row, row_of, parent_of, is_placed, weight_of, item_weight, id_named}
+use Rattle.crush_model.specs.Lawful.{Lawful, IsRowOf}
+use Rattle.crush_model.proofs.Moved.{row_id}
 use Rattle.crush_edits.specs.Put.{held, is_id}
 use Rattle.crush_edits.specs.Stops.{StopData}
 use Rattle.crush_edits.proofs.Tails.{row_form}

@@ -6,7 +6,7 @@ use Rattle.std.specs.Prelude.{Some, None, ◌==◌, is_some, not, option_and_the
 use Rattle.std.specs.List.{prefix_len}
 use Rattle.crush_units.specs.declared.id.ItemId.{ItemId}
 use Rattle.crush_units.specs.declared.id.ItemId.TheVariants.{Bucket}
-use Rattle.crush_table.specs.Table.{Row, is_named, id_named, kind_of}
+use Rattle.crush_model.specs.Table.{Row, is_named, id_named, kind_of}
 use Rattle.crush_edits.specs.declared.location.Pair.{Pair}
 use Rattle.crush_edits.specs.declared.refusal.Refusal.{Refusal}
 use Rattle.crush_edits.specs.declared.refusal.Refusal.TheVariants.{NotABucket, WrongType}

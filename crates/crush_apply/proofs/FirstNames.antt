@@ -3,10 +3,10 @@ use Rattle.std.proofs.Common.{◌≡◌, ℕ, suc, ◌+◌, ◌<◌, ◌≤◌, 
 use Rattle.std.specs.Prelude.{Option, Some, None, not, if◌then◌else◌, is_some, is_none}
 use Rattle.std.proofs.Math.Seq.{drop-cons}
 use Rattle.std.proofs.lemmas.List.{drop_all}
-use Rattle.crush_table.specs.Table.{Row, is_named}
+use Rattle.crush_model.specs.Table.{Row, is_named}
 use Rattle.crush_edits.specs.declared.location.Pair.{Pair}
 use Rattle.crush_apply.specs.declared.route.stops.Stop.{Stop}
-use Rattle.crush_apply.specs.Blamed.{first_name, end_name}
+use Rattle.crush_apply.specs.Culprit.{first_name, end_name}
 use Rattle.crush_apply.specs.Stopped.{pair_name, stops_data}
 use Rattle.crush_apply.proofs.Ends.{stops_at}
 

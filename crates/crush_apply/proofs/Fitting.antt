@@ -5,15 +5,15 @@ use Rattle.std.specs.Prelude.{Some, None, IfSome, ◌||◌, nat_lt, nat_le, not}
 use Rattle.crush_units.specs.declared.id.ItemId.{ItemId}
 use Rattle.crush_units.specs.declared.id.ItemId.TheVariants.{Device, Bucket}
 use Rattle.crush_units.specs.declared.limits.TheConstants.{HEAVIEST_BUCKET, HEAVIEST_DEVICE, MOST_BUCKETS, MOST_DEVICES}
-use Rattle.crush_table.specs.Columns.{table_without, part, is_part}
-use Rattle.crush_table.specs.Items.{LeafData, Items, none, device, bucket}
-use Rattle.crush_table.specs.ItemRows.{rows, device_row}
-use Rattle.crush_table.specs.Law.{IsOne}
-use Rattle.crush_table.specs.Lawful.{Lawful, is_too_heavy, has_too_many}
-use Rattle.crush_table.specs.Same.{Same}
-use Rattle.crush_table.specs.Stored.{weight_sum, StoresSums}
-use Rattle.crush_table.specs.Table.{Row, row_of, is_there, device_count, bucket_count}
-use Rattle.crush_table.proofs.Moved.{row_id}
+use Rattle.crush_model.specs.Columns.{table_without, part, is_part}
+use Rattle.crush_model.specs.Items.{LeafData, Items, none, device, bucket}
+use Rattle.crush_model.specs.ItemRows.{rows, device_row}
+use Rattle.crush_model.specs.Law.{IsOne}
+use Rattle.crush_model.specs.Lawful.{Lawful, is_too_heavy, has_too_many}
+use Rattle.crush_model.specs.Same.{Same}
+use Rattle.crush_model.specs.Stored.{weight_sum, StoresSums}
+use Rattle.crush_model.specs.Table.{Row, row_of, is_there, device_count, bucket_count}
+use Rattle.crush_model.proofs.Moved.{row_id}
 use Rattle.crush_nodes.specs.Ops.{CanCome, StoresUpTo}
 use Rattle.crush_nodes.specs.Room.{parent_at}
 use Rattle.crush_edits.specs.Boxes.{boxes}

@@ -2,10 +2,10 @@
 use Rattle.std.proofs.Common.{◌≡◌, ℕ, true, List, ap, sym, subst, ◌∙◌}
 use Rattle.std.specs.Prelude.{Some, IfSome}
 use Rattle.crush_units.specs.declared.id.ItemId.{ItemId}
-use Rattle.crush_table.specs.Table.{Row, id_named, is_there}
-use Rattle.crush_table.specs.Forest.{ForestData, rows_of, IsSound}
-use Rattle.crush_table.specs.Stands.{Stands}
-use Rattle.crush_table.proofs.Stands.{stands_for_rows}
+use Rattle.crush_model.specs.Table.{Row, id_named, is_there}
+use Rattle.crush_model.specs.Forest.{ForestData, rows_of, IsSound}
+use Rattle.crush_model.specs.Stands.{Stands}
+use Rattle.crush_model.proofs.Stands.{stands_for_rows}
 use Rattle.crush_edits.proofs.Routes.{named_there}
 
 -- what has a name is there

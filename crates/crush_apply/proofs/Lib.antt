@@ -23,4 +23,4 @@ pub mod Found
 pub mod Names
 pub mod Singles
 pub mod Batching
-pub mod TakenBack
+pub mod RolledBack

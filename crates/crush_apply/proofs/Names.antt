@@ -4,12 +4,12 @@ use Rattle.std.specs.Prelude.{None, ◌==◌, ◌||◌}
 use Rattle.crush_units.specs.declared.id.ItemId.TheVariants.{Bucket}
 use Rattle.crush_units.specs.Id.{same_id}
 use Rattle.crush_units.specs.Name.{IsName}
-use Rattle.crush_table.specs.Table.{Row, is_below, are_nested}
-use Rattle.crush_table.specs.Columns.{set_name, swap_buckets}
-use Rattle.crush_table.specs.Lawful.{Lawful}
-use Rattle.crush_table.proofs.Renamed.{Lawful-set_name}
-use Rattle.crush_table.proofs.Swapped.{Lawful-swap}
-use Rattle.crush_table.proofs.Weighs.{or_left, or_right}
+use Rattle.crush_model.specs.Table.{Row, is_below, are_nested}
+use Rattle.crush_model.specs.Columns.{set_name, swap_buckets}
+use Rattle.crush_model.specs.Lawful.{Lawful}
+use Rattle.crush_model.proofs.Renamed.{Lawful-set_name}
+use Rattle.crush_model.proofs.Swapped.{Lawful-swap}
+use Rattle.crush_model.proofs.Weighs.{or_left, or_right}
 use Rattle.crush_edits.specs.Setting.{SettingData}
 use Rattle.crush_edits.specs.declared.edit.Edit.TheVariants.{Swap, Rename}
 use Rattle.crush_edits.specs.Answer.{done, answer}

@@ -4,7 +4,7 @@ use Rattle.std.specs.Prelude.{◌==◌, Option, Some, None, IfSome}
 use Rattle.crush_units.specs.declared.id.ItemId.{ItemId}
 use Rattle.crush_units.specs.declared.id.ItemId.TheVariants.{Device}
 use Rattle.crush_units.specs.declared.limits.TheConstants.{MOST_PAIRS}
-use Rattle.crush_table.specs.Table.{Row, is_device_id}
+use Rattle.crush_model.specs.Table.{Row, is_device_id}
 use Rattle.crush_edits.specs.declared.location.Pair.{Pair}
 use Rattle.crush_edits.specs.declared.refusal.Refusal.TheVariants.{BadName, BadLocation, NoSuchType, NoPlace, WeightTooLarge, NameTaken, NotABucket}
 use Rattle.crush_edits.specs.Answer.{first_refusal, is_a_device, is_heavy}

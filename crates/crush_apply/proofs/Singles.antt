@@ -8,11 +8,11 @@ use Rattle.crush_units.specs.declared.id.ItemId.{ItemId}
 use Rattle.crush_units.specs.declared.id.ItemId.TheVariants.{Device, Bucket}
 use Rattle.crush_units.specs.Name.{IsName}
 use Rattle.crush_units.specs.declared.limits.TheConstants.{MOST_BUCKETS, MOST_DEVICES}
-use Rattle.crush_table.specs.ItemRows.{bucket_row}
-use Rattle.crush_table.specs.Table.{Row, is_there, is_parent, kids, free_ids, device_count, bucket_count}
-use Rattle.crush_table.specs.Columns.{table_without, without_row}
-use Rattle.crush_table.specs.Lawful.{HasParent, Lawful, has_too_many}
-use Rattle.crush_table.proofs.Emptied.{table_without-empty, table_without-device}
+use Rattle.crush_model.specs.ItemRows.{bucket_row}
+use Rattle.crush_model.specs.Table.{Row, is_there, is_parent, kids, free_ids, device_count, bucket_count}
+use Rattle.crush_model.specs.Columns.{table_without, without_row}
+use Rattle.crush_model.specs.Lawful.{HasParent, Lawful, has_too_many}
+use Rattle.crush_model.proofs.Emptied.{table_without-empty, table_without-device}
 use Rattle.crush_edits.specs.Setting.{SettingData}
 use Rattle.crush_edits.specs.Fits.{Fits}
 use Rattle.crush_edits.specs.declared.edit.Edit.TheVariants.{Remove, AddBucket}

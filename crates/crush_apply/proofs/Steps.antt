@@ -5,22 +5,22 @@ use Rattle.crush_units.specs.declared.id.ItemId.{ItemId}
 use Rattle.crush_units.specs.declared.id.ItemId.TheVariants.{Device, Bucket}
 use Rattle.crush_units.specs.Id.{same_id}
 use Rattle.crush_units.specs.declared.limits.TheConstants.{HEAVIEST_DEVICE}
-use Rattle.crush_table.specs.Items.{LeafData, Items, none, device, bucket}
-use Rattle.crush_table.specs.ItemRows.{rows, device_row}
-use Rattle.crush_table.specs.Forest.{ForestData, rows_of, OnlyDevices}
-use Rattle.crush_table.specs.Stands.{Stands}
-use Rattle.crush_table.specs.Table.{Row, row_of, is_there}
-use Rattle.crush_table.specs.Same.{Same}
-use Rattle.crush_table.specs.Law.{IsOne}
-use Rattle.crush_table.specs.Lawful.{IsRow, Lawful, has_too_many}
-use Rattle.crush_table.specs.Columns.{table_without, part}
-use Rattle.crush_table.proofs.Attached.{is_there-append}
-use Rattle.crush_table.proofs.Changes.{Same-with, Same-without}
-use Rattle.crush_table.proofs.Found.{is_there-same, is_there-times, times-is_there}
-use Rattle.crush_table.proofs.Moved.{row_id}
-use Rattle.crush_table.proofs.Reorder.{reordered-count}
-use Rattle.crush_table.proofs.Same.{Same-is, Same-sym, Same-trans, Lawful-same}
-use Rattle.crush_table.proofs.Stands.{stands_lawful}
+use Rattle.crush_model.specs.Items.{LeafData, Items, none, device, bucket}
+use Rattle.crush_model.specs.ItemRows.{rows, device_row}
+use Rattle.crush_model.specs.Forest.{ForestData, rows_of, OnlyDevices}
+use Rattle.crush_model.specs.Stands.{Stands}
+use Rattle.crush_model.specs.Table.{Row, row_of, is_there}
+use Rattle.crush_model.specs.Same.{Same}
+use Rattle.crush_model.specs.Law.{IsOne}
+use Rattle.crush_model.specs.Lawful.{IsRow, Lawful, has_too_many}
+use Rattle.crush_model.specs.Columns.{table_without, part}
+use Rattle.crush_model.proofs.Attached.{is_there-append}
+use Rattle.crush_model.proofs.Changes.{Same-with, Same-without}
+use Rattle.crush_model.proofs.Found.{is_there-same, is_there-times, times-is_there}
+use Rattle.crush_model.proofs.Moved.{row_id}
+use Rattle.crush_model.proofs.Reorder.{reordered-count}
+use Rattle.crush_model.proofs.Same.{Same-is, Same-sym, Same-trans, Lawful-same}
+use Rattle.crush_model.proofs.Stands.{stands_lawful}
 use Rattle.crush_nodes.specs.Ops.{part_of, FitsPlace}
 use Rattle.crush_nodes.proofs.LastSteps.{OnlyDevices-join}
 use Rattle.crush_edits.specs.LawRoute.{rows_made}

@@ -3,15 +3,15 @@ use Rattle.std.proofs.Common.{◌≡◌, ℕ, Bool, List, sym, subst, ◌∙◌,
 use Rattle.std.specs.Prelude.{Option, Some, None, Result, Ok, Err, IfOk, OnErr}
 use Rattle.std.proofs.lemmas.List.Elements.{All-weaker}
 use Rattle.crush_units.specs.declared.id.ItemId.TheVariants.{Bucket}
-use Rattle.crush_table.specs.Table.{Row}
-use Rattle.crush_table.specs.Same.{Same}
-use Rattle.crush_table.specs.Lawful.{Lawful}
-use Rattle.crush_table.specs.Forest.{ForestData, rows_of, IsSound}
-use Rattle.crush_table.specs.Stands.{Stands}
-use Rattle.crush_table.proofs.Found.{is_there-same}
-use Rattle.crush_table.proofs.Reorder.{reordered-All}
-use Rattle.crush_table.proofs.Same.{Same-sym}
-use Rattle.crush_table.proofs.Stands.{stands_for_rows}
+use Rattle.crush_model.specs.Table.{Row}
+use Rattle.crush_model.specs.Same.{Same}
+use Rattle.crush_model.specs.Lawful.{Lawful}
+use Rattle.crush_model.specs.Forest.{ForestData, rows_of, IsSound}
+use Rattle.crush_model.specs.Stands.{Stands}
+use Rattle.crush_model.proofs.Found.{is_there-same}
+use Rattle.crush_model.proofs.Reorder.{reordered-All}
+use Rattle.crush_model.proofs.Same.{Same-sym}
+use Rattle.crush_model.proofs.Stands.{stands_for_rows}
 use Rattle.crush_edits.specs.declared.refusal.EditFault.{EditFault}
 use Rattle.crush_edits.specs.declared.refusal.Refusal.{Refusal}
 use Rattle.crush_edits.specs.declared.refusal.Done.{Done}

@@ -6,7 +6,7 @@ use Rattle.std.proofs.Math.Seq.{drop-cons, take-length}
 use Rattle.std.proofs.lemmas.List.{length-drop}
 use Rattle.std.proofs.lemmas.Slice.Eq.{bytes_eq-Decides}
 use Rattle.crush_edits.specs.declared.location.Pair.{Pair}
-use Rattle.crush_table.specs.Tested.{are_apart}
+use Rattle.crush_model.specs.Tested.{are_apart}
 use Rattle.crush_edits.specs.Located.{has_twice}
 
 -- to compare two names in the other order
@@ -31,14 +31,14 @@ at_drop f l k p h is =
 -- whether a name stands twice, told by the first pair that is left
 twice_cons : (f : Pair → List ℕ) (l : List Pair) (k : ℕ) (p : Pair) (b : Bool) → k < length l → p ≡ get_or l k p → b ≡ list_any (λ (q : Pair). bytes_eq (f q) (f p)) (drop (k + 1) l) →
     has_twice (map f (drop k l)) ≡ not (not b && are_apart bytes_eq (map f (drop (k + 1) l)))
-twice_cons f l k p b h is asked =
-    ap has_twice (at_drop f l k p h is) ∙ ap (λ c. not (not c && are_apart bytes_eq (map f (drop (k + 1) l)))) (sym (asked ∙ among f (f p) (drop (k + 1) l)))
+twice_cons f l k p b h is requested =
+    ap has_twice (at_drop f l k p h is) ∙ ap (λ c. not (not c && are_apart bytes_eq (map f (drop (k + 1) l)))) (sym (requested ∙ among f (f p) (drop (k + 1) l)))
 
 pub twice_here : (f : Pair → List ℕ) (l : List Pair) (k : ℕ) (p : Pair) (b : Bool) → k < length l → p ≡ get_or l k p → b ≡ list_any (λ (q : Pair). bytes_eq (f q) (f p)) (drop (k + 1) l) → b ≡ true → has_twice (map f (drop k l)) ≡ true
-twice_here f l k p b h is asked e = twice_cons f l k p b h is asked ∙ ap (λ c. not (not c && are_apart bytes_eq (map f (drop (k + 1) l)))) e
+twice_here f l k p b h is requested e = twice_cons f l k p b h is requested ∙ ap (λ c. not (not c && are_apart bytes_eq (map f (drop (k + 1) l)))) e
 
 pub twice_later : (f : Pair → List ℕ) (l : List Pair) (k : ℕ) (p : Pair) (b : Bool) → k < length l → p ≡ get_or l k p → b ≡ list_any (λ (q : Pair). bytes_eq (f q) (f p)) (drop (k + 1) l) → b ≡ false → has_twice (map f (drop k l)) ≡ has_twice (map f (drop (k + 1) l))
-twice_later f l k p b h is asked e = twice_cons f l k p b h is asked ∙ ap (λ c. not (not c && are_apart bytes_eq (map f (drop (k + 1) l)))) e
+twice_later f l k p b h is requested e = twice_cons f l k p b h is requested ∙ ap (λ c. not (not c && are_apart bytes_eq (map f (drop (k + 1) l)))) e
 
 -- the pairs behind one, as a slice
 pub later_pairs : (l : List Pair) (k : ℕ) → take (length l - k) (drop k l) ≡ drop k l

@@ -9,15 +9,15 @@ use Rattle.crush_units.specs.declared.id.ItemId.{ItemId}
 use Rattle.crush_units.specs.declared.id.ItemId.TheVariants.{Device}
 use Rattle.crush_units.specs.Id.{same_id}
 use Rattle.crush_units.proofs.Ids.{same_id_equal}
-use Rattle.crush_table.specs.Columns.{set_weight}
-use Rattle.crush_table.specs.Table.{Row, is_device, is_bucket, row_of, row_named, id_named, parent_of, is_placed, device_count, bucket_count}
-use Rattle.crush_table.specs.Lawful.{Lawful, is_too_heavy, has_too_many}
+use Rattle.crush_model.specs.Columns.{set_weight}
+use Rattle.crush_model.specs.Table.{Row, is_device, is_bucket, row_of, row_named, id_named, parent_of, is_placed, device_count, bucket_count}
+use Rattle.crush_model.specs.Lawful.{Lawful, is_too_heavy, has_too_many}
 use Rattle.crush_units.specs.Id.{is_device_id}
 use Rattle.crush_units.specs.declared.limits.TheConstants.{HEAVIEST_DEVICE, MOST_BUCKETS, MOST_DEVICES}
-use Rattle.crush_table.proofs.Changes.{with_weight, with_weight-id}
-use Rattle.crush_table.proofs.Columns.{count-map}
-use Rattle.crush_table.proofs.Passing.{lawful_room}
-use Rattle.crush_table.proofs.Weighs.{or_left}
+use Rattle.crush_model.proofs.Changes.{with_weight, with_weight-id}
+use Rattle.crush_model.proofs.Columns.{count-map}
+use Rattle.crush_model.proofs.Passing.{lawful_room}
+use Rattle.crush_model.proofs.Weighs.{or_left}
 use Rattle.crush_edits.specs.declared.edit.Edit.TheVariants.{Reweight, Update}
 use Rattle.crush_edits.specs.declared.location.Pair.{Pair}
 use Rattle.crush_edits.specs.declared.refusal.Refusal.TheVariants.{NoRoom, SumTooLarge}

@@ -5,11 +5,11 @@ use Rattle.std.specs.List.{list_all, list_any}
 use Rattle.std.specs.Option.{option_map, option_eq}
 use Rattle.crush_units.specs.declared.id.ItemId.{ItemId}
 use Rattle.crush_units.specs.declared.id.ItemId.TheVariants.{Device}
-use Rattle.crush_table.specs.Table.{Row, is_device, is_below, row_of, own_weight_of, weight_of, is_placed, item_weight}
-use Rattle.crush_table.specs.Columns.{set_weight, set_subtree}
-use Rattle.crush_table.specs.Lawful.{is_too_heavy}
+use Rattle.crush_model.specs.Table.{Row, is_device, is_below, row_of, own_weight_of, weight_of, is_placed, item_weight}
+use Rattle.crush_model.specs.Columns.{set_weight, set_subtree}
+use Rattle.crush_model.specs.Lawful.{is_too_heavy}
 use Rattle.crush_edits.specs.Setting.{SettingData}
-use Rattle.crush_table.proofs.Found.{times}
+use Rattle.crush_model.proofs.Found.{times}
 use Rattle.crush_edits.specs.declared.refusal.Refusal.{Refusal}
 use Rattle.crush_edits.specs.declared.refusal.Refusal.TheVariants.{SumTooLarge}
 use Rattle.crush_edits.specs.declared.edit.Edit.{Edit}

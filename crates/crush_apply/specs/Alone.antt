@@ -3,9 +3,9 @@ use Rattle.std.specs.Prelude.{◌≡◌, ℕ, ◌<◌, List, Option, Some, None,
 use Rattle.crush_units.specs.declared.id.ItemId.{ItemId}
 use Rattle.crush_units.specs.declared.id.ItemId.TheVariants.{Device, Bucket}
 use Rattle.crush_units.specs.declared.limits.TheConstants.{MOST_BUCKETS}
-use Rattle.crush_table.specs.Table.{Row, class_of, id_named, is_named, are_nested, bucket_count}
-use Rattle.crush_table.specs.Columns.{swap_buckets}
-use Rattle.crush_table.specs.Lawful.{is_too_heavy}
+use Rattle.crush_model.specs.Table.{Row, class_of, id_named, is_named, are_nested, bucket_count}
+use Rattle.crush_model.specs.Columns.{swap_buckets}
+use Rattle.crush_model.specs.Lawful.{is_too_heavy}
 use Rattle.crush_edits.specs.Setting.{SettingData, kind_number}
 use Rattle.crush_edits.specs.Stops.{number_of}
 use Rattle.crush_edits.specs.Answer.{meets}

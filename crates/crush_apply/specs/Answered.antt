@@ -1,8 +1,8 @@
 -- What a call answers of an edit, beside what the table answers.
 use Rattle.std.specs.Prelude.{◌≡◌, false, List, [], ◌∷◌, Option, Result, Err, IfOk, OnErr}
-use Rattle.crush_table.specs.Table.{Row}
-use Rattle.crush_table.specs.Forest.{ForestData}
-use Rattle.crush_table.specs.Stands.{Stands}
+use Rattle.crush_model.specs.Table.{Row}
+use Rattle.crush_model.specs.Forest.{ForestData}
+use Rattle.crush_model.specs.Stands.{Stands}
 use Rattle.crush_nodes.specs.Room.{room}
 use Rattle.crush_nodes.specs.declared.place.Place.{Place}
 use Rattle.crush_edits.specs.declared.refusal.Refusal.{Refusal}

@@ -1,8 +1,8 @@
 -- A hierarchy as it was before: what was done to it is taken back.
 use Rattle.std.specs.Prelude.{◌≡◌, List}
-use Rattle.crush_table.specs.Table.{Row}
-use Rattle.crush_table.specs.Forest.{ForestData}
-use Rattle.crush_table.specs.Stands.{Stands}
+use Rattle.crush_model.specs.Table.{Row}
+use Rattle.crush_model.specs.Forest.{ForestData}
+use Rattle.crush_model.specs.Stands.{Stands}
 use Rattle.crush_nodes.specs.Room.{room}
 use Rattle.crush_nodes.specs.declared.place.Place.{Place}
 

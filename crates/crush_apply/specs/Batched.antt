@@ -1,8 +1,8 @@
 -- What a batch answers, beside what the table answers.
 use Rattle.std.specs.Prelude.{◌≡◌, ℕ, ◌*◌, ◌≤◌, List}
-use Rattle.crush_table.specs.Table.{Row}
-use Rattle.crush_table.specs.Forest.{ForestData}
-use Rattle.crush_table.specs.Stands.{Stands}
+use Rattle.crush_model.specs.Table.{Row}
+use Rattle.crush_model.specs.Forest.{ForestData}
+use Rattle.crush_model.specs.Stands.{Stands}
 use Rattle.crush_edits.specs.declared.refusal.Dones.{Dones}
 use Rattle.crush_edits.specs.declared.edit.Edit.{Edit}
 use Rattle.crush_edits.specs.Setting.{SettingData}

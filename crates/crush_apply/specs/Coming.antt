@@ -4,7 +4,7 @@ use Rattle.std.specs.List.{count_by}
 use Rattle.crush_units.specs.declared.id.ItemId.{ItemId}
 use Rattle.crush_units.specs.declared.id.ItemId.TheVariants.{Device}
 use Rattle.crush_units.specs.declared.limits.TheConstants.{HEAVIEST_DEVICE}
-use Rattle.crush_table.specs.Table.{Row, is_there}
+use Rattle.crush_model.specs.Table.{Row, is_there}
 use Rattle.crush_edits.specs.LawPut.{IsApart}
 use Rattle.crush_edits.specs.Located.{is_taken}
 use Rattle.crush_edits.specs.Stops.{StopData}

@@ -2,7 +2,7 @@
 use Rattle.std.specs.Prelude.{◌≡◌, ◌==◌, ℕ, List, [], ◌∷◌, Option, None, Bool, not, length}
 use Rattle.crush_units.specs.declared.id.ItemId.{ItemId}
 use Rattle.crush_units.specs.Id.{is_device_id}
-use Rattle.crush_table.specs.Table.{Row, kind_of}
+use Rattle.crush_model.specs.Table.{Row, kind_of}
 use Rattle.crush_edits.specs.declared.refusal.Refusal.{Refusal}
 use Rattle.crush_edits.specs.declared.refusal.Refusal.TheVariants.{NotABucket, WrongType}
 use Rattle.crush_edits.specs.Answer.{first_refusal, meets}

@@ -1,7 +1,7 @@
 -- The edits that bring a device, as one: by what they do with one that stands in a bucket.
 use Rattle.std.specs.Prelude.{ℕ, List, Bool, false}
 use Rattle.crush_units.specs.declared.id.ItemId.TheVariants.{Device}
-use Rattle.crush_table.specs.Table.{Row, is_placed}
+use Rattle.crush_model.specs.Table.{Row, is_placed}
 use Rattle.crush_edits.specs.declared.edit.Edit.{Edit}
 use Rattle.crush_edits.specs.declared.edit.Edit.TheVariants.{Insert, CreateOrMove, Update, Reweight}
 use Rattle.crush_edits.specs.declared.location.Pair.{Pair}

@@ -8,5 +8,5 @@ pub mod Weighed
 pub mod Alone
 pub mod Batched
 pub mod AsBefore
-pub mod Noted
-pub mod Blamed
+pub mod UndoLog
+pub mod Culprit

@@ -2,10 +2,10 @@
 use Rattle.std.specs.Prelude.{◌≡◌, ℕ, List, Option, Some, None, false, length, bytes_eq}
 use Rattle.std.specs.List.{count_by}
 use Rattle.crush_units.specs.declared.id.ItemId.TheVariants.{Device}
-use Rattle.crush_table.specs.Items.{LeafData, Items, none}
-use Rattle.crush_table.specs.ItemRows.{device_row}
-use Rattle.crush_table.specs.Table.{Row, is_there, is_named, free_ids}
-use Rattle.crush_table.specs.Lawful.{IsRow, is_too_heavy, has_too_many}
+use Rattle.crush_model.specs.Items.{LeafData, Items, none}
+use Rattle.crush_model.specs.ItemRows.{device_row}
+use Rattle.crush_model.specs.Table.{Row, is_there, is_named, free_ids}
+use Rattle.crush_model.specs.Lawful.{IsRow, is_too_heavy, has_too_many}
 use Rattle.crush_nodes.specs.declared.place.Place.{Place}
 use Rattle.crush_nodes.specs.declared.place.Place.TheVariants.{Bucket as AtBucket, Root}
 use Rattle.crush_edits.specs.Boxes.{boxes}

@@ -1,7 +1,7 @@
 -- What new weights need.
 use Rattle.std.specs.Prelude.{◌≡◌, ℕ, List, Some, true, false}
 use Rattle.crush_units.specs.declared.id.ItemId.TheVariants.{Device, Bucket}
-use Rattle.crush_table.specs.Table.{Row, id_named, is_placed}
+use Rattle.crush_model.specs.Table.{Row, id_named, is_placed}
 use Rattle.crush_edits.specs.Answer.{is_heavy}
 
 -- the name is that of the placed device d, and the weight is a device's

@@ -1,9 +1,9 @@
 //! One edit, of whichever kind.
 
 ghost use Rattle.std.specs.Prelude.{◌≡◌, ℕ, List, IfOk, OnErr, true, false};
-ghost use Rattle.crush_table.specs.Table.{Row};
-ghost use Rattle.crush_table.specs.Forest.{rows_of};
-ghost use Rattle.crush_table.specs.Stands.{Stands};
+ghost use Rattle.crush_model.specs.Table.{Row};
+ghost use Rattle.crush_model.specs.Forest.{rows_of};
+ghost use Rattle.crush_model.specs.Stands.{Stands};
 ghost use Rattle.crush_edits.specs.declared.edit.Edit.TheVariants.{Insert, CreateOrMove, Update};
 ghost use Rattle.crush_edits.specs.declared.location.Pair.{Pair};
 ghost use Rattle.crush_edits.specs.declared.refusal.Refusal.{Refusal as DeclaredRefusal};
@@ -13,20 +13,20 @@ ghost use Rattle.crush_edits.specs.Fits.{Fits};
 ghost use Rattle.crush_edits.specs.LawEdit.{IsEdit};
 ghost use Rattle.crush_edits.specs.Outcome.{IsDone, IsChange};
 ghost use Rattle.crush_apply.specs.Answered.{AnswersAs, KeepsRooms};
-ghost use Rattle.crush_apply.specs.Noted.{is_noted, done_alone, GivesAnyBack};
+ghost use Rattle.crush_apply.specs.UndoLog.{is_logged, done_alone, UndoesAny};
 ghost use Rattle.crush_apply.specs.declared.place.IfPlaced.TheVariants.{Refuse, KeepWeight, SetWeight};
 
 use crate::add_bucket::add_bucket;
 use crate::classes::{remove_class, set_class};
-use crate::noted::{Undo, done_alone, unnoted};
 use crate::place::{IfPlaced, place};
 use crate::relocate::relocate;
 use crate::remove::remove;
 use crate::rename::rename;
-use crate::reweight::reweight_noted;
+use crate::reweight::reweight_logged;
 use crate::reweight_subtree::reweight_subtree;
-use crate::route::Arrival;
+use crate::route::NewDevice;
 use crate::swap::swap;
+use crate::undo_log::{Undo, done_alone, unlogged};
 use crush_edits::{Done, Edit, EditFault, Setting};
 use crush_hierarchy::Hierarchy;
 use std::alloc::Allocator;
@@ -36,32 +36,32 @@ use std::alloc::Allocator;
 pub fn apply_edit<A: Allocator + Clone>(
     hierarchy: &mut Hierarchy<A>,
     setting: &Setting,
-    asked: &Edit,
+    requested: &Edit,
 ) -> Result<Done, EditFault>
     requires fits { Fits setting.now (rows_of hierarchy.old) }
     ensures done { IfOk result (λ d. (t : List Row) → Stands hierarchy.old t
-        → IsDone (Stands hierarchy.new) (edit setting.now t asked.now) d) }
+        → IsDone (Stands hierarchy.new) (edit setting.now t requested.now) d) }
     ensures refused { (r : DeclaredRefusal) → result ≡ Err (EditFault.Refused r)
-        → (t : List Row) → Stands hierarchy.old t → edit setting.now t asked.now ≡ refused r }
+        → (t : List Row) → Stands hierarchy.old t → edit setting.now t requested.now ≡ refused r }
     ensures change { result ≡ Err EditFault.OutOfMemory
         → (t : List Row) → Stands hierarchy.old t
-        → IsChange (edit setting.now t asked.now) }
-    ensures memory { result ≡ Err EditFault.OutOfMemory → takes_memory asked.now ≡ true }
-    ensures rooms { sets_weights asked.now ≡ true → KeepsRooms hierarchy.old hierarchy.new }
+        → IsChange (edit setting.now t requested.now) }
+    ensures memory { result ≡ Err EditFault.OutOfMemory → takes_memory requested.now ≡ true }
+    ensures rooms { sets_weights requested.now ≡ true → KeepsRooms hierarchy.old hierarchy.new }
     ensures unchanged { OnErr result (hierarchy.new ≡ hierarchy.old) }
     ensures still { IfOk result (λ d. d.changed ≡ false → hierarchy.new ≡ hierarchy.old) }
     ensures fits { Fits setting.now (rows_of hierarchy.new) }
 {
     hierarchy.recall_invariant();
-    recall_forms(asked);
-    done_alone(make(hierarchy, setting, asked))
+    recall_forms(requested);
+    done_alone(make(hierarchy, setting, requested))
 }
 
 /// The invariants of the parts of an edit.
-pub(crate) fn recall_forms(asked: &Edit)
-    ensures { IsEdit asked.now }
+pub(crate) fn recall_forms(requested: &Edit)
+    ensures { IsEdit requested.now }
 {
-    match asked {
+    match requested {
         Edit::Insert {
             device,
             name,
@@ -100,15 +100,15 @@ pub(crate) fn recall_forms(asked: &Edit)
     }
 }
 
-fn if_placed(asked: &Edit) -> IfPlaced
+fn if_placed(requested: &Edit) -> IfPlaced
     ensures insert { (d : ℕ) (n : List ℕ) (w : ℕ) (l : List Pair)
-        → asked.now ≡ Insert d n w l → result ≡ Refuse }
+        → requested.now ≡ Insert d n w l → result ≡ Refuse }
     ensures create_or_move { (d : ℕ) (n : List ℕ) (w : ℕ) (l : List Pair)
-        → asked.now ≡ CreateOrMove d n w l → result ≡ KeepWeight }
+        → requested.now ≡ CreateOrMove d n w l → result ≡ KeepWeight }
     ensures update { (d : ℕ) (n : List ℕ) (w : ℕ) (l : List Pair)
-        → asked.now ≡ Update d n w l → result ≡ SetWeight }
+        → requested.now ≡ Update d n w l → result ≡ SetWeight }
 {
-    match asked {
+    match requested {
         Edit::Insert { .. } => IfPlaced::Refuse,
         Edit::Update { .. } => IfPlaced::SetWeight,
         _ => IfPlaced::KeepWeight,
@@ -118,17 +118,17 @@ fn if_placed(asked: &Edit) -> IfPlaced
 pub(crate) fn make<A: Allocator + Clone>(
     hierarchy: &mut Hierarchy<A>,
     setting: &Setting,
-    asked: &Edit,
+    requested: &Edit,
 ) -> Result<(Done, Option<Undo<A>>), EditFault>
     requires { Fits setting.now (rows_of hierarchy.old) }
-    ensures made { AnswersAs (λ t. edit setting.now t asked.now)
+    ensures made { AnswersAs (λ t. edit setting.now t requested.now)
         hierarchy.old hierarchy.new (done_alone result) }
-    ensures noted { is_noted asked.now ≡ true
-        → IfOk result (λ z. GivesAnyBack z.1 hierarchy.new hierarchy.old) }
-    ensures memory { result ≡ Err EditFault.OutOfMemory → takes_memory asked.now ≡ true }
-    ensures rooms { sets_weights asked.now ≡ true → KeepsRooms hierarchy.old hierarchy.new }
+    ensures logged { is_logged requested.now ≡ true
+        → IfOk result (λ z. UndoesAny z.1 hierarchy.new hierarchy.old) }
+    ensures memory { result ≡ Err EditFault.OutOfMemory → takes_memory requested.now ≡ true }
+    ensures rooms { sets_weights requested.now ≡ true → KeepsRooms hierarchy.old hierarchy.new }
 {
-    match asked {
+    match requested {
         Edit::Insert {
             device,
             name,
@@ -147,23 +147,23 @@ pub(crate) fn make<A: Allocator + Clone>(
             weight,
             at,
         } => {
-            let arrival = Arrival {
+            let arrival = NewDevice {
                 device: *device,
                 name,
                 weight: *weight,
                 at,
             };
-            unnoted(place(hierarchy, setting, if_placed(asked), &arrival))
+            unlogged(place(hierarchy, setting, if_placed(requested), &arrival))
         }
-        Edit::Move { name, at } => unnoted(relocate(hierarchy, setting, name, at)),
-        Edit::Swap { a, b } => unnoted(swap(hierarchy, a, b)),
-        Edit::Reweight { name, weight } => reweight_noted(hierarchy, name, *weight),
+        Edit::Move { name, at } => unlogged(relocate(hierarchy, setting, name, at)),
+        Edit::Swap { a, b } => swap(hierarchy, a, b),
+        Edit::Reweight { name, weight } => reweight_logged(hierarchy, name, *weight),
         Edit::ReweightSubtree { name, weight } => {
-            unnoted(reweight_subtree(hierarchy, name, *weight))
+            unlogged(reweight_subtree(hierarchy, name, *weight))
         }
-        Edit::Remove { name } => unnoted(remove(hierarchy, setting, name)),
-        Edit::AddBucket { name, kind } => unnoted(add_bucket(hierarchy, setting, name, kind)),
-        Edit::Rename { from, to } => unnoted(rename(hierarchy, from, to)),
+        Edit::Remove { name } => unlogged(remove(hierarchy, setting, name)),
+        Edit::AddBucket { name, kind } => unlogged(add_bucket(hierarchy, setting, name, kind)),
+        Edit::Rename { from, to } => unlogged(rename(hierarchy, from, to)),
         Edit::SetClass { name, class } => set_class(hierarchy, name, class),
         Edit::RemoveClass { name } => remove_class(hierarchy, name),
     }

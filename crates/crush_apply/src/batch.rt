@@ -2,9 +2,9 @@
 
 ghost use Rattle.std.specs.Prelude.{◌≡◌, ℕ, ◌+◌, ◌*◌, ◌<◌, ◌≤◌, ◌++◌, List, [], length, IfOk, OnOk, OnErr, true, vec_len, vec_capacity};
 ghost use Rattle.crush_units.specs.declared.limits.TheConstants.{MOST_EDITS};
-ghost use Rattle.crush_table.specs.Table.{Row};
-ghost use Rattle.crush_table.specs.Forest.{ForestData, rows_of};
-ghost use Rattle.crush_table.specs.Stands.{Stands};
+ghost use Rattle.crush_model.specs.Table.{Row};
+ghost use Rattle.crush_model.specs.Forest.{ForestData, rows_of};
+ghost use Rattle.crush_model.specs.Stands.{Stands};
 ghost use Rattle.crush_edits.specs.declared.refusal.Refusal.{Refusal as DeclaredRefusal};
 ghost use Rattle.crush_edits.specs.Batch.{batch, batch_refused, with_done};
 ghost use Rattle.crush_edits.specs.Fits.{Fits};
@@ -13,10 +13,10 @@ ghost use Rattle.crush_edits.specs.Outcome.{IsDone};
 ghost use Rattle.crush_edits.specs.Edit.{edit};
 ghost use Rattle.crush_apply.specs.AsBefore.{IsAsBefore};
 ghost use Rattle.crush_apply.specs.Batched.{IsBatchDone};
-ghost use Rattle.crush_apply.specs.Noted.{is_noted, are_in_place, as_list, CanBeNoted, GiveBack};
+ghost use Rattle.crush_apply.specs.UndoLog.{is_logged, are_in_place, as_list, CanBeLogged, RollsBack};
 
 use crate::apply::{make, recall_forms};
-use crate::noted::{Undo, are_in_place, take_back};
+use crate::undo_log::{Undo, are_in_place, roll_back};
 use crush_edits::{BatchFault, Done, Dones, Edit, EditFault, Setting};
 use crush_hierarchy::Hierarchy;
 use std::alloc::{AllocError, Allocator};
@@ -24,9 +24,9 @@ use std::alloc::{AllocError, Allocator};
 /// Makes all of the edits, at most 65,536, each on what the ones before it made, or none; a refusal
 /// comes with the index of its edit, from 0.
 ///
-/// Where each but the last is of a single device's weight or class, they are made in place, and
-/// taken back where one isn't made; others are made on a copy of the hierarchy, without its spare
-/// room. Out of memory may hide a later refusal.
+/// Where each but the last gives a single device a weight or a class, or exchanges two buckets, they
+/// are made in place, and taken back where one isn't made; others are made on a copy of the
+/// hierarchy, without its spare room. Out of memory may hide a later refusal.
 pub fn apply_batch<A: Allocator + Clone>(
     hierarchy: &mut Hierarchy<A>,
     setting: &Setting,
@@ -40,6 +40,7 @@ pub fn apply_batch<A: Allocator + Clone>(
         → result ≡ Err (BatchFault.Refused index r) → (t : List Row) → Stands hierarchy.old t
         → batch setting.now t edits.now ≡ batch_refused index r }
     ensures memory { result ≡ Err BatchFault.OutOfMemory → hierarchy.new ≡ hierarchy.old }
+    ensures unchanged { OnErr result (hierarchy.new ≡ hierarchy.old) }
     ensures as_before { OnErr result (IsAsBefore hierarchy.old hierarchy.new) }
     ensures single { length edits.now ≤ 1 → OnErr result (hierarchy.new ≡ hierarchy.old) }
     ensures fits { Fits setting.now (rows_of hierarchy.new) }
@@ -50,13 +51,13 @@ pub fn apply_batch<A: Allocator + Clone>(
     let Ok(mut copy) = hierarchy.try_copy() else {
         return Err(BatchFault::OutOfMemory);
     };
-    let dones = make_unnoted(&mut copy, setting, edits)?;
+    let dones = make_unlogged(&mut copy, setting, edits)?;
     *hierarchy = copy;
     Ok(dones)
 }
 
 /// On a copy: nothing is taken back.
-fn make_unnoted<A: Allocator + Clone>(
+fn make_unlogged<A: Allocator + Clone>(
     hierarchy: &mut Hierarchy<A>,
     setting: &Setting,
     edits: &[Edit],
@@ -100,7 +101,7 @@ fn make_in_place<A: Allocator + Clone>(
     match make_all(hierarchy, setting, edits, &mut log) {
         Ok(dones) => Ok(dones),
         Err(fault) => {
-            take_back(hierarchy, log);
+            roll_back(hierarchy, log);
             Err(fault)
         }
     }
@@ -132,8 +133,8 @@ fn make_all<A: Allocator + Clone>(
     ensures refused { (index : ℕ) (r : DeclaredRefusal)
         → result ≡ Err (BatchFault.Refused index r) → (t : List Row) → Stands hierarchy.old t
         → batch setting.now t edits.now ≡ batch_refused index r }
-    ensures log { CanBeNoted edits.now (vec_capacity log.old)
-        → OnErr result (GiveBack log.new.items hierarchy.new hierarchy.old) }
+    ensures log { CanBeLogged edits.now (vec_capacity log.old)
+        → OnErr result (RollsBack log.new.items hierarchy.new hierarchy.old) }
     ensures fits { Fits setting.now (rows_of hierarchy.new) }
 {
     let mut dones = Dones {
@@ -141,8 +142,8 @@ fn make_all<A: Allocator + Clone>(
         changed: 0,
         made: 0,
     };
-    for asked in edits {
-        match make_one(hierarchy, setting, asked, log) {
+    for requested in edits {
+        match apply_logged(hierarchy, setting, requested, log) {
             Ok(done) => dones = with_done(dones, done),
             Err(EditFault::Refused(refusal)) => {
                 return Err(BatchFault::Refused(dones.edits, refusal));
@@ -153,20 +154,20 @@ fn make_all<A: Allocator + Clone>(
     Ok(dones)
 }
 
-fn make_one<A: Allocator + Clone>(
+fn apply_logged<A: Allocator + Clone>(
     hierarchy: &mut Hierarchy<A>,
     setting: &Setting,
-    asked: &Edit,
+    requested: &Edit,
     log: &mut Vec<Undo<A>, A>,
 ) -> Result<Done, EditFault>
     requires fits { Fits setting.now (rows_of hierarchy.old) }
     ensures done { IfOk result (λ d. (t : List Row) → Stands hierarchy.old t
-        → IsDone (Stands hierarchy.new) (edit setting.now t asked.now) d) }
-    ensures noted { vec_len log.old < vec_capacity log.old → is_noted asked.now ≡ true
-        → OnOk result ((f : ForestData) → GiveBack log.old.items hierarchy.old f
-        → GiveBack log.new.items hierarchy.new f) }
+        → IsDone (Stands hierarchy.new) (edit setting.now t requested.now) d) }
+    ensures logged { vec_len log.old < vec_capacity log.old → is_logged requested.now ≡ true
+        → OnOk result ((f : ForestData) → RollsBack log.old.items hierarchy.old f
+        → RollsBack log.new.items hierarchy.new f) }
     ensures refused { (r : DeclaredRefusal) → result ≡ Err (EditFault.Refused r)
-        → (t : List Row) → Stands hierarchy.old t → edit setting.now t asked.now ≡ refused r }
+        → (t : List Row) → Stands hierarchy.old t → edit setting.now t requested.now ≡ refused r }
     ensures unchanged { OnErr result (hierarchy.new ≡ hierarchy.old) }
     ensures log { OnErr result (log.new.items ≡ log.old.items) }
     ensures len { vec_len log.new ≤ vec_len log.old + 1 }
@@ -174,13 +175,13 @@ fn make_one<A: Allocator + Clone>(
     ensures fits { Fits setting.now (rows_of hierarchy.new) }
 {
     hierarchy.recall_invariant();
-    recall_forms(asked);
-    let (done, undo) = make(hierarchy, setting, asked)?;
-    note(log, undo);
+    recall_forms(requested);
+    let (done, undo) = make(hierarchy, setting, requested)?;
+    log_undo(log, undo);
     Ok(done)
 }
 
-fn note<A: Allocator>(log: &mut Vec<Undo<A>, A>, undo: Option<Undo<A>>)
+fn log_undo<A: Allocator>(log: &mut Vec<Undo<A>, A>, undo: Option<Undo<A>>)
     ensures items { vec_len log.old < vec_capacity log.old
         → log.new.items ≡ log.old.items ++ as_list undo }
     ensures len { vec_len log.new ≤ vec_len log.old + 1 }

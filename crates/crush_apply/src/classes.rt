@@ -2,15 +2,15 @@
 
 ghost use Rattle.std.specs.Prelude.{◌≡◌, ◌≢◌, List, Some, IfOk, IfErr, Err};
 ghost use Rattle.crush_units.specs.declared.id.ItemId.TheVariants.{Device as DeviceItem};
-ghost use Rattle.crush_table.specs.Table.{Row, id_named};
-ghost use Rattle.crush_table.specs.Stands.{Stands};
+ghost use Rattle.crush_model.specs.Table.{Row, id_named};
+ghost use Rattle.crush_model.specs.Stands.{Stands};
 ghost use Rattle.crush_edits.specs.Setting.{SettingData};
 ghost use Rattle.crush_edits.specs.declared.edit.Edit.TheVariants.{SetClass, RemoveClass};
 ghost use Rattle.crush_edits.specs.Edit.{edit, refusal};
 ghost use Rattle.crush_apply.specs.Alone.{GetsClass};
-ghost use Rattle.crush_apply.specs.Noted.{AnswersNoted};
+ghost use Rattle.crush_apply.specs.UndoLog.{AnswersLogged};
 
-use crate::noted::Undo;
+use crate::undo_log::Undo;
 use crush_edits::{Done, EditFault, Refusal};
 use crush_hierarchy::Hierarchy;
 use crush_units::{DeviceId, ItemId, Name};
@@ -66,7 +66,7 @@ pub(crate) fn set_class<A: Allocator + Clone>(
     name: &Name<Global>,
     class: &Name<Global>,
 ) -> Result<(Done, Option<Undo<A>>), EditFault>
-    ensures { (s : SettingData) → AnswersNoted (λ t. edit s t (SetClass name.now class.now))
+    ensures { (s : SettingData) → AnswersLogged (λ t. edit s t (SetClass name.now class.now))
         hierarchy.old hierarchy.new result }
 {
     hierarchy.recall_invariant();
@@ -91,7 +91,7 @@ pub(crate) fn remove_class<A: Allocator>(
     hierarchy: &mut Hierarchy<A>,
     name: &Name<Global>,
 ) -> Result<(Done, Option<Undo<A>>), EditFault>
-    ensures answers { (s : SettingData) → AnswersNoted (λ t. edit s t (RemoveClass name.now))
+    ensures answers { (s : SettingData) → AnswersLogged (λ t. edit s t (RemoveClass name.now))
         hierarchy.old hierarchy.new result }
     ensures memory { result ≢ Err EditFault.OutOfMemory }
 {

@@ -6,9 +6,8 @@
 mod add_bucket;
 mod apply;
 mod batch;
-mod blaming;
 mod classes;
-mod noted;
+mod culprits;
 mod place;
 mod relocate;
 mod remove;
@@ -17,7 +16,8 @@ mod reweight;
 mod reweight_subtree;
 mod route;
 mod swap;
+mod undo_log;
 
 pub use apply::apply_edit;
 pub use batch::apply_batch;
-pub use blaming::blamed;
+pub use culprits::culprit;

@@ -2,9 +2,9 @@
 
 ghost use Rattle.std.specs.Prelude.{◌≡◌, ◌≤◌, List};
 ghost use Rattle.crush_units.specs.declared.limits.TheConstants.{HEAVIEST_DEVICE};
-ghost use Rattle.crush_table.specs.Table.{Row};
-ghost use Rattle.crush_table.specs.Forest.{rows_of};
-ghost use Rattle.crush_table.specs.Stands.{Stands};
+ghost use Rattle.crush_model.specs.Table.{Row};
+ghost use Rattle.crush_model.specs.Forest.{rows_of};
+ghost use Rattle.crush_model.specs.Stands.{Stands};
 ghost use Rattle.crush_edits.specs.Edit.{edit};
 ghost use Rattle.crush_edits.specs.Fits.{Fits};
 ghost use Rattle.crush_edits.specs.Placing.{kept_weight};
@@ -13,7 +13,7 @@ ghost use Rattle.crush_apply.specs.Answered.{AnswersAs};
 ghost use Rattle.crush_apply.specs.IfPlaced.{placing, is_barred, coming_weight, stay_answer};
 
 use crate::reweight::reweight;
-use crate::route::{Arrival, check_device, destination_of, is_held, place_device};
+use crate::route::{NewDevice, check_device, destination_of, is_held, place_device};
 use crush_edits::{Done, EditFault, Refusal, Setting};
 use crush_hierarchy::Hierarchy;
 use crush_units::{DeviceId, ItemId, Weight};
@@ -34,7 +34,7 @@ pub(crate) fn place<A: Allocator + Clone>(
     hierarchy: &mut Hierarchy<A>,
     setting: &Setting,
     how: IfPlaced,
-    arrival: &Arrival<'_>,
+    arrival: &NewDevice<'_>,
 ) -> Result<Done, EditFault>
     requires { Fits setting.now (rows_of hierarchy.old) }
     ensures { AnswersAs (λ t. edit setting.now t (placing how arrival.now.device
@@ -51,7 +51,7 @@ pub(crate) fn place<A: Allocator + Clone>(
         return stay(hierarchy, how, arrival);
     }
     let weight = coming_weight(hierarchy, how, arrival.device, arrival.weight);
-    let coming = Arrival { weight, ..*arrival };
+    let coming = NewDevice { weight, ..*arrival };
     place_device(hierarchy, &coming, &to)
 }
 
@@ -68,7 +68,7 @@ fn is_barred<A: Allocator>(hierarchy: &Hierarchy<A>, how: IfPlaced, device: Devi
 fn stay<A: Allocator>(
     hierarchy: &mut Hierarchy<A>,
     how: IfPlaced,
-    arrival: &Arrival<'_>,
+    arrival: &NewDevice<'_>,
 ) -> Result<Done, EditFault>
     ensures { (s : SettingData) → AnswersAs
         (λ t. stay_answer s t how arrival.now.name.now arrival.now.weight)

@@ -1,8 +1,8 @@
 //! A device or an empty bucket that is taken out.
 
 ghost use Rattle.std.specs.Prelude.{◌≡◌, ◌≢◌, List, Some, IfOk, IfErr, Err};
-ghost use Rattle.crush_table.specs.Table.{Row};
-ghost use Rattle.crush_table.specs.Stands.{Stands};
+ghost use Rattle.crush_model.specs.Table.{Row};
+ghost use Rattle.crush_model.specs.Stands.{Stands};
 ghost use Rattle.crush_edits.specs.declared.edit.Edit.TheVariants.{Remove};
 ghost use Rattle.crush_edits.specs.Edit.{edit, refusal};
 ghost use Rattle.crush_edits.specs.Making.{holds_items};

@@ -1,17 +1,17 @@
 //! A new weight for one device.
 
 ghost use Rattle.std.specs.Prelude.{◌≡◌, ◌≢◌, List, Some, IfOk, IfErr, OnOk, Err, false};
-ghost use Rattle.crush_table.specs.Table.{Row, id_named};
-ghost use Rattle.crush_table.specs.Stands.{Stands};
+ghost use Rattle.crush_model.specs.Table.{Row, id_named};
+ghost use Rattle.crush_model.specs.Stands.{Stands};
 ghost use Rattle.crush_edits.specs.Setting.{SettingData};
 ghost use Rattle.crush_edits.specs.declared.edit.Edit.TheVariants.{Reweight, ReweightSubtree};
 ghost use Rattle.crush_edits.specs.Answer.{is_heavy};
 ghost use Rattle.crush_edits.specs.Edit.{edit, refusal};
 ghost use Rattle.crush_apply.specs.Answered.{AnswersAs, KeepsRooms};
-ghost use Rattle.crush_apply.specs.Noted.{AnswersNoted};
+ghost use Rattle.crush_apply.specs.UndoLog.{AnswersLogged};
 ghost use Rattle.crush_apply.specs.Weighed.{CanReweight};
 
-use crate::noted::{Undo, done_alone};
+use crate::undo_log::{Undo, done_alone};
 use crush_edits::{Done, EditFault, Refusal};
 use crush_hierarchy::Hierarchy;
 use crush_units::{DeviceId, ItemId, Name, Weight};
@@ -70,15 +70,15 @@ pub(crate) fn reweight<A: Allocator>(
     ensures memory { result ≢ Err EditFault.OutOfMemory }
     ensures rooms { KeepsRooms hierarchy.old hierarchy.new }
 {
-    done_alone(reweight_noted(hierarchy, name, weight))
+    done_alone(reweight_logged(hierarchy, name, weight))
 }
 
-pub(crate) fn reweight_noted<A: Allocator>(
+pub(crate) fn reweight_logged<A: Allocator>(
     hierarchy: &mut Hierarchy<A>,
     name: &Name<Global>,
     weight: Weight,
 ) -> Result<(Done, Option<Undo<A>>), EditFault>
-    ensures answers { (s : SettingData) → AnswersNoted (λ t. edit s t (Reweight name.now weight))
+    ensures answers { (s : SettingData) → AnswersLogged (λ t. edit s t (Reweight name.now weight))
         hierarchy.old hierarchy.new result }
     ensures memory { result ≢ Err EditFault.OutOfMemory }
     ensures rooms { KeepsRooms hierarchy.old hierarchy.new }

@@ -1,8 +1,8 @@
 //! A new weight for all devices below a bucket.
 
 ghost use Rattle.std.specs.Prelude.{◌≡◌, ◌≢◌, List, Some, IfOk, IfErr, Err};
-ghost use Rattle.crush_table.specs.Table.{Row};
-ghost use Rattle.crush_table.specs.Stands.{Stands};
+ghost use Rattle.crush_model.specs.Table.{Row};
+ghost use Rattle.crush_model.specs.Stands.{Stands};
 ghost use Rattle.crush_edits.specs.Setting.{SettingData};
 ghost use Rattle.crush_edits.specs.declared.edit.Edit.TheVariants.{ReweightSubtree};
 ghost use Rattle.crush_edits.specs.Edit.{edit, refusal};

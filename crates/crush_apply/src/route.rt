@@ -1,7 +1,7 @@
 //! The end of a location's route, and how items come to it.
 
 mod arrive;
-mod blaming;
+mod culprit;
 mod destination;
 mod new_buckets;
 mod put;
@@ -10,9 +10,9 @@ mod room;
 mod stops;
 
 pub(crate) use arrive::{place_device, place_item};
-pub(crate) use blaming::{bad_name, end_name, unknown_type};
 use crush_edits::Location;
 use crush_units::{DeviceId, Name, Weight};
+pub(crate) use culprit::{bad_name, end_name, unknown_type};
 pub(crate) use destination::{destination_of, is_held, is_loop};
 pub(crate) use new_buckets::empty_bucket;
 pub(crate) use refusals::{check_device, check_location};
@@ -20,7 +20,7 @@ use std::alloc::Global;
 
 /// A device that is to come, as an edit names it.
 #[derive(Clone, Copy)]
-pub(crate) struct Arrival<'a> {
+pub(crate) struct NewDevice<'a> {
     pub(crate) device: DeviceId,
     pub(crate) name: &'a Name<Global>,
     pub(crate) weight: Weight,

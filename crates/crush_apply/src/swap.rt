@@ -1,14 +1,15 @@
 //! Two buckets that exchange their items and names.
 
 ghost use Rattle.std.specs.Prelude.{◌≡◌, ◌≢◌, List, Some, IfOk, IfErr, Err};
-ghost use Rattle.crush_table.specs.Table.{Row};
-ghost use Rattle.crush_table.specs.Stands.{Stands};
+ghost use Rattle.crush_model.specs.Table.{Row};
+ghost use Rattle.crush_model.specs.Stands.{Stands};
 ghost use Rattle.crush_edits.specs.Setting.{SettingData};
 ghost use Rattle.crush_edits.specs.declared.edit.Edit.TheVariants.{Swap};
 ghost use Rattle.crush_edits.specs.Edit.{edit, refusal};
 ghost use Rattle.crush_apply.specs.Alone.{CanSwap};
-ghost use Rattle.crush_apply.specs.Answered.{AnswersAs};
+ghost use Rattle.crush_apply.specs.UndoLog.{AnswersLogged};
 
+use crate::undo_log::Undo;
 use crush_edits::{Done, EditFault, Refusal};
 use crush_hierarchy::Hierarchy;
 use crush_units::{BucketId, ItemId, Name};
@@ -53,16 +54,18 @@ pub(crate) fn swap<A: Allocator>(
     hierarchy: &mut Hierarchy<A>,
     a: &Name<Global>,
     b: &Name<Global>,
-) -> Result<Done, EditFault>
-    ensures answers { (s : SettingData) → AnswersAs (λ t. edit s t (Swap a.now b.now))
+) -> Result<(Done, Option<Undo<A>>), EditFault>
+    ensures answers { (s : SettingData) → AnswersLogged (λ t. edit s t (Swap a.now b.now))
         hierarchy.old hierarchy.new result }
     ensures memory { result ≢ Err EditFault.OutOfMemory }
 {
     hierarchy.recall_invariant();
     let (first, second) = check_swap(hierarchy, a, b)?;
-    hierarchy.swap(first, second, a.as_bytes(), b.as_bytes());
-    Ok(Done {
+    hierarchy.swap(first, second);
+    let done = Done {
         changed: true,
         made: 0,
-    })
+    };
+    let undo = Undo::Exchange { first, second };
+    Ok((done, Some(undo)))
 }

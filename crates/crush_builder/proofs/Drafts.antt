@@ -3,18 +3,18 @@ use Rattle.std.proofs.Common.{◌≡◌, ℕ, ◌<◌, ◌≤◌, false, List, [
 use Rattle.std.proofs.lemmas.List.Elements.{All-nil, All-weaker}
 use Rattle.crush_units.specs.declared.limits.TheConstants.{MOST_BUCKETS}
 use Rattle.crush_units.specs.declared.id.ItemId.TheVariants.{Bucket}
-use Rattle.crush_table.specs.Items.{ShadowData}
-use Rattle.crush_table.specs.Same.{Same}
-use Rattle.crush_table.specs.Lawful.{Lawful}
-use Rattle.crush_table.specs.Table.{Row, member, used_ids}
-use Rattle.crush_table.specs.Forest.{ForestData, rows_of, IsSound}
-use Rattle.crush_table.specs.Stands.{Stands}
+use Rattle.crush_model.specs.Items.{ShadowData}
+use Rattle.crush_model.specs.Same.{Same}
+use Rattle.crush_model.specs.Lawful.{Lawful}
+use Rattle.crush_model.specs.Table.{Row, member, used_ids}
+use Rattle.crush_model.specs.Forest.{ForestData, rows_of, IsSound}
+use Rattle.crush_model.specs.Stands.{Stands}
 use Rattle.crush_edits.specs.Setting.{SettingData}
 use Rattle.crush_edits.specs.Fits.{Fits, IsKind, IsTunable, IsRule, IsThere, HasKind}
-use Rattle.crush_table.proofs.Found.{is_named-same, is_there-same, parent_of-same}
-use Rattle.crush_table.proofs.Same.{Same-sym, bucket_count-same, used-same}
+use Rattle.crush_model.proofs.Found.{is_named-same, is_there-same, parent_of-same}
+use Rattle.crush_model.proofs.Same.{Same-sym, bucket_count-same, used-same}
 use Rattle.crush_edits.proofs.FitLaws.{Fits-same}
-use Rattle.crush_table.proofs.Stands.{stands_for_rows, same_stands}
+use Rattle.crush_model.proofs.Stands.{stands_for_rows, same_stands}
 use Rattle.crush_nodes.proofs.CopyLaws.{rows_of-copied}
 use Rattle.crush_tree.specs.Sameness.{IsSameForest}
 use Rattle.crush_builder.specs.Built.{Pending, nothing, begun, numbered, filling, Draft, empty_draft}

@@ -8,14 +8,14 @@ use Rattle.crush_units.specs.declared.id.ItemId.{ItemId}
 use Rattle.crush_units.specs.declared.id.ItemId.TheVariants.{Device, Bucket}
 use Rattle.crush_units.specs.Id.{same_id}
 use Rattle.crush_units.proofs.Ids.{same_id_tells}
-use Rattle.crush_table.specs.Count.{one_if}
-use Rattle.crush_table.specs.Same.{Same}
-use Rattle.crush_table.specs.Lawful.{Lawful}
-use Rattle.crush_table.specs.Table.{Row, is_bucket, row_of, parent_of, bucket_count, sum_below}
-use Rattle.crush_table.specs.Columns.{without_row}
-use Rattle.crush_table.proofs.Reorder.{reordered-count}
-use Rattle.crush_table.proofs.Weighs.{All-found}
-use Rattle.crush_table.proofs.Moved.{row_id}
+use Rattle.crush_model.specs.Count.{one_if}
+use Rattle.crush_model.specs.Same.{Same}
+use Rattle.crush_model.specs.Lawful.{Lawful}
+use Rattle.crush_model.specs.Table.{Row, is_bucket, row_of, parent_of, bucket_count, sum_below}
+use Rattle.crush_model.specs.Columns.{without_row}
+use Rattle.crush_model.proofs.Reorder.{reordered-count}
+use Rattle.crush_model.proofs.Weighs.{All-found}
+use Rattle.crush_model.proofs.Moved.{row_id}
 use Rattle.crush_map.specs.WrittenItems.{placed_row, adjustment}
 use Rattle.crush_builder.specs.Building.{held_buckets}
 

@@ -7,30 +7,30 @@ use Rattle.crush_units.specs.declared.id.ItemId.{ItemId}
 use Rattle.crush_units.specs.declared.id.ItemId.TheVariants.{Device, Bucket}
 use Rattle.crush_units.specs.Id.{same_id}
 use Rattle.crush_units.proofs.Ids.{same_id_refl, same_id_tells}
-use Rattle.crush_table.specs.Items.{Items, none, device, bucket}
-use Rattle.crush_table.specs.Law.{IsOne}
-use Rattle.crush_table.specs.Same.{Same}
-use Rattle.crush_table.specs.Lawful.{Lawful, IsRow, IsRowOf, is_too_heavy}
-use Rattle.crush_table.specs.Table.{Row, is_device, is_device_id, is_there, row_of, parent_of, is_placed, member, above, then_up}
-use Rattle.crush_table.specs.Columns.{is_under, is_part, table_without, part, as_root, without_row}
-use Rattle.crush_table.specs.Forest.{ForestData}
-use Rattle.crush_table.specs.ItemRows.{rows, device_row, bucket_row}
-use Rattle.crush_table.specs.Stands.{Stands}
-use Rattle.crush_table.specs.Stored.{weight_sum, StoresSums}
+use Rattle.crush_model.specs.Items.{Items, none, device, bucket}
+use Rattle.crush_model.specs.Law.{IsOne}
+use Rattle.crush_model.specs.Same.{Same}
+use Rattle.crush_model.specs.Lawful.{Lawful, IsRow, IsRowOf, is_too_heavy}
+use Rattle.crush_model.specs.Table.{Row, is_device, is_device_id, is_there, row_of, parent_of, is_placed, member, above, then_up}
+use Rattle.crush_model.specs.Columns.{is_under, is_part, table_without, part, as_root, without_row}
+use Rattle.crush_model.specs.Forest.{ForestData}
+use Rattle.crush_model.specs.ItemRows.{rows, device_row, bucket_row}
+use Rattle.crush_model.specs.Stands.{Stands}
+use Rattle.crush_model.specs.Stored.{weight_sum, StoresSums}
 use Rattle.crush_edits.specs.Setting.{SettingData}
 use Rattle.crush_edits.specs.Fits.{Fits, HasKind, IsThere}
-use Rattle.crush_table.proofs.Reorder.{reordered-sym, reordered-All, reordered-count}
-use Rattle.crush_table.specs.Count.{one_if}
-use Rattle.crush_table.proofs.Found.{times, times-cons, Distinct, Distinct-same, is_there-times, times-is_there}
-use Rattle.crush_table.proofs.Same.{Same-sym, Lawful-same, is_too_heavy-same}
-use Rattle.crush_table.proofs.Stands.{same_stands}
-use Rattle.crush_table.proofs.Kept.{is_there-map, Distinct-map}
-use Rattle.crush_table.proofs.Climbs.{above-parent}
-use Rattle.crush_table.proofs.Weighs.{All-found}
-use Rattle.crush_table.proofs.Removed.{row_of-only, Lawful-only}
-use Rattle.crush_table.proofs.Appended.{row_of-append}
-use Rattle.crush_table.proofs.Moved.{at_parent, place, placed_last, row_id, Lawful-moved}
-use Rattle.crush_table.proofs.Relocated.{under_parent, relocate, relocate_device}
+use Rattle.crush_model.proofs.Reorder.{reordered-sym, reordered-All, reordered-count}
+use Rattle.crush_model.specs.Count.{one_if}
+use Rattle.crush_model.proofs.Found.{times, times-cons, Distinct, Distinct-same, is_there-times, times-is_there}
+use Rattle.crush_model.proofs.Same.{Same-sym, Lawful-same, is_too_heavy-same}
+use Rattle.crush_model.proofs.Stands.{same_stands}
+use Rattle.crush_model.proofs.Kept.{is_there-map, Distinct-map}
+use Rattle.crush_model.proofs.Climbs.{above-parent}
+use Rattle.crush_model.proofs.Weighs.{All-found}
+use Rattle.crush_model.proofs.Removed.{row_of-only, Lawful-only}
+use Rattle.crush_model.proofs.Appended.{row_of-append}
+use Rattle.crush_model.proofs.Moved.{at_parent, place, placed_last, row_id, Lawful-moved}
+use Rattle.crush_model.proofs.Relocated.{under_parent, relocate, relocate_device}
 use Rattle.crush_nodes.specs.Ops.{StoresUpTo}
 use Rattle.crush_nodes.proofs.RowLaws.{StoresUpTo-lawful}
 use Rattle.crush_builder.specs.Pending.{with_first_weight}

@@ -6,22 +6,22 @@ use Rattle.crush_units.specs.declared.limits.TheConstants.{HEAVIEST_DEVICE}
 use Rattle.crush_units.specs.declared.id.ItemId.{ItemId}
 use Rattle.crush_units.specs.declared.id.ItemId.TheVariants.{Device, Bucket}
 use Rattle.crush_units.specs.Id.{same_id}
-use Rattle.crush_table.specs.Items.{Items}
-use Rattle.crush_table.specs.Law.{IsOne}
-use Rattle.crush_table.specs.Same.{Same}
-use Rattle.crush_table.specs.Lawful.{Lawful, is_too_heavy}
-use Rattle.crush_table.specs.Table.{Row, is_there, is_placed, is_device_id, sum_below}
-use Rattle.crush_table.specs.Columns.{table_without, part, is_part}
-use Rattle.crush_table.specs.Forest.{ForestData, all_items, rows_of, IsSound}
-use Rattle.crush_table.specs.ItemRows.{rows}
-use Rattle.crush_table.specs.Stands.{Stands}
-use Rattle.crush_table.specs.Stored.{weight_sum, StoresSums}
-use Rattle.crush_table.proofs.Stands.{stands_for_rows}
+use Rattle.crush_model.specs.Items.{Items}
+use Rattle.crush_model.specs.Law.{IsOne}
+use Rattle.crush_model.specs.Same.{Same}
+use Rattle.crush_model.specs.Lawful.{Lawful, is_too_heavy}
+use Rattle.crush_model.specs.Table.{Row, is_there, is_placed, is_device_id, sum_below}
+use Rattle.crush_model.specs.Columns.{table_without, part, is_part}
+use Rattle.crush_model.specs.Forest.{ForestData, all_items, rows_of, IsSound}
+use Rattle.crush_model.specs.ItemRows.{rows}
+use Rattle.crush_model.specs.Stands.{Stands}
+use Rattle.crush_model.specs.Stored.{weight_sum, StoresSums}
+use Rattle.crush_model.proofs.Stands.{stands_for_rows}
 use Rattle.crush_tree.proofs.PartLemmas.{part_one, part_rows, part_sums}
 use Rattle.crush_nodes.specs.Ops.{CanCome, part_of}
 use Rattle.crush_nodes.specs.declared.place.Place.TheVariants.{Bucket as AtBucket}
-use Rattle.crush_table.proofs.Reorder.{reordered-sym}
-use Rattle.crush_table.proofs.Found.{Distinct, Distinct-same}
+use Rattle.crush_model.proofs.Reorder.{reordered-sym}
+use Rattle.crush_model.proofs.Found.{Distinct, Distinct-same}
 use Rattle.crush_builder.specs.declared.fault.BuildFault.{BuildFault}
 use Rattle.crush_builder.specs.declared.fault.BuildFault.TheVariants.{BadWeight, UnknownItem, SecondParent, SumTooLarge}
 use Rattle.crush_builder.specs.Faults.{is_heavy_device, is_closed, item_fault}

@@ -11,11 +11,11 @@ use Rattle.std.specs.List.{count_by, list_any}
 use Rattle.std.specs.Option.{option_map, option_copied}
 use denote.Ref.{Bor}
 use Rattle.crush_units.specs.declared.limits.TheConstants.{MOST_TYPES}
-use Rattle.crush_table.specs.Table.{Row}
+use Rattle.crush_model.specs.Table.{Row}
 use Rattle.crush_edits.specs.Setting.{KindData, StepData, take, choose, set, emit, RuleData, SettingData, kind_number, kind_name}
 use Rattle.crush_edits.specs.Fits.{IsKind, IsStep, IsRule, Fits, HasKind}
-use Rattle.crush_table.specs.Count.{one_if}
-use Rattle.crush_table.proofs.Weighs.{true_or_false}
+use Rattle.crush_model.specs.Count.{one_if}
+use Rattle.crush_model.proofs.Weighs.{true_or_false}
 use Rattle.crush_builder.specs.Built.{Draft, nothing, with_kind}
 use Rattle.crush_builder.specs.Building.{BuilderData, IsDraft, IsPending, has_kind_number, has_kind_name, is_full_of_kinds}
 

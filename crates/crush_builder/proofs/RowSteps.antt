@@ -15,17 +15,17 @@ use Rattle.crush_units.specs.declared.id.ItemId.TheVariants.{Device, Bucket}
 use Rattle.crush_units.specs.declared.alg.Alg.{Alg}
 use Rattle.crush_units.specs.Name.{IsName}
 use Rattle.crush_units.proofs.Ids.{same_id_refl}
-use Rattle.crush_table.specs.Items.{ShadowData}
-use Rattle.crush_table.specs.Table.{Row, member, used_ids, is_device, is_bucket, is_there, is_named, row_of, device_count, bucket_count}
-use Rattle.crush_table.specs.Lawful.{Lawful, IsShadowId, has_too_many}
-use Rattle.crush_table.specs.Forest.{ForestData, rows_of}
-use Rattle.crush_table.specs.ItemRows.{device_row, bucket_row}
-use Rattle.crush_table.specs.Stands.{Stands}
+use Rattle.crush_model.specs.Items.{ShadowData}
+use Rattle.crush_model.specs.Table.{Row, member, used_ids, is_device, is_bucket, is_there, is_named, row_of, device_count, bucket_count}
+use Rattle.crush_model.specs.Lawful.{Lawful, IsShadowId, has_too_many}
+use Rattle.crush_model.specs.Forest.{ForestData, rows_of}
+use Rattle.crush_model.specs.ItemRows.{device_row, bucket_row}
+use Rattle.crush_model.specs.Stands.{Stands}
 use Rattle.crush_edits.specs.Setting.{KindData, SettingData, kind_number}
-use Rattle.crush_table.specs.Count.{one_if}
-use Rattle.crush_table.proofs.Same.{times_used}
-use Rattle.crush_table.proofs.Weighs.{or_left, or_right}
-use Rattle.crush_table.proofs.Appended.{row_of-append, unused_times, unused_fresh, Lawful-push, Lawful-push_device}
+use Rattle.crush_model.specs.Count.{one_if}
+use Rattle.crush_model.proofs.Same.{times_used}
+use Rattle.crush_model.proofs.Weighs.{or_left, or_right}
+use Rattle.crush_model.proofs.Appended.{row_of-append, unused_times, unused_fresh, Lawful-push, Lawful-push_device}
 use Rattle.crush_builder.proofs.KindSteps.{count_one_more, less}
 use Rattle.crush_builder.proofs.Held.{held-push}
 use Rattle.crush_edits.proofs.FitLaws.{Fits-push}

@@ -10,7 +10,7 @@ use Rattle.std.specs.List.{list_any}
 use Rattle.crush_units.specs.declared.limits.TheConstants.{MOST_RULES, MOST_STEPS}
 use Rattle.crush_units.specs.declared.id.ItemId.{ItemId}
 use Rattle.crush_units.specs.declared.id.ItemId.TheVariants.{Device, Bucket}
-use Rattle.crush_table.specs.Table.{id_named}
+use Rattle.crush_model.specs.Table.{id_named}
 use Rattle.crush_edits.specs.Setting.{StepData, take, choose, set, emit, RuleData, SettingData, kind_number, bucket_taken}
 use Rattle.crush_edits.specs.SettingSeen.{rule_data}
 use Rattle.crush_edits.specs.Stops.{number_of}

@@ -5,7 +5,7 @@ use Rattle.std.proofs.lemmas.List.Elements.{All-push, All-weaker}
 use Rattle.std.specs.Prelude.{nat_le, bytes_eq}
 use Rattle.std.specs.List.{list_any}
 use Rattle.crush_units.specs.declared.limits.TheConstants.{MOST_TUNABLES}
-use Rattle.crush_table.specs.Table.{Row}
+use Rattle.crush_model.specs.Table.{Row}
 use Rattle.crush_edits.specs.Setting.{TunableData, StepData, take, choose, set, emit, RuleData, SettingData, has_tunable}
 use Rattle.crush_edits.specs.Fits.{IsTunable, IsStep, IsRule, Fits}
 use Rattle.crush_builder.specs.Built.{Draft, nothing, with_tunable}

@@ -6,11 +6,11 @@ use Rattle.crush_units.specs.declared.id.ItemId.{ItemId}
 use Rattle.crush_units.specs.declared.id.ItemId.TheVariants.{Bucket}
 use Rattle.crush_units.specs.Id.{same_id}
 use Rattle.crush_units.specs.Name.{IsName}
-use Rattle.crush_table.specs.Items.{ShadowData}
-use Rattle.crush_table.specs.Table.{Row, is_bucket, is_there, is_named, parent_of, id_named, used_ids, member, device_count, bucket_count}
-use Rattle.crush_table.specs.Lawful.{IsShadowId}
-use Rattle.crush_table.specs.Forest.{ForestData, rows_of}
-use Rattle.crush_table.specs.Stands.{Stands}
+use Rattle.crush_model.specs.Items.{ShadowData}
+use Rattle.crush_model.specs.Table.{Row, is_bucket, is_there, is_named, parent_of, id_named, used_ids, member, device_count, bucket_count}
+use Rattle.crush_model.specs.Lawful.{IsShadowId}
+use Rattle.crush_model.specs.Forest.{ForestData, rows_of}
+use Rattle.crush_model.specs.Stands.{Stands}
 use Rattle.crush_edits.specs.Setting.{KindData, SettingData, kind_number}
 use Rattle.crush_edits.specs.Fits.{Fits}
 use Rattle.crush_builder.specs.Built.{Pending, nothing, begun, numbered, filling, Draft}

@@ -2,9 +2,9 @@
 use Rattle.std.specs.Prelude.{ℕ, ◌+◌, List, [], ◌∷◌, ◌++◌, Option, None}
 use Rattle.crush_units.specs.declared.id.ItemId.{ItemId}
 use Rattle.crush_units.specs.declared.alg.Alg.{Alg}
-use Rattle.crush_table.specs.Items.{ShadowData}
-use Rattle.crush_table.specs.Table.{Row}
-use Rattle.crush_table.specs.ItemRows.{device_row, bucket_row}
+use Rattle.crush_model.specs.Items.{ShadowData}
+use Rattle.crush_model.specs.Table.{Row}
+use Rattle.crush_model.specs.ItemRows.{device_row, bucket_row}
 use Rattle.crush_edits.specs.Setting.{RuleData, SettingData}
 use Rattle.crush_map.specs.WrittenItems.{put_below, weight_or_one, adjustment}
 

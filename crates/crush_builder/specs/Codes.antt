@@ -1,9 +1,9 @@
 -- Pending parts and builders as values of one plain type, from which each can be told again.
 use Rattle.std.specs.Prelude.{◌≡◌, ℕ, List, [], ◌==◌, if◌then◌else◌, refl}
 use Rattle.std.specs.Coded.{Coded, code_by, coded×, coded_ℕ, coded_list}
-use Rattle.crush_table.specs.Items.{ShadowData}
-use Rattle.crush_table.specs.Forest.{ForestData}
-use Rattle.crush_table.specs.Codes.{coded_shadow, coded_forest}
+use Rattle.crush_model.specs.Items.{ShadowData}
+use Rattle.crush_model.specs.Forest.{ForestData}
+use Rattle.crush_model.specs.Codes.{coded_shadow, coded_forest}
 use Rattle.crush_edits.specs.Setting.{SettingData}
 use Rattle.crush_edits.specs.Codes.{coded_setting}
 use Rattle.crush_builder.specs.Built.{Pending, nothing, begun, numbered, filling}

@@ -2,8 +2,8 @@
 use Rattle.std.specs.Prelude.{ℕ, List, [], ◌∷◌, Option, Some, None, Bool, false, not, ◌&&◌, if◌then◌else◌, nat_lt}
 use Rattle.crush_units.specs.declared.id.ItemId.{ItemId}
 use Rattle.crush_units.specs.declared.id.ItemId.TheVariants.{Device}
-use Rattle.crush_table.specs.Table.{is_there, is_placed, is_device_id}
-use Rattle.crush_table.specs.Lawful.{is_too_heavy}
+use Rattle.crush_model.specs.Table.{is_there, is_placed, is_device_id}
+use Rattle.crush_model.specs.Lawful.{is_too_heavy}
 use Rattle.crush_builder.specs.declared.fault.BuildFault.{BuildFault}
 use Rattle.crush_builder.specs.declared.fault.BuildFault.TheVariants.{BadWeight, DuplicateId, DuplicateName, UnknownType, UnknownItem, SecondParent, UnknownBucketInRule, TooMany, SumTooLarge, OutOfMemory}
 use Rattle.crush_edits.specs.Setting.{has_tunable}

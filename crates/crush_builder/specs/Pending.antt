@@ -1,7 +1,7 @@
 -- How contracts see what a builder has of a statement.
 pub use Rattle.crush_hierarchy.specs.Given.{with_first_weight}
 use Rattle.std.specs.Prelude.{List, [], Option, Some, None, Vec, map}
-use Rattle.crush_table.specs.Items.{ShadowData}
+use Rattle.crush_model.specs.Items.{ShadowData}
 use Rattle.crush_nodes.specs.declared.node.ShadowId.{ShadowId}
 use Rattle.crush_nodes.specs.Seen.{shadow_data}
 use Rattle.crush_builder.specs.declared.builder.Pending.{Pending as BuilderPart}

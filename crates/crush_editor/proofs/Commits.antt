@@ -3,19 +3,19 @@ use Rattle.std.proofs.Common.{◌≡◌, ◌≢◌, ℕ, ◌+◌, ◌<◌, ◌�
 use Rattle.std.specs.Prelude.{if◌then◌else◌, IfSome}
 use Rattle.std.proofs.lemmas.List.Elements.{All-push, All-nil}
 use Rattle.crush_units.specs.declared.limits.TheConstants.{MOST_ENTRIES, MOST_OPERATORS}
-use Rattle.crush_table.specs.Table.{Row, total}
-use Rattle.crush_table.specs.Forest.{IsSound, rows_of}
-use Rattle.crush_table.specs.Stands.{Stands}
-use Rattle.crush_table.proofs.Stands.{stands_for_rows}
+use Rattle.crush_model.specs.Table.{Row, total}
+use Rattle.crush_model.specs.Forest.{IsSound, rows_of}
+use Rattle.crush_model.specs.Stands.{Stands}
+use Rattle.crush_model.proofs.Stands.{stands_for_rows}
 use Rattle.crush_tree.specs.Sameness.{IsSameForest}
 use Rattle.crush_edits.specs.Setting.{SettingData}
 use Rattle.crush_map.specs.MapData.{MapData, MapStands}
-use Rattle.crush_calls.specs.declared.call.Call.{Call}
-use Rattle.crush_calls.specs.declared.call.Reply.{Reply}
-use Rattle.crush_calls.specs.History.{EntryData, call_outcome, counted_after, table_after, IsLegalBehind, IsLegal, is_change, change_of, changes}
-use Rattle.crush_calls.specs.Turns.{Makes}
-use Rattle.crush_calls.proofs.Histories.{table_after-push, IsLegal-push}
-use Rattle.crush_calls.proofs.EntryLines.{changes-push}
+use Rattle.crush_history.specs.declared.call.Call.{Call}
+use Rattle.crush_history.specs.declared.call.Reply.{Reply}
+use Rattle.crush_history.specs.History.{EntryData, call_outcome, counted_after, table_after, IsLegalBehind, IsLegal, is_change, change_of, changes}
+use Rattle.crush_history.specs.Turns.{Makes}
+use Rattle.crush_history.proofs.Histories.{table_after-push, IsLegal-push}
+use Rattle.crush_history.proofs.EntryLines.{changes-push}
 use Rattle.crush_gauge.specs.declared.limits.TheConstants.{MOST_CHANGES}
 use Rattle.crush_gauge.specs.declared.view.View.{View}
 use Rattle.crush_gauge.specs.declared.view.View.TheVariants.{Book}
@@ -74,7 +74,7 @@ module _ (p : Option MapData) (o m n : MapData) (h : List EntryData) (c : ℕ) (
       let u : List Row = table_from o (h ++ e ∷ []) in
       let is : w ≡ total u = weighs u stands_push.forest in
       let light = stands_push.forest.lawful.total in
-      subst (λ (x : View MapData EntryData). Follows IsLegalFrom (λ _. changes) weight_from x (e ∷ []) (c + change_of r) w) (sym kept.shown)
+      subst (λ (x : View MapData EntryData). Follows IsLegalFrom (λ _. changes) weight_from x (e ∷ []) (c + change_of r) w) (sym kept.snapshot)
       ((legal_push, few, omega arith), changes_push, sym is)
 
   kept_more : k < MOST_OPERATORS → length h ≢ MOST_ENTRIES → IsKept p o n (h ++ e ∷ []) (c + change_of r) (grown (e ∷ []) v)
@@ -87,12 +87,12 @@ module _ (p : Option MapData) (o m n : MapData) (h : List EntryData) (c : ℕ) (
     operators = All-push (λ (x : EntryData). x.operator < MOST_OPERATORS) h e kept.operators below;
     room = let l = length-append h (e ∷ []) in let w = kept.room in omega arith;
     counted = sym changes_push;
-    shown = ap (grown (e ∷ [])) kept.shown;
+    snapshot = ap (grown (e ∷ [])) kept.snapshot;
   }
 
   pub kept_push : k < MOST_OPERATORS → length h ≢ MOST_ENTRIES → IsKept p (opening_of (grown (e ∷ []) v)) n (h ++ e ∷ []) (c + change_of r) (grown (e ∷ []) v)
   kept_push below room =
-      let is : opening_of (grown (e ∷ []) v) ≡ o = ap (λ (x : View MapData EntryData). opening_of (grown (e ∷ []) x)) kept.shown in
+      let is : opening_of (grown (e ∷ []) v) ≡ o = ap (λ (x : View MapData EntryData). opening_of (grown (e ∷ []) x)) kept.snapshot in
       subst (λ (x : MapData). IsKept p x n (h ++ e ∷ []) (c + change_of r) (grown (e ∷ []) v)) (sym is) (kept_more below room)
 
 -- without an entry
@@ -144,12 +144,12 @@ first_kept p o m sound parted =
       operators = All-nil (λ (e : EntryData). e.operator < MOST_OPERATORS);
       room = omega arith;
       counted = no_changes;
-      shown = refl;
+      snapshot = refl;
     }
 
 pub kept_new : (p : Option MapData) (o m : MapData) (h : List EntryData) (v : View MapData EntryData) → IsSound o.forest → IsParted p m o → h ≡ [] → v ≡ Book (known o []) → IsKept p (opening_of v) m h 0 v
-kept_new p o m h v sound parted none shown =
-    subst (λ (x : List EntryData × View MapData EntryData). IsKept p (opening_of x.1) m x.0 0 x.1) (λ i. (sym none i, sym shown i)) (first_kept p o m sound parted)
+kept_new p o m h v sound parted none snapshot =
+    subst (λ (x : List EntryData × View MapData EntryData). IsKept p (opening_of x.1) m x.0 0 x.1) (λ i. (sym none i, sym snapshot i)) (first_kept p o m sound parted)
 
 -- a copy of an opening
 pub copied : (o m : MapData) → m.setting ≡ o.setting → IsSameForest m.forest o.forest → ((t : List Row) → Stands o.forest t → Stands m.forest t) → IsParted (Some o) m o

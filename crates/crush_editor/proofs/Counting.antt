@@ -2,7 +2,7 @@
 use Rattle.std.proofs.Common.{◌≡◌, ◌⊎◌, ℕ, zero, suc, ◌+◌, ◌<◌, ◌≤◌, List, [], ◌∷◌, ◌++◌, length, map, filter, Bool, true, false, cond, nat_eq, refl, sym, ap, ◌∙◌, subst, inl, inr, ⊎_elim, arith, eq-eqb, ne_eqb}
 use mathlib.Core.Logic.{dite}
 use native.Mathlib.Decide.{ℕ_discrete}
-use Rattle.crush_calls.specs.History.{EntryData, AnsweredData, of_operator}
+use Rattle.crush_history.specs.History.{EntryData, AnsweredData, of_operator}
 use Rattle.crush_editor.specs.History.{slip}
 use Rattle.crush_editor.specs.Seat.{IsSubsequence}
 

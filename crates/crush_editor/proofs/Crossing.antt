@@ -27,11 +27,11 @@ use Rattle.crush_nodes.specs.contracts.node.Leaf as Leaf
 use Rattle.crush_nodes.specs.contracts.node.Bucket as Bucket
 use Rattle.crush_nodes.specs.contracts.node.Node as Node
 use Rattle.crush_nodes.proofs.node.Bucket.TheLaws.TheKnot.{send-Bucket, send-Node}
-use Rattle.crush_calls.specs.contracts.entry.Entry as Entry
+use Rattle.crush_history.specs.contracts.entry.Entry as Entry
 use Rattle.crush_map.specs.contracts.map.CrushMap as CrushMap
 use Rattle.crush_gauge.specs.contracts.seat.BookSeat as BookSeat
 use Rattle.atomic_table.proofs.shared.Seat.TheSendSync.{the_send as table_seat_send}
-use Rattle.crush_calls.proofs.entry.Entry.TheSendSync.{the_send as entry_send}
+use Rattle.crush_history.proofs.entry.Entry.TheSendSync.{the_send as entry_send}
 use Rattle.crush_editor.specs.contracts.book.Book as Book
 use Rattle.crush_editor.specs.contracts.locked.Locked as Locked
 use Rattle.crush_editor.specs.contracts.locked.Locked.TheInside as LockedInside

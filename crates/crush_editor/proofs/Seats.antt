@@ -1,17 +1,17 @@
 -- What a seat knows after a call.
 use Rattle.std.proofs.Common.{◌≡◌, ℕ, ◌+◌, ◌≤◌, ◌==◌, Bool, true, false, Option, Some, None, List, [], ◌∷◌, ◌++◌, refl, sym, ap, ◌∙◌, subst, arith, eqb-true}
-use Rattle.crush_table.specs.Table.{Row}
-use Rattle.crush_table.specs.Forest.{rows_of}
+use Rattle.crush_model.specs.Table.{Row}
+use Rattle.crush_model.specs.Forest.{rows_of}
 use mathlib.Core.List.{IsPrefix}
-use Rattle.crush_calls.specs.declared.call.Call.{Call}
-use Rattle.crush_calls.specs.declared.call.Call.TheVariants.{One, Batch, Guarded}
-use Rattle.crush_calls.specs.declared.call.Reply.{Reply}
-use Rattle.crush_calls.specs.declared.call.Reply.TheVariants.{Stale}
-use Rattle.crush_calls.proofs.Histories.{IsLegal-front, last_told}
-use Rattle.crush_calls.proofs.EntryLines.{changes-push}
-use Rattle.crush_calls.proofs.Unchanged.{same_count_same_table, stale_tells}
+use Rattle.crush_history.specs.declared.call.Call.{Call}
+use Rattle.crush_history.specs.declared.call.Call.TheVariants.{One, Batch, Guarded}
+use Rattle.crush_history.specs.declared.call.Reply.{Reply}
+use Rattle.crush_history.specs.declared.call.Reply.TheVariants.{Stale}
+use Rattle.crush_history.proofs.Histories.{IsLegal-front, last_told}
+use Rattle.crush_history.proofs.EntryLines.{changes-push}
+use Rattle.crush_history.proofs.Unchanged.{same_count_same_table, stale_tells}
 use Rattle.crush_edits.specs.Batch.{BatchAnswer, batch}
-use Rattle.crush_calls.specs.History.{EntryData, AnsweredData, of_operator, changes, change_of, guarded_outcome, call_outcome, table_after, IsLegal}
+use Rattle.crush_history.specs.History.{EntryData, AnsweredData, of_operator, changes, change_of, guarded_outcome, call_outcome, table_after, IsLegal}
 use Rattle.crush_map.specs.MapData.{MapData}
 use Rattle.crush_editor.specs.History.{entry, slip, IsLegalFrom, table_from, weight_from}
 use Rattle.crush_editor.specs.Book.{BookData}

@@ -9,18 +9,18 @@ use Rattle.std.specs.contracts.alloc.Global as Global
 use Rattle.std.specs.contracts.impls.GlobalAllocator.TheImpl as GlobalImpl
 use Rattle.std.specs.contracts.sync.Mutex as Mutex
 use Rattle.crush_gauge.proofs.gauge.Gauge.TheSendSync.{the_sync as any_gauge_sync}
-use Rattle.crush_calls.specs.contracts.entry.Entry as Entry
+use Rattle.crush_history.specs.contracts.entry.Entry as Entry
 use Rattle.crush_map.specs.contracts.map.CrushMap as CrushMap
 use Rattle.crush_gauge.specs.contracts.gauge.Gauge as Gauge
 use Rattle.crush_editor.specs.contracts.law.OfMap as OfMap
 use Rattle.crush_editor.specs.contracts.law.OfMapLawCrushMapGlobalEntry.TheImpl as OfMapImpl
 use Rattle.crush_editor.specs.contracts.locked.Locked as Locked
 use Rattle.crush_editor.specs.contracts.editor.Editor as Editor
-use Rattle.crush_editor.specs.contracts.dial.Dial as Dial
-use Rattle.crush_editor.specs.contracts.door.Door as Door
+use Rattle.crush_editor.specs.contracts.lock_free_reader.LockFreeReader as LockFreeReader
+use Rattle.crush_editor.specs.contracts.state_lock.StateLock as StateLock
 use Rattle.crush_editor.specs.declared.locked.Desk as Desk
 use Rattle.crush_editor.specs.declared.opening.Opening as Opening
-use Rattle.crush_editor.specs.contracts.opening.Unkept as Unkept
+use Rattle.crush_editor.specs.contracts.opening.WithoutSnapshot as WithoutSnapshot
 use Rattle.crush_editor.proofs.Crossing.{locked_send, map_sent}
 
 gauge_sync : IsSync (as_row (Gauge.the_field (CrushMap.the_row Global.the_row GlobalImpl.ghosts) Entry.the_row OfMap.the_row OfMapImpl.ghosts))
@@ -33,22 +33,22 @@ module _ (N O : RattleType) (g : Desk.Ghosts N.Denot) (g' : Ledger.Ghosts N.Deno
   desk_sync : IsSync (as_row (Mutex.the_field (Locked.the_row N O g g' o)))
   desk_sync = search (locked, sendable, crosses) depth 20
 
-  dial_sync : IsSync (Dial.the_row N g g')
-  dial_sync = declared_sync (Dial.the_type N g g') (gauge_sync, (search (sendable, crosses) depth 10, tt))
+  dial_sync : IsSync (LockFreeReader.the_row N g g')
+  dial_sync = declared_sync (LockFreeReader.the_type N g g') (gauge_sync, (search (sendable, crosses) depth 10, tt))
 
-  door_sync : IsSync (Door.the_row N O g g' o)
-  door_sync = declared_sync (Door.the_type N O g g' o) (desk_sync, tt)
+  door_sync : IsSync (StateLock.the_row N O g g' o)
+  door_sync = declared_sync (StateLock.the_type N O g g' o) (desk_sync, tt)
 
-  dial_field : IsSync (as_row (Dial.the_field N g g'))
+  dial_field : IsSync (as_row (LockFreeReader.the_field N g g'))
   dial_field = search (dial_sync, sendable, crosses) depth 20
 
-  door_field : IsSync (as_row (Door.the_field N O g g' o))
+  door_field : IsSync (as_row (StateLock.the_field N O g g' o))
   door_field = search (door_sync, sendable, crosses) depth 20
 
   any_editor_sync : IsSync (Editor.the_row N O g g' o)
   any_editor_sync = declared_sync (Editor.the_type N O g g' o) (dial_field, (door_field, tt))
 
-unkept_sent : IsSend Unkept.the_row
+unkept_sent : IsSend WithoutSnapshot.the_row
 unkept_sent = search (sendable, crosses) depth 10
 
 -- with its opening, and without
@@ -56,5 +56,5 @@ module _ (N : RattleType) (g : Desk.Ghosts N.Denot) (g' : Ledger.Ghosts N.Denot)
   pub editor_sync : (o : Opening.Ghosts (CrushMap.the_row Global.the_row GlobalImpl.ghosts).Denot) → IsSync (Editor.the_row N (CrushMap.the_row Global.the_row GlobalImpl.ghosts) g g' o)
   editor_sync o = any_editor_sync N (CrushMap.the_row Global.the_row GlobalImpl.ghosts) g g' o map_sent
 
-  pub unkept_editor_sync : (o : Opening.Ghosts Unkept.the_row.Denot) → IsSync (Editor.the_row N Unkept.the_row g g' o)
-  unkept_editor_sync o = any_editor_sync N Unkept.the_row g g' o unkept_sent
+  pub unkept_editor_sync : (o : Opening.Ghosts WithoutSnapshot.the_row.Denot) → IsSync (Editor.the_row N WithoutSnapshot.the_row g g' o)
+  unkept_editor_sync o = any_editor_sync N WithoutSnapshot.the_row g g' o unkept_sent

@@ -3,11 +3,11 @@ use Rattle.std.specs.Prelude.{ℕ, ◌≡◌, ◌<◌, ◌≤◌, Option, Some, 
 use Rattle.std.specs.List.{All}
 use Rattle.crush_units.specs.declared.limits.TheConstants.{MOST_ENTRIES, MOST_OPERATORS}
 use Rattle.atomic_table.specs.Seated.{TableId}
-use Rattle.crush_table.specs.Items.{none}
-use Rattle.crush_table.specs.Table.{Row}
+use Rattle.crush_model.specs.Items.{none}
+use Rattle.crush_model.specs.Table.{Row}
 use Rattle.crush_edits.specs.Setting.{SettingData}
 use Rattle.crush_map.specs.MapData.{MapData, MapStands}
-use Rattle.crush_calls.specs.History.{EntryData, changes, table_after, IsLegal}
+use Rattle.crush_history.specs.History.{EntryData, changes, table_after, IsLegal}
 use Rattle.crush_tree.specs.Sameness.{IsSameForest}
 use Rattle.crush_gauge.specs.declared.view.View.{View}
 use Rattle.crush_gauge.specs.declared.view.View.TheVariants.{Fresh, Spent, Book, Reader}
@@ -75,4 +75,4 @@ pub record IsKept (kept : Option MapData) (o m : MapData) (h : List EntryData) (
   pub operators : All (λ (e : EntryData). e.operator < MOST_OPERATORS) h
   pub room : length h ≤ MOST_ENTRIES
   pub counted : count ≡ changes h
-  pub shown : view ≡ Book (known o h)
+  pub snapshot : view ≡ Book (known o h)

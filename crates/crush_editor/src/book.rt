@@ -4,8 +4,8 @@ ghost use Rattle.std.specs.List.{All};
 ghost use Rattle.std.specs.Prelude.{◌≡◌, ◌<◌, ◌≤◌, ◌++◌, ◌∷◌, [], length, IfOk, IfErr, IfSome, OnOk, OnErr};
 ghost use mathlib.Core.Logic.{◌↔◌};
 ghost use Rattle.crush_units.specs.declared.limits.TheConstants.{MOST_ENTRIES, MOST_OPERATORS};
-ghost use Rattle.crush_calls.specs.History.{EntryData, change_of, changes};
-ghost use Rattle.crush_calls.specs.Turns.{Makes};
+ghost use Rattle.crush_history.specs.History.{EntryData, change_of, changes};
+ghost use Rattle.crush_history.specs.Turns.{Makes};
 ghost use Rattle.crush_gauge.specs.declared.view.View.TheVariants.{Book as BookSees};
 ghost use Rattle.crush_gauge.specs.Rule.{known, Follows, grown};
 ghost use Rattle.crush_gauge.specs.Held.{held};
@@ -15,8 +15,8 @@ ghost use Rattle.crush_editor.specs.Seat.{seen_of, reads};
 ghost use mathlib.Core.List.{IsPrefix};
 
 use crate::law::{MapBookSeat, MapGauge, MapNote, Reader};
-use crate::opening::{Opening, Unkept};
-use crush_calls::{Call, Entry, Reply, is_change, make_call};
+use crate::opening::{Opening, WithoutSnapshot};
+use crush_history::{Call, Entry, Reply, is_change, make_call};
 use crush_map::CrushMap;
 use crush_units::limits::MOST_ENTRIES;
 use std::alloc::{Allocator, Global};
@@ -85,13 +85,13 @@ impl<A: Allocator + Clone> Book<A> {
     }
 }
 
-impl<A: Allocator> Book<A, Unkept> {
+impl<A: Allocator> Book<A, WithoutSnapshot> {
     /// [`Book::new`] without a copy of the map.
     pub(crate) fn without_opening(
         map: CrushMap<A>,
         seat: MapBookSeat,
         alloc: Global,
-    ) -> Book<A, Unkept>
+    ) -> Book<A, WithoutSnapshot>
         requires { seat.view ≡ BookSees (known map []) }
         ensures opening { result.opening ≡ map }
         ensures map { result.map ≡ map }
@@ -101,7 +101,7 @@ impl<A: Allocator> Book<A, Unkept> {
         map.forest().recall_invariant();
         let changes = 0;
         Book {
-            opening: Unkept,
+            opening: WithoutSnapshot,
             map,
             history: Vec::new(alloc),
             changes,
@@ -114,7 +114,7 @@ impl<A: Allocator> Book<A, Unkept> {
         ensures { result ≡ self.opening }
     {
         let Book {
-            opening: Unkept,
+            opening: WithoutSnapshot,
             map,
             history: _,
             changes: _,
@@ -203,7 +203,7 @@ impl<A: Allocator + Clone, O: Opening> Book<A, O> {
         Ok(reply)
     }
 
-    pub(crate) fn meet(&mut self, gauge: &MapGauge, note: MapNote)
+    pub(crate) fn absorb(&mut self, gauge: &MapGauge, note: MapNote)
         requires gauge { self.old.table ≡ gauge.now.table.shared.table_id }
         requires note { (note.table ≡ self.old.table)
             × (note.view ≡ reads self.old.opening (seen_of note.view)) }
@@ -213,7 +213,7 @@ impl<A: Allocator + Clone, O: Opening> Book<A, O> {
         gauge.learn(&mut self.seat, note);
     }
 
-    pub(crate) fn shown(&mut self, gauge: &MapGauge) -> MapNote
+    pub(crate) fn snapshot(&mut self, gauge: &MapGauge) -> MapNote
         requires { self.old.table ≡ gauge.now.table.shared.table_id }
         ensures book { self.new ≡ self.old }
         ensures legal { IsLegalFrom self.old.opening self.old.history }
@@ -222,7 +222,7 @@ impl<A: Allocator + Clone, O: Opening> Book<A, O> {
         gauge.note(&mut self.seat)
     }
 
-    pub(crate) fn serve(
+    pub(crate) fn execute(
         &mut self,
         gauge: &MapGauge,
         reader: &mut Reader,
@@ -249,10 +249,10 @@ impl<A: Allocator + Clone, O: Opening> Book<A, O> {
         ensures seen { reader.new ≡ held self.old.table (reads self.old.opening self.new.history) }
     {
         let note = gauge.note(reader);
-        self.meet(gauge, note);
+        self.absorb(gauge, note);
         let outcome = self.commit_copied(gauge, k, call);
-        let shown = self.shown(gauge);
-        gauge.learn(reader, shown);
+        let snapshot = self.snapshot(gauge);
+        gauge.learn(reader, snapshot);
         outcome
     }
 
@@ -268,9 +268,9 @@ impl<A: Allocator + Clone, O: Opening> Book<A, O> {
         ensures seen { reader.new ≡ held self.old.table (reads self.old.opening self.new.history) }
     {
         let note = gauge.note(reader);
-        self.meet(gauge, note);
-        let shown = self.shown(gauge);
-        gauge.learn(reader, shown);
+        self.absorb(gauge, note);
+        let snapshot = self.snapshot(gauge);
+        gauge.learn(reader, snapshot);
         self.lacking()
     }
 

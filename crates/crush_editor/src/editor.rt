@@ -10,20 +10,20 @@ ghost use Rattle.crush_gauge.specs.Rule.{known};
 ghost use Rattle.crush_gauge.specs.Held.{held};
 ghost use Rattle.crush_gauge.specs.declared.limits.TheConstants.{MOST_CHANGES};
 ghost use Rattle.std.specs.List.{All};
-ghost use Rattle.crush_calls.specs.History.{changes};
+ghost use Rattle.crush_history.specs.History.{changes};
 ghost use Rattle.crush_editor.specs.History.{weight_from, OpensGauge};
 ghost use Rattle.crush_editor.specs.Book.{IsSameMap, MakesAll, StandsAsBefore};
 ghost use Rattle.crush_editor.specs.Seat.{Answered, Guards, Sees, InOrder, IsHistoryOfSeats, seat_data, reads};
 
 use crate::book::{Book, Closed, SubmitFault};
-use crate::dial::{Dial, Note};
-use crate::door::Door;
 use crate::law::{MapBookSeat, MapGauge, Reader};
+use crate::lock_free_reader::{LockFreeReader, Note};
 use crate::locked::{Desk, Locked, Seat};
-use crate::opening::{Opening, Unkept};
+use crate::opening::{Opening, WithoutSnapshot};
 use crate::ready::Ready;
-use crush_calls::{Call, Reply};
+use crate::state_lock::StateLock;
 use crush_gauge::Reading;
+use crush_history::{Call, Reply};
 use crush_map::CrushMap;
 use std::alloc::{AllocError, Allocator, Global};
 use std::marker::{Brand, Model};
@@ -93,14 +93,14 @@ impl<A: Allocator + Clone> Started<A> {
     }
 }
 
-impl<A: Allocator> Started<A, Unkept> {
+impl<A: Allocator> Started<A, WithoutSnapshot> {
     /// [`Started::new`] of a map of which no copy is kept: the map itself is the one that calls
     /// change, and the close hands out no opening.
     pub fn without_opening(
         map: CrushMap<A>,
         operators: usize,
         alloc: Global,
-    ) -> Result<Started<A, Unkept>, CrushMap<A>>
+    ) -> Result<Started<A, WithoutSnapshot>, CrushMap<A>>
         requires some { 0 < operators }
         requires few { operators ≤ MOST_OPERATORS }
         ensures opening { IfOk result (λ s. s.opening ≡ map) }
@@ -187,8 +187,8 @@ fn new_gauge<M: Opened>(
 /// The editor of a name: a book under one lock, and a gauge that is read without it.
 #[derive(Drop)]
 pub struct Editor<N: Desk, O: Opening = CrushMap<Global>> {
-    dial: Dial<N>,
-    door: Door<N, O>,
+    lock_free_reader: LockFreeReader<N>,
+    state_lock: StateLock<N, O>,
 }
 
 impl<N: Desk, O: Opening> Editor<N, O> {
@@ -241,9 +241,9 @@ impl<N: Desk, O: Opening> Editor<N, O> {
             return Err((self.refuse(rt, seat), call));
         };
         let operator = seat.operator;
-        let gauge = self.dial.gauge();
+        let gauge = self.lock_free_reader.gauge();
         let outcome = self
-            .door
+            .state_lock
             .lock(rt, &seat.slips, &ready)
             .submit(gauge, &mut seat.reader, &mut seat.share, operator, call);
         let reply = match outcome {
@@ -259,39 +259,39 @@ impl<N: Desk, O: Opening> Editor<N, O> {
         ensures full { (result ≡ SubmitFault.Full) ↔ (length seat.new.seen ≡ MOST_ENTRIES) }
         ensures few { length seat.new.seen ≤ MOST_ENTRIES }
     {
-        let gauge = self.dial.gauge();
-        self.door.refuse(rt, gauge, &mut seat.reader)
+        let gauge = self.lock_free_reader.gauge();
+        self.state_lock.refuse(rt, gauge, &mut seat.reader)
     }
 
     /// The part of the editor that readings need.
-    pub fn dial(&self) -> &Dial<N> {
-        &self.dial
+    pub fn lock_free_reader(&self) -> &LockFreeReader<N> {
+        &self.lock_free_reader
     }
 
-    /// [`Dial::reading`] of this editor's dial.
+    /// [`LockFreeReader::reading`] of this editor's reader without lock.
     pub fn reading(&self, seat: &mut Seat<N>) -> Reading
         ensures seat { Sees N.opening seat.old seat.new }
         ensures changes { result.changes ≡ changes seat.new.seen }
         ensures weight { result.weight ≡ weight_from N.opening seat.new.seen }
         ensures few { result.changes ≤ MOST_CHANGES }
     {
-        self.dial.reading(seat)
+        self.lock_free_reader.reading(seat)
     }
 
-    /// [`Dial::note`] of this editor's dial.
+    /// [`LockFreeReader::note`] of this editor's reader without lock.
     pub fn note(&self, seat: &mut Seat<N>) -> Note<N>
         ensures seat { seat.new ≡ seat.old }
         ensures note { result ≡ seat.old.seen }
     {
-        self.dial.note(seat)
+        self.lock_free_reader.note(seat)
     }
 
-    /// [`Dial::learn`] of this editor's dial.
+    /// [`LockFreeReader::learn`] of this editor's reader without lock.
     pub fn learn(&self, seat: &mut Seat<N>, note: Note<N>)
         ensures seat { Sees N.opening seat.old seat.new }
         ensures note { IsPrefix note seat.new.seen }
     {
-        self.dial.learn(seat, note);
+        self.lock_free_reader.learn(seat, note);
     }
 }
 
@@ -317,12 +317,12 @@ impl<N: Desk> Editor<N> {
     }
 }
 
-impl<N: Desk> Editor<N, Unkept> {
+impl<N: Desk> Editor<N, WithoutSnapshot> {
     /// [`Editor::open`] of an editor that keeps nothing of its opening.
     pub fn open_unkept(
-        started: Started<Global, Unkept>,
+        started: Started<Global, WithoutSnapshot>,
         alloc: Global,
-    ) -> Result<(Editor<N, Unkept>, Vec<Seat<N>>), CrushMap<Global>>
+    ) -> Result<(Editor<N, WithoutSnapshot>, Vec<Seat<N>>), CrushMap<Global>>
         requires gauge { started.table ≡ N.gauge }
         requires opening { started.opening ≡ N.opening }
         requires name { started.name ≡ N.name }
@@ -332,7 +332,7 @@ impl<N: Desk> Editor<N, Unkept> {
             → slice_index_or r.1.items k (seat_data 0 [] []) ≡ seat_data k [] []) }
         ensures err { OnErr result (result ≡ Err started.opening) }
     {
-        match Editor::<N, Unkept>::begin(started, alloc) {
+        match Editor::<N, WithoutSnapshot>::begin(started, alloc) {
             Ok(opened) => Ok(opened),
             Err(book) => Err(book.into_map()),
         }
@@ -381,8 +381,8 @@ impl<N: Desk, O: Opening> Editor<N, O> {
         };
         Ok((
             Editor {
-                dial: Dial::new(gauge),
-                door: Door::new(locked),
+                lock_free_reader: LockFreeReader::new(gauge),
+                state_lock: StateLock::new(locked),
             },
             seats,
         ))
@@ -399,12 +399,15 @@ impl<N: Desk, O: Opening> Editor<N, O> {
         ensures all { MakesAll N.opening result.map result.history.items }
         ensures few { length result.history.items ≤ MOST_ENTRIES }
     {
-        let Editor { dial, door } = self;
+        let Editor {
+            lock_free_reader,
+            state_lock,
+        } = self;
         let Locked {
             mut book,
             mut count,
             spare,
-        } = door.into_inner();
+        } = state_lock.into_inner();
         let mut all = spare;
         for seat in seats {
             let Seat {
@@ -413,7 +416,7 @@ impl<N: Desk, O: Opening> Editor<N, O> {
                 reader,
                 share,
             } = seat;
-            book.meet(dial.gauge(), reader.into_note());
+            book.absorb(lock_free_reader.gauge(), reader.into_note());
             all.merge(share);
         }
         count.audit(&mut all);

@@ -1,7 +1,7 @@
 //! Which histories a gauge of a map may publish.
 
-use crush_calls::Entry;
 use crush_gauge::{BookSeat, Gauge, Law, Note, ReadSeat};
+use crush_history::Entry;
 use crush_map::CrushMap;
 use std::alloc::Global;
 
@@ -9,7 +9,7 @@ use std::alloc::Global;
 pub struct OfMap;
 
 impl Law<CrushMap<Global>, Entry> for OfMap {
-    ghost use Rattle.crush_calls.specs.History.{changes};
+    ghost use Rattle.crush_history.specs.History.{changes};
     ghost use Rattle.crush_editor.specs.History.{IsLegalFrom, weight_from};
 
     ghost legal = { IsLegalFrom };

@@ -5,17 +5,17 @@
 #![tactic(auto)]
 
 mod book;
-mod dial;
-mod door;
 mod editor;
 mod law;
+mod lock_free_reader;
 mod locked;
 mod opening;
 mod ready;
+mod state_lock;
 
 pub use book::{Book, Closed, SubmitFault};
-pub use dial::{Dial, Note};
 pub use editor::{Editor, Started};
 pub use law::{MapBookSeat, MapGauge};
+pub use lock_free_reader::{LockFreeReader, Note};
 pub use locked::{Desk, Seat};
-pub use opening::{Opening, Unkept};
+pub use opening::{Opening, WithoutSnapshot};

@@ -11,7 +11,7 @@ ghost use Rattle.crush_editor.specs.Seat.{reads, seen_of};
 use crate::book::{Book, SubmitFault};
 use crate::law::{MapGauge, Reader};
 use crate::opening::Opening;
-use crush_calls::{Call, Reply, Slip};
+use crush_history::{Call, Reply, Slip};
 use std::alloc::Global;
 use std::marker::{Brand, Model};
 use std::sync::ledger;
@@ -116,7 +116,7 @@ impl<N: Desk, O: Opening> Locked<N, O> {
         ensures seen { reader.new ≡ held self.old.table (reads self.old.opening self.new.history) }
     {
         self.book.recall_invariant();
-        let reply = match self.book.serve(gauge, reader, k, call) {
+        let reply = match self.book.execute(gauge, reader, k, call) {
             Ok(answer) => answer,
             Err(unanswered) => return Err(unanswered),
         };

@@ -4,7 +4,7 @@ use crush_map::CrushMap;
 use std::alloc::Allocator;
 
 /// What a book, or an editor, has of the map that it was made of, its opening. A [`CrushMap`] is a
-/// copy in time and memory, handed out at the close; with [`Unkept`] contracts alone speak of the
+/// copy in time and memory, handed out at the close; with [`WithoutSnapshot`] contracts alone speak of the
 /// opening.
 pub trait Opening: Drop {
     ghost use Rattle.std.specs.Prelude.{Option};
@@ -15,7 +15,7 @@ pub trait Opening: Drop {
 
 /// Nothing, in place of an opening map.
 #[derive(Clone, Copy, Debug, PartialEq, Eq)]
-pub struct Unkept;
+pub struct WithoutSnapshot;
 
 impl<A: Allocator> Opening for CrushMap<A> {
     ghost use Rattle.std.specs.Prelude.{Some};
@@ -23,7 +23,7 @@ impl<A: Allocator> Opening for CrushMap<A> {
     ghost kept = { λ map. Some map };
 }
 
-impl Opening for Unkept {
+impl Opening for WithoutSnapshot {
     ghost use Rattle.std.specs.Prelude.{None};
 
     ghost kept = { λ _. None };

@@ -3,7 +3,7 @@
 ghost use Rattle.std.specs.Prelude.{◌≡◌, ◌<◌, IfOk, OnOk, vec_len, vec_capacity};
 ghost use Rattle.crush_editor.specs.History.{slip};
 
-use crush_calls::{Call, Reply, Slip};
+use crush_history::{Call, Reply, Slip};
 use std::alloc::{AllocError, Global};
 
 /// A copy of a call for its slip. Only this file makes one.

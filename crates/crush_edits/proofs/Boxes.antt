@@ -1,13 +1,13 @@
 -- The rows of items in new buckets.
 use Rattle.std.proofs.Common.{◌≡◌, ℕ, ◌≤◌, Bool, true, false, List, [], ◌∷◌, ◌++◌, ap, sym, ◌∙◌, refl, arith, append_assoc, append-nil}
 use Rattle.std.specs.Prelude.{◌==◌, if◌then◌else◌, Option, Some}
-use Rattle.crush_table.specs.Items.{Items, none, device, bucket}
-use Rattle.crush_table.specs.Reordered.{IsReordered, nothing, keep, through}
-use Rattle.crush_table.specs.ItemRows.{rows, bucket_row}
-use Rattle.crush_table.specs.Stored.{weight_sum, StoresSums}
-use Rattle.crush_table.specs.Table.{Row}
-use Rattle.crush_table.proofs.Reorder.{reordered_comm}
-use Rattle.crush_table.proofs.Sums.{device_sum, below}
+use Rattle.crush_model.specs.Items.{Items, none, device, bucket}
+use Rattle.crush_model.specs.Reordered.{IsReordered, nothing, keep, through}
+use Rattle.crush_model.specs.ItemRows.{rows, bucket_row}
+use Rattle.crush_model.specs.Stored.{weight_sum, StoresSums}
+use Rattle.crush_model.specs.Table.{Row}
+use Rattle.crush_model.proofs.Reorder.{reordered_comm}
+use Rattle.crush_model.proofs.Sums.{device_sum, below}
 use Rattle.crush_edits.specs.Put.{NewData, new_header, next_up, chain}
 use Rattle.crush_edits.specs.Boxes.{boxes, last_first}
 

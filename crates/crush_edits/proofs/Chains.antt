@@ -11,22 +11,22 @@ use Rattle.crush_units.specs.declared.id.ItemId.TheVariants.{Device, Bucket}
 use Rattle.crush_units.specs.Id.{same_id}
 use Rattle.crush_units.proofs.Ids.{same_id_tells}
 use Rattle.crush_units.specs.declared.limits.TheConstants.{HEAVIEST_BUCKET, HEAVIEST_MAP}
-use Rattle.crush_table.specs.Items.{none}
-use Rattle.crush_table.specs.Reordered.{IsReordered, through}
-use Rattle.crush_table.specs.ItemRows.{rows, bucket_row}
-use Rattle.crush_table.specs.Table.{Row, is_device, row_of, is_there, is_named, parent_of, then_up, above, member, is_parent, sum_below, total, used_ids, device_count, summed_weight}
-use Rattle.crush_table.specs.Lawful.{IsShadowId, IsRow, Lawful, has_too_many}
-use Rattle.crush_table.specs.Columns.{is_under, is_part, without_row}
-use Rattle.crush_table.proofs.Reorder.{reordered-sym, reordered-is, reordered-sum, reordered-count, reordered-All}
-use Rattle.crush_table.specs.Count.{one_if}
-use Rattle.crush_table.proofs.Found.{Distinct, DistinctNames, times, times-append}
-use Rattle.crush_table.proofs.Same.{uses, times_used, times_used-rows}
-use Rattle.crush_table.proofs.Climbs.{above-parent}
-use Rattle.crush_table.proofs.Appended.{times-used, unused_times, unused_fresh, unnamed}
-use Rattle.crush_table.proofs.Attached.{Lawful-attach, sum_below-attach, above_kept, chain_at}
-use Rattle.crush_table.proofs.Relocated.{filter_all, under_parent}
-use Rattle.crush_table.proofs.Sums.{device_sum, below}
-use Rattle.crush_table.proofs.Weighs.{true_or_false, sums_light, All-found}
+use Rattle.crush_model.specs.Items.{none}
+use Rattle.crush_model.specs.Reordered.{IsReordered, through}
+use Rattle.crush_model.specs.ItemRows.{rows, bucket_row}
+use Rattle.crush_model.specs.Table.{Row, is_device, row_of, is_there, is_named, parent_of, then_up, above, member, is_parent, sum_below, total, used_ids, device_count, summed_weight}
+use Rattle.crush_model.specs.Lawful.{IsShadowId, IsRow, Lawful, has_too_many}
+use Rattle.crush_model.specs.Columns.{is_under, is_part, without_row}
+use Rattle.crush_model.proofs.Reorder.{reordered-sym, reordered-is, reordered-sum, reordered-count, reordered-All}
+use Rattle.crush_model.specs.Count.{one_if}
+use Rattle.crush_model.proofs.Found.{Distinct, DistinctNames, times, times-append}
+use Rattle.crush_model.proofs.Same.{uses, times_used, times_used-rows}
+use Rattle.crush_model.proofs.Climbs.{above-parent}
+use Rattle.crush_model.proofs.Appended.{times-used, unused_times, unused_fresh, unnamed}
+use Rattle.crush_model.proofs.Attached.{Lawful-attach, sum_below-attach, above_kept, chain_at}
+use Rattle.crush_model.proofs.Relocated.{filter_all, under_parent}
+use Rattle.crush_model.proofs.Sums.{device_sum, below}
+use Rattle.crush_model.proofs.Weighs.{true_or_false, sums_light, All-found}
 use Rattle.crush_edits.specs.Put.{NewData, new_header, next_up, chain}
 use Rattle.crush_edits.specs.Boxes.{boxes, last_first}
 use Rattle.crush_edits.specs.New.{IsNew, AreNew}

@@ -16,18 +16,18 @@ use Rattle.crush_units.specs.Alg.{same_alg, alg_number}
 use Rattle.crush_units.specs.Id.{same_id}
 use Rattle.crush_units.specs.Name.{IsName}
 use Rattle.crush_units.proofs.Ids.{same_id_refl, same_id_tells, same_id_comm, same_id_equal}
-use Rattle.crush_table.specs.Items.{ShadowData}
-use Rattle.crush_table.specs.Table.{Row, row_of, row_named, is_there, is_named, name_of, own_weight_of, class_of}
-use Rattle.crush_table.specs.Lawful.{IsRow, Lawful}
-use Rattle.crush_table.specs.Columns.{set_weights, set_weight, set_name, set_class, exchange_id, exchange_names, swap_buckets, without_row}
-use Rattle.crush_table.specs.Count.{one_if}
-use Rattle.crush_table.proofs.Found.{times, times-cons, is_there-times}
-use Rattle.crush_table.proofs.Appended.{unnamed}
-use Rattle.crush_table.proofs.Kept.{row_of-map, is_there-map, Distinct-map}
-use Rattle.crush_table.proofs.Moved.{row_id, found_id}
-use Rattle.crush_table.proofs.Changes.{with_name-id}
-use Rattle.crush_table.proofs.Renamed.{named-set_name, All-row}
-use Rattle.crush_table.proofs.Weighs.{true_or_false}
+use Rattle.crush_model.specs.Items.{ShadowData}
+use Rattle.crush_model.specs.Table.{Row, row_of, row_named, is_there, is_named, name_of, own_weight_of, class_of}
+use Rattle.crush_model.specs.Lawful.{IsRow, Lawful}
+use Rattle.crush_model.specs.Columns.{set_weights, set_weight, set_name, set_class, exchange_id, exchange_names, swap_buckets, without_row}
+use Rattle.crush_model.specs.Count.{one_if}
+use Rattle.crush_model.proofs.Found.{times, times-cons, is_there-times}
+use Rattle.crush_model.proofs.Appended.{unnamed}
+use Rattle.crush_model.proofs.Kept.{row_of-map, is_there-map, Distinct-map}
+use Rattle.crush_model.proofs.Moved.{row_id, found_id}
+use Rattle.crush_model.proofs.Changes.{with_name-id}
+use Rattle.crush_model.proofs.Renamed.{named-set_name, All-row}
+use Rattle.crush_model.proofs.Weighs.{true_or_false}
 use Rattle.crush_edits.specs.Changed.{same_class, same_row, same_table}
 
 and_true3 : (b : Bool) → (true && true && true && true && b && true && true && true) ≡ b

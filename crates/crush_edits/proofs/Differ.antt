@@ -11,14 +11,14 @@ use Rattle.crush_units.specs.declared.id.ItemId.{ItemId}
 use Rattle.crush_units.specs.declared.id.ItemId.TheVariants.{Device, Bucket}
 use Rattle.crush_units.specs.Id.{same_id}
 use Rattle.crush_units.proofs.Ids.{same_id_refl, same_id_equal}
-use Rattle.crush_table.specs.ItemRows.{bucket_row}
-use Rattle.crush_table.specs.Table.{Row, row_of, id_named, is_named, is_there, parent_of, member, used_ids}
-use Rattle.crush_table.specs.Lawful.{Lawful}
-use Rattle.crush_table.specs.Columns.{without_row}
-use Rattle.crush_table.proofs.Climbs.{parent_there}
-use Rattle.crush_table.proofs.Appended.{row_of-append, unused_fresh}
-use Rattle.crush_table.proofs.Removed.{row_of-only}
-use Rattle.crush_table.proofs.Weighs.{true_or_false}
+use Rattle.crush_model.specs.ItemRows.{bucket_row}
+use Rattle.crush_model.specs.Table.{Row, row_of, id_named, is_named, is_there, parent_of, member, used_ids}
+use Rattle.crush_model.specs.Lawful.{Lawful}
+use Rattle.crush_model.specs.Columns.{without_row}
+use Rattle.crush_model.proofs.Climbs.{parent_there}
+use Rattle.crush_model.proofs.Appended.{row_of-append, unused_fresh}
+use Rattle.crush_model.proofs.Removed.{row_of-only}
+use Rattle.crush_model.proofs.Weighs.{true_or_false}
 use Rattle.crush_edits.specs.Stops.{StopData, is_fresh, fresh_stops, number_of, receiver}
 use Rattle.crush_edits.specs.Put.{NewData, new_header, new_buckets, next_up, chain, next_place, put_at, put, is_id, held}
 use Rattle.crush_edits.specs.New.{IsRoute}

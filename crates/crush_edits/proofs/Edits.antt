@@ -11,17 +11,17 @@ use Rattle.crush_units.specs.Id.{same_id}
 use Rattle.crush_units.specs.Name.{IsName}
 use Rattle.crush_units.specs.declared.limits.TheConstants.{HEAVIEST_DEVICE}
 use Rattle.crush_units.proofs.Ids.{same_id_equal}
-use Rattle.crush_table.specs.ItemRows.{device_row}
-use Rattle.crush_table.specs.Table.{Row, is_device_id, row_of, id_named, is_named, is_there, is_placed, parent_of, class_of, own_weight_of, name_of}
-use Rattle.crush_table.specs.Lawful.{IsRow, IsRowOf, Lawful, is_too_heavy, has_too_many}
-use Rattle.crush_table.specs.Columns.{set_weight, set_subtree, set_name, set_class, swap_buckets, is_part, without_row}
-use Rattle.crush_table.specs.Table.{are_nested}
-use Rattle.crush_table.proofs.Classes.{Lawful-set_class}
-use Rattle.crush_table.proofs.Columns.{Lawful-set_weight, Lawful-set_subtree}
-use Rattle.crush_table.proofs.Moved.{row_id}
-use Rattle.crush_table.proofs.Renamed.{Lawful-set_name, All-row}
-use Rattle.crush_table.proofs.Swapped.{Lawful-swap}
-use Rattle.crush_table.proofs.Weighs.{or_left, or_right, true_or_false}
+use Rattle.crush_model.specs.ItemRows.{device_row}
+use Rattle.crush_model.specs.Table.{Row, is_device_id, row_of, id_named, is_named, is_there, is_placed, parent_of, class_of, own_weight_of, name_of}
+use Rattle.crush_model.specs.Lawful.{IsRow, IsRowOf, Lawful, is_too_heavy, has_too_many}
+use Rattle.crush_model.specs.Columns.{set_weight, set_subtree, set_name, set_class, swap_buckets, is_part, without_row}
+use Rattle.crush_model.specs.Table.{are_nested}
+use Rattle.crush_model.proofs.Classes.{Lawful-set_class}
+use Rattle.crush_model.proofs.Columns.{Lawful-set_weight, Lawful-set_subtree}
+use Rattle.crush_model.proofs.Moved.{row_id}
+use Rattle.crush_model.proofs.Renamed.{Lawful-set_name, All-row}
+use Rattle.crush_model.proofs.Swapped.{Lawful-swap}
+use Rattle.crush_model.proofs.Weighs.{or_left, or_right, true_or_false}
 use Rattle.crush_edits.specs.declared.refusal.Refusal.{Refusal}
 use Rattle.crush_edits.specs.declared.refusal.Refusal.TheVariants.{BadName, BadLocation, NoSuchType, NoPlace, WeightTooLarge, NameTaken, NotPlaced, NotADevice, NotABucket, WrongType, Loop, Nested, NotEmpty, InUse, NoRoom, SumTooLarge}
 use Rattle.crush_edits.specs.declared.refusal.Dones.{Dones}

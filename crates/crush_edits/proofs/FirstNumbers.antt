@@ -8,7 +8,7 @@ use Rattle.std.specs.Option.{is_some, option_or, option_map}
 use Rattle.std.specs.Ordering.{is_eq, nat_cmp}
 use Rattle.std.specs.Prelude.{Option, Some, None, Vec, if◌then◌else◌, find, bytes_eq}
 use Rattle.std.proofs.lemmas.Map.Text.{is_eq-slice_cmp}
-use Rattle.crush_table.proofs.Tested.{bytes_equal}
+use Rattle.crush_model.proofs.Tested.{bytes_equal}
 use Rattle.crush_edits.specs.Setting.{KindData, first_number}
 use Rattle.crush_edits.specs.KindsTold.{number_told, AreNumbersOf, TellsFirst}
 

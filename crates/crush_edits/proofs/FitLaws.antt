@@ -3,12 +3,12 @@ use Rattle.std.proofs.Common.{ℕ, List, [], ◌∷◌, ◌++◌, ap, sym, ◌�
 use Rattle.std.specs.Prelude.{All, is_some, if◌then◌else◌}
 use Rattle.std.proofs.lemmas.List.Elements.{All-weaker, All-push}
 use Rattle.crush_units.specs.declared.id.ItemId.TheVariants.{Bucket}
-use Rattle.crush_table.specs.Table.{Row, row_of}
-use Rattle.crush_table.specs.Same.{Same}
-use Rattle.crush_table.specs.Lawful.{Lawful}
-use Rattle.crush_table.proofs.Reorder.{reordered-All}
-use Rattle.crush_table.proofs.Found.{is_there-same}
-use Rattle.crush_table.proofs.Appended.{row_of-append}
+use Rattle.crush_model.specs.Table.{Row, row_of}
+use Rattle.crush_model.specs.Same.{Same}
+use Rattle.crush_model.specs.Lawful.{Lawful}
+use Rattle.crush_model.proofs.Reorder.{reordered-All}
+use Rattle.crush_model.proofs.Found.{is_there-same}
+use Rattle.crush_model.proofs.Appended.{row_of-append}
 use Rattle.crush_edits.specs.Setting.{SettingData, taken_buckets}
 use Rattle.crush_edits.specs.Fits.{HasKind, IsThere, Fits}
 

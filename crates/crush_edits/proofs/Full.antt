@@ -6,8 +6,8 @@ use Rattle.std.specs.Option.{option_and_then}
 use Rattle.crush_units.specs.declared.id.ItemId.{ItemId}
 use Rattle.crush_units.specs.declared.id.ItemId.TheVariants.{Device}
 use Rattle.crush_units.specs.declared.limits.TheConstants.{MOST_BUCKETS, MOST_DEVICES}
-use Rattle.crush_table.specs.Lawful.{has_too_many}
-use Rattle.crush_table.specs.Table.{Row, row_of, is_there, is_placed, device_count, bucket_count}
+use Rattle.crush_model.specs.Lawful.{has_too_many}
+use Rattle.crush_model.specs.Table.{Row, row_of, is_there, is_placed, device_count, bucket_count}
 use Rattle.crush_edits.specs.declared.edit.Edit.TheVariants.{Insert}
 use Rattle.crush_edits.specs.declared.location.Pair.{Pair}
 use Rattle.crush_edits.specs.declared.refusal.Refusal.TheVariants.{AlreadyPlaced, NoRoom}

@@ -11,20 +11,20 @@ use Rattle.crush_units.specs.declared.id.ItemId.TheVariants.{Device, Bucket}
 use Rattle.crush_units.specs.Id.{same_id}
 use Rattle.crush_units.proofs.Ids.{same_id_refl}
 use Rattle.crush_units.specs.declared.limits.TheConstants.{MOST_BUCKETS, MOST_DEVICES}
-use Rattle.crush_table.specs.Reordered.{IsReordered, through}
-use Rattle.crush_table.specs.ItemRows.{bucket_row}
-use Rattle.crush_table.specs.Table.{Row, is_device, is_device_id, is_bucket, row_of, row_named, is_there, is_named, device_count, bucket_count}
-use Rattle.crush_table.specs.Same.{Same}
-use Rattle.crush_table.specs.Lawful.{IsRow, IsRowOf, Lawful, is_too_heavy, has_too_many}
-use Rattle.crush_table.specs.Columns.{is_part, without_row}
-use Rattle.crush_table.proofs.Reorder.{reordered-sym, reordered-is, reordered-count}
-use Rattle.crush_table.specs.Count.{one_if}
-use Rattle.crush_table.proofs.Found.{Distinct, times, times-append, Distinct-same, times-absent, is_there-times}
-use Rattle.crush_table.proofs.Same.{Same-is, Same-trans, Lawful-reordered, is_too_heavy-same}
-use Rattle.crush_table.proofs.Appended.{row_of-append, unnamed, Lawful-push_device}
-use Rattle.crush_table.proofs.Attached.{is_there-append}
-use Rattle.crush_table.proofs.Moved.{Lawful-moved, last_row, row_id}
-use Rattle.crush_table.proofs.Weighs.{true_or_false, or_left, or_right}
+use Rattle.crush_model.specs.Reordered.{IsReordered, through}
+use Rattle.crush_model.specs.ItemRows.{bucket_row}
+use Rattle.crush_model.specs.Table.{Row, is_device, is_device_id, is_bucket, row_of, row_named, is_there, is_named, device_count, bucket_count}
+use Rattle.crush_model.specs.Same.{Same}
+use Rattle.crush_model.specs.Lawful.{IsRow, IsRowOf, Lawful, is_too_heavy, has_too_many}
+use Rattle.crush_model.specs.Columns.{is_part, without_row}
+use Rattle.crush_model.proofs.Reorder.{reordered-sym, reordered-is, reordered-count}
+use Rattle.crush_model.specs.Count.{one_if}
+use Rattle.crush_model.proofs.Found.{Distinct, times, times-append, Distinct-same, times-absent, is_there-times}
+use Rattle.crush_model.proofs.Same.{Same-is, Same-trans, Lawful-reordered, is_too_heavy-same}
+use Rattle.crush_model.proofs.Appended.{row_of-append, unnamed, Lawful-push_device}
+use Rattle.crush_model.proofs.Attached.{is_there-append}
+use Rattle.crush_model.proofs.Moved.{Lawful-moved, last_row, row_id}
+use Rattle.crush_model.proofs.Weighs.{true_or_false, or_left, or_right}
 use Rattle.crush_edits.specs.Put.{NewData, new_header, next_up, chain, put_at}
 use Rattle.crush_edits.specs.New.{AreNew}
 use Rattle.crush_edits.proofs.Chains.{new_rows, new-reordered, Lawful-with, found-chain, chain-none, chain-sum}

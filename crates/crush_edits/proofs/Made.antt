@@ -5,13 +5,13 @@ use Rattle.std.specs.Option.{option_map}
 use Rattle.crush_units.specs.declared.id.ItemId.{ItemId}
 use Rattle.crush_units.specs.declared.id.ItemId.TheVariants.{Device, Bucket}
 use Rattle.crush_units.specs.Id.{same_id}
-use Rattle.crush_table.specs.Table.{Row, is_device_id, is_bucket, row_of, id_named, is_there, bucket_count}
-use Rattle.crush_table.specs.Columns.{set_weights, set_weight, set_subtree, set_name, set_class, exchange_id, exchange_names, swap_buckets}
-use Rattle.crush_table.proofs.Changes.{with_name-id}
-use Rattle.crush_table.proofs.Classes.{with_class, with_class-id}
-use Rattle.crush_table.proofs.Columns.{count-map}
-use Rattle.crush_table.proofs.Moved.{row_id}
-use Rattle.crush_table.proofs.Weighs.{true_or_false}
+use Rattle.crush_model.specs.Table.{Row, is_device_id, is_bucket, row_of, id_named, is_there, bucket_count}
+use Rattle.crush_model.specs.Columns.{set_weights, set_weight, set_subtree, set_name, set_class, exchange_id, exchange_names, swap_buckets}
+use Rattle.crush_model.proofs.Changes.{with_name-id}
+use Rattle.crush_model.proofs.Classes.{with_class, with_class-id}
+use Rattle.crush_model.proofs.Columns.{count-map}
+use Rattle.crush_model.proofs.Moved.{row_id}
+use Rattle.crush_model.proofs.Weighs.{true_or_false}
 use Rattle.crush_edits.specs.declared.edit.Edit.TheVariants.{Insert, CreateOrMove, Update, Move, Swap, Reweight, ReweightSubtree, Remove, AddBucket, Rename, SetClass, RemoveClass}
 use Rattle.crush_edits.specs.declared.location.Pair.{Pair}
 use Rattle.crush_edits.specs.declared.refusal.Refusal.TheVariants.{BadName, BadLocation, NoSuchType, NoPlace, NameTaken, NotABucket}

@@ -12,23 +12,23 @@ use Rattle.crush_units.specs.declared.id.ItemId.{ItemId}
 use Rattle.crush_units.specs.declared.id.ItemId.TheVariants.{Device, Bucket}
 use Rattle.crush_units.specs.Id.{same_id}
 use Rattle.crush_units.specs.declared.limits.TheConstants.{FARTHEST_BUCKET_ID, LAST_TYPE, MOST_BUCKETS, MOST_DEVICES}
-use Rattle.crush_table.specs.Lawful.{IsShadowId, IsRow, Lawful, has_too_many}
-use Rattle.crush_table.specs.ItemRows.{bucket_row}
-use Rattle.crush_table.specs.Table.{Row, is_device, is_bucket, row_of, kids, member, used_ids, free_ids, device_count, bucket_count}
-use Rattle.crush_table.specs.Columns.{exchange_id, exchange_names, without_row}
-use Rattle.crush_table.proofs.Appended.{Lawful-push_bucket}
-use Rattle.crush_table.proofs.Attached.{is_there-append}
-use Rattle.crush_table.proofs.Changes.{with_name-id}
-use Rattle.crush_table.proofs.Classes.{with_class, with_class-id, class-keeps}
-use Rattle.crush_table.proofs.Kept.{is_there-map}
-use Rattle.crush_table.specs.Count.{one_if}
-use Rattle.crush_table.proofs.Removed.{row_of-only, Lawful-without}
-use Rattle.crush_table.proofs.Weighs.{or_left, or_right, All-both}
+use Rattle.crush_model.specs.Lawful.{IsShadowId, IsRow, Lawful, has_too_many}
+use Rattle.crush_model.specs.ItemRows.{bucket_row}
+use Rattle.crush_model.specs.Table.{Row, is_device, is_bucket, row_of, kids, member, used_ids, free_ids, device_count, bucket_count}
+use Rattle.crush_model.specs.Columns.{exchange_id, exchange_names, without_row}
+use Rattle.crush_model.proofs.Appended.{Lawful-push_bucket}
+use Rattle.crush_model.proofs.Attached.{is_there-append}
+use Rattle.crush_model.proofs.Changes.{with_name-id}
+use Rattle.crush_model.proofs.Classes.{with_class, with_class-id, class-keeps}
+use Rattle.crush_model.proofs.Kept.{is_there-map}
+use Rattle.crush_model.specs.Count.{one_if}
+use Rattle.crush_model.proofs.Removed.{row_of-only, Lawful-without}
+use Rattle.crush_model.proofs.Weighs.{or_left, or_right, All-both}
 use Rattle.crush_edits.specs.declared.refusal.Refusal.TheVariants.{NoSuchType, NameTaken, WrongType, NoRoom}
 use Rattle.crush_edits.specs.declared.edit.Edit.TheVariants.{AddBucket}
 use Rattle.crush_edits.specs.Stops.{number_of}
 use Rattle.crush_edits.specs.Put.{new_header, with_ids, chain}
-use Rattle.crush_table.specs.Law.{AreFreeIds}
+use Rattle.crush_model.specs.Law.{AreFreeIds}
 use Rattle.crush_edits.specs.Answer.{meets, first_refusal}
 use Rattle.crush_edits.specs.Changed.{same_table}
 use Rattle.crush_edits.specs.Edit.{refusal}
@@ -37,8 +37,8 @@ use Rattle.crush_edits.specs.Fits.{HasKind, Fits, IsThere}
 use Rattle.crush_edits.specs.Making.{added_stop, holds_items, is_taken_by_rule, after_add_bucket}
 use Rattle.crush_edits.specs.LawOthers.{WeightChanges, WeightsFit, NameFits, ClassFits, SwapFits, RemoveKeepsLawful, RemoveFits, AddedIsRow, AddedChanges, AddedKeepsLawful, AddedCounts, AddedFits, FullHasNoRoom}
 use Rattle.crush_edits.proofs.Changes.{same_weight, other_with}
-use Rattle.crush_table.proofs.Emptied.{table_without-empty, table_without-device}
-use Rattle.crush_table.proofs.FreeIds.{free_ids-length, free_ids-lawful}
+use Rattle.crush_model.proofs.Emptied.{table_without-empty, table_without-device}
+use Rattle.crush_model.proofs.FreeIds.{free_ids-length, free_ids-lawful}
 use Rattle.crush_edits.proofs.PutLaws.{known, kind_known}
 use Rattle.crush_edits.proofs.Stops.{kind_most}
 

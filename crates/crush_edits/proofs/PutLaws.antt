@@ -9,20 +9,20 @@ use Rattle.crush_units.specs.declared.id.ItemId.{ItemId}
 use Rattle.crush_units.specs.declared.id.ItemId.TheVariants.{Device, Bucket}
 use Rattle.crush_units.specs.Id.{same_id}
 use Rattle.crush_units.proofs.Ids.{same_id_tells, same_id_comm}
-use Rattle.crush_table.specs.Items.{LeafData, Items, none, device}
-use Rattle.crush_table.specs.ItemRows.{rows, device_row}
-use Rattle.crush_table.specs.Table.{Row, is_device, is_bucket, row_of, is_there, id_named, is_named, parent_of, member, used_ids, free_ids, sum_below, total, device_count, bucket_count}
-use Rattle.crush_table.specs.Same.{Same}
-use Rattle.crush_table.specs.Law.{IsOne}
-use Rattle.crush_table.specs.Lawful.{IsRow, Lawful, is_too_heavy, has_too_many}
-use Rattle.crush_table.specs.Columns.{table_without, part, without_row}
-use Rattle.crush_table.proofs.Reorder.{reordered-sym, reordered-count}
-use Rattle.crush_table.specs.Count.{one_if}
-use Rattle.crush_table.proofs.Found.{Distinct, times, times-append, times-absent, times-is_there, Distinct-same}
-use Rattle.crush_table.proofs.Same.{Same-is, Same-trans, is_too_heavy-same}
-use Rattle.crush_table.proofs.Moved.{last_row}
-use Rattle.crush_table.proofs.Removed.{row_of-only}
-use Rattle.crush_table.proofs.Attached.{is_there-append}
+use Rattle.crush_model.specs.Items.{LeafData, Items, none, device}
+use Rattle.crush_model.specs.ItemRows.{rows, device_row}
+use Rattle.crush_model.specs.Table.{Row, is_device, is_bucket, row_of, is_there, id_named, is_named, parent_of, member, used_ids, free_ids, sum_below, total, device_count, bucket_count}
+use Rattle.crush_model.specs.Same.{Same}
+use Rattle.crush_model.specs.Law.{IsOne}
+use Rattle.crush_model.specs.Lawful.{IsRow, Lawful, is_too_heavy, has_too_many}
+use Rattle.crush_model.specs.Columns.{table_without, part, without_row}
+use Rattle.crush_model.proofs.Reorder.{reordered-sym, reordered-count}
+use Rattle.crush_model.specs.Count.{one_if}
+use Rattle.crush_model.proofs.Found.{Distinct, times, times-append, times-absent, times-is_there, Distinct-same}
+use Rattle.crush_model.proofs.Same.{Same-is, Same-trans, is_too_heavy-same}
+use Rattle.crush_model.proofs.Moved.{last_row}
+use Rattle.crush_model.proofs.Removed.{row_of-only}
+use Rattle.crush_model.proofs.Attached.{is_there-append}
 use Rattle.crush_edits.specs.declared.location.Pair.{Pair}
 use Rattle.crush_edits.specs.Stops.{StopData, with_stop, stops, is_fresh, fresh_stops, receiver}
 use Rattle.crush_edits.specs.Put.{NewData, new_buckets, next_up, chain, next_place, put_at, put, is_id, held}
@@ -34,7 +34,7 @@ use Rattle.crush_edits.specs.LawRoute.{rows_made}
 use Rattle.crush_edits.proofs.Boxes.{rows-boxes}
 use Rattle.crush_edits.proofs.Chains.{new_rows, new_are, new-reordered, Lawful-with, sum_below-with, total-with, devices-with, distinct_with, ids-apart, chain-none, chain-sum, chain-All}
 use Rattle.crush_edits.proofs.Differ.{differs}
-use Rattle.crush_table.proofs.FreeIds.{free_ids-some}
+use Rattle.crush_model.proofs.FreeIds.{free_ids-some}
 use Rattle.crush_edits.proofs.Lawfuls.{few_too_many, room_put, Lawful-put_moved, put-new, Lawful-put_new}
 use Rattle.crush_edits.proofs.Puts.{put-moved, put-moved_device, put-taken, put-boxed, put-boxed_device}
 use Rattle.crush_edits.proofs.Routes.{with_ids-names, with_ids-All, new_buckets-length, route_fresh, route_next}

@@ -8,22 +8,22 @@ use Rattle.crush_units.specs.declared.id.ItemId.{ItemId}
 use Rattle.crush_units.specs.declared.id.ItemId.TheVariants.{Bucket}
 use Rattle.crush_units.specs.Id.{same_id}
 use Rattle.crush_units.proofs.Ids.{same_id_tells}
-use Rattle.crush_table.specs.Items.{LeafData, Items, none, device}
-use Rattle.crush_table.specs.ItemRows.{rows}
-use Rattle.crush_table.specs.Table.{Row, row_of, is_there, is_parent, kids}
-use Rattle.crush_table.specs.Same.{Same}
-use Rattle.crush_table.specs.Law.{IsOne}
-use Rattle.crush_table.specs.Lawful.{Lawful, has_too_many}
-use Rattle.crush_table.specs.Columns.{is_part, without_row, table_without, part, as_root}
-use Rattle.crush_table.proofs.Reorder.{reordered-sym, reordered-All, reordered-after, reordered-before}
-use Rattle.crush_table.specs.Count.{one_if}
-use Rattle.crush_table.proofs.Found.{times-cons, times-absent}
-use Rattle.crush_table.proofs.Same.{Same-is, Same-trans}
-use Rattle.crush_table.proofs.Appended.{row_of-append}
-use Rattle.crush_table.proofs.Changes.{kids-append}
-use Rattle.crush_table.proofs.Moved.{row_id}
-use Rattle.crush_table.proofs.Relocated.{relocate, relocate_device, filter_all, filter_none, filter_same}
-use Rattle.crush_table.proofs.Weighs.{All-found}
+use Rattle.crush_model.specs.Items.{LeafData, Items, none, device}
+use Rattle.crush_model.specs.ItemRows.{rows}
+use Rattle.crush_model.specs.Table.{Row, row_of, is_there, is_parent, kids}
+use Rattle.crush_model.specs.Same.{Same}
+use Rattle.crush_model.specs.Law.{IsOne}
+use Rattle.crush_model.specs.Lawful.{Lawful, has_too_many}
+use Rattle.crush_model.specs.Columns.{is_part, without_row, table_without, part, as_root}
+use Rattle.crush_model.proofs.Reorder.{reordered-sym, reordered-All, reordered-after, reordered-before}
+use Rattle.crush_model.specs.Count.{one_if}
+use Rattle.crush_model.proofs.Found.{times-cons, times-absent}
+use Rattle.crush_model.proofs.Same.{Same-is, Same-trans}
+use Rattle.crush_model.proofs.Appended.{row_of-append}
+use Rattle.crush_model.proofs.Changes.{kids-append}
+use Rattle.crush_model.proofs.Moved.{row_id}
+use Rattle.crush_model.proofs.Relocated.{relocate, relocate_device, filter_all, filter_none, filter_same}
+use Rattle.crush_model.proofs.Weighs.{All-found}
 use Rattle.crush_edits.specs.Put.{NewData, next_up, chain, put_at}
 use Rattle.crush_edits.specs.Boxes.{boxes, last_first}
 use Rattle.crush_edits.specs.New.{AreNew}

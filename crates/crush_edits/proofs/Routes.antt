@@ -11,16 +11,16 @@ use Rattle.crush_units.specs.declared.id.ItemId.TheVariants.{Device, Bucket}
 use Rattle.crush_units.specs.Id.{same_id}
 use Rattle.crush_units.proofs.Ids.{same_id_refl}
 use Rattle.crush_units.specs.declared.limits.TheConstants.{FARTHEST_BUCKET_ID}
-use Rattle.crush_table.specs.Table.{Row, is_device_id, row_named, id_named, is_named, is_there, member, used_ids, free_ids}
-use Rattle.crush_table.specs.Lawful.{Lawful}
-use Rattle.crush_table.specs.Count.{one_if}
-use Rattle.crush_table.proofs.Found.{times, times-cons, times-is_there}
-use Rattle.crush_table.proofs.Weighs.{true_or_false}
+use Rattle.crush_model.specs.Table.{Row, is_device_id, row_named, id_named, is_named, is_there, member, used_ids, free_ids}
+use Rattle.crush_model.specs.Lawful.{Lawful}
+use Rattle.crush_model.specs.Count.{one_if}
+use Rattle.crush_model.proofs.Found.{times, times-cons, times-is_there}
+use Rattle.crush_model.proofs.Weighs.{true_or_false}
 use Rattle.crush_edits.specs.Stops.{StopData, is_fresh, fresh_stops, end_stop, end_id, number_of, receiver}
 use Rattle.crush_edits.specs.Put.{NewData, with_ids, new_buckets, next_up, next_place}
-use Rattle.crush_table.specs.Law.{AreFreeIds}
+use Rattle.crush_model.specs.Law.{AreFreeIds}
 use Rattle.crush_edits.specs.New.{IsStop, OnceNamed, IsRoute, IsNew, AreNew}
-use Rattle.crush_table.proofs.FreeIds.{free_ids-length, free_ids-lawful}
+use Rattle.crush_model.proofs.FreeIds.{free_ids-length, free_ids-lawful}
 
 -- what a name names is there
 named_times : (t : List Row) (n : List ℕ) (r : Row) → row_named t n ≡ Some r → 1 ≤ times r.id t

@@ -9,7 +9,7 @@ use Rattle.std.specs.Option.{IsSome, is_some, option_map, option_to_list}
 use Rattle.std.specs.Prelude.{Option, Some, None, if◌then◌else◌, find, map, bytes_eq, ◌==◌}
 use Rattle.indexmap.specs.IndexMap.{IndexMap, insert_entry}
 use Rattle.indexmap.proofs.CallerLemmas.{insert_entry-new}
-use Rattle.crush_table.proofs.Climbs.{eqb_turned}
+use Rattle.crush_model.proofs.Climbs.{eqb_turned}
 use Rattle.crush_edits.specs.Setting.{KindData, TunableData, first_name}
 use Rattle.crush_edits.specs.SettingSeen.{kind_data, tunable_data}
 

@@ -10,12 +10,12 @@ use Rattle.std.proofs.lemmas.List.Sums.{sum_by-cons, sum_by-insert, fold-append}
 use Rattle.std.proofs.lemmas.List.Elements.{All-nil, All-cons, All-head, All-tail, All-append, All-take, All-drop, All-weaker}
 use Rattle.crush_units.specs.Name.{IsName}
 use Rattle.crush_units.specs.declared.limits.TheConstants.{LAST_TYPE, MOST_PAIRS}
-use Rattle.crush_table.specs.Table.{Row, is_device_id}
-use Rattle.crush_table.specs.Tested.{are_apart}
-use Rattle.crush_table.proofs.Reorder.{sum_by-map}
-use Rattle.crush_table.specs.Count.{one_if}
-use Rattle.crush_table.proofs.Tested.{apart_once}
-use Rattle.crush_table.proofs.Weighs.{or_left, or_right}
+use Rattle.crush_model.specs.Table.{Row, is_device_id}
+use Rattle.crush_model.specs.Tested.{are_apart}
+use Rattle.crush_model.proofs.Reorder.{sum_by-map}
+use Rattle.crush_model.specs.Count.{one_if}
+use Rattle.crush_model.proofs.Tested.{apart_once}
+use Rattle.crush_model.proofs.Weighs.{or_left, or_right}
 use Rattle.std.proofs.lemmas.Slice.Eq.{bytes_eq-Decides}
 use Rattle.crush_edits.specs.declared.location.Pair.{Pair}
 use Rattle.crush_edits.specs.Stops.{StopData, insert_stop, with_stop, stops, end_id}

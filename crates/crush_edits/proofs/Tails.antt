@@ -3,13 +3,13 @@ use Rattle.std.proofs.Common.{Bool, true, false, ◌≡◌, ℕ, ◌≤◌, List
 use Rattle.std.specs.Prelude.{not, if◌then◌else◌, Option, Some, None, IfSome, All, is_some, option_and_then}
 use Rattle.crush_units.specs.declared.id.ItemId.{ItemId}
 use Rattle.crush_units.specs.declared.id.ItemId.TheVariants.{Device, Bucket}
-use Rattle.crush_table.specs.ItemRows.{rows}
-use Rattle.crush_table.specs.Table.{Row, class_of, row_of, is_there}
-use Rattle.crush_table.specs.Same.{Same}
-use Rattle.crush_table.specs.Lawful.{IsRow, IsRowOf, Lawful, has_too_many}
-use Rattle.crush_table.specs.Columns.{is_part, table_without, part}
-use Rattle.crush_table.proofs.Removed.{row_of-only}
-use Rattle.crush_table.proofs.Moved.{row_id}
+use Rattle.crush_model.specs.ItemRows.{rows}
+use Rattle.crush_model.specs.Table.{Row, class_of, row_of, is_there}
+use Rattle.crush_model.specs.Same.{Same}
+use Rattle.crush_model.specs.Lawful.{IsRow, IsRowOf, Lawful, has_too_many}
+use Rattle.crush_model.specs.Columns.{is_part, table_without, part}
+use Rattle.crush_model.proofs.Removed.{row_of-only}
+use Rattle.crush_model.proofs.Moved.{row_id}
 use Rattle.std.proofs.lemmas.List.Elements.{All-head, All-tail}
 use Rattle.crush_units.specs.Id.{same_id}
 use Rattle.crush_units.specs.declared.limits.TheConstants.{HEAVIEST_DEVICE}

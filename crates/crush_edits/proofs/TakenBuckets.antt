@@ -7,7 +7,7 @@ use Rattle.std.specs.BTreeSet.{BTreeSet, contains}
 use Rattle.std.specs.List.{AllZip, list_any, each_same}
 use Rattle.std.specs.Ordering.{nat_cmp}
 use Rattle.std.specs.Prelude.{flat_map, map, ◌==◌}
-use Rattle.crush_table.specs.Table.{member}
+use Rattle.crush_model.specs.Table.{member}
 use Rattle.crush_edits.specs.Setting.{RuleData, bucket_taken, taken_by}
 use Rattle.crush_edits.specs.SettingSeen.{step_data, rule_data, takes_bucket}
 use Rattle.crush_edits.specs.RulesTold.{AreTakenBy, ComeAsTaken}

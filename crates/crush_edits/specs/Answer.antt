@@ -2,8 +2,8 @@
 use Rattle.std.specs.Prelude.{ℕ, List, [], ◌∷◌, Option, Some, None, Bool, false, not, if◌then◌else◌, nat_lt}
 use Rattle.crush_units.specs.declared.id.ItemId.{ItemId}
 use Rattle.crush_units.specs.Id.{is_device_id}
-use Rattle.crush_table.specs.Table.{Row}
-use Rattle.crush_table.specs.Lawful.{is_too_heavy, has_too_many}
+use Rattle.crush_model.specs.Table.{Row}
+use Rattle.crush_model.specs.Lawful.{is_too_heavy, has_too_many}
 use Rattle.crush_edits.specs.declared.refusal.Refusal.{Refusal}
 use Rattle.crush_edits.specs.declared.refusal.Refusal.TheVariants.{NoRoom, SumTooLarge}
 use Rattle.crush_edits.specs.Changed.{same_table}

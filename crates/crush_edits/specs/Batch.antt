@@ -1,6 +1,6 @@
 -- What a batch of edits does to the table: each is made of the table that the ones before it made.
 use Rattle.std.specs.Prelude.{ℕ, ◌+◌, List, [], ◌∷◌, Bool, true, false}
-use Rattle.crush_table.specs.Table.{Row}
+use Rattle.crush_model.specs.Table.{Row}
 use Rattle.crush_edits.specs.declared.refusal.Refusal.{Refusal}
 use Rattle.crush_edits.specs.declared.refusal.Dones.{Dones}
 use Rattle.crush_edits.specs.declared.edit.Edit.{Edit}

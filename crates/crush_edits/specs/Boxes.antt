@@ -1,8 +1,8 @@
 -- New buckets as nested boxes.
 use Rattle.std.specs.Prelude.{ℕ, List, [], ◌∷◌, ◌++◌}
-use Rattle.crush_table.specs.Items.{Items, none, bucket}
-use Rattle.crush_table.specs.Stored.{weight_sum}
-use Rattle.crush_table.specs.Table.{Row}
+use Rattle.crush_model.specs.Items.{Items, none, bucket}
+use Rattle.crush_model.specs.Stored.{weight_sum}
+use Rattle.crush_model.specs.Table.{Row}
 use Rattle.crush_edits.specs.Put.{NewData, new_header}
 
 -- items in new buckets, each in the next, each with memory for m items

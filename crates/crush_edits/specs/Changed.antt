@@ -4,8 +4,8 @@ use Rattle.std.specs.Option.{option_eq}
 use lib.Pointwise.{pointwise}
 use Rattle.crush_units.specs.Id.{same_id}
 use Rattle.crush_units.specs.Alg.{same_alg}
-use Rattle.crush_table.specs.Items.{ShadowData}
-use Rattle.crush_table.specs.Table.{Row}
+use Rattle.crush_model.specs.Items.{ShadowData}
+use Rattle.crush_model.specs.Table.{Row}
 
 abbrev pub same_class : ShadowData → ShadowData → Bool
 same_class a b = (a.id == b.id) && bytes_eq a.class b.class

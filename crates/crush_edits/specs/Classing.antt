@@ -1,8 +1,8 @@
 -- The edits of classes: SetClass, RemoveClass.
 use Rattle.std.specs.Prelude.{ℕ, List, [], ◌∷◌, Some, None, Bool, not, bytes_eq}
 use Rattle.crush_units.specs.declared.id.ItemId.{ItemId}
-use Rattle.crush_table.specs.Table.{Row, id_named, is_named, class_of}
-use Rattle.crush_table.specs.Columns.{set_class}
+use Rattle.crush_model.specs.Table.{Row, id_named, is_named, class_of}
+use Rattle.crush_model.specs.Columns.{set_class}
 use Rattle.crush_edits.specs.declared.refusal.Refusal.{Refusal}
 use Rattle.crush_edits.specs.declared.refusal.Refusal.TheVariants.{NoSuchItem, NotADevice, ClassBound}
 use Rattle.crush_edits.specs.Answer.{After, kept, on_some, meets, is_a_bucket}

@@ -3,7 +3,7 @@ use Rattle.std.specs.Prelude.{◌≡◌, ℕ, ℤ, pos, negsuc, ◌<◌, ◌≤�
 use Rattle.std.specs.List.{count_by, list_any, starts_with}
 use Rattle.crush_units.specs.declared.id.ItemId.TheVariants.{Bucket}
 use Rattle.crush_units.specs.Name.{IsName}
-use Rattle.crush_table.specs.Table.{Row, is_there}
+use Rattle.crush_model.specs.Table.{Row, is_there}
 use Rattle.crush_edits.specs.Setting.{KindData, TunableData, StepData, take, choose, set, emit, RuleData, SettingData, kind_number, taken_buckets}
 use Rattle.crush_units.specs.declared.limits.TheConstants.{LARGEST_COUNT, LARGEST_RULE_NUMBER, LARGEST_TUNABLE, LAST_TYPE, MOST_RULES, MOST_STEPS, MOST_TUNABLES, MOST_TYPES}
 

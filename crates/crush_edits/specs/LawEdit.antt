@@ -1,8 +1,8 @@
 -- The law of all edits: what isn't refused leaves a lawful table that the setting fits, and so does a batch.
 use Rattle.std.specs.Prelude.{◌≡◌, ℕ, ◌<◌, List, None, All, ◌+◌, Bool, true, false}
 use Rattle.crush_units.specs.Name.{IsName}
-use Rattle.crush_table.specs.Table.{Row, bucket_count}
-use Rattle.crush_table.specs.Lawful.{Lawful}
+use Rattle.crush_model.specs.Table.{Row, bucket_count}
+use Rattle.crush_model.specs.Lawful.{Lawful}
 use Rattle.crush_edits.specs.declared.location.Pair.{Pair}
 use Rattle.crush_edits.specs.declared.edit.Edit.{Edit}
 use Rattle.crush_edits.specs.declared.edit.Edit.TheVariants.{Insert, CreateOrMove, Update, Move, Swap, Reweight, ReweightSubtree, Remove, AddBucket, Rename, SetClass, RemoveClass}

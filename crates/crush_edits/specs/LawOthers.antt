@@ -5,10 +5,10 @@ use Rattle.std.specs.Option.{option_eq}
 use Rattle.crush_units.specs.declared.id.ItemId.{ItemId}
 use Rattle.crush_units.specs.declared.id.ItemId.TheVariants.{Bucket}
 use Rattle.crush_units.specs.Name.{IsName}
-use Rattle.crush_table.specs.ItemRows.{bucket_row}
-use Rattle.crush_table.specs.Table.{Row, own_weight_of, class_of, is_there, is_named, free_ids, device_count, bucket_count}
-use Rattle.crush_table.specs.Lawful.{Lawful, has_too_many}
-use Rattle.crush_table.specs.Columns.{set_weights, set_weight, set_name, set_class, swap_buckets, without_row}
+use Rattle.crush_model.specs.ItemRows.{bucket_row}
+use Rattle.crush_model.specs.Table.{Row, own_weight_of, class_of, is_there, is_named, free_ids, device_count, bucket_count}
+use Rattle.crush_model.specs.Lawful.{Lawful, has_too_many}
+use Rattle.crush_model.specs.Columns.{set_weights, set_weight, set_name, set_class, swap_buckets, without_row}
 use Rattle.crush_edits.specs.declared.refusal.Refusal.TheVariants.{NoRoom}
 use Rattle.crush_edits.specs.declared.edit.Edit.TheVariants.{AddBucket}
 use Rattle.crush_edits.specs.Setting.{SettingData, kind_number}

@@ -4,13 +4,13 @@ use Rattle.std.specs.List.{count_by}
 use Rattle.crush_units.specs.declared.id.ItemId.{ItemId}
 use Rattle.crush_units.specs.declared.id.ItemId.TheVariants.{Device, Bucket}
 use Rattle.crush_units.specs.Id.{same_id}
-use Rattle.crush_table.specs.Items.{LeafData, Items, none, device}
-use Rattle.crush_table.specs.ItemRows.{rows, device_row}
-use Rattle.crush_table.specs.Table.{Row, row_of, is_there, is_named, device_count, bucket_count}
-use Rattle.crush_table.specs.Same.{Same}
-use Rattle.crush_table.specs.Law.{IsOne}
-use Rattle.crush_table.specs.Lawful.{IsRow, Lawful, is_too_heavy, has_too_many}
-use Rattle.crush_table.specs.Columns.{is_part, table_without, part}
+use Rattle.crush_model.specs.Items.{LeafData, Items, none, device}
+use Rattle.crush_model.specs.ItemRows.{rows, device_row}
+use Rattle.crush_model.specs.Table.{Row, row_of, is_there, is_named, device_count, bucket_count}
+use Rattle.crush_model.specs.Same.{Same}
+use Rattle.crush_model.specs.Law.{IsOne}
+use Rattle.crush_model.specs.Lawful.{IsRow, Lawful, is_too_heavy, has_too_many}
+use Rattle.crush_model.specs.Columns.{is_part, table_without, part}
 use Rattle.crush_edits.specs.declared.location.Pair.{Pair}
 use Rattle.crush_edits.specs.Stops.{StopData, stops, fresh_stops, receiver}
 use Rattle.crush_edits.specs.Put.{new_buckets, next_place, put, held}

@@ -2,10 +2,10 @@
 use Rattle.std.specs.Prelude.{◌≡◌, ℕ, ◌≤◌, List, [], ◌∷◌, ◌++◌, Option, Some, None, IfSome, false, ◌==◌, length, All, bytes_eq}
 use Rattle.std.specs.List.{sum_by, count_by}
 use Rattle.crush_units.specs.Name.{IsName}
-use Rattle.crush_table.specs.Items.{Items}
-use Rattle.crush_table.specs.ItemRows.{rows}
-use Rattle.crush_table.specs.Table.{Row, is_device_id, sum_below, total}
-use Rattle.crush_table.specs.Lawful.{Lawful, has_too_many}
+use Rattle.crush_model.specs.Items.{Items}
+use Rattle.crush_model.specs.ItemRows.{rows}
+use Rattle.crush_model.specs.Table.{Row, is_device_id, sum_below, total}
+use Rattle.crush_model.specs.Lawful.{Lawful, has_too_many}
 use Rattle.crush_edits.specs.declared.location.Pair.{Pair}
 use Rattle.crush_edits.specs.Stops.{StopData, with_stop, stops, end_id, receiver}
 use Rattle.crush_edits.specs.Put.{NewData, new_buckets, next_up, chain, next_place}

@@ -4,8 +4,8 @@ use Rattle.std.specs.List.{list_any}
 use Rattle.crush_units.specs.declared.id.ItemId.{ItemId}
 use Rattle.crush_units.specs.declared.id.ItemId.TheVariants.{Device}
 use Rattle.crush_units.specs.Id.{same_id}
-use Rattle.crush_table.specs.Table.{Row, id_named, kind_of, name_of}
-use Rattle.crush_table.specs.Tested.{are_apart}
+use Rattle.crush_model.specs.Table.{Row, id_named, kind_of, name_of}
+use Rattle.crush_model.specs.Tested.{are_apart}
 use Rattle.crush_edits.specs.declared.location.Pair.{Pair}
 use Rattle.crush_edits.specs.declared.refusal.Refusal.{Refusal}
 use Rattle.crush_edits.specs.declared.refusal.Refusal.TheVariants.{BadName, BadLocation, NoSuchType, NoPlace, WeightTooLarge, NameTaken, NotABucket, WrongType}

@@ -1,7 +1,7 @@
 -- The edits of one row: Remove, AddBucket.
 use Rattle.std.specs.Prelude.{ℕ, List, [], ◌∷◌, ◌++◌, None, Bool, not, ◌==◌, length, is_none, unwrap_or}
-use Rattle.crush_table.specs.Table.{Row, id_named, is_named, kids, member, free_ids}
-use Rattle.crush_table.specs.Columns.{without_row}
+use Rattle.crush_model.specs.Table.{Row, id_named, is_named, kids, member, free_ids}
+use Rattle.crush_model.specs.Columns.{without_row}
 use Rattle.crush_edits.specs.declared.refusal.Refusal.{Refusal}
 use Rattle.crush_edits.specs.declared.refusal.Refusal.TheVariants.{NoSuchType, NoSuchItem, NameTaken, WrongType, NotEmpty, InUse}
 use Rattle.crush_edits.specs.Setting.{SettingData, kind_number, taken_buckets}

@@ -1,8 +1,8 @@
 -- The edits of names: Swap, Rename.
 use Rattle.std.specs.Prelude.{ℕ, List, [], ◌∷◌, Bool, not, ◌&&◌, ◌||◌}
-use Rattle.crush_table.specs.Table.{Row, id_named, is_named}
-use Rattle.crush_table.specs.Columns.{set_name, swap_buckets}
-use Rattle.crush_table.specs.Table.{are_nested}
+use Rattle.crush_model.specs.Table.{Row, id_named, is_named}
+use Rattle.crush_model.specs.Columns.{set_name, swap_buckets}
+use Rattle.crush_model.specs.Table.{are_nested}
 use Rattle.crush_edits.specs.declared.refusal.Refusal.{Refusal}
 use Rattle.crush_edits.specs.declared.refusal.Refusal.TheVariants.{NoSuchItem, NameTaken, NotABucket, Nested, NotDirectory, AlreadyRenamed}
 use Rattle.crush_edits.specs.Stops.{bucket_named}

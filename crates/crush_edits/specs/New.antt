@@ -3,7 +3,7 @@ use Rattle.std.specs.Prelude.{◌≡◌, ℕ, ◌<◌, ◌≤◌, List, Option, 
 use Rattle.std.specs.List.{count_by}
 use Rattle.crush_units.specs.declared.id.ItemId.TheVariants.{Bucket}
 use Rattle.crush_units.specs.Name.{IsName}
-use Rattle.crush_table.specs.Table.{Row, is_device_id, member, used_ids, is_named, is_there}
+use Rattle.crush_model.specs.Table.{Row, is_device_id, member, used_ids, is_named, is_there}
 use Rattle.crush_edits.specs.Stops.{StopData, end_id}
 use Rattle.crush_edits.specs.Put.{NewData}
 use Rattle.crush_units.specs.declared.limits.TheConstants.{FARTHEST_BUCKET_ID, LAST_TYPE, MOST_FREE_IDS}

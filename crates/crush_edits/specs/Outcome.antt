@@ -1,6 +1,6 @@
 -- What a call answers, beside what the table answers.
 use Rattle.std.specs.Prelude.{◌≡◌, ℕ, List, true}
-use Rattle.crush_table.specs.Table.{Row}
+use Rattle.crush_model.specs.Table.{Row}
 use Rattle.crush_edits.specs.declared.refusal.Done.{Done}
 use Rattle.crush_edits.specs.Answer.{Answer, done}
 

@@ -2,10 +2,10 @@
 use Rattle.std.specs.Prelude.{ℕ, List, [], ◌∷◌, ◌++◌, None, Bool, not, if◌then◌else◌, length, unwrap_or}
 use Rattle.crush_units.specs.declared.id.ItemId.{ItemId}
 use Rattle.crush_units.specs.declared.id.ItemId.TheVariants.{Device}
-use Rattle.crush_table.specs.Items.{LeafData}
-use Rattle.crush_table.specs.ItemRows.{device_row}
-use Rattle.crush_table.specs.Table.{Row, row_of, id_named, is_named, is_placed, own_weight_of, class_of}
-use Rattle.crush_table.specs.Columns.{set_weight, is_part}
+use Rattle.crush_model.specs.Items.{LeafData}
+use Rattle.crush_model.specs.ItemRows.{device_row}
+use Rattle.crush_model.specs.Table.{Row, row_of, id_named, is_named, is_placed, own_weight_of, class_of}
+use Rattle.crush_model.specs.Columns.{set_weight, is_part}
 use Rattle.crush_edits.specs.declared.location.Pair.{Pair}
 use Rattle.crush_edits.specs.declared.refusal.Refusal.{Refusal}
 use Rattle.crush_edits.specs.declared.refusal.Refusal.TheVariants.{NoSuchItem, AlreadyPlaced, Loop}

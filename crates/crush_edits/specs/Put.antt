@@ -4,10 +4,10 @@ use Rattle.crush_units.specs.declared.id.ItemId.{ItemId}
 use Rattle.crush_units.specs.declared.id.ItemId.TheVariants.{Bucket}
 use Rattle.crush_units.specs.declared.alg.Alg.TheVariants.{Straw2}
 use Rattle.crush_units.specs.Id.{same_id}
-use Rattle.crush_table.specs.Items.{HeaderData}
-use Rattle.crush_table.specs.ItemRows.{bucket_row}
-use Rattle.crush_table.specs.Table.{Row, id_named, parent_of, free_ids}
-use Rattle.crush_table.specs.Columns.{without_row}
+use Rattle.crush_model.specs.Items.{HeaderData}
+use Rattle.crush_model.specs.ItemRows.{bucket_row}
+use Rattle.crush_model.specs.Table.{Row, id_named, parent_of, free_ids}
+use Rattle.crush_model.specs.Columns.{without_row}
 use Rattle.crush_edits.specs.Stops.{StopData, fresh_stops, receiver}
 
 -- a new bucket: how far its id is below 0, its type's number, its name

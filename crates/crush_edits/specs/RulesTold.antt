@@ -3,7 +3,7 @@ use Rattle.std.specs.Prelude.{◌≡◌, ◌||◌, ℕ, List}
 use Rattle.std.specs.BTreeSet.{BTreeSet, contains}
 use Rattle.std.specs.List.{list_any}
 use Rattle.std.specs.Ordering.{nat_cmp}
-use Rattle.crush_table.specs.Table.{member}
+use Rattle.crush_model.specs.Table.{member}
 use Rattle.crush_edits.specs.Setting.{RuleData, taken_by}
 use Rattle.crush_edits.specs.SettingSeen.{takes_bucket}
 use Rattle.crush_edits.specs.declared.setting.KeptStep.{KeptStep}

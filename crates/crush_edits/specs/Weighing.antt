@@ -2,8 +2,8 @@
 use Rattle.std.specs.Prelude.{ℕ, List, [], ◌∷◌, Bool, not, ◌&&◌, is_none}
 use Rattle.crush_units.specs.declared.id.ItemId.{ItemId}
 use Rattle.crush_units.specs.Id.{is_device_id}
-use Rattle.crush_table.specs.Table.{Row, id_named, is_named, parent_of}
-use Rattle.crush_table.specs.Columns.{set_weight, set_subtree}
+use Rattle.crush_model.specs.Table.{Row, id_named, is_named, parent_of}
+use Rattle.crush_model.specs.Columns.{set_weight, set_subtree}
 use Rattle.crush_edits.specs.declared.refusal.Refusal.{Refusal}
 use Rattle.crush_edits.specs.declared.refusal.Refusal.TheVariants.{WeightTooLarge, NoSuchItem, NotPlaced, NotADevice, NotABucket}
 use Rattle.crush_edits.specs.Stops.{bucket_named}

@@ -1,6 +1,6 @@
 -- How many devices and buckets items are, and numbers of both that add up.
 use Rattle.std.specs.Prelude.{◌≡◌, ◌+◌, ◌<◌, ◌≤◌, ◌^◌}
-use Rattle.crush_table.specs.Items.{Items, size_of}
+use Rattle.crush_model.specs.Items.{Items, size_of}
 use Rattle.crush_nodes.specs.Search.{devices_in}
 use Rattle.crush_nodes.specs.declared.view.Counts.{Counts}
 

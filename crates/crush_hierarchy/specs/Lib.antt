@@ -2,4 +2,4 @@ pub mod Counted
 pub mod Given
 pub mod Indexed
 pub mod Placed
-pub mod Retold
+pub mod AnswersKept

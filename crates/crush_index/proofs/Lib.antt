@@ -1,9 +1,9 @@
-pub mod IdsTold
+pub mod IdsAnswers
 pub mod NodeRows
 pub mod PlaceColumn
 pub mod TableMoved
-pub mod TableTold
-pub mod ToldLaws
+pub mod TableAnswers
+pub mod AnswersLaws
 pub mod UsedBits
 pub mod WordBits
 pub mod Exchanged

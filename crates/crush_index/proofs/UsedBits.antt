@@ -6,7 +6,7 @@ use Rattle.std.proofs.lemmas.Bool.{cases_order}
 use Rattle.std.proofs.lemmas.Bool.Decides.{nat_tests}
 use Rattle.indexmap.specs.IndexSet.{contains}
 use Rattle.crush_index.specs.declared.used.UsedIds.{UsedIds}
-use Rattle.crush_index.specs.UsedTold.{used_told, near_ids, IsFirstFree}
+use Rattle.crush_index.specs.UsedAnswers.{used_answer, near_ids, IsFirstFree}
 
 -- the bit of an id
 abbrev pub bit_of : List ℕ → ℕ → Bool
@@ -15,8 +15,8 @@ bit_of ws k = bit_at (get_or ws (k / 64) 0) (k % 64) == 1
 below : (a n : ℕ) → a < n → nat_lt a n ≡ true
 below a n h = grind (arith, nat_tests)
 
-pub told_by_bit : (used : UsedIds) (k : ℕ) → k < near_ids → used_told used k ≡ bit_of used.words.items k
-told_by_bit used k h = ap (λ b. if b then bit_of used.words.items k else contains nat_eq used.far k) (below k near_ids h)
+pub answer_by_bit : (used : UsedIds) (k : ℕ) → k < near_ids → used_answer used k ≡ bit_of used.words.items k
+answer_by_bit used k h = ap (λ b. if b then bit_of used.words.items k else contains nat_eq used.far k) (below k near_ids h)
 
 is_one : (n : ℕ) → n ≡ 1 → (n == 1) ≡ true
 is_one n e = ap (λ z. z == 1) e
@@ -26,7 +26,7 @@ is_none n e = ap (λ z. z == 1) e
 
 -- SEARCHED: the ids from one on before a word are in use
 abbrev pub Searched : UsedIds → ℕ → ℕ → Type 0
-Searched used least place = (k : ℕ) → least ≤ k → k < 64 * place → used_told used k ≡ true
+Searched used least place = (k : ℕ) → least ≤ k → k < 64 * place → used_answer used k ≡ true
 
 pub searched_first : (used : UsedIds) (least place : ℕ) → place ≡ least / 64 → Searched used least place
 searched_first used least place e k from to = absurd (omega (arith, e, from, to))
@@ -35,13 +35,13 @@ below_or_not : (k n : ℕ) → (k < n) ⊎ (n ≤ k)
 below_or_not k n = ⊎_elim (λ e. inr (omega arith)) (λ other. ⊎_elim (λ below. inl below) (λ above. inr (omega arith)) other) (cases_order k n)
 
 -- what is left to look at after the words
-pub searched_words : (used : UsedIds) (least place : ℕ) → Searched used least place → (next : ℕ) → next ≤ max (64 * place) least → (k : ℕ) → least ≤ k → k < next → used_told used k ≡ true
+pub searched_words : (used : UsedIds) (least place : ℕ) → Searched used least place → (next : ℕ) → next ≤ max (64 * place) least → (k : ℕ) → least ≤ k → k < next → used_answer used k ≡ true
 searched_words used least place before next h k from to = before k from (omega (arith, h, from, to))
 
 module _ (used : UsedIds) (least place : ℕ) (within : place < 1089) (before : Searched used least place) where
   -- an id of the word
-  told_here : (k : ℕ) → k / 64 ≡ place → used_told used k ≡ (bit_at (get_or used.words.items place 0) (k % 64) == 1)
-  told_here k e = told_by_bit used k (omega (arith, e, within)) ∙ ap (λ z. bit_at (get_or used.words.items z 0) (k % 64) == 1) e
+  answer_here : (k : ℕ) → k / 64 ≡ place → used_answer used k ≡ (bit_at (get_or used.words.items place 0) (k % 64) == 1)
+  answer_here k e = answer_by_bit used k (omega (arith, e, within)) ∙ ap (λ z. bit_at (get_or used.words.items z 0) (k % 64) == 1) e
 
   pub searched_word : (from : ℕ) → ((i : ℕ) → i < 64 → least ≤ 64 * place + i → from ≤ i) → ((i : ℕ) → from ≤ i → i < 64 → bit_at (get_or used.words.items place 0) i ≡ 1) → Searched used least (place + 1)
   searched_word from each full k low high = ⊎_elim
@@ -49,7 +49,7 @@ module _ (used : UsedIds) (least place : ℕ) (within : place < 1089) (before : 
       (λ here.
       let same : k / 64 ≡ place = omega (arith, here, high) in
       let bit : from ≤ k % 64 = each (k % 64) (omega arith) (omega (arith, same, low)) in
-      told_here k same ∙ is_one (bit_at (get_or used.words.items place 0) (k % 64)) (full (k % 64) bit (omega arith)))
+      answer_here k same ∙ is_one (bit_at (get_or used.words.items place 0) (k % 64)) (full (k % 64) bit (omega arith)))
       (below_or_not k (64 * place))
 
   pub found_free : (from bit id : ℕ) → id ≡ place * 64 + bit → bit < 64 → ((i : ℕ) → i < 64 → least ≤ 64 * place + i → from ≤ i) → least ≤ 64 * place + from → from ≤ bit
@@ -57,12 +57,12 @@ module _ (used : UsedIds) (least place : ℕ) (within : place < 1089) (before : 
   found_free from bit id e small each low up clear first = record {
     after = omega (arith, e, low, up);
     free = (let same : id / 64 ≡ place = omega (arith, e, small) in let rest : id % 64 ≡ bit = omega (arith, e, small) in
-        told_here id same ∙ ap (λ z. bit_at (get_or used.words.items place 0) z == 1) rest ∙ is_none (bit_at (get_or used.words.items place 0) bit) clear);
+        answer_here id same ∙ ap (λ z. bit_at (get_or used.words.items place 0) z == 1) rest ∙ is_none (bit_at (get_or used.words.items place 0) bit) clear);
     nearest = λ k from_least to. ⊎_elim
         (λ earlier. before k from_least earlier)
         (λ here.
         let same : k / 64 ≡ place = omega (arith, here, to, e, small) in
         let in_word : from ≤ k % 64 = each (k % 64) (omega arith) (omega (arith, same, from_least)) in
-        told_here k same ∙ is_one (bit_at (get_or used.words.items place 0) (k % 64)) (first (k % 64) in_word (omega (arith, e, to, same, here))))
+        answer_here k same ∙ is_one (bit_at (get_or used.words.items place 0) (k % 64)) (first (k % 64) in_word (omega (arith, e, to, same, here))))
         (below_or_not k (64 * place));
   }

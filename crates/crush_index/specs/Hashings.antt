@@ -1,8 +1,8 @@
 -- How an index hashes: each of its tables by the hashing that it was made with.
 use Rattle.std.specs.Prelude.{◌≡◌}
 use Rattle.indexmap.specs.IndexSet.{hasher_of as set_hasher_of}
-use Rattle.crush_index.specs.NumberedTold.{numbered_hashing}
-use Rattle.crush_index.specs.SlotsTold.{slots_hashing}
+use Rattle.crush_index.specs.DenseMapAnswers.{numbered_hashing}
+use Rattle.crush_index.specs.SlotsAnswers.{slots_hashing}
 use Rattle.crush_index.specs.declared.hashing.Hashing.{Hashing}
 use Rattle.crush_index.specs.declared.index.Index.{Index}
 use Rattle.crush_index.specs.declared.names.Names.{Names}

@@ -1,12 +1,12 @@
 -- What became of an index: old is the one before a call, new the one after it.
 use Rattle.std.specs.Prelude.{◌≡◌, ℕ, List, [], ◌∷◌, Result, OnOk, OnErr}
 use Rattle.crush_units.specs.declared.id.ItemId.{ItemId}
-use Rattle.crush_table.specs.Items.{Items}
-use Rattle.crush_table.specs.Table.{Row}
+use Rattle.crush_model.specs.Items.{Items}
+use Rattle.crush_model.specs.Table.{Row}
 use Rattle.crush_nodes.specs.declared.place.Place.{Place}
 use Rattle.crush_index.specs.Hashings.{hashings}
 use Rattle.crush_index.specs.IndexLaw.{StaysIndex, TakesRows, LosesPart, LosesRows}
-use Rattle.crush_index.specs.IndexTold.{told, with_name, with_row, without_name, without_rows}
+use Rattle.crush_index.specs.IndexAnswers.{answers, with_name, with_row, without_name, without_rows}
 use Rattle.crush_index.specs.declared.index.Index.{Index}
 
 -- the items came last to the place; after an error the index is still one of each table that they could come to
@@ -23,22 +23,22 @@ pub record Removes (n : Items) (old new : Index) : Type 0 where
 
 -- the name has the id; after an error all is told as before
 pub record AddsName {X E : Type 0} (name : List ℕ) (i : ItemId) (old new : Index) (answer : Result X E) : Type 0 where
-  pub ok : OnOk answer (told new ≡ with_name name i (told old))
-  pub err : OnErr answer (told new ≡ told old)
+  pub ok : OnOk answer (answers new ≡ with_name name i (answers old))
+  pub err : OnErr answer (answers new ≡ answers old)
   pub hashing : hashings new ≡ hashings old
 
 -- the name has no id
 pub record ForgetsName (name : List ℕ) (old new : Index) : Type 0 where
-  pub gone : told new ≡ without_name name (told old)
+  pub gone : answers new ≡ without_name name (answers old)
   pub hashing : hashings new ≡ hashings old
 
 -- the row has come; after an error all is told as before but of its name and its ids
 pub record InsertsRow {X E : Type 0} (r : Row) (old new : Index) (answer : Result X E) : Type 0 where
-  pub ok : OnOk answer (told new ≡ with_row r (told old))
-  pub err : OnErr answer (without_rows (r ∷ []) (told new) ≡ without_rows (r ∷ []) (told old))
+  pub ok : OnOk answer (answers new ≡ with_row r (answers old))
+  pub err : OnErr answer (without_rows (r ∷ []) (answers new) ≡ without_rows (r ∷ []) (answers old))
   pub hashing : hashings new ≡ hashings old
 
 -- the same is told of each name, item and number, and hashed so
 pub record IsCopyOf (index copy : Index) : Type 0 where
-  pub told : told copy ≡ told index
+  pub answers : answers copy ≡ answers index
   pub hashing : hashings copy ≡ hashings index

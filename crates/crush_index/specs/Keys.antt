@@ -6,9 +6,9 @@ use Rattle.std.specs.Hash.DefaultHasher as sip
 use Rattle.std.specs.Int.{w64, from_le_bytes}
 use Rattle.std.proofs.Common.{rules}
 use Rattle.crush_index.specs.Hashed.{first_state, at_once}
-use Rattle.crush_index.specs.declared.digests.Passed.{Passed}
+use Rattle.crush_index.specs.declared.digests.IdentityHasher.{IdentityHasher}
 use Rattle.crush_index.specs.declared.hashing.Hashing.{Hashing}
-use Rattle.crush_index.specs.declared.key.Asked.{Asked}
+use Rattle.crush_index.specs.declared.key.Sought.{Sought}
 
 -- the digest of a name: its SipHash
 unfoldable pub digest : Hashing → List ℕ → ℕ
@@ -19,8 +19,8 @@ abbrev pub key_of : Hashing → List ℕ → ℕ × List ℕ
 key_of h name = (digest h name, name)
 
 -- the key that is asked for
-abbrev pub asked_key : Asked → ℕ × List ℕ
-asked_key asked = (asked.digest, asked.bytes.now)
+abbrev pub sought_key : Sought → ℕ × List ℕ
+sought_key sought = (sought.digest, sought.bytes.now)
 
 -- whether two keys are the same
 abbrev pub same_key : ℕ × List ℕ → ℕ × List ℕ → Bool
@@ -34,12 +34,12 @@ pub same_digests : (x y : ℕ × List ℕ) → same_key x y ≡ true → x.0 ≡
 same_digests x y e = Prim.search (comparing, rules)
 
 -- a hasher of digests: it finishes with the eight bytes that were written, the lowest first
-abbrev pub nothing_passed : Passed
+abbrev pub nothing_passed : IdentityHasher
 nothing_passed = record { digest = 0 }
 
 abbrev pub eight : List ℕ → List ℕ
 eight bs =
     slice_index bs 0 ∷ slice_index bs 1 ∷ slice_index bs 2 ∷ slice_index bs 3 ∷ slice_index bs 4 ∷ slice_index bs 5 ∷ slice_index bs 6 ∷ slice_index bs 7 ∷ []
 
-abbrev pub passed : Passed → List ℕ → Passed
+abbrev pub passed : IdentityHasher → List ℕ → IdentityHasher
 passed state bs = if length bs == 8 then record { digest = from_le_bytes w64 (eight bs) } else state

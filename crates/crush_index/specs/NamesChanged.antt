@@ -2,16 +2,16 @@
 use Rattle.std.specs.Prelude.{◌≡◌, ℕ, List, Some, Result, OnOk, OnErr}
 use Rattle.crush_units.specs.declared.id.ItemId.{ItemId}
 use Rattle.crush_index.specs.Hashings.{names_hashing}
-use Rattle.crush_index.specs.NamesTold.{TellsSame, TellsOne}
+use Rattle.crush_index.specs.NamesAnswers.{AnswersSame, AnswersOne}
 use Rattle.crush_index.specs.declared.names.Names.{Names}
 
 -- the name has the id; after an error each name has the id that it had
 pub record Inserts {X E : Type 0} (name : List ℕ) (id : ItemId) (old new : Names) (answer : Result X E) : Type 0 where
-  pub ok : OnOk answer (TellsOne old new name (Some id))
-  pub err : OnErr answer (TellsSame old new)
+  pub ok : OnOk answer (AnswersOne old new name (Some id))
+  pub err : OnErr answer (AnswersSame old new)
   pub hashing : names_hashing new ≡ names_hashing old
 
 -- the same of each name, and hashed so
 pub record IsCopyOf (names copy : Names) : Type 0 where
-  pub told : TellsSame names copy
+  pub answers : AnswersSame names copy
   pub hashing : names_hashing copy ≡ names_hashing names

@@ -2,12 +2,12 @@
 use Rattle.std.specs.Prelude.{◌≡◌, ℕ, List, [], ◌∷◌, ◌++◌, Some, None, Bool, false, ◌==◌}
 use Rattle.crush_units.specs.declared.id.ItemId.{ItemId}
 use Rattle.crush_units.specs.declared.id.ItemId.TheVariants.{Bucket}
-use Rattle.crush_table.specs.Table.{Row, is_named, name_of}
-use Rattle.crush_table.specs.Lawful.{Lawful}
-use Rattle.crush_table.specs.Same.{Same}
-use Rattle.crush_table.specs.Columns.{set_weights, set_name, without_row, exchange_parents, exchange_names, swap_buckets}
+use Rattle.crush_model.specs.Table.{Row, is_named, name_of}
+use Rattle.crush_model.specs.Lawful.{Lawful}
+use Rattle.crush_model.specs.Same.{Same}
+use Rattle.crush_model.specs.Columns.{set_weights, set_name, without_row, exchange_parents, exchange_names, swap_buckets}
 use Rattle.crush_index.specs.declared.names.Names.{Names}
-use Rattle.crush_index.specs.NamesTold.{AreNamesOf, TellsOne, TellsTwo}
+use Rattle.crush_index.specs.NamesAnswers.{AreNamesOf, AnswersOne, AnswersTwo}
 
 -- the names of a table are those of each that is the same
 abbrev pub NamesOfSame : Type 0
@@ -26,21 +26,21 @@ NamesOfParents =
 -- a row comes last, whose name no row has
 abbrev pub NamesFollowRow : Type 0
 NamesFollowRow =
-    (old new : Names) (t : List Row) (r : Row) → AreNamesOf t old → is_named t r.name ≡ false → TellsOne old new r.name (Some r.id) → AreNamesOf (t ++ r ∷ []) new
+    (old new : Names) (t : List Row) (r : Row) → AreNamesOf t old → is_named t r.name ≡ false → AnswersOne old new r.name (Some r.id) → AreNamesOf (t ++ r ∷ []) new
 
 -- an item's row goes
 abbrev pub NamesFollowWithout : Type 0
 NamesFollowWithout =
-    (old new : Names) (t : List Row) (i : ItemId) (name : List ℕ) → Lawful t → AreNamesOf t old → name_of t i ≡ Some name → TellsOne old new name None → AreNamesOf (without_row i t) new
+    (old new : Names) (t : List Row) (i : ItemId) (name : List ℕ) → Lawful t → AreNamesOf t old → name_of t i ≡ Some name → AnswersOne old new name None → AreNamesOf (without_row i t) new
 
 -- an item gets another name
 abbrev pub NamesFollowName : Type 0
 NamesFollowName =
     (old new : Names) (t : List Row) (i : ItemId) (from to : List ℕ) → Lawful t → Lawful (set_name i to t) → AreNamesOf t old → name_of t i ≡ Some from
-    → TellsTwo old new to (Some i) from None → AreNamesOf (set_name i to t) new
+    → AnswersTwo old new to (Some i) from None → AreNamesOf (set_name i to t) new
 
 -- two buckets exchange their names and items
 abbrev pub NamesFollowSwap : Type 0
 NamesFollowSwap =
     (old new : Names) (t : List Row) (a b : ℕ) (first second : List ℕ) → Lawful t → Lawful (exchange_names a b t) → (a == b) ≡ false → AreNamesOf t old
-    → name_of t (Bucket a) ≡ Some first → name_of t (Bucket b) ≡ Some second → TellsTwo old new first (Some (Bucket b)) second (Some (Bucket a)) → AreNamesOf (swap_buckets a b t) new
+    → name_of t (Bucket a) ≡ Some first → name_of t (Bucket b) ≡ Some second → AnswersTwo old new first (Some (Bucket b)) second (Some (Bucket a)) → AreNamesOf (swap_buckets a b t) new

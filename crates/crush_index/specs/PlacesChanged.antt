@@ -3,7 +3,7 @@ use Rattle.std.specs.Prelude.{◌≡◌, Some, Result, OnOk, OnErr}
 use Rattle.crush_units.specs.declared.id.ItemId.{ItemId}
 use Rattle.crush_nodes.specs.declared.place.Place.{Place}
 use Rattle.crush_index.specs.Hashings.{places_hashings}
-use Rattle.crush_index.specs.PlacesTold.{StandsSame, StandsAt}
+use Rattle.crush_index.specs.PlacesAnswers.{StandsSame, StandsAt}
 use Rattle.crush_index.specs.declared.places.Places.{Places}
 
 -- the item stands at the place; after an error each item stands where it stood
@@ -14,5 +14,5 @@ pub record Inserts {X E : Type 0} (i : ItemId) (place : Place) (old new : Places
 
 -- each item stands where it stood, and hashed so
 pub record IsCopyOf (places copy : Places) : Type 0 where
-  pub told : StandsSame places copy
+  pub answers : StandsSame places copy
   pub hashing : places_hashings copy ≡ places_hashings places

@@ -2,14 +2,14 @@
 use Rattle.std.specs.Prelude.{◌≡◌, ℕ, List, [], ◌∷◌, ◌++◌, Some, None, Bool, false}
 use Rattle.std.specs.Option.{option_map}
 use Rattle.crush_units.specs.declared.id.ItemId.{ItemId}
-use Rattle.crush_table.specs.Table.{Row, is_device, is_there}
-use Rattle.crush_table.specs.Lawful.{Lawful}
-use Rattle.crush_table.specs.Same.{Same}
-use Rattle.crush_table.specs.Columns.{set_weights, set_name, without_row, swap_buckets}
+use Rattle.crush_model.specs.Table.{Row, is_device, is_there}
+use Rattle.crush_model.specs.Lawful.{Lawful}
+use Rattle.crush_model.specs.Same.{Same}
+use Rattle.crush_model.specs.Columns.{set_weights, set_name, without_row, swap_buckets}
 use Rattle.crush_nodes.specs.Guides.{place_under}
-use Rattle.crush_changes.specs.Swapping.{exchanged_place}
+use Rattle.crush_walks.specs.Swapping.{exchanged_place}
 use Rattle.crush_index.specs.declared.places.Places.{Places}
-use Rattle.crush_index.specs.PlacesTold.{ArePlacesOf, place_told, StandsAt}
+use Rattle.crush_index.specs.PlacesAnswers.{ArePlacesOf, place_answer, StandsAt}
 
 -- the places of a table are those of each that is the same
 abbrev pub PlacesOfSame : Type 0
@@ -44,5 +44,5 @@ PlacesFollowMove =
 -- two buckets exchange their names and items
 abbrev pub PlacesFollowSwap : Type 0
 PlacesFollowSwap =
-    (old new : Places) (t : List Row) (a b : ℕ) → ArePlacesOf t old → ((i : ItemId) → place_told new i ≡ option_map (exchanged_place a b) (place_told old i))
+    (old new : Places) (t : List Row) (a b : ℕ) → ArePlacesOf t old → ((i : ItemId) → place_answer new i ≡ option_map (exchanged_place a b) (place_answer old i))
     → ArePlacesOf (swap_buckets a b t) new

@@ -1,7 +1,7 @@
 -- What became of an index of used ids: old is the one before a call, new the one after it.
 use Rattle.std.specs.Prelude.{◌≡◌, ℕ, true, Result, OnOk, OnErr}
 use Rattle.crush_index.specs.Hashings.{used_hashing}
-use Rattle.crush_index.specs.UsedTold.{UsesSame, UsesOne}
+use Rattle.crush_index.specs.UsedAnswers.{UsesSame, UsesOne}
 use Rattle.crush_index.specs.declared.used.UsedIds.{UsedIds}
 
 -- the id is in use; after an error the same ids are in use as before
@@ -12,5 +12,5 @@ pub record Inserts {X E : Type 0} (id : ℕ) (old new : UsedIds) (answer : Resul
 
 -- the same ids are in use, and hashed so
 pub record IsCopyOf (used copy : UsedIds) : Type 0 where
-  pub told : UsesSame used copy
+  pub answers : UsesSame used copy
   pub hashing : used_hashing copy ≡ used_hashing used

@@ -1,13 +1,13 @@
 -- An index of used ids that is told of a change of the table tells those of the table after it.
 use Rattle.std.specs.Prelude.{◌≡◌, ℕ, List, [], ◌∷◌, ◌++◌, Some, Bool, false, ◌||◌, if◌then◌else◌, map}
 use Rattle.crush_units.specs.declared.id.ItemId.{ItemId}
-use Rattle.crush_table.specs.Items.{ShadowData}
-use Rattle.crush_table.specs.Table.{Row, row_of, member, bucket_ids}
-use Rattle.crush_table.specs.Lawful.{Lawful}
-use Rattle.crush_table.specs.Same.{Same}
-use Rattle.crush_table.specs.Columns.{set_weights, set_name, without_row, swap_buckets}
+use Rattle.crush_model.specs.Items.{ShadowData}
+use Rattle.crush_model.specs.Table.{Row, row_of, member, bucket_ids}
+use Rattle.crush_model.specs.Lawful.{Lawful}
+use Rattle.crush_model.specs.Same.{Same}
+use Rattle.crush_model.specs.Columns.{set_weights, set_name, without_row, swap_buckets}
 use Rattle.crush_index.specs.declared.used.UsedIds.{UsedIds}
-use Rattle.crush_index.specs.UsedTold.{used_told, AreUsedIn}
+use Rattle.crush_index.specs.UsedAnswers.{used_answer, AreUsedIn}
 
 -- the ids that one row uses: a bucket its own and those of its class ids
 abbrev pub uses : Row → List ℕ
@@ -33,11 +33,11 @@ UsedOfSwap =
 -- a row comes last, and the ids that it uses with it
 abbrev pub UsedFollowRow : Type 0
 UsedFollowRow =
-    (old new : UsedIds) (t : List Row) (r : Row) → AreUsedIn t old → ((k : ℕ) → used_told new k ≡ (used_told old k || member k (uses r)))
+    (old new : UsedIds) (t : List Row) (r : Row) → AreUsedIn t old → ((k : ℕ) → used_answer new k ≡ (used_answer old k || member k (uses r)))
     → AreUsedIn (t ++ r ∷ []) new
 
 -- an item's row goes, and the ids that it used with it
 abbrev pub UsedFollowWithout : Type 0
 UsedFollowWithout =
     (old new : UsedIds) (t : List Row) (i : ItemId) (r : Row) → Lawful t → AreUsedIn t old → row_of t i ≡ Some r
-    → ((k : ℕ) → used_told new k ≡ (if member k (uses r) then false else used_told old k)) → AreUsedIn (without_row i t) new
+    → ((k : ℕ) → used_answer new k ≡ (if member k (uses r) then false else used_answer old k)) → AreUsedIn (without_row i t) new

@@ -3,27 +3,27 @@
 use std::hash::{BuildHasher, Hasher};
 
 #[derive(Clone, Copy)]
-pub(crate) struct Digests;
+pub(crate) struct IdentityHashing;
 
 /// Finishes with the digest that it is written.
 #[derive(Clone, Copy)]
-pub(crate) struct Passed {
+pub(crate) struct IdentityHasher {
     digest: u64,
 }
 
-impl BuildHasher for Digests {
-    type Hasher = Passed;
+impl BuildHasher for IdentityHashing {
+    type Hasher = IdentityHasher;
 
     ghost use Rattle.crush_index.specs.Keys.{nothing_passed};
 
     ghost build_hasher = { λ _. nothing_passed };
 
-    fn build_hasher(&self) -> Passed {
-        Passed { digest: 0 }
+    fn build_hasher(&self) -> IdentityHasher {
+        IdentityHasher { digest: 0 }
     }
 }
 
-impl Hasher for Passed {
+impl Hasher for IdentityHasher {
     ghost use Rattle.crush_index.specs.Keys.{passed};
 
     ghost write = { passed };

@@ -4,7 +4,7 @@ ghost use Rattle.std.specs.Prelude.{◌≡◌};
 ghost use Rattle.std.specs.Cmp.Rules.{comparing, hashing as hashed};
 ghost use Rattle.std.specs.Hash as fed;
 ghost use Rattle.std.proofs.Common.{ap, rules};
-ghost use Rattle.crush_index.specs.Keys.{asked_key, digest, key_of, same_digests, same_key, same_key_equiv};
+ghost use Rattle.crush_index.specs.Keys.{sought_key, digest, key_of, same_digests, same_key, same_key_equiv};
 
 use crate::hashing::Hashing;
 use crush_units::Name;
@@ -82,38 +82,38 @@ impl Hash for Key {
 
 /// The bytes of a name that is looked for, with their digest.
 #[derive(Clone, Copy)]
-pub(crate) struct Asked<'a> {
+pub(crate) struct Sought<'a> {
     digest: u64,
     bytes: &'a [u8],
 }
 
-impl<'a> Asked<'a> {
-    pub(crate) fn of(bytes: &'a [u8], hashing: &Hashing) -> Asked<'a>
-        ensures { asked_key result ≡ key_of hashing.now bytes.now }
+impl<'a> Sought<'a> {
+    pub(crate) fn of(bytes: &'a [u8], hashing: &Hashing) -> Sought<'a>
+        ensures { sought_key result ≡ key_of hashing.now bytes.now }
     {
-        Asked {
+        Sought {
             digest: digest(bytes, hashing),
             bytes,
         }
     }
 }
 
-impl<'a> PartialEq for Asked<'a> {
-    ghost eq = { λ x y. same_key (asked_key x) (asked_key y) };
+impl<'a> PartialEq for Sought<'a> {
+    ghost eq = { λ x y. same_key (sought_key x) (sought_key y) };
 
     ghost laws = { Prim.search (comparing, rules) };
 
-    fn eq(&self, other: &Asked<'a>) -> bool {
+    fn eq(&self, other: &Sought<'a>) -> bool {
         self.digest == other.digest && self.bytes == other.bytes
     }
 }
 
-impl<'a> Eq for Asked<'a> {
+impl<'a> Eq for Sought<'a> {
     ghost laws = { Prim.search (comparing, rules) };
 }
 
-impl<'a> Hash for Asked<'a> {
-    ghost hash_input = { λ asked. fed.u64 asked.digest };
+impl<'a> Hash for Sought<'a> {
+    ghost hash_input = { λ sought. fed.u64 sought.digest };
 
     ghost respects_eq = { Prim.search (hashed, rules) };
 
@@ -122,12 +122,12 @@ impl<'a> Hash for Asked<'a> {
     }
 }
 
-impl<'a> Equivalent<Key> for Asked<'a> {
-    ghost equivalent = { λ asked. same_key (asked_key asked) };
+impl<'a> Equivalent<Key> for Sought<'a> {
+    ghost equivalent = { λ sought. same_key (sought_key sought) };
 
-    ghost respects_hash = { λ asked key h. ap fed.u64 (same_digests (asked_key asked) key h) };
+    ghost respects_hash = { λ sought key h. ap fed.u64 (same_digests (sought_key sought) key h) };
 
-    ghost respects_eq = { λ asked. same_key_equiv.congr (asked_key asked) };
+    ghost respects_eq = { λ sought. same_key_equiv.congr (sought_key sought) };
 
     fn equivalent(&self, key: &Key) -> bool {
         self.digest == key.digest && self.bytes == key.name.as_bytes()

@@ -6,13 +6,13 @@
 #![tactic(auto)]
 
 mod copied;
+mod dense_map;
 mod digests;
 mod hashing;
 mod index;
 mod key;
 pub mod law;
 mod names;
-mod numbered;
 mod places;
 mod slot;
 mod slots;

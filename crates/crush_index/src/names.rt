@@ -1,14 +1,14 @@
 //! The ids of names.
 
 ghost use Rattle.std.specs.Prelude.{◌≡◌, true, false, Some, None, List, ℕ, ◌++◌, ◌∷◌, [], bytes_eq, IfOk};
-ghost use Rattle.crush_table.specs.Table.{Row, is_named, name_of};
+ghost use Rattle.crush_model.specs.Table.{Row, is_named, name_of};
 ghost use Rattle.crush_index.specs.Hashings.{names_hashing};
 ghost use Rattle.crush_index.specs.NamesChanged.{IsCopyOf, Inserts};
-ghost use Rattle.crush_index.specs.NamesTold.{id_told, TellsOne, TellsTwo};
+ghost use Rattle.crush_index.specs.NamesAnswers.{id_answer, AnswersOne, AnswersTwo};
 
-use crate::digests::Digests;
+use crate::digests::IdentityHashing;
 use crate::hashing::Hashing;
-use crate::key::{Asked, Key};
+use crate::key::{Key, Sought};
 use crush_units::{ItemId, Name};
 use indexmap::IndexMap;
 use std::alloc::{AllocError, Global};
@@ -18,18 +18,18 @@ use std::alloc::{AllocError, Global};
 pub(crate) struct Names {
     machine: Global,
     hashing: Hashing,
-    ids: IndexMap<Key, ItemId, Digests>,
+    ids: IndexMap<Key, ItemId, IdentityHashing>,
 }
 
 impl Names {
     pub(crate) fn new(alloc: Global, hashing: Hashing) -> Names
-        ensures none { (n : List ℕ) → id_told result n ≡ None }
+        ensures none { (n : List ℕ) → id_answer result n ≡ None }
         ensures hashing { names_hashing result ≡ hashing }
     {
         Names {
             machine: alloc,
             hashing,
-            ids: IndexMap::with_hasher(alloc, Digests),
+            ids: IndexMap::with_hasher(alloc, IdentityHashing),
         }
     }
 
@@ -45,9 +45,9 @@ impl Names {
     }
 
     pub(crate) fn id_of(&self, name: &[u8]) -> Option<ItemId>
-        ensures { result ≡ id_told self.now name.now }
+        ensures { result ≡ id_answer self.now name.now }
     {
-        match self.ids.get(Asked::of(name, &self.hashing)) {
+        match self.ids.get(Sought::of(name, &self.hashing)) {
             Some(id) => Some(*id),
             None => None,
         }
@@ -62,22 +62,22 @@ impl Names {
     }
 
     pub(crate) fn remove(&mut self, name: &[u8])
-        ensures told { TellsOne self.old self.new name.now None }
+        ensures answers { AnswersOne self.old self.new name.now None }
         ensures hashing { names_hashing self.new ≡ names_hashing self.old }
     {
-        self.ids.swap_remove(Asked::of(name, &self.hashing));
+        self.ids.swap_remove(Sought::of(name, &self.hashing));
     }
 
     pub(crate) fn exchange(&mut self, a: &[u8], b: &[u8], first: ItemId, second: ItemId)
-        requires first { id_told self.old a.now ≡ Some first }
-        requires second { id_told self.old b.now ≡ Some second }
-        ensures told { TellsTwo self.old self.new a.now (Some second) b.now (Some first) }
+        requires first { id_answer self.old a.now ≡ Some first }
+        requires second { id_answer self.old b.now ≡ Some second }
+        ensures answers { AnswersTwo self.old self.new a.now (Some second) b.now (Some first) }
         ensures hashing { names_hashing self.new ≡ names_hashing self.old }
     {
-        if let Some(id) = self.ids.get_mut(Asked::of(b, &self.hashing)) {
+        if let Some(id) = self.ids.get_mut(Sought::of(b, &self.hashing)) {
             *id = first;
         }
-        if let Some(id) = self.ids.get_mut(Asked::of(a, &self.hashing)) {
+        if let Some(id) = self.ids.get_mut(Sought::of(a, &self.hashing)) {
             *id = second;
         }
     }

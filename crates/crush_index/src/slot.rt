@@ -23,15 +23,15 @@ impl Among {
 
 /// What is kept of an item.
 #[derive(Clone, Copy)]
-pub(crate) struct Kept {
+pub(crate) struct Entry {
     pub(crate) among: Among,
     /// Which of them it probably is, from 0.
-    pub(crate) near: u32,
+    pub(crate) hint: u32,
 }
 
 /// A bucket, and what is kept of it where it is there.
 #[derive(Clone, Copy)]
 pub(crate) struct Slot {
     pub(crate) bucket: BucketId,
-    pub(crate) kept: Option<Kept>,
+    pub(crate) kept: Option<Entry>,
 }

@@ -26,10 +26,10 @@ pub(crate) struct UsedIds {
 impl UsedIds {
     ghost use Rattle.crush_index.specs.Hashings.{used_hashing};
     ghost use Rattle.crush_index.specs.UsedChanged.{IsCopyOf, Inserts};
-    ghost use Rattle.crush_index.specs.UsedTold.{used_told, UsesOne, AreAllUsed, IsFirstFree};
+    ghost use Rattle.crush_index.specs.UsedAnswers.{used_answer, UsesOne, AreAllUsed, IsFirstFree};
 
     pub(crate) fn new(alloc: Global, hashing: Hashing) -> UsedIds
-        ensures none { (k : ℕ) → used_told result k ≡ false }
+        ensures none { (k : ℕ) → used_answer result k ≡ false }
         ensures hashing { used_hashing result ≡ hashing }
     {
         UsedIds {
@@ -47,7 +47,7 @@ impl UsedIds {
     }
 
     pub(crate) fn has(&self, id: u32) -> bool
-        ensures { result ≡ used_told self.now id }
+        ensures { result ≡ used_answer self.now id }
     {
         if id < NEAR {
             is_set(word_at(self.words.as_slice(), id as usize / 64), id % 64)
@@ -61,7 +61,7 @@ impl UsedIds {
     {
         if id < NEAR {
             let place = id as usize / 64;
-            reach(&mut self.words, place)?;
+            grow_to(&mut self.words, place)?;
             self.words[place] = with_bit(self.words[place], id % 64);
         } else {
             self.far.insert(id)?;
@@ -70,7 +70,7 @@ impl UsedIds {
     }
 
     pub(crate) fn remove(&mut self, id: u32)
-        ensures told { UsesOne self.old self.new id false }
+        ensures answers { UsesOne self.old self.new id false }
         ensures hashing { used_hashing self.new ≡ used_hashing self.old }
     {
         if id < NEAR {
@@ -105,7 +105,7 @@ impl UsedIds {
 }
 
 fn copy_far(far: &IndexSet<u32, Hashing>) -> Result<IndexSet<u32, Hashing>, AllocError>
-    ensures told { IfOk result
+    ensures answers { IfOk result
         (λ copy. (k : ℕ) → contains nat_eq copy k ≡ contains nat_eq far.now k) }
     ensures hashing { IfOk result (λ copy. hasher_of copy ≡ hasher_of far.now) }
 {
@@ -123,7 +123,7 @@ fn word_at(words: &[u64], place: usize) -> u64
     }
 }
 
-fn reach(words: &mut Vec<u64>, place: usize) -> Result<(), AllocError>
+fn grow_to(words: &mut Vec<u64>, place: usize) -> Result<(), AllocError>
     requires within { place < 1089 }
     requires few { length words.old.items ≤ 1089 }
     ensures there { OnOk result (place < length words.new.items) }

@@ -1,4 +1,4 @@
-pub mod Asking
+pub mod Outputs
 pub mod Consuming
 pub mod Joins
 pub mod MadeLines

@@ -5,11 +5,11 @@ use Rattle.std.proofs.lemmas.List.{append-nil, take_more, length-take-le}
 use Rattle.std.specs.Prelude.{codes, slice_index_or}
 use Rattle.crush_edits.specs.declared.edit.Edit.TheVariants.{AddBucket, Move}
 use Rattle.crush_edits.specs.declared.refusal.Refusal.TheVariants.{NoSuchItem}
-use Rattle.crush_calls.specs.declared.call.Call.TheVariants.{One, Batch, Guarded}
-use Rattle.crush_calls.specs.declared.call.Reply.TheVariants.{Done, Dones, Refused}
-use Rattle.crush_calls.specs.declared.entry.Entry.{Entry}
-use Rattle.crush_calls.specs.History.{EntryData}
-use Rattle.crush_calls.specs.HistoryText.{line_head, line_end}
+use Rattle.crush_history.specs.declared.call.Call.TheVariants.{One, Batch, Guarded}
+use Rattle.crush_history.specs.declared.call.Reply.TheVariants.{Done, Dones, Refused}
+use Rattle.crush_history.specs.declared.entry.Entry.{Entry}
+use Rattle.crush_history.specs.History.{EntryData}
+use Rattle.crush_history.specs.HistoryText.{line_head, line_end}
 use Rattle.crush_input.specs.Made.{made_line, made_text, makings}
 
 -- the lines, and behind them what one entry more has
@@ -40,8 +40,8 @@ mistyped : EntryData
 mistyped = record { operator = 0; call = One (Move (codes "osd.0") (record { kind = codes "host"; name = codes "h11" } ∷ [])); reply = Done (record { changed = true; made = 1 }) }
 
 -- an `add-bucket`, and a command that is refused
-asked : EntryData
-asked = record { operator = 0; call = One (AddBucket (codes "h3") (codes "host")); reply = Done (record { changed = true; made = 1 }) }
+output : EntryData
+output = record { operator = 0; call = One (AddBucket (codes "h3") (codes "host")); reply = Done (record { changed = true; made = 1 }) }
 
 refused : EntryData
 refused = record { operator = 0; call = One (Move (codes "x") (record { kind = codes "host"; name = codes "h11" } ∷ [])); reply = Refused NoSuchItem }
@@ -54,14 +54,14 @@ mistyped_batch : EntryData
 mistyped_batch = record { operator = 0; call = Guarded 0 (AddBucket (codes "h3") (codes "host") ∷ (Move (codes "h3") (record { kind = codes "root"; name = codes "defualt" } ∷ []) ∷ [])); reply = Dones (record { edits = 2; changed = 2; made = 2 }) }
 
 history : List EntryData
-history = asked ∷ (mistyped ∷ (refused ∷ (asked_batch ∷ (mistyped_batch ∷ []))))
+history = output ∷ (mistyped ∷ (refused ∷ (asked_batch ∷ (mistyped_batch ∷ []))))
 
 -- of five calls two make a bucket for which no `add-bucket` asks
 two_of_five : makings history ≡ 2
-unfolding history mistyped asked refused asked_batch mistyped_batch
+unfolding history mistyped output refused asked_batch mistyped_batch
 two_of_five = refl
 
 their_lines : made_text (codes "a" ∷ []) 1 history
     ≡ codes "# 2 a move osd.0 host=h11 = done changed 1 made 1\n# 5 a begin at 0 ; add-bucket h3 host ; move h3 root=defualt ; commit = dones 2 changed 2 made 2\n"
-unfolding history mistyped asked refused asked_batch mistyped_batch made_text line_head line_end digits
+unfolding history mistyped output refused asked_batch mistyped_batch made_text line_head line_end digits
 their_lines = refl

@@ -13,9 +13,9 @@ use Rattle.crush_input.specs.Faults.{IsRefusal}
 use Rattle.crush_input.specs.declared.fault.RunFault.TheVariants as run
 use Rattle.crush_input.specs.declared.fault.RunFault.{RunFault}
 use Rattle.crush_input.specs.Input.{IsInput}
-use Rattle.crush_input.specs.Stages.{IsInputFault, IsNoJob, IsReadFault, IsWeighed}
+use Rattle.crush_input.specs.Stages.{IsInputFault, IsNoJob, IsReadFault, IsParsedJob}
 use Rattle.crush_input.specs.Notes.{bytes_kept}
-use Rattle.crush_input.specs.declared.stopped.Weighed.{Weighed}
+use Rattle.crush_input.specs.declared.aborted.ParsedJob.{ParsedJob}
 use Rattle.crush_reasons.specs.Place.{OriginData}
 use Rattle.crush_input.proofs.Noted.{ComeFrom}
 
@@ -100,12 +100,12 @@ read_fault_of_input run.NoType all h = absurd h
 read_fault_of_input (run.Other w s) all h = absurd h
 
 -- what is kept of the text of the bytes read is kept of all bytes, whose lines come from the same files
-pub weighed_of_all : {E : Type 0} (explain : Bool) (o p : ℕ → OriginData) (all : Option (List ℕ)) (bytes xs : List ℕ) (job : JobData) (r : Result Weighed E) → IfSome all (ComeFrom o p bytes) → all ≡ Some xs → length bytes ≤ LONGEST_JOB → bytes ≡ xs
-    → IfOk r (IsWeighed explain o bytes job) → IfOk r (IsWeighed explain p xs job)
+pub weighed_of_all : {E : Type 0} (explain : Bool) (o p : ℕ → OriginData) (all : Option (List ℕ)) (bytes xs : List ℕ) (job : JobData) (r : Result ParsedJob E) → IfSome all (ComeFrom o p bytes) → all ≡ Some xs → length bytes ≤ LONGEST_JOB → bytes ≡ xs
+    → IfOk r (IsParsedJob explain o bytes job) → IfOk r (IsParsedJob explain p xs job)
 weighed_of_all explain o p all bytes xs job r from is_xs short same weighed =
     let come : ComeFrom o p bytes xs = subst (λ (a : Option (List ℕ)). IfSome a (ComeFrom o p bytes)) is_xs from in
     let origins : o ≡ p = come.1 short in
-    subst (λ (z : List ℕ). IfOk r (IsWeighed explain p z job)) same (subst (λ (q : ℕ → OriginData). IfOk r (IsWeighed explain q bytes job)) origins weighed)
+    subst (λ (z : List ℕ). IfOk r (IsParsedJob explain p z job)) same (subst (λ (q : ℕ → OriginData). IfOk r (IsParsedJob explain q bytes job)) origins weighed)
 
 -- and it is no more than a job may have
 pub kept_short : (explain : Bool) (bytes : List ℕ) → length bytes ≤ LONGEST_JOB → length (bytes_kept explain bytes) ≤ LONGEST_JOB

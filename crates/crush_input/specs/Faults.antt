@@ -1,7 +1,7 @@
 -- The faults of a writer and of a job, as those of a run: out of memory is one fault wherever it comes.
 use Rattle.std.specs.Prelude.{◌≡◌, ℕ, List, Option, false, IfSome}
-use Rattle.crush_bytes.specs.declared.write.WriteFault.{WriteFault}
-use Rattle.crush_bytes.specs.declared.write.WriteFault.TheVariants as write
+use Rattle.crush_units.specs.declared.write.WriteFault.{WriteFault}
+use Rattle.crush_units.specs.declared.write.WriteFault.TheVariants as write
 use Rattle.crush_script.specs.Fault.{lacks_memory}
 use Rattle.crush_script.specs.Job.{IsJobFault}
 use Rattle.crush_script.specs.declared.fault.JobFault.{JobFault}

@@ -6,3 +6,6 @@ pub mod Options
 pub mod Notes
 pub mod Origins
 pub mod Stages
+pub mod OptionsReport
+pub mod Report
+pub mod Words

@@ -3,23 +3,23 @@ use Rattle.std.specs.Prelude.{ℕ, ◌+◌, List, [], ◌∷◌, ◌++◌, Bool,
 use Rattle.std.specs.List.{count_by}
 use Rattle.crush_edits.specs.declared.edit.Edit.{Edit}
 use Rattle.crush_edits.specs.declared.edit.Edit.TheVariants.{AddBucket}
-use Rattle.crush_calls.specs.declared.call.Call.{Call}
-use Rattle.crush_calls.specs.declared.call.Call.TheVariants.{One, Batch, Guarded}
-use Rattle.crush_calls.specs.declared.call.Reply.{Reply}
-use Rattle.crush_calls.specs.declared.call.Reply.TheVariants.{Done, Dones, Refused, BatchRefused, Stale}
-use Rattle.crush_calls.specs.History.{EntryData}
-use Rattle.crush_calls.specs.HistoryText.{entry_text}
+use Rattle.crush_history.specs.declared.call.Call.{Call}
+use Rattle.crush_history.specs.declared.call.Call.TheVariants.{One, Batch, Guarded}
+use Rattle.crush_history.specs.declared.call.Reply.{Reply}
+use Rattle.crush_history.specs.declared.call.Reply.TheVariants.{Done, Dones, Refused, BatchRefused, Stale}
+use Rattle.crush_history.specs.History.{EntryData}
+use Rattle.crush_history.specs.HistoryText.{entry_text}
 
 -- whether an edit asks for a bucket, of which it makes one where it is done
-abbrev pub asks_bucket : Edit → Bool
-asks_bucket (AddBucket name kind) = true
-asks_bucket e = false
+abbrev pub wants_bucket : Edit → Bool
+wants_bucket (AddBucket name kind) = true
+wants_bucket e = false
 
 -- for how many buckets a call asks
-abbrev pub buckets_asked : Call → ℕ
-buckets_asked (One e) = if asks_bucket e then 1 else 0
-buckets_asked (Batch es) = count_by asks_bucket es
-buckets_asked (Guarded seen es) = count_by asks_bucket es
+abbrev pub wanted_buckets : Call → ℕ
+wanted_buckets (One e) = if wants_bucket e then 1 else 0
+wanted_buckets (Batch es) = count_by wants_bucket es
+wanted_buckets (Guarded seen es) = count_by wants_bucket es
 
 -- how many were made, by the reply
 abbrev pub buckets_made : Reply → ℕ
@@ -31,7 +31,7 @@ buckets_made (Stale n) = 0
 
 -- MAKES MORE: an entry made more buckets than its call asks for, since a location named one that wasn't there
 abbrev pub makes_more : EntryData → Bool
-makes_more e = nat_lt (buckets_asked e.call) (buckets_made e.reply)
+makes_more e = nat_lt (wanted_buckets e.call) (buckets_made e.reply)
 
 -- how many entries did
 abbrev pub makings : List EntryData → ℕ

@@ -2,13 +2,13 @@
 use Rattle.std.specs.Prelude.{◌≡◌, ℕ, ◌<◌, Bool, true, false, List, [], ◌++◌, Option, None, Some, Result, Ok, Err, IfSome, codes, if◌then◌else◌}
 use Rattle.crush_edits.specs.Setting.{SettingData}
 use Rattle.crush_map.specs.MapData.{MapData, MapStands}
-use Rattle.crush_calls.specs.History.{EntryData}
-use Rattle.crush_calls.specs.Refused.{refusals, refused_text}
+use Rattle.crush_history.specs.History.{EntryData}
+use Rattle.crush_history.specs.Refused.{refusals, refused_text}
 use Rattle.crush_reasons.specs.Explained.{explained_job}
 use Rattle.crush_reasons.specs.Fault.{fault_line, fault_text}
 use Rattle.crush_reasons.specs.Place.{OriginData}
 use Rattle.crush_reasons.specs.Written.{written_text}
-use Rattle.crush_table.specs.Table.{Row}
+use Rattle.crush_model.specs.Table.{Row}
 use Rattle.crush_script.specs.Lines.{map_part}
 use Rattle.crush_text.specs.declared.fault.TextFault.{TextFault}
 use Rattle.crush_script.specs.declared.fault.JobFault.{JobFault}
@@ -18,7 +18,7 @@ use Rattle.crush_input.specs.declared.fault.RunFault.{RunFault}
 use Rattle.crush_input.specs.declared.fault.RunFault.TheVariants as run
 use Rattle.crush_input.specs.declared.fault.OtherFault.{OtherFault}
 use Rattle.crush_input.specs.declared.fault.OtherFault.TheVariants as unread
-use Rattle.crush_input.specs.declared.stopped.TextKept.{TextKept}
+use Rattle.crush_input.specs.declared.aborted.TextKept.{TextKept}
 use Rattle.crush_input.specs.Made.{made_text, makings}
 use Rattle.crush_input.specs.Origins.{origin_of, whole_of}
 

@@ -1,7 +1,7 @@
 -- What a command line gives a run, and what is noted of it.
 use Rattle.std.specs.Prelude.{◌≡◌, ◌⊎◌, ℕ, ◌<◌, ◌≤◌, Bool, false, List, [], Option, None, Some, Result, Err, IfSome, String, length, option_map, slice_index_or}
-use Rattle.crush_table.specs.Table.{Row}
-use Rattle.crush_table.specs.Stands.{Stands}
+use Rattle.crush_model.specs.Table.{Row}
+use Rattle.crush_model.specs.Stands.{Stands}
 use Rattle.crush_map.specs.MapData.{MapData}
 use Rattle.crush_text.specs.Document.{IsMapText}
 use Rattle.crush_text.specs.Flaw.{IsMapFlaw}
@@ -12,10 +12,10 @@ use Rattle.crush_options.specs.declared.asked.Part.{Part}
 use Rattle.crush_options.specs.declared.asked.Since.{Since}
 use Rattle.crush_options.specs.declared.asked.Wanted.{Wanted}
 use Rattle.crush_units.specs.declared.limits.TheConstants.{LONGEST_JOB}
-use Rattle.crush_input.specs.declared.asked.Asked.{Asked}
-use Rattle.crush_input.specs.declared.asked.Asked.TheVariants as asked
-use Rattle.crush_input.specs.declared.asked.OldMap.{OldMap}
-use Rattle.crush_input.specs.declared.asked.WantedMap.{WantedMap}
+use Rattle.crush_input.specs.declared.output.Output.{Output}
+use Rattle.crush_input.specs.declared.output.Output.TheVariants as output
+use Rattle.crush_input.specs.declared.output.OldMap.{OldMap}
+use Rattle.crush_input.specs.declared.output.WantedMap.{WantedMap}
 use Rattle.crush_input.specs.declared.fault.RunFault.{RunFault}
 use Rattle.crush_input.specs.declared.fault.RunFault.TheVariants as run
 use Rattle.crush_input.specs.declared.fault.OtherFault.{OtherFault}
@@ -45,8 +45,8 @@ pub record IsPartOf (words part : Part) : Type 0 where
   pub down_to : name_text part.down_to ≡ name_text words.down_to
 
 -- the tree of such a part is asked for
-abbrev pub IsTreeOf : Part → Asked → Type 0
-IsTreeOf words (asked.Tree part) = IsPartOf words part
+abbrev pub IsTreeOf : Part → Output → Type 0
+IsTreeOf words (output.Tree part) = IsPartOf words part
 IsTreeOf words what = ⊥
 
 -- the map is the one of which the words name the file, and told since it is what they say
@@ -63,16 +63,16 @@ pub record IsWantedOf (content : List ℕ → Option (List ℕ)) (words : Wanted
   pub under : name_text wanted.under ≡ name_text words.under
 
 -- what is printed where the words ask for it; of another map, what its file has is its text
-abbrev pub IsAskedOf : (List ℕ → Option (List ℕ)) → Printed → Asked → Type 0
-IsAskedOf content printed.Map what = what ≡ asked.Map
-IsAskedOf content (printed.Tree part) what = IsTreeOf part what
-IsAskedOf content printed.AsCeph what = what ≡ asked.AsCeph
-IsAskedOf content (printed.Since words) (asked.Since old) = IsOldOf content words old
-IsAskedOf content (printed.Since words) what = ⊥
-IsAskedOf content (printed.Changes name) (asked.Changes m) = IfSome (content name.bytes.items) (IsTextOf m)
-IsAskedOf content (printed.Changes name) what = ⊥
-IsAskedOf content (printed.To words) (asked.To wanted) = IsWantedOf content words wanted
-IsAskedOf content (printed.To words) what = ⊥
+abbrev pub IsOutputOf : (List ℕ → Option (List ℕ)) → Printed → Output → Type 0
+IsOutputOf content printed.Map what = what ≡ output.Map
+IsOutputOf content (printed.Tree part) what = IsTreeOf part what
+IsOutputOf content printed.AsCeph what = what ≡ output.AsCeph
+IsOutputOf content (printed.Since words) (output.Since old) = IsOldOf content words old
+IsOutputOf content (printed.Since words) what = ⊥
+IsOutputOf content (printed.Changes name) (output.Changes m) = IfSome (content name.bytes.items) (IsTextOf m)
+IsOutputOf content (printed.Changes name) what = ⊥
+IsOutputOf content (printed.To words) (output.To wanted) = IsWantedOf content words wanted
+IsOutputOf content (printed.To words) what = ⊥
 
 -- why the bytes of another map give none: they have this flaw, or are more than a job may have
 abbrev pub IsOtherFault : List ℕ → OtherFault → Type 0
@@ -87,20 +87,20 @@ IsMapFault why all run.Memory = Unit {0}
 IsMapFault why all fault = ⊥
 
 -- and while what the words ask for is made: that where they ask for one, and where they have names else that memory lacks
-abbrev pub IsAskedFault : (List ℕ → Option (List ℕ)) → Printed → RunFault → Type 0
-IsAskedFault content (printed.Tree part) fault = fault ≡ run.Memory
-IsAskedFault content (printed.Since words) fault = IsMapFault beside.Since (content words.map.bytes.items) fault
-IsAskedFault content (printed.Changes name) fault = IsMapFault beside.Since (content name.bytes.items) fault
-IsAskedFault content (printed.To words) fault = IsMapFault beside.To (content words.map.bytes.items) fault
-IsAskedFault content what fault = ⊥
+abbrev pub IsOutputFault : (List ℕ → Option (List ℕ)) → Printed → RunFault → Type 0
+IsOutputFault content (printed.Tree part) fault = fault ≡ run.Memory
+IsOutputFault content (printed.Since words) fault = IsMapFault beside.Since (content words.map.bytes.items) fault
+IsOutputFault content (printed.Changes name) fault = IsMapFault beside.Since (content name.bytes.items) fault
+IsOutputFault content (printed.To words) fault = IsMapFault beside.To (content words.map.bytes.items) fault
+IsOutputFault content what fault = ⊥
 
 -- what is noted of a fault of what the words ask for
-abbrev pub IsAskedNoted : (List ℕ → Option (List ℕ)) → Bool → Printed → RunFault → List ℕ → Type 0
-IsAskedNoted content explain (printed.Tree part) fault notes = notes ≡ []
-IsAskedNoted content explain (printed.Since words) fault notes = IsMapNoted explain words.map.bytes.items (content words.map.bytes.items) fault notes
-IsAskedNoted content explain (printed.Changes name) fault notes = IsMapNoted explain name.bytes.items (content name.bytes.items) fault notes
-IsAskedNoted content explain (printed.To words) fault notes = IsMapNoted explain words.map.bytes.items (content words.map.bytes.items) fault notes
-IsAskedNoted content explain what fault notes = ⊥
+abbrev pub IsOutputNoted : (List ℕ → Option (List ℕ)) → Bool → Printed → RunFault → List ℕ → Type 0
+IsOutputNoted content explain (printed.Tree part) fault notes = notes ≡ []
+IsOutputNoted content explain (printed.Since words) fault notes = IsMapNoted explain words.map.bytes.items (content words.map.bytes.items) fault notes
+IsOutputNoted content explain (printed.Changes name) fault notes = IsMapNoted explain name.bytes.items (content name.bytes.items) fault notes
+IsOutputNoted content explain (printed.To words) fault notes = IsMapNoted explain words.map.bytes.items (content words.map.bytes.items) fault notes
+IsOutputNoted content explain what fault notes = ⊥
 
 -- one of these names of scripts is this
 pub record IsScript {Z : Type 0} (scripts : List (String Z)) (name : List ℕ) : Type 0 where
@@ -132,7 +132,7 @@ IsPartNoted options fault notes = notes ≡ []
 
 -- NOTED AS ASKED: a fault of another map by its place there, one of a read by its file, and else as of any run, with the places of
 -- a fault in the file that it comes from
-abbrev pub IsNotedAsAsked : (List ℕ → Option (List ℕ)) → Options → Option (List ℕ) → Result Summary RunFault → List ℕ → Type 0
-IsNotedAsAsked content options input (Err (run.Other which fault)) notes = IsAskedNoted content options.mode.explain options.printed (run.Other which fault) notes
-IsNotedAsAsked content options input (Err run.Read) notes = IsReadNoted options notes
-IsNotedAsAsked content options input result notes = IsNoted options.mode.explain (job_origin content options input) (job_bytes content options input) result notes
+abbrev pub IsNotedAsWanted : (List ℕ → Option (List ℕ)) → Options → Option (List ℕ) → Result Summary RunFault → List ℕ → Type 0
+IsNotedAsWanted content options input (Err (run.Other which fault)) notes = IsOutputNoted content options.mode.explain options.printed (run.Other which fault) notes
+IsNotedAsWanted content options input (Err run.Read) notes = IsReadNoted options notes
+IsNotedAsWanted content options input result notes = IsNoted options.mode.explain (job_origin content options input) (job_bytes content options input) result notes

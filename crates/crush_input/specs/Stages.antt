@@ -4,7 +4,7 @@ use Rattle.crush_script.specs.Job.{JobData, JobStands}
 use Rattle.crush_input.specs.declared.fault.RunFault.{RunFault}
 use Rattle.crush_input.specs.declared.fault.RunFault.TheVariants as run
 use Rattle.crush_reasons.specs.Place.{OriginData}
-use Rattle.crush_input.specs.declared.stopped.Weighed.{Weighed}
+use Rattle.crush_input.specs.declared.aborted.ParsedJob.{ParsedJob}
 use Rattle.crush_input.specs.Notes.{text_data, text_of}
 use Rattle.crush_input.specs.Faults.{IsRefusal}
 
@@ -36,6 +36,6 @@ IsMadeFault no_make (run.Made n) = no_make ≡ true
 IsMadeFault no_make fault = ⊥
 
 -- what was read of a job: it stands for the job, and what is kept of its text is that of its bytes, whose lines come from there
-pub record IsWeighed (explain : Bool) (origin : ℕ → OriginData) (bytes : List ℕ) (job : JobData) (read : Weighed) : Type 0 where
+pub record IsParsedJob (explain : Bool) (origin : ℕ → OriginData) (bytes : List ℕ) (job : JobData) (read : ParsedJob) : Type 0 where
   pub stands : JobStands read.job job
   pub text : text_data read.text ≡ text_of explain origin bytes job.table

@@ -1,8 +1,8 @@
 //! Why a run was not done.
 
-use crush_bytes::WriteFault;
 use crush_script::JobFault;
 use crush_text::TextFault;
+use crush_units::WriteFault;
 use std::alloc::{AllocError, AllocFailed};
 use thiserror::Error;
 

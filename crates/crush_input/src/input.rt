@@ -8,11 +8,11 @@ ghost use Rattle.crush_input.specs.Notes.{IsFileNoted};
 ghost use Rattle.crush_input.specs.Options.{IsPartNoted};
 ghost use Rattle.crush_input.specs.Stages.{IsInputFault};
 
+use crate::aborted::Aborted;
 use crate::fault::RunFault;
 use crate::files::Opens;
 use crate::joined::{Part, push_script};
 use crate::notes::unread;
-use crate::stopped::Stopped;
 use crush_options::Options;
 use crush_units::limits::LONGEST_JOB;
 use std::alloc::{AllocError, Global};
@@ -100,17 +100,17 @@ fn read_most<R: Read>(alloc: Global, most: usize, reader: &mut R) -> Result<Vec<
     Ok(bytes)
 }
 
-fn read_quietly<R: Read>(alloc: Global, most: usize, reader: &mut R) -> Result<Vec<u8>, Stopped>
+fn read_quietly<R: Read>(alloc: Global, most: usize, reader: &mut R) -> Result<Vec<u8>, Aborted>
     ensures few { IfOk result (λ bytes. length bytes.items ≤ most) }
     ensures bytes { IfOk result (λ bytes. IfSome (R.remaining reader.old)
         (λ all. bytes.items ≡ take most all)) }
-    ensures fault { IfErr result (λ stopped. IsInputFault stopped.fault) }
-    ensures quiet { IfErr result (λ stopped. stopped.notes.items ≡ []) }
+    ensures fault { IfErr result (λ aborted. IsInputFault aborted.fault) }
+    ensures quiet { IfErr result (λ aborted. aborted.notes.items ≡ []) }
     ensures taken { TakesMost most (R.remaining reader.old) (R.remaining reader.new) }
 {
     match read_most(alloc, most, reader) {
         Ok(bytes) => Ok(bytes),
-        Err(unread) => Err(Stopped::quietly(alloc, unread.fault())),
+        Err(unread) => Err(Aborted::quietly(alloc, unread.fault())),
     }
 }
 
@@ -121,19 +121,19 @@ fn read_named<R: Read>(
     name: &str,
     most: usize,
     file: &mut R,
-) -> Result<Vec<u8>, Stopped>
+) -> Result<Vec<u8>, Aborted>
     ensures few { IfOk result (λ bytes. length bytes.items ≤ most) }
     ensures bytes { IfOk result (λ bytes. IfSome (R.remaining file.old)
         (λ all. bytes.items ≡ take most all)) }
-    ensures fault { IfErr result (λ stopped. IsInputFault stopped.fault) }
-    ensures noted { IfErr result (λ stopped.
-        IsFileNoted explain name.now stopped.fault stopped.notes.items) }
+    ensures fault { IfErr result (λ aborted. IsInputFault aborted.fault) }
+    ensures noted { IfErr result (λ aborted.
+        IsFileNoted explain name.now aborted.fault aborted.notes.items) }
     ensures taken { TakesMost most (R.remaining file.old) (R.remaining file.new) }
 {
     match read_most(alloc, most, file) {
         Ok(bytes) => Ok(bytes),
         Err(ReadFailure::Error(error)) => Err(unread(alloc, explain, name, error)),
-        Err(ReadFailure::Memory) => Err(Stopped::quietly(alloc, RunFault::Memory)),
+        Err(ReadFailure::Memory) => Err(Aborted::quietly(alloc, RunFault::Memory)),
     }
 }
 
@@ -142,13 +142,13 @@ pub(crate) fn read_file<F: Opens>(
     files: &F,
     explain: bool,
     name: &str,
-) -> Result<Vec<u8>, Stopped>
+) -> Result<Vec<u8>, Aborted>
     ensures few { IfOk result (λ bytes. length bytes.items ≤ MOST_BYTES) }
     ensures bytes { IfOk result (λ bytes. IfSome (F.content files.now name.now)
         (IsInput bytes.items)) }
-    ensures fault { IfErr result (λ stopped. IsInputFault stopped.fault) }
-    ensures noted { IfErr result (λ stopped.
-        IsFileNoted explain name.now stopped.fault stopped.notes.items) }
+    ensures fault { IfErr result (λ aborted. IsInputFault aborted.fault) }
+    ensures noted { IfErr result (λ aborted.
+        IsFileNoted explain name.now aborted.fault aborted.notes.items) }
 {
     match files.open(name) {
         Ok(mut file) => read_named(alloc, explain, name, MOST_BYTES, &mut file),
@@ -162,15 +162,15 @@ fn read_first<F: Opens, R: Read>(
     files: &F,
     options: &Options,
     input: &mut R,
-) -> Result<Vec<u8>, Stopped>
+) -> Result<Vec<u8>, Aborted>
     ensures bytes { IfOk result (λ bytes.
         IfSome (first_bytes (F.content files.now) options.now.file (R.remaining input.old))
         (IsInput bytes.items)) }
     ensures input { options.now.file ≢ None → R.remaining input.new ≡ R.remaining input.old }
     ensures taken { TakesFew (R.remaining input.old) (R.remaining input.new) }
-    ensures fault { IfErr result (λ stopped. IsInputFault stopped.fault) }
-    ensures noted { IfErr result (λ stopped.
-        IsPartNoted options.now stopped.fault stopped.notes.items) }
+    ensures fault { IfErr result (λ aborted. IsInputFault aborted.fault) }
+    ensures noted { IfErr result (λ aborted.
+        IsPartNoted options.now aborted.fault aborted.notes.items) }
 {
     match &options.file {
         None => read_quietly(alloc, MOST_BYTES, input),
@@ -212,19 +212,19 @@ impl<'a> Joined<'a> {
         explain: bool,
         name: &'a str,
         file: &mut R,
-    ) -> Result<(), Stopped>
+    ) -> Result<(), Aborted>
         ensures read { OnOk result
             (IsReadBehind self.old self.new name.now (R.remaining file.old)) }
         ensures taken { TakesMost (left_behind self.old.bytes.items) (R.remaining file.old)
             (R.remaining file.new) }
-        ensures fault { IfErr result (λ stopped. IsInputFault stopped.fault) }
-        ensures noted { IfErr result (λ stopped.
-            IsFileNoted explain name.now stopped.fault stopped.notes.items) }
+        ensures fault { IfErr result (λ aborted. IsInputFault aborted.fault) }
+        ensures noted { IfErr result (λ aborted.
+            IsFileNoted explain name.now aborted.fault aborted.notes.items) }
     {
         let script = read_named(alloc, explain, name, self.left(), file)?;
         match self.push(name.as_bytes(), script.as_slice()) {
             Ok(()) => Ok(()),
-            Err(_) => Err(Stopped::quietly(alloc, RunFault::Memory)),
+            Err(_) => Err(Aborted::quietly(alloc, RunFault::Memory)),
         }
     }
 }
@@ -235,12 +235,12 @@ fn push_file<'a, F: Opens>(
     explain: bool,
     name: &'a str,
     job: &mut Joined<'a>,
-) -> Result<(), Stopped>
+) -> Result<(), Aborted>
     ensures read { OnOk result (IsReadBehind job.old job.new name.now
         (F.content files.now name.now)) }
-    ensures fault { IfErr result (λ stopped. IsInputFault stopped.fault) }
-    ensures noted { IfErr result (λ stopped.
-        IsFileNoted explain name.now stopped.fault stopped.notes.items) }
+    ensures fault { IfErr result (λ aborted. IsInputFault aborted.fault) }
+    ensures noted { IfErr result (λ aborted.
+        IsFileNoted explain name.now aborted.fault aborted.notes.items) }
 {
     match files.open(name) {
         Ok(mut file) => job.read_behind(alloc, explain, name, &mut file),
@@ -253,15 +253,15 @@ fn push_files<'a, F: Opens>(
     files: &F,
     options: &'a Options,
     job: &mut Joined<'a>,
-) -> Result<(), Stopped>
+) -> Result<(), Aborted>
     ensures job { OnOk result ((known : Option (List ℕ)) (parts : List PartData)
         → IfSome known (λ all. IsJoined job.old all parts)
         → IfSome (with_scripts (F.content files.now) known options.now.scripts.items)
         (λ all. IsJoined job.new all
         (parts ++ parts_of (F.content files.now) known options.now.scripts.items))) }
-    ensures fault { IfErr result (λ stopped. IsInputFault stopped.fault) }
-    ensures noted { IfErr result (λ stopped.
-        IsPartNoted options.now stopped.fault stopped.notes.items) }
+    ensures fault { IfErr result (λ aborted. IsInputFault aborted.fault) }
+    ensures noted { IfErr result (λ aborted.
+        IsPartNoted options.now aborted.fault aborted.notes.items) }
 {
     let names = options.scripts.as_slice();
     for name in names {
@@ -275,16 +275,16 @@ pub(crate) fn read_all<'a, F: Opens, R: Read>(
     files: &F,
     options: &'a Options,
     input: &mut R,
-) -> Result<Joined<'a>, Stopped>
+) -> Result<Joined<'a>, Aborted>
     ensures job { IfOk result (λ job.
         IfSome (job_bytes (F.content files.now) options.now (R.remaining input.old))
         (λ all. IsJoined job all
         (job_parts (F.content files.now) options.now (R.remaining input.old)))) }
     ensures input { options.now.file ≢ None → R.remaining input.new ≡ R.remaining input.old }
     ensures taken { TakesFew (R.remaining input.old) (R.remaining input.new) }
-    ensures fault { IfErr result (λ stopped. IsInputFault stopped.fault) }
-    ensures noted { IfErr result (λ stopped.
-        IsPartNoted options.now stopped.fault stopped.notes.items) }
+    ensures fault { IfErr result (λ aborted. IsInputFault aborted.fault) }
+    ensures noted { IfErr result (λ aborted.
+        IsPartNoted options.now aborted.fault aborted.notes.items) }
 {
     let bytes = read_first(alloc, files, options, input)?;
     let mut job = Joined {

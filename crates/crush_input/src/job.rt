@@ -4,17 +4,17 @@ ghost use Rattle.std.specs.Prelude.{◌≡◌, ◌≢◌, ◌≤◌, ℕ, List, 
 ghost use Rattle.crush_script.specs.Job.{HasJob, IsJob, JobData};
 ghost use Rattle.crush_input.specs.Input.{TakesFew, job_bytes};
 ghost use Rattle.crush_input.specs.Notes.{IsFaultNoted};
-ghost use Rattle.crush_input.specs.Options.{IsNotedAsAsked};
+ghost use Rattle.crush_input.specs.Options.{IsNotedAsWanted};
 ghost use Rattle.crush_input.specs.Origins.{job_origin, origin_of};
-ghost use Rattle.crush_input.specs.Stages.{IsNoJob, IsReadFault, IsWeighed};
+ghost use Rattle.crush_input.specs.Stages.{IsNoJob, IsReadFault, IsParsedJob};
 ghost use Rattle.crush_units.specs.declared.limits.TheConstants.{LONGEST_JOB, MOST_OPERATORS};
 
+use crate::aborted::{Aborted, ParsedJob};
 use crate::fault::RunFault;
 use crate::files::Opens;
 use crate::input::{Joined, read_all};
 use crate::notes::{stopped_by, weighed};
 use crate::origins::{Origins, first_name};
-use crate::stopped::{Stopped, Weighed};
 use crush_map::Hashing;
 use crush_options::Options;
 use crush_script::read_job;
@@ -36,15 +36,15 @@ pub fn job_of<'a, H: AllocGlobal + RandomSource>(
     explain: bool,
     origins: Origins<'a>,
     bytes: Vec<u8>,
-) -> Result<Weighed<'a>, Stopped>
+) -> Result<ParsedJob<'a>, Aborted>
     ensures job { IfOk result (λ _. HasJob bytes.items) }
     ensures only { (job : JobData) → IsJob bytes.items job
-        → IfOk result (IsWeighed explain (origin_of origins.entry) bytes.items job) }
+        → IfOk result (IsParsedJob explain (origin_of origins.entry) bytes.items job) }
     ensures plain { IfOk result (λ read. explain ≡ false → read.text.weights.items ≡ []) }
     ensures short { IfOk result (λ read. length read.text.bytes.items ≤ LONGEST_JOB) }
-    ensures fault { IfErr result (λ stopped. IsNoJob (Some bytes.items) stopped.fault) }
-    ensures noted { IfErr result (λ stopped. IsFaultNoted explain (origin_of origins.entry)
-        (Some bytes.items) stopped.fault stopped.notes.items) }
+    ensures fault { IfErr result (λ aborted. IsNoJob (Some bytes.items) aborted.fault) }
+    ensures noted { IfErr result (λ aborted. IsFaultNoted explain (origin_of origins.entry)
+        (Some bytes.items) aborted.fault aborted.notes.items) }
     ensures few { IfOk result (λ read. length read.job.scripts.items ≤ MOST_OPERATORS) }
 {
     let alloc = rt.alloc();
@@ -55,7 +55,7 @@ pub fn job_of<'a, H: AllocGlobal + RandomSource>(
     };
     match weighed(alloc, explain, origins, bytes, job) {
         Ok(read) => Ok(read),
-        Err(_) => Err(Stopped::quietly(alloc, RunFault::Memory)),
+        Err(_) => Err(Aborted::quietly(alloc, RunFault::Memory)),
     }
 }
 
@@ -65,12 +65,12 @@ pub fn read_whole<'a, H: AllocGlobal + RandomSource, F: Opens, R: Read>(
     files: &F,
     options: &'a Options,
     input: &mut R,
-) -> Result<Weighed<'a>, Stopped>
+) -> Result<ParsedJob<'a>, Aborted>
     ensures job { IfOk result (λ _.
         IfSome (job_bytes (F.content files.now) options.now (R.remaining input.old)) HasJob) }
     ensures only { (bytes : List ℕ) (job : JobData)
         → job_bytes (F.content files.now) options.now (R.remaining input.old) ≡ Some bytes
-        → IsJob bytes job → IfOk result (IsWeighed options.now.mode.explain
+        → IsJob bytes job → IfOk result (IsParsedJob options.now.mode.explain
         (job_origin (F.content files.now) options.now (R.remaining input.old)) bytes job) }
     ensures plain { IfOk result (λ read. options.now.mode.explain ≡ false
         → read.text.weights.items ≡ []) }
@@ -78,10 +78,10 @@ pub fn read_whole<'a, H: AllocGlobal + RandomSource, F: Opens, R: Read>(
     ensures few { IfOk result (λ read. length read.job.scripts.items ≤ MOST_OPERATORS) }
     ensures input { options.now.file ≢ None → R.remaining input.new ≡ R.remaining input.old }
     ensures taken { TakesFew (R.remaining input.old) (R.remaining input.new) }
-    ensures fault { IfErr result (λ stopped. IsReadFault
-        (job_bytes (F.content files.now) options.now (R.remaining input.old)) stopped.fault) }
-    ensures noted { IfErr result (λ stopped. IsNotedAsAsked (F.content files.now) options.now
-        (R.remaining input.old) (Err stopped.fault) stopped.notes.items) }
+    ensures fault { IfErr result (λ aborted. IsReadFault
+        (job_bytes (F.content files.now) options.now (R.remaining input.old)) aborted.fault) }
+    ensures noted { IfErr result (λ aborted. IsNotedAsWanted (F.content files.now) options.now
+        (R.remaining input.old) (Err aborted.fault) aborted.notes.items) }
 {
     let Joined { bytes, parts } = read_all(rt.alloc(), files, options, input)?;
     let origins = Origins {

@@ -1,9 +1,11 @@
 //! What a run is given, and what is noted of it, without an editor or a thread. [`read_whole`]
-//! reads the job that a command line names, [`asked_of`] what is printed of it; a [`RunFault`] says
-//! why a run was not done. The rules stand in `specs/Input.antt` and `specs/Notes.antt`.
+//! reads the job that a command line names, [`output_of`] what is printed of it; a [`RunFault`] says
+//! why a run was not done, and [`report`] writes its line and answers the status. The rules stand in
+//! `specs/Input.antt`, `specs/Notes.antt` and `specs/Report.antt`.
 #![tactic(auto)]
 
-mod asked;
+mod aborted;
+mod ending;
 mod fault;
 mod files;
 mod input;
@@ -13,10 +15,12 @@ mod made;
 mod notes;
 mod origins;
 mod other;
-mod stopped;
+mod output;
 mod summary;
+mod words;
 
-pub use asked::{Asked, OldMap, Request, WantedMap, asked_of};
+pub use aborted::{Aborted, ParsedJob, TextKept};
+pub use ending::{Reported, report, report_options};
 pub use fault::{OtherFault, OtherMap, RunFault};
 pub use files::{Opens, SystemFiles};
 pub use input::read_bytes;
@@ -24,5 +28,6 @@ pub use job::{job_of, read_whole};
 pub use made::{check_made, made_notes};
 pub use notes::{History, check_strict, history_notes};
 pub use origins::Origins;
-pub use stopped::{Stopped, TextKept, Weighed};
+pub use output::{OldMap, Output, Request, WantedMap, output_of};
 pub use summary::Summary;
+pub use words::Words;

@@ -2,44 +2,44 @@
 
 ghost use Rattle.std.specs.Prelude.{◌≡◌, ◌<◌, ◌≤◌, ◌^◌, ◌++◌, IfErr, IfOk, OnOk, length, true};
 ghost use Rattle.std.specs.List.{count_by};
-ghost use Rattle.crush_calls.specs.Entries.{AreOf};
-ghost use Rattle.crush_calls.specs.HistoryText.{names_of};
-ghost use Rattle.crush_calls.specs.Script.{scripts_data};
-ghost use Rattle.crush_input.specs.Made.{asks_bucket, buckets_asked, buckets_made, made_line, made_text, makes_more, makings};
+ghost use Rattle.crush_history.specs.Entries.{AreOf};
+ghost use Rattle.crush_history.specs.HistoryText.{names_of};
+ghost use Rattle.crush_history.specs.Script.{scripts_data};
+ghost use Rattle.crush_input.specs.Made.{wants_bucket, wanted_buckets, buckets_made, made_line, made_text, makes_more, makings};
 ghost use Rattle.crush_input.specs.Notes.{IsNoMake};
 ghost use Rattle.crush_input.specs.Stages.{IsMadeFault};
 ghost use Rattle.crush_units.specs.declared.limits.TheConstants.{MOST_ENTRIES};
 
 use crate::fault::RunFault;
-use crush_calls::{Call, Entry, Reply, Script, operator_name, write_entry};
 use crush_edits::Edit;
+use crush_history::{Call, Entry, Reply, Script, operator_name, write_entry};
 use std::alloc::{AllocError, Global};
 
-fn asks_bucket(edit: &Edit) -> bool
-    ensures { result ≡ asks_bucket edit.now }
+fn wants_bucket(edit: &Edit) -> bool
+    ensures { result ≡ wants_bucket edit.now }
 {
     matches!(edit, Edit::AddBucket { .. })
 }
 
-fn count_asked(edits: &[Edit]) -> usize
-    ensures { result ≡ count_by asks_bucket edits.now }
+fn count_wanted(edits: &[Edit]) -> usize
+    ensures { result ≡ count_by wants_bucket edits.now }
 {
     let mut count = 0;
     for edit in edits {
-        if asks_bucket(edit) {
+        if wants_bucket(edit) {
             count += 1;
         }
     }
     count
 }
 
-fn buckets_asked(call: &Call) -> usize
-    ensures { result ≡ buckets_asked call.now }
+fn wanted_buckets(call: &Call) -> usize
+    ensures { result ≡ wanted_buckets call.now }
 {
     match call {
-        Call::One(edit) => asks_bucket(edit) as usize,
-        Call::Batch(edits) => count_asked(edits.as_slice()),
-        Call::Guarded { seen: _, edits } => count_asked(edits.as_slice()),
+        Call::One(edit) => wants_bucket(edit) as usize,
+        Call::Batch(edits) => count_wanted(edits.as_slice()),
+        Call::Guarded { seen: _, edits } => count_wanted(edits.as_slice()),
     }
 }
 
@@ -58,7 +58,7 @@ fn buckets_made(reply: Reply) -> usize
 fn makes_more(entry: &Entry) -> bool
     ensures { result ≡ makes_more entry.now }
 {
-    buckets_made(entry.reply) > buckets_asked(&entry.call)
+    buckets_made(entry.reply) > wanted_buckets(&entry.call)
 }
 
 fn count_making(entries: &[Entry]) -> usize

@@ -1,12 +1,12 @@
 //! The notes below the one line.
 
 ghost use Rattle.std.specs.Prelude.{◌≡◌, ◌≤◌, List, [], IfErr, IfOk, false, is_some, length, true};
-ghost use Rattle.crush_table.specs.Stands.{Stands};
-ghost use Rattle.crush_table.specs.Table.{Row};
+ghost use Rattle.crush_model.specs.Stands.{Stands};
+ghost use Rattle.crush_model.specs.Table.{Row};
 ghost use Rattle.crush_edits.specs.Setting.{SettingData};
-ghost use Rattle.crush_calls.specs.Entries.{AreOf};
-ghost use Rattle.crush_calls.specs.HistoryText.{names_of};
-ghost use Rattle.crush_calls.specs.Script.{scripts_data};
+ghost use Rattle.crush_history.specs.Entries.{AreOf};
+ghost use Rattle.crush_history.specs.HistoryText.{names_of};
+ghost use Rattle.crush_history.specs.Script.{scripts_data};
 ghost use Rattle.crush_script.specs.Job.{IsJobFault};
 ghost use Rattle.crush_input.specs.Notes.{IsFaultNoted, IsFileNoted, IsKept, IsUnread, bytes_kept, history_notes, place_notes, refused_notes, text_data, weight_notes, IsStrict};
 ghost use Rattle.crush_reasons.specs.Explained.{explained_job};
@@ -14,10 +14,10 @@ ghost use Rattle.crush_input.specs.Origins.{origin_of};
 ghost use Rattle.crush_input.specs.Stages.{IsInputFault, IsNoJob, IsStrictFault};
 ghost use Rattle.crush_units.specs.declared.limits.TheConstants.{LONGEST_JOB, MOST_ENTRIES};
 
+use crate::aborted::{Aborted, ParsedJob, TextKept};
 use crate::fault::RunFault;
 use crate::origins::Origins;
-use crate::stopped::{Stopped, TextKept, Weighed};
-use crush_calls::{Entry, Script, count_refused, refused_text};
+use crush_history::{Entry, Script, count_refused, refused_text};
 use crush_map::CrushMap;
 use crush_options::Mode;
 use crush_reasons::{JobText, Locates, explained_job, fault_line, fault_text, written_text};
@@ -155,7 +155,7 @@ pub(crate) fn weighed<'a>(
     origins: Origins<'a>,
     bytes: Vec<u8>,
     job: Job,
-) -> Result<Weighed<'a>, AllocError>
+) -> Result<ParsedJob<'a>, AllocError>
     ensures job { IfOk result (λ read. read.job ≡ job) }
     ensures bytes { IfOk result (λ read. read.text.bytes.items ≡ bytes_kept explain bytes.items) }
     ensures origins { IfOk result (λ read. read.text.origins ≡ origins.entry) }
@@ -169,7 +169,7 @@ pub(crate) fn weighed<'a>(
         origins,
         weights,
     };
-    Ok(Weighed { job, text })
+    Ok(ParsedJob { job, text })
 }
 
 fn unread_text(alloc: Global, name: &str, error: &io::Error) -> Result<Vec<u8>, AllocError>
@@ -200,16 +200,16 @@ fn unread_notes(
     Ok(Vec::new(alloc))
 }
 
-pub(crate) fn unread(alloc: Global, explain: bool, name: &str, error: io::Error) -> Stopped
+pub(crate) fn unread(alloc: Global, explain: bool, name: &str, error: io::Error) -> Aborted
     ensures fault { IsInputFault result.fault }
     ensures noted { IsFileNoted explain name.now result.fault result.notes.items }
 {
     match unread_notes(alloc, explain, name, &error) {
-        Ok(notes) => Stopped {
+        Ok(notes) => Aborted {
             fault: RunFault::Read,
             notes,
         },
-        Err(_) => Stopped::quietly(alloc, RunFault::Memory),
+        Err(_) => Aborted::quietly(alloc, RunFault::Memory),
     }
 }
 
@@ -250,20 +250,20 @@ pub(crate) fn stopped_by(
     origins: &Origins<'_>,
     bytes: &[u8],
     fault: JobFault,
-) -> Stopped
+) -> Aborted
     requires { IsJobFault bytes.now fault }
     ensures fault { IsNoJob (Some bytes.now) result.fault }
     ensures noted { IsFaultNoted explain (origin_of origins.now) (Some bytes.now) result.fault
         result.notes.items }
 {
     if fault.lacks_memory() {
-        return Stopped::quietly(alloc, RunFault::Memory);
+        return Aborted::quietly(alloc, RunFault::Memory);
     }
     match place_notes(alloc, explain, origins, bytes, fault) {
-        Ok(notes) => Stopped {
+        Ok(notes) => Aborted {
             fault: RunFault::Job(fault),
             notes,
         },
-        Err(_) => Stopped::quietly(alloc, RunFault::Memory),
+        Err(_) => Aborted::quietly(alloc, RunFault::Memory),
     }
 }

@@ -7,11 +7,11 @@ ghost use Rattle.crush_input.specs.Options.{IsMapFault, IsTextOf};
 ghost use Rattle.crush_input.specs.Stages.{IsInputFault};
 ghost use Rattle.crush_units.specs.declared.limits.TheConstants.{LONGEST_JOB};
 
+use crate::aborted::Aborted;
 use crate::fault::{OtherFault, OtherMap, RunFault};
 use crate::files::Opens;
 use crate::input::read_file;
 use crate::job::drawn_hashing;
-use crate::stopped::Stopped;
 use crush_map::CrushMap;
 use crush_reasons::{Origin, fault_text};
 use crush_script::JobFault;
@@ -47,21 +47,21 @@ fn stopped_at(
     name: &str,
     text: &[u8],
     fault: TextFault,
-) -> Stopped
+) -> Aborted
     requires few { length text.now ≤ LONGEST_JOB }
     requires flaw { IsFlawOrOutOfMemory text.now fault }
     ensures fault { IsMapFault which (Some text.now) result.fault }
     ensures noted { IsMapNoted explain name.now (Some text.now) result.fault result.notes.items }
 {
     if JobFault::Text(fault).lacks_memory() {
-        return Stopped::quietly(alloc, RunFault::Memory);
+        return Aborted::quietly(alloc, RunFault::Memory);
     }
     match flaw_notes(alloc, explain, name, text, fault) {
-        Ok(notes) => Stopped {
+        Ok(notes) => Aborted {
             fault: RunFault::Other(which, OtherFault::Text(fault)),
             notes,
         },
-        Err(_) => Stopped::quietly(alloc, RunFault::Memory),
+        Err(_) => Aborted::quietly(alloc, RunFault::Memory),
     }
 }
 
@@ -72,15 +72,15 @@ fn map_of<H: AllocGlobal + RandomSource>(
     which: OtherMap,
     name: &str,
     text: &[u8],
-) -> Result<CrushMap<Global>, Stopped>
+) -> Result<CrushMap<Global>, Aborted>
     ensures map { IfOk result (λ m. IsTextOf m text.now) }
-    ensures fault { IfErr result (λ stopped. IsMapFault which (Some text.now) stopped.fault) }
-    ensures noted { IfErr result (λ stopped.
-        IsMapNoted explain name.now (Some text.now) stopped.fault stopped.notes.items) }
+    ensures fault { IfErr result (λ aborted. IsMapFault which (Some text.now) aborted.fault) }
+    ensures noted { IfErr result (λ aborted.
+        IsMapNoted explain name.now (Some text.now) aborted.fault aborted.notes.items) }
 {
     let alloc = rt.alloc();
     if text.len() > LONGEST_JOB {
-        return Err(Stopped::quietly(alloc, RunFault::Other(which, OtherFault::TooLong)));
+        return Err(Aborted::quietly(alloc, RunFault::Other(which, OtherFault::TooLong)));
     }
     match read_map_in(alloc, drawn_hashing(rt), alloc, text) {
         Ok((map, _)) => Ok(map),
@@ -88,21 +88,21 @@ fn map_of<H: AllocGlobal + RandomSource>(
     }
 }
 
-impl Stopped {
-    fn of_other(self, which: OtherMap) -> Stopped
+impl Aborted {
+    fn of_other(self, which: OtherMap) -> Aborted
         requires { IsInputFault self.fault }
         ensures fault { (all : Option (List ℕ)) → IsMapFault which all result.fault }
         ensures noted { (explain : Bool) (name : List ℕ) (all : Option (List ℕ))
             → IsFileNoted explain name self.fault self.notes.items
             → IsMapNoted explain name all result.fault result.notes.items }
     {
-        let Stopped { fault, notes } = self;
+        let Aborted { fault, notes } = self;
         match fault {
-            RunFault::Read => Stopped {
+            RunFault::Read => Aborted {
                 fault: RunFault::Other(which, OtherFault::Read),
                 notes,
             },
-            _ => Stopped { fault, notes },
+            _ => Aborted { fault, notes },
         }
     }
 }
@@ -113,16 +113,16 @@ pub(crate) fn read_other<H: AllocGlobal + RandomSource, F: Opens>(
     explain: bool,
     which: OtherMap,
     name: &str,
-) -> Result<CrushMap<Global>, Stopped>
+) -> Result<CrushMap<Global>, Aborted>
     ensures map { IfOk result (λ m. IfSome (F.content files.now name.now) (IsTextOf m)) }
-    ensures fault { IfErr result (λ stopped.
-        IsMapFault which (F.content files.now name.now) stopped.fault) }
-    ensures noted { IfErr result (λ stopped.
-        IsMapNoted explain name.now (F.content files.now name.now) stopped.fault
-        stopped.notes.items) }
+    ensures fault { IfErr result (λ aborted.
+        IsMapFault which (F.content files.now name.now) aborted.fault) }
+    ensures noted { IfErr result (λ aborted.
+        IsMapNoted explain name.now (F.content files.now name.now) aborted.fault
+        aborted.notes.items) }
 {
     match read_file(rt.alloc(), files, explain, name) {
         Ok(bytes) => map_of(rt, explain, which, name, bytes.as_slice()),
-        Err(stopped) => Err(stopped.of_other(which)),
+        Err(aborted) => Err(aborted.of_other(which)),
     }
 }

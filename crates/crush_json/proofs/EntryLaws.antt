@@ -5,7 +5,7 @@ use Rattle.std.proofs.lemmas.List.{take_more, length-take-le}
 use Rattle.std.proofs.lemmas.List.Concat.{flat_map-append}
 use Rattle.json.specs.Token.{Token}
 use Rattle.serde_json.specs.Data.{Data}
-use Rattle.crush_calls.specs.History.{EntryData}
+use Rattle.crush_history.specs.History.{EntryData}
 use Rattle.crush_json.specs.HistoryDocument.{entry_document, entry_documents}
 use Rattle.crush_json.specs.Tokens.{tokens_of, tokens_of_all}
 

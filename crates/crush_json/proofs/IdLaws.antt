@@ -5,11 +5,11 @@ use Rattle.std.proofs.lemmas.List.{map-append}
 use Rattle.std.proofs.lemmas.List.Folds.{flat_map-map}
 use Rattle.crush_units.specs.declared.id.ItemId.{ItemId}
 use Rattle.crush_units.specs.declared.id.ItemId.TheVariants.{Device as DeviceItem, Bucket as BucketItem}
-use Rattle.crush_table.specs.Forest.{ForestData, all_items, rows_of, join}
-use Rattle.crush_table.specs.ItemRows.{rows}
-use Rattle.crush_table.specs.Items.{BucketData, Items, none, device, bucket}
-use Rattle.crush_table.specs.Stands.{Stands}
-use Rattle.crush_table.specs.Table.{Row, bucket_ids}
+use Rattle.crush_model.specs.Forest.{ForestData, all_items, rows_of, join}
+use Rattle.crush_model.specs.ItemRows.{rows}
+use Rattle.crush_model.specs.Items.{BucketData, Items, none, device, bucket}
+use Rattle.crush_model.specs.Stands.{Stands}
+use Rattle.crush_model.specs.Table.{Row, bucket_ids}
 use Rattle.crush_nodes.specs.Seen.{items_of, node_id}
 use Rattle.crush_nodes.specs.declared.node.Node.{Node}
 use Rattle.crush_nodes.specs.declared.node.Node.TheVariants.{Device, Bucket}

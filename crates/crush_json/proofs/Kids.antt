@@ -4,10 +4,10 @@ use Rattle.std.specs.Prelude.{All, IfSome, Option, None, Some, if◌then◌else�
 use Rattle.std.proofs.lemmas.Bool.Decides.{eqb_tells}
 use Rattle.std.proofs.lemmas.List.Elements.{All-head, All-tail}
 use Rattle.crush_units.specs.declared.id.ItemId.TheVariants.{Bucket}
-use Rattle.crush_table.specs.Forest.{ForestData}
-use Rattle.crush_table.specs.Lawful.{HasParent}
-use Rattle.crush_table.specs.Stands.{Stands}
-use Rattle.crush_table.specs.Table.{Row, kids, is_there, is_parent}
+use Rattle.crush_model.specs.Forest.{ForestData}
+use Rattle.crush_model.specs.Lawful.{HasParent}
+use Rattle.crush_model.specs.Stands.{Stands}
+use Rattle.crush_model.specs.Table.{Row, kids, is_there, is_parent}
 
 no_rows : (t u : List Row) (b : ℕ) → All (HasParent t) u → is_there t (Bucket b) ≡ false → map (λ (r : Row). r.id) (filter (λ (r : Row). is_parent b r.parent) u) ≡ []
 no_rows t [] b parents absent = refl

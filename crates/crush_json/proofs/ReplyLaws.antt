@@ -2,8 +2,8 @@
 use Rattle.std.proofs.Common.{◌++◌, refl, sym, append_assoc}
 use Rattle.std.specs.Prelude.{codes, decimal}
 use Rattle.crush_edits.specs.Refusal.{refusal_name, refusal_error}
-use Rattle.crush_calls.specs.declared.call.Reply.TheVariants.{Done, Dones, Refused, BatchRefused, Stale}
-use Rattle.crush_calls.specs.HistoryText.{line_end}
+use Rattle.crush_history.specs.declared.call.Reply.TheVariants.{Done, Dones, Refused, BatchRefused, Stale}
+use Rattle.crush_history.specs.HistoryText.{line_end}
 use Rattle.crush_json.specs.HistoryDocument.{RepliesAreOfLines, reply_text}
 
 pub replies_told : RepliesAreOfLines

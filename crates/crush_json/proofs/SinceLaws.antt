@@ -6,7 +6,7 @@ use Rattle.crush_units.specs.declared.id.ItemId.{ItemId}
 use Rattle.crush_units.specs.Id.{item_number}
 use Rattle.crush_edits.specs.Setting.{SettingData}
 use Rattle.crush_since.specs.ItemData.{ItemData, item_of}
-use Rattle.crush_since.specs.Since.{Told, all_ids}
+use Rattle.crush_since.specs.Since.{PlainMap, all_ids}
 use Rattle.crush_since.specs.Tallies.{tally_of}
 use Rattle.serde_json.specs.Data.{Members, member, no_members, string}
 use Rattle.crush_json.specs.SinceDocument.{change_at, change_document, change_documents, counts_document, seen_document, seen_if, since_document, with_last}
@@ -43,17 +43,17 @@ pair_told s p i before after =
     (ap (λ (l : List Token). seen_tokens_if (codes "is") p after ++ l) (sym (seen_before (codes "was") s before no_members))
     ∙ sym (seen_before (codes "is") p after (seen_if (codes "was") s before no_members)))
 
-pub change_told : (old new : Told) (i : ItemId)
+pub change_told : (old new : PlainMap) (i : ItemId)
     → begin_object ∷ (member_tokens (codes "id") (whole (item_number i)) ++ (seen_tokens_if (codes "is") new.setting (item_of new.table i) ++ (seen_tokens_if (codes "was") old.setting (item_of old.table i) ++ end_object ∷ [])))
     ≡ tokens_of (change_at old new i)
 change_told old new i = pair_told old.setting new.setting i (item_of old.table i) (item_of new.table i)
 
 -- what stands behind the items
-last_before : (old new : Told) (ms : Members) → rest_of (with_last old new ms) ≡ last_since_tokens old new ++ rest_of ms
+last_before : (old new : PlainMap) (ms : Members) → rest_of (with_last old new ms) ≡ last_since_tokens old new ++ rest_of ms
 last_before old new ms = refl
 
 -- the whole
-pub whole_told : (old new : Told)
+pub whole_told : (old new : PlainMap)
     → begin_object ∷ (member_tokens (codes "counts") (counts_document (tally_of old.table new.table (all_ids old.table new.table))) ++ (member_tokens (codes "items") (list (change_documents None old new)) ++ (last_since_tokens old new ++ end_object ∷ [])))
     ≡ tokens_of (since_document None old new)
 unfolding since_document

@@ -6,7 +6,7 @@ use Rattle.std.proofs.lemmas.List.Concat.{flat_map-append}
 use Rattle.json.specs.Token.{Token}
 use Rattle.serde_json.specs.Data.{Data}
 use Rattle.crush_units.specs.declared.id.ItemId.{ItemId}
-use Rattle.crush_table.specs.Table.{Row}
+use Rattle.crush_model.specs.Table.{Row}
 use Rattle.crush_nodes.specs.Views.{ViewData, view_of}
 use Rattle.crush_json.specs.MapDocument.{of_view, item_document, item_documents}
 use Rattle.crush_json.specs.Tokens.{tokens_of, tokens_of_all}

@@ -5,7 +5,7 @@ use Rattle.json.specs.Token.{Token, begin_object, end_object}
 use Rattle.json.specs.Tree.{members_tokens}
 use Rattle.crush_units.specs.declared.id.ItemId.{ItemId}
 use Rattle.crush_units.specs.declared.id.ItemId.TheVariants.{Device, Bucket}
-use Rattle.crush_table.specs.Table.{Row}
+use Rattle.crush_model.specs.Table.{Row}
 use Rattle.crush_nodes.specs.Views.{ViewData}
 use Rattle.crush_edits.specs.Setting.{SettingData}
 use Rattle.serde_json.specs.Data.{Data, Members, member}

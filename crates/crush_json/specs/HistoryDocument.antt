@@ -1,12 +1,12 @@
 -- A history as a value: an object for each entry, with what its line shows.
 use Rattle.std.specs.Prelude.{◌≡◌, ℕ, ◌+◌, List, [], ◌∷◌, ◌++◌, Option, Some, None, codes, decimal, slice_index_or}
-use Rattle.crush_table.specs.Count.{one_if}
+use Rattle.crush_model.specs.Count.{one_if}
 use Rattle.crush_edits.specs.declared.refusal.Refusal.{Refusal}
 use Rattle.crush_edits.specs.Refusal.{refusal_name, refusal_error}
-use Rattle.crush_calls.specs.declared.call.Reply.{Reply}
-use Rattle.crush_calls.specs.declared.call.Reply.TheVariants.{Done, Dones, Refused, BatchRefused, Stale}
-use Rattle.crush_calls.specs.History.{EntryData}
-use Rattle.crush_calls.specs.HistoryText.{call_text, digit_of, line_end}
+use Rattle.crush_history.specs.declared.call.Reply.{Reply}
+use Rattle.crush_history.specs.declared.call.Reply.TheVariants.{Done, Dones, Refused, BatchRefused, Stale}
+use Rattle.crush_history.specs.History.{EntryData}
+use Rattle.crush_history.specs.HistoryText.{call_text, digit_of, line_end}
 use Rattle.serde_json.specs.Data.{Data, string, object, Members, member, no_members}
 use Rattle.crush_json.specs.Values.{natural, list, text_if}
 

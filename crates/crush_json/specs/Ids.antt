@@ -2,8 +2,8 @@
 use Rattle.std.specs.Prelude.{ℕ, List, [], ◌∷◌, ◌++◌, flat_map}
 use Rattle.crush_units.specs.declared.id.ItemId.{ItemId}
 use Rattle.crush_units.specs.declared.id.ItemId.TheVariants.{Device, Bucket}
-use Rattle.crush_table.specs.Items.{Items, none, device, bucket}
-use Rattle.crush_table.specs.Table.{Row, bucket_ids}
+use Rattle.crush_model.specs.Items.{Items, none, device, bucket}
+use Rattle.crush_model.specs.Table.{Row, bucket_ids}
 use Rattle.crush_print.specs.MapText.{ascending}
 
 -- the buckets from -1 downward

@@ -5,7 +5,7 @@ use Rattle.crush_units.specs.declared.id.ItemId.{ItemId}
 use Rattle.crush_units.specs.declared.id.ItemId.TheVariants.{Device, Bucket}
 use Rattle.crush_units.specs.Alg.{alg_text}
 use Rattle.crush_units.specs.Id.{item_number}
-use Rattle.crush_table.specs.Table.{Row, kids}
+use Rattle.crush_model.specs.Table.{Row, kids}
 use Rattle.crush_nodes.specs.Views.{ViewData, view_of}
 use Rattle.crush_edits.specs.Setting.{SettingData, TunableData}
 use Rattle.crush_print.specs.MapText.{device_numbers, kind_numbers, kind_text}

@@ -3,9 +3,9 @@ use Rattle.std.specs.Prelude.{ℕ, ◌<◌, ◌^◌, List, String, map, length}
 use Rattle.std.specs.declared.alloc.Global.{Global}
 use Rattle.serde_json.specs.Data.{Data, Members}
 use Rattle.serde_json.specs.View.{members_of}
-use Rattle.crush_calls.specs.Entries.{AreOf}
-use Rattle.crush_calls.specs.HistoryText.{names_of}
-use Rattle.crush_calls.specs.Script.{scripts_data}
+use Rattle.crush_history.specs.Entries.{AreOf}
+use Rattle.crush_history.specs.HistoryText.{names_of}
+use Rattle.crush_history.specs.Script.{scripts_data}
 use Rattle.crush_json.specs.HistoryDocument.{history_document}
 use Rattle.crush_json.specs.Values.{natural}
 use Rattle.crush_json.specs.declared.history.History.{History}

@@ -3,12 +3,12 @@ use Rattle.std.specs.Prelude.{ℕ, Bool, not, List, [], ◌∷◌, Option, Some,
 use Rattle.std.specs.Cmp.Lexicographic.{pointwise}
 use Rattle.crush_units.specs.declared.id.ItemId.{ItemId}
 use Rattle.crush_units.specs.Id.{item_number}
-use Rattle.crush_table.specs.Table.{total}
+use Rattle.crush_model.specs.Table.{total}
 use Rattle.crush_edits.specs.Setting.{SettingData}
 use Rattle.crush_since.specs.ItemData.{ItemData, item_of}
 use Rattle.crush_since.specs.Settings.{same_kinds, same_rule, same_tunable}
-use Rattle.crush_since.specs.Since.{Told, all_ids}
-use Rattle.crush_since.specs.SincePart.{told_ids}
+use Rattle.crush_since.specs.Since.{PlainMap, all_ids}
+use Rattle.crush_since.specs.SincePart.{listed_ids}
 use Rattle.crush_since.specs.Tallies.{tally_of}
 use Rattle.crush_since.specs.declared.since.tally.Tally.{Tally}
 use Rattle.serde_json.specs.Data.{Data, boolean, string, object, Members, member, no_members}
@@ -32,12 +32,12 @@ unfoldable pub change_document : SettingData → SettingData → ItemId → Opti
 change_document s p i before after =
     object (member (codes "id") (whole (item_number i)) (seen_if (codes "is") p after (seen_if (codes "was") s before no_members)))
 
-abbrev pub change_at : Told → Told → ItemId → Data
+abbrev pub change_at : PlainMap → PlainMap → ItemId → Data
 change_at old new i = change_document old.setting new.setting i (item_of old.table i) (item_of new.table i)
 
 -- the items of which there is something to tell: of all, or of a part
-unfoldable pub change_documents : Option ItemId → Told → Told → List Data
-change_documents under old new = map (change_at old new) (told_ids under old new)
+unfoldable pub change_documents : Option ItemId → PlainMap → PlainMap → List Data
+change_documents under old new = map (change_at old new) (listed_ids under old new)
 
 -- how many items differ, and in which way
 unfoldable pub counts_document : Tally → Data
@@ -54,13 +54,13 @@ abbrev pub totals_document : ℕ → ℕ → Data
 totals_document before after = list (natural before ∷ natural after ∷ [])
 
 -- members with what is told of the settings and the totals before them
-abbrev pub with_last : Told → Told → Members → Members
+abbrev pub with_last : PlainMap → PlainMap → Members → Members
 with_last old new ms =
     member (codes "rules") (differ (pointwise same_rule old.setting.rules new.setting.rules)) (member (codes "total") (totals_document (total old.table) (total new.table))
     (member (codes "tunables") (differ (pointwise same_tunable old.setting.tunables new.setting.tunables)) (member (codes "types") (differ (same_kinds old.setting new.setting)) ms)))
 
 -- SINCE DOCUMENT: the items; of the whole also how many differ, whether rules, tunables and types differ, and the totals
-unfoldable pub since_document : Option ItemId → Told → Told → Data
+unfoldable pub since_document : Option ItemId → PlainMap → PlainMap → Data
 since_document None old new =
     object (member (codes "counts") (counts_document (tally_of old.table new.table (all_ids old.table new.table)))
     (member (codes "items") (list (change_documents None old new)) (with_last old new no_members)))

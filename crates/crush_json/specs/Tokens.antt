@@ -4,7 +4,7 @@ use Rattle.crush_units.specs.declared.id.ItemId.{ItemId}
 use Rattle.crush_units.specs.declared.id.ItemId.TheVariants.{Device, Bucket}
 use Rattle.crush_units.specs.Weight.{weight_text}
 use Rattle.crush_units.specs.Id.{item_number}
-use Rattle.crush_table.specs.Table.{Row, kids}
+use Rattle.crush_model.specs.Table.{Row, kids}
 use Rattle.crush_nodes.specs.Views.{ViewData}
 use Rattle.crush_edits.specs.Setting.{SettingData}
 use Rattle.json.specs.Token.{Token, key}

@@ -3,10 +3,10 @@ use Rattle.std.specs.Prelude.{ℕ, Bool, true, false, not, List, [], ◌∷◌, 
 use Rattle.crush_units.specs.declared.id.ItemId.{ItemId}
 use Rattle.crush_units.specs.declared.id.ItemId.TheVariants.{Device, Bucket}
 use Rattle.crush_units.specs.Id.{item_number}
-use Rattle.crush_table.specs.Table.{Row, kids}
+use Rattle.crush_model.specs.Table.{Row, kids}
 use Rattle.crush_nodes.specs.Views.{ViewData}
 use Rattle.crush_edits.specs.Setting.{SettingData, kind_name}
-use Rattle.crush_view.specs.Tree.{StepData}
+use Rattle.crush_print.specs.Tree.{StepData}
 use Rattle.serde_json.specs.Data.{Data, string, object, Members, member, no_members}
 use Rattle.crush_json.specs.Values.{natural, whole, list, text_if}
 

@@ -1,9 +1,9 @@
 //! Calls as text: the commands of a history's line.
 
 ghost use Rattle.std.specs.Prelude.{◌≡◌, ◌++◌, codes, IfOk, OnOk, string_bytes};
-ghost use Rattle.crush_calls.specs.HistoryText.{call_text, edit_text, edits_text, guard_text, one_name, pair_text, pairs_text, rest_text, two_names, weighed};
+ghost use Rattle.crush_history.specs.HistoryText.{call_text, edit_text, edits_text, guard_text, one_name, pair_text, pairs_text, rest_text, two_names, weighed};
 
-use crush_calls::Call;
+use crush_history::Call;
 use crush_map::{Edit, Location, Pair};
 use crush_units::{Name, Weight};
 use std::alloc::{AllocError, Global};

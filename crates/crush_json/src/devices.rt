@@ -3,8 +3,8 @@
 ghost use Rattle.std.specs.Prelude.{◌≡◌, ◌++◌, List, OnOk, flat_map};
 ghost use Rattle.crush_nodes.specs.SeenView.{view_data};
 ghost use Rattle.crush_print.specs.MapText.{device_numbers};
-ghost use Rattle.crush_table.specs.Stands.{Stands};
-ghost use Rattle.crush_table.specs.Table.{Row};
+ghost use Rattle.crush_model.specs.Stands.{Stands};
+ghost use Rattle.crush_model.specs.Table.{Row};
 ghost use Rattle.crush_json.specs.MapDocument.{device_document, device_documents, of_view};
 ghost use Rattle.crush_json.specs.Tokens.{tokens_of, tokens_of_all};
 ghost use Rattle.crush_json.specs.Values.{list};

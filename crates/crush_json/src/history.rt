@@ -3,10 +3,10 @@
 ghost use Rattle.std.specs.Prelude.{◌≡◌, ◌++◌, ◌<◌, [], Some, codes, IfSome, OnOk, length, slice_index_or};
 ghost use Rattle.std.specs.Option.{option_map};
 ghost use Rattle.serde_json.specs.Data.{member, object, string};
-ghost use Rattle.crush_table.specs.Count.{one_if};
+ghost use Rattle.crush_model.specs.Count.{one_if};
 ghost use Rattle.crush_edits.specs.Refusal.{refusal_error, refusal_name};
-ghost use Rattle.crush_calls.specs.HistoryText.{names_of};
-ghost use Rattle.crush_calls.specs.Script.{scripts_data};
+ghost use Rattle.crush_history.specs.HistoryText.{names_of};
+ghost use Rattle.crush_history.specs.Script.{scripts_data};
 ghost use Rattle.crush_json.specs.HistoryDocument.{RepliesAreOfLines, answered_document, entry_document, entry_documents, made_document, refused_members, reply_text, stale_document};
 ghost use Rattle.crush_json.specs.Seen.{IsHistory, history_data};
 ghost use Rattle.crush_json.specs.Tokens.{history_tokens_if, last_tokens, member_tokens, tokens_of, tokens_of_all};
@@ -15,8 +15,8 @@ ghost use Rattle.crush_json.specs.Values.{natural};
 use crate::calls::call_text;
 use crate::document::Document;
 use crate::replies::reply_text;
-use crush_calls::{Entry, Reply, Script};
 use crush_edits::{Done, Refusal};
+use crush_history::{Entry, Reply, Script};
 use std::alloc::{AllocError, Global};
 
 /// The calls that were made of a map, with what they were answered.
@@ -34,7 +34,7 @@ pub fn replies_are_of_lines()
 
 /// What an entry says, but for what its reply counts.
 #[derive(Clone, Copy)]
-struct Told<'a> {
+struct Reported<'a> {
     /// From 1.
     number: u32,
     operator: &'a str,
@@ -102,111 +102,128 @@ fn push_entry(
 {
     let call = call_text(alloc, &entry.call)?;
     let reply = reply_text(alloc, entry.reply)?;
-    let told = Told {
+    let reported = Reported {
         number,
         operator,
         call: call.as_str(),
         reply: reply.as_str(),
     };
-    push_told(&told, entry.reply, out)
+    push_told(&reported, entry.reply, out)
 }
 
 #[tactic(auto, unfolding(crate::specs::HistoryDocument::answered_document))]
-fn push_told(told: &Told<'_>, reply: Reply, out: &mut Document) -> Result<(), AllocError>
-    ensures { told.now.reply.now ≡ reply_text reply → OnOk result (out.new ≡ out.old
-        ++ tokens_of (answered_document told.now.number told.now.operator.now told.now.call.now
+fn push_told(reported: &Reported<'_>, reply: Reply, out: &mut Document) -> Result<(), AllocError>
+    ensures { reported.now.reply.now ≡ reply_text reply → OnOk result (out.new ≡ out.old
+        ++ tokens_of (answered_document reported.now.number reported.now.operator.now reported.now.call.now
         reply)) }
 {
     match reply {
-        Reply::Done(done) => push_done(told, done, out),
-        Reply::Dones(done) => push_made(told, done.changed, done.made, out),
-        Reply::Refused(refusal) => push_refused(told, refusal, out),
-        Reply::BatchRefused(index, refusal) => push_refused_at(told, index, refusal, out),
-        Reply::Stale(changes) => push_stale(told, changes, out),
+        Reply::Done(done) => push_done(reported, done, out),
+        Reply::Dones(done) => push_made(reported, done.changed, done.made, out),
+        Reply::Refused(refusal) => push_refused(reported, refusal, out),
+        Reply::BatchRefused(index, refusal) => push_refused_at(reported, index, refusal, out),
+        Reply::Stale(changes) => push_stale(reported, changes, out),
     }
 }
 
-fn push_done(told: &Told<'_>, done: Done, out: &mut Document) -> Result<(), AllocError>
-    ensures { OnOk result (out.new ≡ out.old ++ tokens_of (made_document told.now.number
-        told.now.operator.now told.now.call.now (one_if done.changed) done.made
-        told.now.reply.now)) }
+fn push_done(reported: &Reported<'_>, done: Done, out: &mut Document) -> Result<(), AllocError>
+    ensures { OnOk result (out.new ≡ out.old ++ tokens_of (made_document reported.now.number
+        reported.now.operator.now reported.now.call.now (one_if done.changed) done.made
+        reported.now.reply.now)) }
 {
     if done.changed {
-        push_made(told, 1, done.made as u32, out)
+        push_made(reported, 1, done.made as u32, out)
     } else {
-        push_made(told, 0, done.made as u32, out)
+        push_made(reported, 0, done.made as u32, out)
     }
 }
 
-fn push_made(told: &Told<'_>, changed: u32, made: u32, out: &mut Document) -> Result<(), AllocError>
-    ensures { OnOk result (out.new ≡ out.old ++ tokens_of (made_document told.now.number
-        told.now.operator.now told.now.call.now changed made told.now.reply.now)) }
+fn push_made(
+    reported: &Reported<'_>,
+    changed: u32,
+    made: u32,
+    out: &mut Document,
+) -> Result<(), AllocError>
+    ensures { OnOk result (out.new ≡ out.old ++ tokens_of (made_document reported.now.number
+        reported.now.operator.now reported.now.call.now changed made reported.now.reply.now)) }
 {
     out.begin_object()?;
-    out.text("call", told.call)?;
+    out.text("call", reported.call)?;
     out.natural("changed", changed as u64)?;
     out.natural("made", made as u64)?;
-    push_last(told, None, out)?;
+    push_last(reported, None, out)?;
     out.end_object()
 }
 
-fn push_refused(told: &Told<'_>, refusal: Refusal, out: &mut Document) -> Result<(), AllocError>
+fn push_refused(
+    reported: &Reported<'_>,
+    refusal: Refusal,
+    out: &mut Document,
+) -> Result<(), AllocError>
     ensures { OnOk result (out.new ≡ out.old ++ tokens_of (object (refused_members
-        told.now.number told.now.operator.now told.now.call.now refusal told.now.reply.now))) }
+        reported.now.number reported.now.operator.now reported.now.call.now refusal reported.now.reply.now))) }
 {
     out.begin_object()?;
-    push_refusal(told, refusal, out)?;
+    push_refusal(reported, refusal, out)?;
     out.end_object()
 }
 
 fn push_refused_at(
-    told: &Told<'_>,
+    reported: &Reported<'_>,
     index: u32,
     refusal: Refusal,
     out: &mut Document,
 ) -> Result<(), AllocError>
     ensures { OnOk result (out.new ≡ out.old ++ tokens_of (object (member (codes "at")
-        (natural index) (refused_members told.now.number told.now.operator.now
-        told.now.call.now refusal told.now.reply.now)))) }
+        (natural index) (refused_members reported.now.number reported.now.operator.now
+        reported.now.call.now refusal reported.now.reply.now)))) }
 {
     out.begin_object()?;
     out.natural("at", index as u64)?;
-    push_refusal(told, refusal, out)?;
+    push_refusal(reported, refusal, out)?;
     out.end_object()
 }
 
-fn push_refusal(told: &Told<'_>, refusal: Refusal, out: &mut Document) -> Result<(), AllocError>
+fn push_refusal(
+    reported: &Reported<'_>,
+    refusal: Refusal,
+    out: &mut Document,
+) -> Result<(), AllocError>
     ensures { OnOk result (out.new ≡ out.old
-        ++ (member_tokens (codes "call") (string told.now.call.now)
+        ++ (member_tokens (codes "call") (string reported.now.call.now)
         ++ member_tokens (codes "errno") (natural (refusal_error refusal))
-        ++ last_tokens told.now.number told.now.operator.now (Some (refusal_name refusal))
-        told.now.reply.now)) }
+        ++ last_tokens reported.now.number reported.now.operator.now (Some (refusal_name refusal))
+        reported.now.reply.now)) }
 {
-    out.text("call", told.call)?;
+    out.text("call", reported.call)?;
     out.natural("errno", refusal.error() as u64)?;
-    push_last(told, Some(refusal.name()), out)
+    push_last(reported, Some(refusal.name()), out)
 }
 
 /// A guarded batch that came too late; 11 is EAGAIN.
-fn push_stale(told: &Told<'_>, changes: u32, out: &mut Document) -> Result<(), AllocError>
-    ensures { OnOk result (out.new ≡ out.old ++ tokens_of (stale_document told.now.number
-        told.now.operator.now told.now.call.now changes told.now.reply.now)) }
+fn push_stale(reported: &Reported<'_>, changes: u32, out: &mut Document) -> Result<(), AllocError>
+    ensures { OnOk result (out.new ≡ out.old ++ tokens_of (stale_document reported.now.number
+        reported.now.operator.now reported.now.call.now changes reported.now.reply.now)) }
 {
     out.begin_object()?;
-    out.text("call", told.call)?;
+    out.text("call", reported.call)?;
     out.natural("changes", changes as u64)?;
     out.natural("errno", 11)?;
-    push_last(told, Some("Stale"), out)?;
+    push_last(reported, Some("Stale"), out)?;
     out.end_object()
 }
 
-fn push_last(told: &Told<'_>, refusal: Option<&str>, out: &mut Document) -> Result<(), AllocError>
-    ensures { OnOk result (out.new ≡ out.old ++ last_tokens told.now.number
-        told.now.operator.now (option_map (λ name. name.now) refusal.entry)
-        told.now.reply.now) }
+fn push_last(
+    reported: &Reported<'_>,
+    refusal: Option<&str>,
+    out: &mut Document,
+) -> Result<(), AllocError>
+    ensures { OnOk result (out.new ≡ out.old ++ last_tokens reported.now.number
+        reported.now.operator.now (option_map (λ name. name.now) refusal.entry)
+        reported.now.reply.now) }
 {
-    out.natural("number", told.number as u64)?;
-    out.text("operator", told.operator)?;
+    out.natural("number", reported.number as u64)?;
+    out.text("operator", reported.operator)?;
     out.text_if("refusal", refusal)?;
-    out.text("reply", told.reply)
+    out.text("reply", reported.reply)
 }

@@ -1,13 +1,14 @@
 //! The ids of a map's items in order.
 
-ghost use Rattle.std.specs.Prelude.{◌≡◌, ◌++◌, [], ◌∷◌, List, OnOk, IfOk, flat_map};
+ghost use Rattle.std.specs.Prelude.{◌≡◌, ◌++◌, [], ◌∷◌, List, OnOk, IfOk};
 ghost use Rattle.crush_nodes.specs.Seen.{items_of};
-ghost use Rattle.crush_print.specs.MapText.{ascending, device_number, device_numbers};
-ghost use Rattle.crush_table.specs.Forest.{all_items};
-ghost use Rattle.crush_table.specs.Stands.{Stands};
-ghost use Rattle.crush_table.specs.Table.{Row, bucket_ids};
+ghost use Rattle.crush_print.specs.MapText.{device_numbers};
+ghost use Rattle.crush_model.specs.Forest.{all_items};
+ghost use Rattle.crush_model.specs.Stands.{Stands};
+ghost use Rattle.crush_model.specs.Table.{Row};
 ghost use Rattle.crush_json.specs.Ids.{bucket_numbers, ids_among};
 
+use crush_print::{sorted_buckets, sorted_devices};
 use crush_tree::{Bucket, Forest, Node};
 use crush_units::{BucketId, DeviceId, ItemId};
 use std::alloc::{AllocError, Allocator, Global};
@@ -30,52 +31,12 @@ pub(crate) fn ids_in_order<A: Allocator>(
         → ids.devices.items ≡ device_numbers t) }
 {
     let ids = ids_of(alloc, forest)?;
-    let buckets = buckets_among(alloc, ids.as_slice())?;
-    let devices = devices_among(alloc, ids.as_slice())?;
+    let buckets = sorted_buckets(alloc, ids.as_slice())?;
+    let devices = sorted_devices(alloc, ids.as_slice())?;
     Ok(Ids { buckets, devices })
 }
 
-fn buckets_among(alloc: Global, ids: &[ItemId]) -> Result<Vec<BucketId>, AllocError>
-    ensures { IfOk result (λ buckets. buckets.items ≡ ascending (flat_map bucket_ids ids.now)) }
-{
-    let mut buckets = only_buckets(alloc, ids)?;
-    buckets.sort_unstable_by_key(|bucket| bucket.distance());
-    Ok(buckets)
-}
-
-fn only_buckets(alloc: Global, ids: &[ItemId]) -> Result<Vec<BucketId>, AllocError>
-    ensures { IfOk result (λ buckets. buckets.items ≡ flat_map bucket_ids ids.now) }
-{
-    let mut buckets = Vec::new(alloc);
-    for id in ids {
-        if let ItemId::Bucket(bucket) = id {
-            buckets.push(*bucket)?;
-        }
-    }
-    Ok(buckets)
-}
-
-fn devices_among(alloc: Global, ids: &[ItemId]) -> Result<Vec<DeviceId>, AllocError>
-    ensures { IfOk result (λ devices. devices.items ≡ ascending (flat_map device_number ids.now)) }
-{
-    let mut devices = only_devices(alloc, ids)?;
-    devices.sort_unstable_by_key(|device| device.number());
-    Ok(devices)
-}
-
-fn only_devices(alloc: Global, ids: &[ItemId]) -> Result<Vec<DeviceId>, AllocError>
-    ensures { IfOk result (λ devices. devices.items ≡ flat_map device_number ids.now) }
-{
-    let mut devices = Vec::new(alloc);
-    for id in ids {
-        if let ItemId::Device(device) = id {
-            devices.push(*device)?;
-        }
-    }
-    Ok(devices)
-}
-
-/// Each before what is below it.
+/// The ids of a forest's items, each before those of what is below it.
 fn ids_of<A: Allocator>(alloc: Global, forest: &Forest<A>) -> Result<Vec<ItemId>, AllocError>
     ensures { IfOk result (λ ids. ids.items ≡ ids_among (all_items forest.now)) }
 {

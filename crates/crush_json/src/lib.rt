@@ -22,7 +22,7 @@ mod tree;
 mod tunables;
 mod write;
 
-pub use crush_bytes::WriteFault;
+pub use crush_units::WriteFault;
 pub use history::{History, replies_are_of_lines};
 pub use write::plan::write_plan_document;
 pub use write::since::write_since_document;

@@ -1,8 +1,8 @@
 //! A map as a value.
 
 ghost use Rattle.std.specs.Prelude.{◌≡◌, ◌++◌, List, codes, OnOk};
-ghost use Rattle.crush_table.specs.Stands.{Stands};
-ghost use Rattle.crush_table.specs.Table.{Row};
+ghost use Rattle.crush_model.specs.Stands.{Stands};
+ghost use Rattle.crush_model.specs.Table.{Row};
 ghost use Rattle.crush_json.specs.MapDocument.{bucket_documents, device_documents, kind_documents, map_document, tunables_document};
 ghost use Rattle.crush_json.specs.RuleDocument.{rule_documents};
 ghost use Rattle.crush_json.specs.Tokens.{member_tokens, tokens_of};

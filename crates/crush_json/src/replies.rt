@@ -1,11 +1,11 @@
 //! Replies as text.
 
 ghost use Rattle.std.specs.Prelude.{◌≡◌, IfOk, string_bytes};
-ghost use Rattle.crush_calls.specs.HistoryText.{digit_of};
+ghost use Rattle.crush_history.specs.HistoryText.{digit_of};
 ghost use Rattle.crush_json.specs.HistoryDocument.{reply_text};
 
-use crush_calls::Reply;
 use crush_edits::{Done, Dones, Refusal};
+use crush_history::Reply;
 use std::alloc::{AllocError, Global};
 
 pub(crate) fn reply_text(alloc: Global, reply: Reply) -> Result<String, AllocError>

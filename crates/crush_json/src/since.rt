@@ -3,11 +3,11 @@
 ghost use Rattle.std.specs.Prelude.{◌≡◌, ◌++◌, List, OnOk, None, Some, codes, flat_map, map as each};
 ghost use Rattle.std.specs.Cmp.Lexicographic.{pointwise};
 ghost use Rattle.std.specs.Option.{option_map};
-ghost use Rattle.crush_table.specs.Stands.{Stands};
-ghost use Rattle.crush_table.specs.Table.{Row};
+ghost use Rattle.crush_model.specs.Stands.{Stands};
+ghost use Rattle.crush_model.specs.Table.{Row};
 ghost use Rattle.crush_since.specs.SeenItem.{seen_data};
 ghost use Rattle.crush_since.specs.Settings.{same_rule};
-ghost use Rattle.crush_since.specs.Since.{told};
+ghost use Rattle.crush_since.specs.Since.{plain_map};
 ghost use Rattle.crush_json.specs.SinceDocument.{change_at, change_documents, counts_document, seen_document, since_document, totals_document};
 ghost use Rattle.crush_json.specs.SinceTokens.{last_since_tokens, seen_tokens_if};
 ghost use Rattle.crush_json.specs.Tokens.{member_tokens, tokens_of};
@@ -17,7 +17,7 @@ use crate::document::Document;
 use crate::tree::type_name;
 use crush_map::{CrushMap, Setting};
 use crush_since::{
-    Seen, Tally, count_changes, look_up, same_kinds, same_rules, same_tunables, told_ids,
+    Seen, Tally, count_changes, listed_ids, look_up, same_kinds, same_rules, same_tunables,
 };
 use crush_units::ItemId;
 use std::alloc::{AllocError, Allocator, Global};
@@ -32,7 +32,7 @@ pub(crate) fn push_since<A: Allocator, B: Allocator>(
 ) -> Result<(), AllocError>
     ensures { (t u : List Row) → Stands old.now.forest t → Stands new.now.forest u
         → OnOk result (out.new ≡ out.old ++ tokens_of
-        (since_document under (told old.now.setting t) (told new.now.setting u))) }
+        (since_document under (plain_map old.now.setting t) (plain_map new.now.setting u))) }
 {
     match under {
         Some(item) => push_part(alloc, old, new, item, out),
@@ -49,7 +49,7 @@ fn push_part<A: Allocator, B: Allocator>(
 ) -> Result<(), AllocError>
     ensures { (t u : List Row) → Stands old.now.forest t → Stands new.now.forest u
         → OnOk result (out.new ≡ out.old ++ tokens_of
-        (since_document (Some under) (told old.now.setting t) (told new.now.setting u))) }
+        (since_document (Some under) (plain_map old.now.setting t) (plain_map new.now.setting u))) }
 {
     out.begin_object()?;
     push_items(alloc, old, new, Some(under), out)?;
@@ -64,7 +64,7 @@ fn push_whole<A: Allocator, B: Allocator>(
 ) -> Result<(), AllocError>
     ensures { (t u : List Row) → Stands old.now.forest t → Stands new.now.forest u
         → OnOk result (out.new ≡ out.old ++ tokens_of
-        (since_document None (told old.now.setting t) (told new.now.setting u))) }
+        (since_document None (plain_map old.now.setting t) (plain_map new.now.setting u))) }
 {
     let counts = count_changes(alloc, old, new)?;
     out.begin_object()?;
@@ -98,9 +98,9 @@ fn push_items<A: Allocator, B: Allocator>(
 ) -> Result<(), AllocError>
     ensures { (t u : List Row) → Stands old.now.forest t → Stands new.now.forest u
         → OnOk result (out.new ≡ out.old ++ member_tokens (codes "items") (list
-        (change_documents under (told old.now.setting t) (told new.now.setting u)))) }
+        (change_documents under (plain_map old.now.setting t) (plain_map new.now.setting u)))) }
 {
-    let ids = told_ids(alloc, old, new, under)?;
+    let ids = listed_ids(alloc, old, new, under)?;
     out.key("items")?;
     push_list(old, new, ids.as_slice(), out)
 }
@@ -113,7 +113,7 @@ fn push_list<A: Allocator, B: Allocator>(
 ) -> Result<(), AllocError>
     ensures { (t u : List Row) → Stands old.now.forest t → Stands new.now.forest u
         → OnOk result (out.new ≡ out.old ++ tokens_of (list
-        (each (change_at (told old.now.setting t) (told new.now.setting u)) ids.now))) }
+        (each (change_at (plain_map old.now.setting t) (plain_map new.now.setting u)) ids.now))) }
 {
     out.begin_array()?;
     push_each(old, new, ids, out)?;
@@ -128,7 +128,7 @@ fn push_each<A: Allocator, B: Allocator>(
 ) -> Result<(), AllocError>
     ensures { (t u : List Row) → Stands old.now.forest t → Stands new.now.forest u
         → OnOk result (out.new ≡ out.old ++ flat_map (λ i. tokens_of
-        (change_at (told old.now.setting t) (told new.now.setting u) i)) ids.now) }
+        (change_at (plain_map old.now.setting t) (plain_map new.now.setting u) i)) ids.now) }
 {
     for id in ids {
         push_change(old, new, id, out)?;
@@ -144,7 +144,7 @@ fn push_change<A: Allocator, B: Allocator>(
 ) -> Result<(), AllocError>
     ensures { (t u : List Row) → Stands old.now.forest t → Stands new.now.forest u
         → OnOk result (out.new ≡ out.old ++ tokens_of
-        (change_at (told old.now.setting t) (told new.now.setting u) id.now)) }
+        (change_at (plain_map old.now.setting t) (plain_map new.now.setting u) id.now)) }
 {
     let before = look_up(old, *id);
     let after = look_up(new, *id);
@@ -193,7 +193,7 @@ fn push_last<A: Allocator, B: Allocator>(
 ) -> Result<(), AllocError>
     ensures { (t u : List Row) → Stands old.now.forest t → Stands new.now.forest u
         → OnOk result (out.new ≡ out.old
-        ++ last_since_tokens (told old.now.setting t) (told new.now.setting u)) }
+        ++ last_since_tokens (plain_map old.now.setting t) (plain_map new.now.setting u)) }
 {
     let before = old.setting();
     let after = new.setting();

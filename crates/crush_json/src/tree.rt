@@ -3,10 +3,10 @@
 ghost use Rattle.std.specs.Prelude.{◌≡◌, ◌++◌, List, OnOk, flat_map, map as each};
 ghost use Rattle.crush_nodes.specs.Seen.{node_id};
 ghost use Rattle.crush_nodes.specs.SeenView.{view_data};
-ghost use Rattle.crush_table.specs.Stands.{Stands};
-ghost use Rattle.crush_table.specs.Table.{Row};
+ghost use Rattle.crush_model.specs.Stands.{Stands};
+ghost use Rattle.crush_model.specs.Table.{Row};
 ghost use Rattle.crush_units.specs.Id.{item_number};
-ghost use Rattle.crush_view.specs.SeenStep.{step_data};
+ghost use Rattle.crush_print.specs.SeenStep.{step_data};
 ghost use Rattle.crush_json.specs.Tokens.{children_tokens, item_tokens, tokens_of, tokens_of_all};
 ghost use Rattle.crush_json.specs.TreeDocument.{is_among, is_stray, node_document, node_documents, node_if, tree_document, type_word};
 ghost use Rattle.crush_json.specs.Values.{list, whole};
@@ -14,9 +14,9 @@ ghost use Rattle.crush_json.specs.Values.{list, whole};
 use crate::buckets::items_of;
 use crate::document::Document;
 use crush_map::{CrushMap, Setting};
+use crush_print::Step;
 use crush_tree::{Node, View};
 use crush_units::{ItemId, TypeId};
-use crush_view::Step;
 use std::alloc::{AllocError, Allocator};
 
 #[tactic(auto, unfolding(crate::specs::TreeDocument::tree_document))]

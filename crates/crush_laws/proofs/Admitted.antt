@@ -14,17 +14,17 @@ use Rattle.crush_units.specs.Alg.{alg_text}
 use Rattle.crush_units.specs.Name.{are_name_bytes, IsName}
 use Rattle.crush_units.specs.Weight.{are_digits, weight_of_text}
 use Rattle.crush_units.specs.declared.limits.TheConstants.{FARTHEST_BUCKET_ID, HEAVIEST_DEVICE, LARGEST_RULE_NUMBER, LARGEST_TUNABLE, LAST_DEVICE_ID, LAST_TYPE, MOST_BUCKETS, MOST_CLASS_IDS}
-use Rattle.crush_table.specs.Items.{ShadowData}
-use Rattle.crush_table.specs.Table.{is_there, id_named, bucket_count}
+use Rattle.crush_model.specs.Items.{ShadowData}
+use Rattle.crush_model.specs.Table.{is_there, id_named, bucket_count}
 use Rattle.crush_edits.specs.Setting.{StepData, take, choose, set, emit, RuleData, kind_number}
 use Rattle.crush_edits.specs.Fits.{is_reserved}
 use Rattle.crush_edits.specs.Stops.{number_of}
 use Rattle.crush_builder.specs.Built.{Draft, Pending, nothing, begun as is_begun, filling as is_filling, with_class_id, with_next_item, pending_with_id, pending_with_class_id}
 use Rattle.crush_builder.specs.Building.{IsPending, is_bucket_kind, has_name, has_bucket_id, has_class, has_pending_name, has_pending_id, pending_class_ids, closed_item, item_named, is_full_of_buckets, is_full_of_class_ids}
-use Rattle.crush_bytes.specs.Words.{is_brace_word}
+use Rattle.crush_units.specs.Words.{is_brace_word}
 use Rattle.crush_text.specs.declared.opening.Opening.{Opening}
 use Rattle.crush_text.specs.declared.opening.Opening.TheVariants as openings
-use Rattle.crush_bytes.specs.Numbers.{is_number, is_signed, signed_value}
+use Rattle.crush_units.specs.Numbers.{is_number, is_signed, signed_value}
 use Rattle.crush_text.specs.Role.{Role, value, kind_of_word, opened, item_of, bucket_of_word, units, key, any_word, number, opening, tunable_name, type_number, type_name, device_id, new_name, bucket_id, id_or_alg, id_class, algorithm, item_or_end, item, lone_item, weight, rule_name, rule_id_key, rule_id, step_or_end, step_word, StepWord, takes, chooses, sets, emits, step_said, taken_bucket, step_order, step_count, step_type}
 use Rattle.crush_text.specs.Form.{Mode, first, second, begun, numbered, filling, ruled, Form, done, word, optional, ahead}
 use Rattle.crush_text.specs.Grammar.{tunable_line, type_line, device_class, device_line, bucket_line, id_line, class_id_line, alg_line, id_or_alg_line, item_line, new_rule, max_size, sizes, rule_line, step_behind, step_or_brace, statement, item_or_brace, line_forms}

@@ -14,16 +14,16 @@ use Rattle.crush_units.specs.Id.{same_id, is_device_id}
 use Rattle.crush_units.proofs.Ids.{same_id_refl, same_id_equal}
 use Rattle.crush_units.specs.Name.{IsName}
 use Rattle.crush_units.specs.declared.limits.TheConstants.{DEVICE_IDS, HEAVIEST_BUCKET, HEAVIEST_DEVICE, HEAVIEST_MAP, MOST_CLASS_IDS, MOST_DEVICES, MOST_RULES, MOST_STEPS, MOST_TUNABLES, MOST_TYPES}
-use Rattle.crush_table.specs.Items.{ShadowData}
-use Rattle.crush_table.specs.Table.{Row, member, used_ids, is_device, row_of, row_named, is_there, is_named, sum_below, total, device_count}
-use Rattle.crush_table.specs.Columns.{without_row}
-use Rattle.crush_table.specs.Lawful.{Lawful, IsShadowId, IsRow, IsRowOf, IsDeviceRow, is_over, is_too_heavy}
+use Rattle.crush_model.specs.Items.{ShadowData}
+use Rattle.crush_model.specs.Table.{Row, member, used_ids, is_device, row_of, row_named, is_there, is_named, sum_below, total, device_count}
+use Rattle.crush_model.specs.Columns.{without_row}
+use Rattle.crush_model.specs.Lawful.{Lawful, IsShadowId, IsRow, IsRowOf, IsDeviceRow, is_over, is_too_heavy}
 use Rattle.crush_edits.specs.Setting.{KindData, TunableData, StepData, RuleData}
 use Rattle.crush_edits.specs.Fits.{IsKind, IsTunable, IsStep, IsRule, is_reserved}
-use Rattle.crush_table.specs.Count.{one_if}
-use Rattle.crush_table.proofs.Tested.{bytes_itself}
+use Rattle.crush_model.specs.Count.{one_if}
+use Rattle.crush_model.proofs.Tested.{bytes_itself}
 use Rattle.crush_print.proofs.PrintedTexts.{All-right}
-use Rattle.crush_table.proofs.Found.{times, row_of-absent}
+use Rattle.crush_model.proofs.Found.{times, row_of-absent}
 use Rattle.crush_map.specs.WrittenItems.{placed_row, put_below}
 use Rattle.crush_builder.specs.Built.{Draft, Pending, nothing, filling, with_tunable, with_kind, with_device, add_rule, table_with_item, with_next_item}
 use Rattle.crush_builder.specs.Building.{CanNumber, own_ids, has_name, has_pending_name, has_kind_number, has_kind_name, has_tunable, is_full_of_devices, is_full_of_kinds, is_full_of_tunables}

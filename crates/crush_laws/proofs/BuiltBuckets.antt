@@ -7,11 +7,11 @@ use Rattle.std.specs.Prelude.{flat_map, codes, ◌==◌, ◌||◌, is_some}
 use Rattle.std.specs.Option.{option_map_or}
 use Rattle.crush_units.specs.declared.id.ItemId.{ItemId}
 use Rattle.crush_units.specs.declared.id.ItemId.TheVariants.{Bucket}
-use Rattle.crush_table.specs.Count.{one_if}
-use Rattle.crush_table.specs.Table.{Row, row_of, is_there, parent_of, kids, is_device_id}
-use Rattle.crush_table.specs.Lawful.{Lawful}
-use Rattle.crush_table.specs.Same.{Same}
-use Rattle.crush_table.proofs.Relocated.{All-kids}
+use Rattle.crush_model.specs.Count.{one_if}
+use Rattle.crush_model.specs.Table.{Row, row_of, is_there, parent_of, kids, is_device_id}
+use Rattle.crush_model.specs.Lawful.{Lawful}
+use Rattle.crush_model.specs.Same.{Same}
+use Rattle.crush_model.proofs.Relocated.{All-kids}
 use Rattle.crush_edits.specs.Setting.{SettingData, kind_number}
 use Rattle.crush_edits.specs.Fits.{IsSetting}
 use Rattle.crush_builder.specs.Built.{Draft, nothing, filling as is_filling}

@@ -12,17 +12,17 @@ use Rattle.crush_units.specs.declared.id.ItemId.{ItemId}
 use Rattle.crush_units.specs.declared.id.ItemId.TheVariants.{Device, Bucket}
 use Rattle.crush_units.specs.Id.{same_id, is_device_id}
 use Rattle.crush_units.proofs.Ids.{same_id_refl}
-use Rattle.crush_table.specs.Count.{one_if}
-use Rattle.crush_table.specs.Reordered.{IsReordered}
-use Rattle.crush_table.specs.Table.{Row, row_of, is_there, is_parent, kids}
-use Rattle.crush_table.specs.Lawful.{Lawful, IsRow, IsRowOf, IsDeviceRow}
-use Rattle.crush_table.specs.Same.{Same}
-use Rattle.crush_table.specs.ItemRows.{device_row}
-use Rattle.crush_table.proofs.Found.{times-is_there}
-use Rattle.crush_table.proofs.KidSums.{sum_by-agree}
-use Rattle.crush_table.proofs.Moved.{row_id}
-use Rattle.crush_table.proofs.Renamed.{All-row}
-use Rattle.crush_table.proofs.Reorder.{reordered-All, sum_by-flat_map}
+use Rattle.crush_model.specs.Count.{one_if}
+use Rattle.crush_model.specs.Reordered.{IsReordered}
+use Rattle.crush_model.specs.Table.{Row, row_of, is_there, is_parent, kids}
+use Rattle.crush_model.specs.Lawful.{Lawful, IsRow, IsRowOf, IsDeviceRow}
+use Rattle.crush_model.specs.Same.{Same}
+use Rattle.crush_model.specs.ItemRows.{device_row}
+use Rattle.crush_model.proofs.Found.{times-is_there}
+use Rattle.crush_model.proofs.KidSums.{sum_by-agree}
+use Rattle.crush_model.proofs.Moved.{row_id}
+use Rattle.crush_model.proofs.Renamed.{All-row}
+use Rattle.crush_model.proofs.Reorder.{reordered-All, sum_by-flat_map}
 use Rattle.crush_edits.specs.Setting.{TunableData}
 use Rattle.crush_edits.specs.Fits.{Fits}
 use Rattle.crush_edits.proofs.FitLaws.{Fits-push}

@@ -6,14 +6,14 @@ use Rattle.std.proofs.lemmas.List.Sums.{sum_by-append, sum_by-cons}
 use Rattle.std.specs.Prelude.{All, flat_map, nat_le, bytes_eq}
 use Rattle.std.specs.List.{count_by, list_any}
 use Rattle.crush_units.specs.declared.limits.TheConstants.{MOST_TUNABLES}
-use Rattle.crush_table.specs.Count.{one_if}
-use Rattle.crush_table.specs.Table.{Row}
-use Rattle.crush_table.specs.Lawful.{Lawful}
-use Rattle.crush_table.proofs.Tested.{bytes_itself}
+use Rattle.crush_model.specs.Count.{one_if}
+use Rattle.crush_model.specs.Table.{Row}
+use Rattle.crush_model.specs.Lawful.{Lawful}
+use Rattle.crush_model.proofs.Tested.{bytes_itself}
 use Rattle.crush_edits.specs.Setting.{TunableData, SettingData}
 use Rattle.crush_edits.specs.Fits.{IsTunable, Fits}
 use Rattle.crush_builder.specs.Built.{Draft, nothing}
-use Rattle.crush_bytes.specs.Words.{begins_with_key}
+use Rattle.crush_units.specs.Words.{begins_with_key}
 use Rattle.crush_print.proofs.PrintedLines.{tunable_words}
 use Rattle.crush_text.specs.Form.{first, at}
 use Rattle.crush_text.specs.Flow.{State, between}

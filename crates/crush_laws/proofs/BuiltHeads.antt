@@ -12,18 +12,18 @@ use Rattle.crush_units.specs.declared.id.ItemId.{ItemId}
 use Rattle.crush_units.specs.declared.id.ItemId.TheVariants.{Device, Bucket}
 use Rattle.crush_units.specs.Id.{is_device_id}
 use Rattle.crush_units.specs.Alg.{alg_text}
-use Rattle.crush_table.specs.Count.{one_if}
-use Rattle.crush_table.specs.Items.{ShadowData}
-use Rattle.crush_table.specs.ItemRows.{bucket_row}
-use Rattle.crush_table.specs.Lawful.{Lawful, IsRow, IsRowOf, IsBucketRow, IsShadowId}
-use Rattle.crush_table.specs.Reordered.{IsReordered}
-use Rattle.crush_table.specs.Table.{Row, is_bucket, row_of, member, used_ids, bucket_ids}
-use Rattle.crush_table.proofs.Reorder.{reordered-All, map_append}
-use Rattle.crush_table.proofs.Renamed.{All-row}
-use Rattle.crush_table.proofs.Weighs.{All-found, All-both}
-use Rattle.crush_table.proofs.Moved.{row_id}
-use Rattle.crush_table.proofs.Same.{uses}
-use Rattle.crush_table.proofs.Appended.{times_used-push}
+use Rattle.crush_model.specs.Count.{one_if}
+use Rattle.crush_model.specs.Items.{ShadowData}
+use Rattle.crush_model.specs.ItemRows.{bucket_row}
+use Rattle.crush_model.specs.Lawful.{Lawful, IsRow, IsRowOf, IsBucketRow, IsShadowId}
+use Rattle.crush_model.specs.Reordered.{IsReordered}
+use Rattle.crush_model.specs.Table.{Row, is_bucket, row_of, member, used_ids, bucket_ids}
+use Rattle.crush_model.proofs.Reorder.{reordered-All, map_append}
+use Rattle.crush_model.proofs.Renamed.{All-row}
+use Rattle.crush_model.proofs.Weighs.{All-found, All-both}
+use Rattle.crush_model.proofs.Moved.{row_id}
+use Rattle.crush_model.proofs.Same.{uses}
+use Rattle.crush_model.proofs.Appended.{times_used-push}
 use Rattle.crush_edits.specs.Setting.{RuleData, SettingData, kind_number, bucket_taken}
 use Rattle.crush_edits.specs.Fits.{Fits, IsSetting, HasKind, IsThere}
 use Rattle.crush_builder.specs.Built.{Pending, nothing, begun, numbered as is_numbered, filling as is_filling, Draft, with_alg}

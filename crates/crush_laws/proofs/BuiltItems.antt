@@ -10,13 +10,13 @@ use Rattle.crush_units.specs.declared.id.ItemId.{ItemId}
 use Rattle.crush_units.specs.declared.id.ItemId.TheVariants.{Device, Bucket}
 use Rattle.crush_units.specs.Id.{same_id}
 use Rattle.crush_units.proofs.Ids.{same_id_refl}
-use Rattle.crush_table.specs.Count.{one_if}
-use Rattle.crush_table.specs.Columns.{without_row}
-use Rattle.crush_table.specs.Lawful.{Lawful, IsRow, IsRowOf}
-use Rattle.crush_table.specs.Table.{Row, is_device_id, row_of, parent_of, kids, sum_below, item_weight}
-use Rattle.crush_table.proofs.Weighs.{All-both}
-use Rattle.crush_table.proofs.Moved.{row_id}
-use Rattle.crush_table.proofs.Renamed.{All-row}
+use Rattle.crush_model.specs.Count.{one_if}
+use Rattle.crush_model.specs.Columns.{without_row}
+use Rattle.crush_model.specs.Lawful.{Lawful, IsRow, IsRowOf}
+use Rattle.crush_model.specs.Table.{Row, is_device_id, row_of, parent_of, kids, sum_below, item_weight}
+use Rattle.crush_model.proofs.Weighs.{All-both}
+use Rattle.crush_model.proofs.Moved.{row_id}
+use Rattle.crush_model.proofs.Renamed.{All-row}
 use Rattle.crush_edits.specs.Setting.{SettingData}
 use Rattle.crush_map.specs.WrittenItems.{placed_row, put_below, adjustment}
 use Rattle.crush_builder.specs.Built.{filling as is_filling, Draft, with_next_item}

@@ -7,10 +7,10 @@ use Rattle.std.specs.Prelude.{All, map, flat_map, find, nat_le, bytes_eq, unwrap
 use Rattle.std.specs.List.{count_by, list_any}
 use Rattle.std.specs.Option.{option_map}
 use Rattle.crush_units.specs.declared.limits.TheConstants.{MOST_TYPES}
-use Rattle.crush_table.specs.Reordered.{IsReordered}
-use Rattle.crush_table.specs.Table.{Row}
-use Rattle.crush_table.proofs.Reorder.{reordered-refl, reordered-count, reordered-length, reordered-All, reordered-find, reordered-map}
-use Rattle.crush_table.proofs.Tested.{bytes_itself}
+use Rattle.crush_model.specs.Reordered.{IsReordered}
+use Rattle.crush_model.specs.Table.{Row}
+use Rattle.crush_model.proofs.Reorder.{reordered-refl, reordered-count, reordered-length, reordered-All, reordered-find, reordered-map}
+use Rattle.crush_model.proofs.Tested.{bytes_itself}
 use Rattle.crush_edits.specs.Setting.{KindData, TunableData, SettingData, kind_number}
 use Rattle.crush_edits.specs.Fits.{IsKind, IsSetting}
 use Rattle.crush_print.specs.MapText.{put_in, ascending, kind_numbers, kind_text}

@@ -17,12 +17,12 @@ use Rattle.crush_units.specs.Weight.{are_digits, weight_text}
 use Rattle.crush_units.proofs.Algs.{alg_of_text-alg_text}
 use Rattle.crush_units.proofs.ReadBack.{read_again}
 use Rattle.crush_units.specs.declared.limits.TheConstants.{LARGEST_TUNABLE}
-use Rattle.crush_table.specs.Table.{is_placed}
+use Rattle.crush_model.specs.Table.{is_placed}
 use Rattle.crush_builder.specs.Built.{Draft, with_tunable, with_kind, with_device, begun_bucket, with_id, with_class_id, with_alg, with_next_item, with_end}
 use Rattle.crush_builder.specs.Building.{item_named}
-use Rattle.crush_bytes.specs.Words.{Word, texts, begins_with_key}
+use Rattle.crush_units.specs.Words.{Word, texts, begins_with_key}
 use Rattle.crush_text.specs.declared.opening.Opening.TheVariants as openings
-use Rattle.crush_bytes.specs.Numbers.{is_number}
+use Rattle.crush_units.specs.Numbers.{is_number}
 use Rattle.crush_text.specs.Role.{value, kind_of_word, item_of, opened, units, units_or_none, key, any_word, number, type_name, new_name, bucket_id, id_class}
 use Rattle.crush_text.specs.Form.{Mode, first, second, begun, numbered, filling, at, Form, done, word, optional, ahead}
 use Rattle.crush_text.specs.Grammar.{tunable_line, type_line, device_class, device_line, bucket_line, class_id_line, alg_line, weighed_item, item_weight_line, statement}

@@ -5,17 +5,17 @@ use Rattle.std.proofs.lemmas.List.Elements.{All-head, All-tail}
 use Rattle.std.specs.Prelude.{All, flat_map, find, codes, bytes_eq, ◌==◌, if◌then◌else◌}
 use Rattle.std.specs.Option.{option_map, option_map_or}
 use Rattle.crush_units.specs.declared.id.ItemId.TheVariants.{Device, Bucket}
-use Rattle.crush_table.specs.Lawful.{Lawful, IsRow, IsRowOf, IsBucketRow}
-use Rattle.crush_table.specs.Table.{Row, row_of, kids}
-use Rattle.crush_table.proofs.Moved.{row_id}
-use Rattle.crush_table.proofs.Renamed.{All-row}
-use Rattle.crush_table.proofs.Same.{Same-sym}
-use Rattle.crush_table.proofs.Tested.{bytes_equal, bytes_itself}
+use Rattle.crush_model.specs.Lawful.{Lawful, IsRow, IsRowOf, IsBucketRow}
+use Rattle.crush_model.specs.Table.{Row, row_of, kids}
+use Rattle.crush_model.proofs.Moved.{row_id}
+use Rattle.crush_model.proofs.Renamed.{All-row}
+use Rattle.crush_model.proofs.Same.{Same-sym}
+use Rattle.crush_model.proofs.Tested.{bytes_equal, bytes_itself}
 use Rattle.crush_edits.specs.Setting.{KindData, SettingData, kind_number}
 use Rattle.crush_edits.specs.Fits.{Fits, is_reserved}
 use Rattle.crush_builder.specs.Built.{Draft}
-use Rattle.crush_bytes.specs.Words.{words}
-use Rattle.crush_bytes.proofs.Printed.{Holds, holds_nothing}
+use Rattle.crush_units.specs.Words.{words}
+use Rattle.crush_units.proofs.Printed.{Holds, holds_nothing}
 use Rattle.crush_print.specs.MapText.{device_numbers, kind_numbers, kind_text, map_text}
 use Rattle.crush_print.proofs.PrintedLines.{tunable_words, device_words, kind_words, bucket_words, kid_words, rule_words, words_of, whole_words}
 use Rattle.crush_print.proofs.PrintedTexts.{row_kind, kind_text-is, map_words, map_text-holds, root_order}

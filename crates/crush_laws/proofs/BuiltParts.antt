@@ -9,19 +9,19 @@ use Rattle.crush_units.specs.declared.id.ItemId.{ItemId}
 use Rattle.crush_units.specs.declared.id.ItemId.TheVariants.{Device, Bucket}
 use Rattle.crush_units.specs.Id.{same_id, is_device_id}
 use Rattle.crush_units.proofs.Ids.{same_id_equal}
-use Rattle.crush_table.specs.Count.{one_if}
-use Rattle.crush_table.specs.Columns.{without_row}
-use Rattle.crush_table.specs.Lawful.{Lawful, IsRow, IsRowOf, HasParent}
-use Rattle.crush_table.specs.Reordered.{IsReordered}
-use Rattle.crush_table.specs.Same.{Same}
-use Rattle.crush_table.specs.Table.{Row, row_of, is_there, parent_of, is_parent, kids}
-use Rattle.crush_table.proofs.Reorder.{sum_by-map}
-use Rattle.crush_table.proofs.Weighs.{All-found, All-both}
-use Rattle.crush_table.proofs.Moved.{row_id}
-use Rattle.crush_table.proofs.Climbs.{eqb_turned, parent_there}
-use Rattle.crush_table.proofs.Changes.{kids-append}
-use Rattle.crush_table.proofs.Removed.{only, sum_by-filter_le}
-use Rattle.crush_table.proofs.Relocated.{All-kids}
+use Rattle.crush_model.specs.Count.{one_if}
+use Rattle.crush_model.specs.Columns.{without_row}
+use Rattle.crush_model.specs.Lawful.{Lawful, IsRow, IsRowOf, HasParent}
+use Rattle.crush_model.specs.Reordered.{IsReordered}
+use Rattle.crush_model.specs.Same.{Same}
+use Rattle.crush_model.specs.Table.{Row, row_of, is_there, parent_of, is_parent, kids}
+use Rattle.crush_model.proofs.Reorder.{sum_by-map}
+use Rattle.crush_model.proofs.Weighs.{All-found, All-both}
+use Rattle.crush_model.proofs.Moved.{row_id}
+use Rattle.crush_model.proofs.Climbs.{eqb_turned, parent_there}
+use Rattle.crush_model.proofs.Changes.{kids-append}
+use Rattle.crush_model.proofs.Removed.{only, sum_by-filter_le}
+use Rattle.crush_model.proofs.Relocated.{All-kids}
 use Rattle.crush_print.proofs.PartTables.{bare, shown, shown-id, part_of}
 use Rattle.crush_print.proofs.PartSteps.{with_one, IsClosed, kids-put}
 use Rattle.crush_print.proofs.PartRows.{rows_lawful, rows_found, rows_more, rows_put}

@@ -13,9 +13,9 @@ use Rattle.crush_edits.specs.Setting.{take, choose, set, emit, RuleData}
 use Rattle.crush_edits.specs.Fits.{IsCount}
 use Rattle.crush_builder.specs.Built.{Draft, add_rule}
 use Rattle.crush_builder.specs.Rules.{complete_bucket_named}
-use Rattle.crush_bytes.specs.Words.{Word, begins_with_key}
+use Rattle.crush_units.specs.Words.{Word, begins_with_key}
 use Rattle.crush_print.proofs.PrintedLines.{class_words, size_words, choice_word, order_word}
-use Rattle.crush_bytes.specs.Numbers.{is_signed, signed_value}
+use Rattle.crush_units.specs.Numbers.{is_signed, signed_value}
 use Rattle.crush_text.specs.Role.{bucket_of_word, key, any_word, number, rule_id_key, rule_id, step_word, sets, step_said, step_count, step_type}
 use Rattle.crush_text.specs.Form.{second, ruled, at, Form, done, word}
 use Rattle.crush_text.specs.Grammar.{new_rule, max_size, sizes, rule_line, with_step, step_done, take_step, choose_step, set_step, step_behind}

@@ -5,11 +5,11 @@ use Rattle.std.proofs.lemmas.List.Elements.{All-head, All-weaker}
 use Rattle.std.specs.Prelude.{All, flat_map, codes, bytes_eq, is_some, option_and_then, ◌==◌}
 use Rattle.crush_units.specs.declared.id.ItemId.TheVariants.{Bucket}
 use Rattle.crush_units.specs.declared.limits.TheConstants.{MOST_RULES, MOST_STEPS}
-use Rattle.crush_table.specs.Lawful.{Lawful}
-use Rattle.crush_table.specs.Same.{Same}
-use Rattle.crush_table.specs.Table.{Row, id_named}
-use Rattle.crush_table.proofs.Found.{row_of-same}
-use Rattle.crush_table.proofs.Tested.{bytes_itself}
+use Rattle.crush_model.specs.Lawful.{Lawful}
+use Rattle.crush_model.specs.Same.{Same}
+use Rattle.crush_model.specs.Table.{Row, id_named}
+use Rattle.crush_model.proofs.Found.{row_of-same}
+use Rattle.crush_model.proofs.Tested.{bytes_itself}
 use Rattle.crush_edits.specs.Setting.{StepData, take, choose, set, emit, RuleData, SettingData, bucket_taken}
 use Rattle.crush_edits.specs.Fits.{Fits, IsStep, IsRule, IsThere}
 use Rattle.crush_edits.specs.Stops.{number_of}

@@ -2,9 +2,9 @@
 use Rattle.std.proofs.Common.{◌≡◌, ℕ, ◌+◌, Bool, true, false, not, ◌==◌, List, [], ◌∷◌, ◌++◌, refl, ap, sym, ◌∙◌, rules, tests}
 use Rattle.std.proofs.lemmas.Bool.{and_parts}
 use Rattle.std.specs.List.{list_all}
-use Rattle.crush_bytes.specs.Words.{Text, texts, ended, stopped, words_in}
-use Rattle.crush_bytes.proofs.Printed.{Holds}
-use Rattle.crush_bytes.proofs.Split.{opens, inside, closes, at_end}
+use Rattle.crush_units.specs.Words.{Text, texts, ended, stopped, words_in}
+use Rattle.crush_units.proofs.Printed.{Holds}
+use Rattle.crush_units.proofs.Split.{opens, inside, closes, at_end}
 use Rattle.crush_laws.specs.ReadingBack.{are_comments, AreCommentLines}
 
 -- no word is among them, wherever they begin

@@ -6,13 +6,13 @@ use Rattle.std.proofs.lemmas.List.Sums.{sum_by-cons}
 use Rattle.std.specs.Prelude.{◌==◌, nat_lt, bytes_eq, map}
 use Rattle.std.specs.List.{count_by}
 use Rattle.crush_units.specs.declared.alg.Alg.{Alg}
-use Rattle.crush_table.specs.Count.{one_if}
-use Rattle.crush_table.specs.Items.{ShadowData}
-use Rattle.crush_table.specs.Table.{Row, is_bucket, member, used_ids}
-use Rattle.crush_table.specs.Lawful.{Lawful, IsRow, IsBucketRow}
-use Rattle.crush_table.proofs.Same.{times_used, member-count}
-use Rattle.crush_table.proofs.Tested.{bytes_itself}
-use Rattle.crush_table.proofs.Appended.{times_used-push}
+use Rattle.crush_model.specs.Count.{one_if}
+use Rattle.crush_model.specs.Items.{ShadowData}
+use Rattle.crush_model.specs.Table.{Row, is_bucket, member, used_ids}
+use Rattle.crush_model.specs.Lawful.{Lawful, IsRow, IsBucketRow}
+use Rattle.crush_model.proofs.Same.{times_used, member-count}
+use Rattle.crush_model.proofs.Tested.{bytes_itself}
+use Rattle.crush_model.proofs.Appended.{times_used-push}
 use Rattle.crush_edits.specs.Setting.{SettingData}
 use Rattle.crush_edits.specs.Fits.{HasKind}
 use Rattle.crush_builder.specs.Building.{CanBegin, CanNumber, own_ids}

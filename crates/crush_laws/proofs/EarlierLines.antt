@@ -4,9 +4,9 @@ use Rattle.std.specs.Prelude.{All, bytes_eq, codes, drop}
 use Rattle.std.specs.Str.Parse.{digits_value}
 use Rattle.crush_units.specs.declared.alg.Alg.{Alg}
 use Rattle.crush_units.specs.declared.id.ItemId.{ItemId}
-use Rattle.crush_table.specs.Items.{ShadowData}
-use Rattle.crush_table.specs.Table.{Row}
-use Rattle.crush_table.specs.Lawful.{Lawful}
+use Rattle.crush_model.specs.Items.{ShadowData}
+use Rattle.crush_model.specs.Table.{Row}
+use Rattle.crush_model.specs.Lawful.{Lawful}
 use Rattle.crush_edits.specs.Setting.{take, choose, set, emit, RuleData, taken_buckets}
 use Rattle.crush_edits.specs.Fits.{IsKind, HasKind}
 use Rattle.crush_map.specs.WrittenItems.{weight_or_one, put_below}
@@ -16,7 +16,7 @@ use Rattle.crush_builder.proofs.RowSteps.{new_device, new_bucket}
 use Rattle.crush_print.proofs.PrintedTexts.{All-left}
 use Rattle.crush_text.specs.declared.opening.Opening.{Opening}
 use Rattle.crush_text.specs.declared.opening.Opening.TheVariants as openings
-use Rattle.crush_bytes.specs.Numbers.{signed_value}
+use Rattle.crush_units.specs.Numbers.{signed_value}
 use Rattle.crush_text.specs.Role.{opening, StepWord, takes, chooses, sets, emits, item_of, bucket_of_word, units, opened, step_said}
 use Rattle.crush_text.specs.Form.{Mode, first, second, begun, numbered, filling, ruled, word}
 use Rattle.crush_text.specs.Grammar.{device_class, id_line, class_id_line, alg_line, id_or_alg_line, item_line, item_or_brace, max_size, sizes, step_behind, step_or_brace, statement, line_forms}

@@ -5,8 +5,8 @@ use Rattle.std.proofs.lemmas.List.Sums.{sum_by-append}
 use Rattle.std.specs.Prelude.{◌==◌, All, bytes_eq}
 use Rattle.std.specs.List.{count_by}
 use Rattle.crush_units.specs.declared.limits.TheConstants.{MOST_RULES, MOST_STEPS, MOST_TUNABLES, MOST_TYPES}
-use Rattle.crush_table.specs.Count.{one_if}
-use Rattle.crush_table.specs.Table.{Row}
+use Rattle.crush_model.specs.Count.{one_if}
+use Rattle.crush_model.specs.Table.{Row}
 use Rattle.crush_edits.specs.Setting.{KindData, TunableData, StepData, RuleData, SettingData, taken_buckets}
 use Rattle.crush_edits.specs.Fits.{IsKind, IsTunable, IsStep, IsRule, IsThere, HasKind}
 use Rattle.crush_builder.specs.Built.{Draft, with_kind, with_tunable, add_rule}

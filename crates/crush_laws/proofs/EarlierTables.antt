@@ -7,20 +7,20 @@ use Rattle.crush_units.specs.declared.id.ItemId.{ItemId}
 use Rattle.crush_units.specs.declared.id.ItemId.TheVariants.{Bucket}
 use Rattle.crush_units.specs.Id.{same_id}
 use Rattle.crush_units.proofs.Ids.{same_id_refl, same_id_equal, same_id_comm}
-use Rattle.crush_table.specs.Count.{one_if}
-use Rattle.crush_table.specs.Reordered.{IsReordered, through}
-use Rattle.crush_table.specs.Table.{Row, row_of, is_there, is_placed, parent_of}
-use Rattle.crush_table.specs.Columns.{without_row}
-use Rattle.crush_table.specs.Lawful.{Lawful, HasParent}
-use Rattle.crush_table.proofs.Reorder.{map_append, reordered-All, reordered-count, reordered_comm, reordered_split}
-use Rattle.crush_table.proofs.Found.{times, times-cons, times-append, is_there-times, times-is_there, row_of-absent, Distinct}
-use Rattle.crush_table.proofs.Kept.{times-map}
-use Rattle.crush_table.proofs.Climbs.{parent_there}
-use Rattle.crush_table.proofs.Appended.{row_of-append}
-use Rattle.crush_table.proofs.Same.{Lawful-reordered}
-use Rattle.crush_table.proofs.Parted.{map_same}
-use Rattle.crush_table.proofs.Removed.{Lawful-only}
-use Rattle.crush_table.proofs.Weighs.{All-both, All-found}
+use Rattle.crush_model.specs.Count.{one_if}
+use Rattle.crush_model.specs.Reordered.{IsReordered, through}
+use Rattle.crush_model.specs.Table.{Row, row_of, is_there, is_placed, parent_of}
+use Rattle.crush_model.specs.Columns.{without_row}
+use Rattle.crush_model.specs.Lawful.{Lawful, HasParent}
+use Rattle.crush_model.proofs.Reorder.{map_append, reordered-All, reordered-count, reordered_comm, reordered_split}
+use Rattle.crush_model.proofs.Found.{times, times-cons, times-append, is_there-times, times-is_there, row_of-absent, Distinct}
+use Rattle.crush_model.proofs.Kept.{times-map}
+use Rattle.crush_model.proofs.Climbs.{parent_there}
+use Rattle.crush_model.proofs.Appended.{row_of-append}
+use Rattle.crush_model.proofs.Same.{Lawful-reordered}
+use Rattle.crush_model.proofs.Parted.{map_same}
+use Rattle.crush_model.proofs.Removed.{Lawful-only}
+use Rattle.crush_model.proofs.Weighs.{All-both, All-found}
 use Rattle.crush_print.proofs.PartTables.{bare, shown, Lawful-shown}
 use Rattle.crush_edits.specs.Setting.{SettingData}
 use Rattle.crush_edits.specs.Fits.{HasKind}

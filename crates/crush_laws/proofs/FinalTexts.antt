@@ -3,12 +3,12 @@ use Rattle.std.proofs.Common.{◌≡◌, ℕ, true, false, List, [], ◌∷◌, 
 use Rattle.std.specs.Prelude.{drop}
 use Rattle.std.proofs.lemmas.Bool.{cond_both}
 use Rattle.std.proofs.lemmas.List.Elements.{All-nil}
-use Rattle.crush_table.specs.Table.{Row}
-use Rattle.crush_table.specs.Lawful.{Lawful, HasParent}
+use Rattle.crush_model.specs.Table.{Row}
+use Rattle.crush_model.specs.Lawful.{Lawful, HasParent}
 use Rattle.crush_edits.specs.Setting.{SettingData}
 use Rattle.crush_edits.specs.Fits.{Fits, IsThere}
 use Rattle.crush_builder.specs.Built.{Draft}
-use Rattle.crush_bytes.specs.Words.{Word, words, begins_with_key}
+use Rattle.crush_units.specs.Words.{Word, words, begins_with_key}
 use Rattle.crush_text.specs.Role.{value}
 use Rattle.crush_text.specs.Form.{Mode, first, second, begun, numbered, filling, ruled, Form, done, word, optional, ahead}
 use Rattle.crush_text.specs.Grammar.{next}

@@ -13,13 +13,13 @@ use Rattle.crush_edits.specs.declared.location.Pair.{Pair}
 use Rattle.crush_edits.specs.LawEdit as table
 use Rattle.crush_laws.proofs.ReadBack.{printed_texts_are_read_back}
 use Rattle.crush_laws.proofs.Keeps.{each_map_is_lawful}
-use Rattle.crush_calls.specs.declared.call.Call.{Call}
-use Rattle.crush_calls.specs.declared.call.Call.TheVariants.{One, Batch, Guarded}
-use Rattle.crush_calls.specs.Script.{ScriptData}
-use Rattle.crush_calls.specs.History.{untouched, table_after, turns}
-use Rattle.crush_calls.specs.HistoryText.{names_of}
-use Rattle.crush_calls.specs.LawRun.{IsCall}
-use Rattle.crush_calls.proofs.RunLaws.{history_keeps, turns_calls, turns_keep}
+use Rattle.crush_history.specs.declared.call.Call.{Call}
+use Rattle.crush_history.specs.declared.call.Call.TheVariants.{One, Batch, Guarded}
+use Rattle.crush_history.specs.Script.{ScriptData}
+use Rattle.crush_history.specs.History.{untouched, table_after, turns}
+use Rattle.crush_history.specs.HistoryText.{names_of}
+use Rattle.crush_history.specs.LawRun.{IsCall}
+use Rattle.crush_history.proofs.RunLaws.{history_keeps, turns_calls, turns_keep}
 use Rattle.crush_script.specs.Job.{JobData, IsJob}
 use Rattle.crush_script.specs.Lines.{map_part}
 use Rattle.crush_script.specs.Words.{is_plain, device_named}

@@ -14,14 +14,14 @@ use Rattle.crush_units.specs.declared.weight.WeightFault.{WeightFault}
 use Rattle.crush_units.specs.Name.{is_name, are_name_bytes, IsName}
 use Rattle.crush_units.specs.Weight.{are_digits, weight_of_text}
 use Rattle.crush_units.specs.declared.limits.TheConstants.{FARTHEST_BUCKET_ID, FARTHEST_COUNT, LARGEST_COUNT, LARGEST_RULE_NUMBER, LARGEST_TUNABLE, LAST_DEVICE_ID, LAST_TYPE, LONGEST_NAME, MOST_BUCKETS, MOST_STEPS, UNITS_OF_ONE}
-use Rattle.crush_table.specs.Items.{ShadowData}
-use Rattle.crush_table.specs.Lawful.{Lawful, IsShadowId, is_too_heavy}
+use Rattle.crush_model.specs.Items.{ShadowData}
+use Rattle.crush_model.specs.Lawful.{Lawful, IsShadowId, is_too_heavy}
 use Rattle.crush_edits.specs.Setting.{KindData, StepData, take, choose, set, emit, RuleData, SettingData, kind_number, bucket_taken}
 use Rattle.crush_edits.specs.Fits.{Fits, IsKind, IsTunable, IsCount, IsStep, IsRule, IsThere, HasKind}
 use Rattle.crush_edits.specs.Stops.{number_of}
-use Rattle.crush_table.specs.Count.{one_if}
-use Rattle.crush_table.specs.Table.{Row, bucket_count, member, used_ids}
-use Rattle.crush_table.proofs.Attached.{Lawful-nil}
+use Rattle.crush_model.specs.Count.{one_if}
+use Rattle.crush_model.specs.Table.{Row, bucket_count, member, used_ids}
+use Rattle.crush_model.proofs.Attached.{Lawful-nil}
 use Rattle.crush_builder.specs.declared.fault.BuildFault.TheVariants as build
 use Rattle.crush_builder.specs.Faults.{first_fault, class_id_fault}
 use Rattle.crush_map.specs.WrittenItems.{weight_or_one}
@@ -31,11 +31,11 @@ use Rattle.crush_builder.specs.Rules.{complete_bucket_named, is_full_of_rules}
 use Rattle.crush_builder.proofs.KindSteps.{less}
 use Rattle.crush_builder.proofs.RowSteps.{new_bucket, bucket_lawful, one_more_class_id}
 use Rattle.crush_edits.proofs.FitLaws.{Fits-push}
-use Rattle.crush_bytes.specs.Words.{Word, Text, words, is_brace_word, AreFormed, begins_with_key}
-use Rattle.crush_bytes.proofs.Forms.{words_are_formed}
+use Rattle.crush_units.specs.Words.{Word, Text, words, is_brace_word, AreFormed, begins_with_key}
+use Rattle.crush_units.proofs.Forms.{words_are_formed}
 use Rattle.crush_text.specs.declared.fault.TextFaultKind.TheVariants.{Unexpected, BadNumber, BadWeight, DuplicateId, DuplicateName, UnknownType, UnknownItem, LeftOut, UnknownBucketInRule, TooMany, SumTooLarge}
 use Rattle.crush_text.specs.declared.opening.Opening.TheVariants as openings
-use Rattle.crush_bytes.specs.Numbers.{is_number, is_signed, signed_value}
+use Rattle.crush_units.specs.Numbers.{is_number, is_signed, signed_value}
 use Rattle.crush_text.specs.Role.{opening, device_id, new_name, weight, step_word, takes, chooses, sets, emits, value, kind_of_word, item_of, bucket_of_word, units_or_none, units}
 use Rattle.crush_text.specs.Form.{Mode, first, second, begun, numbered, filling, ruled, Progress, at, Form, done, word, optional, ahead}
 use Rattle.crush_text.specs.Grammar.{tunable_line, type_line, device_line, bucket_line, id_line, class_id_line, alg_line, id_or_alg_line, item_line, rule_line, new_rule, with_step, step_behind, step_or_brace, statement, item_or_brace, line_forms, next}

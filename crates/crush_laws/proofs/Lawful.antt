@@ -11,12 +11,12 @@ use Rattle.crush_units.specs.Id.{same_id}
 use Rattle.crush_units.specs.Name.{IsName}
 use Rattle.crush_units.proofs.Ids.{same_id_refl, same_id_equal}
 use Rattle.crush_units.specs.declared.limits.TheConstants.{HEAVIEST_DEVICE, LARGEST_TUNABLE, LAST_DEVICE_ID, LAST_TYPE}
-use Rattle.crush_table.specs.Table.{Row, is_device, is_device_id, row_of, id_named, is_there, member, used_ids}
-use Rattle.crush_table.specs.Columns.{is_part, without_row}
-use Rattle.crush_table.specs.Lawful.{Lawful, is_too_heavy}
+use Rattle.crush_model.specs.Table.{Row, is_device, is_device_id, row_of, id_named, is_there, member, used_ids}
+use Rattle.crush_model.specs.Columns.{is_part, without_row}
+use Rattle.crush_model.specs.Lawful.{Lawful, is_too_heavy}
 use Rattle.crush_edits.specs.Setting.{KindData}
 use Rattle.crush_edits.specs.Fits.{IsKind, Fits, is_reserved}
-use Rattle.crush_table.proofs.Appended.{row_of-append, unused_fresh}
+use Rattle.crush_model.proofs.Appended.{row_of-append, unused_fresh}
 use Rattle.crush_map.specs.WrittenItems.{placed_row, put_below, weight_or_one}
 use Rattle.crush_builder.specs.Built.{Draft, Pending, nothing, begun, numbered, filling, with_kind, with_device, with_tunable, table_with_item, with_next_item}
 use Rattle.crush_builder.specs.Building.{IsRoot, is_open, has_name, closed_item, item_named, has_kind_number, has_kind_name, has_tunable, is_full_of_devices, is_full_of_kinds, is_full_of_tunables}

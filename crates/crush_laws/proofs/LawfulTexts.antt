@@ -16,10 +16,10 @@ use Rattle.crush_edits.specs.Setting.{KindData}
 use Rattle.crush_builder.specs.Built.{Draft}
 use Rattle.crush_builder.specs.Building.{IsPending, item_named}
 use Rattle.crush_builder.specs.Rules.{complete_bucket_named}
-use Rattle.crush_bytes.specs.Words.{Word, words, AreFormed, begins_with_key}
-use Rattle.crush_bytes.proofs.Forms.{words_are_formed}
+use Rattle.crush_units.specs.Words.{Word, words, AreFormed, begins_with_key}
+use Rattle.crush_units.proofs.Forms.{words_are_formed}
 use Rattle.crush_text.specs.declared.fault.TextFaultKind.TheVariants.{Unexpected, BadNumber, BadWeight, UnknownItem, SecondParent, OtherAlgorithm, LeftOut, UnknownBucketInRule}
-use Rattle.crush_bytes.specs.Numbers.{is_number}
+use Rattle.crush_units.specs.Numbers.{is_number}
 use Rattle.crush_text.specs.Role.{Role, value, kind_of_word, item_of, key, any_word, number, opening, tunable_name, type_number, type_name, device_id, new_name, bucket_id, id_or_alg, id_class, algorithm, item_or_end, item, lone_item, weight, rule_name, rule_id_key, rule_id, step_or_end, step_word, taken_bucket, step_order, step_count, step_type}
 use Rattle.crush_text.specs.Form.{Mode, first, second, begun, numbered, filling, ruled, Progress, Form, done, word, optional, ahead}
 use Rattle.crush_text.specs.Grammar.{next}

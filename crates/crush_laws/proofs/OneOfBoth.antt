@@ -4,7 +4,7 @@ use Rattle.std.proofs.lemmas.Bool.{cond_both}
 use Rattle.std.specs.Prelude.{◌⊎◌, bytes_eq, codes, drop}
 use Rattle.crush_builder.specs.Built.{Draft}
 use Rattle.crush_edits.specs.Setting.{RuleData}
-use Rattle.crush_bytes.specs.Words.{Word, Stop, words, begins_with_key}
+use Rattle.crush_units.specs.Words.{Word, Stop, words, begins_with_key}
 use Rattle.crush_text.specs.declared.opening.Opening.{Opening}
 use Rattle.crush_text.specs.declared.opening.Opening.TheVariants as openings
 use Rattle.crush_text.specs.declared.fault.TextFault.{TextFault}

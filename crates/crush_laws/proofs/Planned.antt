@@ -8,17 +8,17 @@ use Rattle.std.proofs.Math.Seq.{take-append_seam, drop-append_seam}
 use Rattle.crush_units.specs.Name.{IsName}
 use Rattle.crush_units.proofs.Names.{is_name_true}
 use Rattle.crush_units.specs.declared.limits.TheConstants.{MOST_CALLS}
-use Rattle.crush_table.specs.Table.{Row}
+use Rattle.crush_model.specs.Table.{Row}
 use Rattle.crush_edits.specs.Answer.{Answer}
 use Rattle.crush_edits.specs.Edit.{edit}
 use Rattle.crush_edits.specs.Setting.{SettingData}
 use Rattle.crush_edits.specs.declared.edit.Edit.{Edit}
 use Rattle.crush_edits.specs.declared.edit.Edit.TheVariants.{Insert, CreateOrMove, Update, Move, Swap, Reweight, ReweightSubtree, Remove, AddBucket, Rename, SetClass, RemoveClass}
 use Rattle.crush_text.specs.Document.{IsMapText}
-use Rattle.crush_calls.specs.declared.call.Call.{Call}
-use Rattle.crush_calls.specs.declared.call.Call.TheVariants.{One}
-use Rattle.crush_calls.specs.HistoryText.{edit_text}
-use Rattle.crush_calls.specs.History.{Counted, EntryData, counted_after, edit_outcome, entry_on, is_change, later, turn, turns_from, untouched}
+use Rattle.crush_history.specs.declared.call.Call.{Call}
+use Rattle.crush_history.specs.declared.call.Call.TheVariants.{One}
+use Rattle.crush_history.specs.HistoryText.{edit_text}
+use Rattle.crush_history.specs.History.{Counted, EntryData, counted_after, edit_outcome, entry_on, is_change, later, turn, turns_from, untouched}
 use Rattle.crush_script.specs.Command.{command, end_at, name_at, operator}
 use Rattle.crush_script.specs.Lines.{begins_section, length_to_section, line_words, lines, map_part, section_line, section_part, without_comment, words_between_blanks}
 use Rattle.crush_script.specs.Printed.{IsSaid}

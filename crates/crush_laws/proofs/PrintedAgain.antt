@@ -3,9 +3,9 @@ use Rattle.std.proofs.Common.{◌≡◌, ℕ, List, [], ◌∷◌, ◌++◌, ref
 use Rattle.std.specs.Prelude.{map, flat_map, codes, unwrap_or, ◌==◌}
 use Rattle.std.specs.Option.{option_map}
 use Rattle.crush_units.specs.declared.id.ItemId.TheVariants.{Bucket}
-use Rattle.crush_table.specs.Table.{Row, sum_below}
-use Rattle.crush_table.proofs.Reorder.{reordered-find}
-use Rattle.crush_table.proofs.Same.{Same-sym}
+use Rattle.crush_model.specs.Table.{Row, sum_below}
+use Rattle.crush_model.proofs.Reorder.{reordered-find}
+use Rattle.crush_model.proofs.Same.{Same-sym}
 use Rattle.crush_edits.specs.Setting.{KindData, SettingData}
 use Rattle.crush_edits.specs.Fits.{IsSetting}
 use Rattle.crush_print.specs.Lines.{kind_line, bucket_lines}

@@ -11,15 +11,15 @@ use Rattle.crush_units.specs.declared.id.ItemId.{ItemId}
 use Rattle.crush_units.specs.Alg.{alg_text, alg_of_text}
 use Rattle.crush_units.specs.Weight.{are_digits}
 use Rattle.crush_units.proofs.Algs.{alg_of_text-alg_text}
-use Rattle.crush_table.specs.Items.{ShadowData}
-use Rattle.crush_table.specs.Table.{Row}
-use Rattle.crush_table.specs.Lawful.{Lawful}
+use Rattle.crush_model.specs.Items.{ShadowData}
+use Rattle.crush_model.specs.Table.{Row}
+use Rattle.crush_model.specs.Lawful.{Lawful}
 use Rattle.crush_edits.specs.Setting.{StepData, SettingData}
 use Rattle.crush_edits.specs.Fits.{Fits}
 use Rattle.crush_map.specs.WrittenItems.{put_below, weight_or_one, adjustment}
 use Rattle.crush_builder.specs.Built.{Draft, empty_draft, Pending, nothing, numbered as is_numbered, filling as is_filling, pending_with_id, pending_with_class_id, pending_row, pending_with_alg, table_with_item, with_id, with_class_id, with_alg, with_next_item, with_end, add_rule}
-use Rattle.crush_bytes.specs.Numbers.{is_number}
-use Rattle.crush_bytes.specs.Words.{words, texts}
+use Rattle.crush_units.specs.Numbers.{is_number}
+use Rattle.crush_units.specs.Words.{words, texts}
 use Rattle.crush_text.specs.declared.fault.TextFaultKind.TheVariants.{BadNumber}
 use Rattle.crush_text.specs.declared.opening.Opening.TheVariants as openings
 use Rattle.crush_text.specs.Role.{key, number, id_or_alg, algorithm, item, lone_item, item_or_end, step_or_end, weight, kind_of_word, item_of, units}

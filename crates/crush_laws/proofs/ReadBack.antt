@@ -1,7 +1,7 @@
 -- What is printed of a map is read as that map.
 use Rattle.std.proofs.Common.{List, ℕ, refl}
-use Rattle.crush_table.specs.Lawful.{Lawful}
-use Rattle.crush_table.specs.Table.{Row}
+use Rattle.crush_model.specs.Lawful.{Lawful}
+use Rattle.crush_model.specs.Table.{Row}
 use Rattle.crush_edits.specs.Setting.{SettingData}
 use Rattle.crush_edits.specs.Fits.{Fits}
 use Rattle.crush_print.specs.MapText.{map_text}

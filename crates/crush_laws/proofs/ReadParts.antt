@@ -6,7 +6,7 @@ use Rattle.std.specs.Str.Parse.{digits_value}
 use Rattle.crush_units.specs.declared.id.ItemId.{ItemId}
 use Rattle.crush_units.specs.declared.id.ItemId.TheVariants.{Device, Bucket}
 use Rattle.crush_units.specs.Id.{same_id}
-use Rattle.crush_table.specs.Table.{id_named, is_placed}
+use Rattle.crush_model.specs.Table.{id_named, is_placed}
 use Rattle.crush_builder.specs.Built.{Draft, Pending, filling as is_filling, with_tunable, with_kind, with_device}
 use Rattle.crush_builder.specs.Building.{closed_item}
 use Rattle.crush_text.specs.declared.fault.TextFaultKind.TheVariants.{BadNumber}

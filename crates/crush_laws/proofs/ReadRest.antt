@@ -7,9 +7,9 @@ use Rattle.std.specs.List.{list_any}
 use Rattle.std.specs.Str.Parse.{digits_value}
 use Rattle.crush_units.specs.declared.alg.Alg.{Alg}
 use Rattle.crush_units.specs.Alg.{alg_text}
-use Rattle.crush_table.specs.Items.{ShadowData}
-use Rattle.crush_table.specs.Table.{Row}
-use Rattle.crush_table.specs.ItemRows.{bucket_row}
+use Rattle.crush_model.specs.Items.{ShadowData}
+use Rattle.crush_model.specs.Table.{Row}
+use Rattle.crush_model.specs.ItemRows.{bucket_row}
 use Rattle.crush_edits.specs.Setting.{KindData, TunableData, StepData, RuleData, SettingData}
 use Rattle.crush_map.specs.WrittenItems.{put_below, weight_or_one, adjustment}
 use Rattle.crush_builder.specs.Built.{Draft, nothing, begun as is_begun, numbered as is_numbered, filling as is_filling, begun_bucket}

@@ -5,14 +5,14 @@ use Rattle.std.specs.Prelude.{codes, bytes_eq, cond, unwrap_or, nat_eq, option_a
 use Rattle.std.specs.List.{starts_with}
 use Rattle.std.specs.Str.Parse.{digits_value}
 use Rattle.crush_units.specs.declared.id.ItemId.{ItemId}
-use Rattle.crush_table.specs.Table.{id_named}
+use Rattle.crush_model.specs.Table.{id_named}
 use Rattle.crush_edits.specs.Setting.{RuleData, take, choose}
 use Rattle.crush_edits.specs.Stops.{bucket_named, number_of}
 use Rattle.crush_builder.specs.Built.{Draft, Pending, nothing}
 use Rattle.crush_builder.specs.Building.{closed_item}
 use Rattle.crush_builder.specs.Rules.{complete_bucket_named}
 use Rattle.crush_text.specs.declared.fault.TextFaultKind.TheVariants.{BadNumber}
-use Rattle.crush_bytes.specs.Numbers.{signed_value}
+use Rattle.crush_units.specs.Numbers.{signed_value}
 use Rattle.crush_text.specs.Role.{key, any_word, step_word, step_order, taken_bucket, value, bucket_of_word, takes as word_takes, chooses as word_chooses, sets as word_sets, emits as word_emits}
 use Rattle.crush_text.specs.Form.{ruled, Progress, at, word}
 use Rattle.crush_text.specs.Grammar.{with_step, step_done, step_behind}

@@ -3,11 +3,11 @@ use Rattle.std.proofs.Common.{◌≡◌, ℕ, ◌==◌, Bool, true, false, not, 
 use Rattle.std.specs.Prelude.{codes}
 use Rattle.std.proofs.lemmas.Bool.{and_parts}
 use Rattle.std.proofs.lemmas.Bool.Decides.{nat_tests}
-use Rattle.crush_table.specs.Table.{Row}
+use Rattle.crush_model.specs.Table.{Row}
 use Rattle.crush_edits.specs.Setting.{SettingData}
 use Rattle.crush_print.specs.MapText.{tunable_section, device_section, kind_section, bucket_section, rule_section, map_text}
-use Rattle.crush_calls.specs.History.{table_after, turns}
-use Rattle.crush_calls.specs.HistoryText.{names_of}
+use Rattle.crush_history.specs.History.{table_after, turns}
+use Rattle.crush_history.specs.HistoryText.{names_of}
 use Rattle.crush_script.specs.ScriptsText.{ends_line}
 use Rattle.crush_script.proofs.ScriptTexts.{jobs_are_read_back}
 use Rattle.crush_laws.specs.ReadingBack.{are_comments, AreCommentLines, IsReadAs}

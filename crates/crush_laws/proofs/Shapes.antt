@@ -9,13 +9,13 @@ use Rattle.crush_units.specs.declared.id.ItemId.{ItemId}
 use Rattle.crush_units.specs.declared.id.ItemId.TheVariants.{Bucket}
 use Rattle.crush_units.specs.Id.{same_id}
 use Rattle.crush_units.proofs.Ids.{same_id_refl}
-use Rattle.crush_table.specs.Items.{ShadowData}
-use Rattle.crush_table.specs.Table.{Row, is_there}
-use Rattle.crush_table.specs.Columns.{without_row}
-use Rattle.crush_table.specs.Lawful.{Lawful, HasParent}
-use Rattle.crush_table.proofs.Attached.{is_there-append}
-use Rattle.crush_table.specs.Count.{one_if}
-use Rattle.crush_table.proofs.Found.{times-cons, times-append, times-is_there}
+use Rattle.crush_model.specs.Items.{ShadowData}
+use Rattle.crush_model.specs.Table.{Row, is_there}
+use Rattle.crush_model.specs.Columns.{without_row}
+use Rattle.crush_model.specs.Lawful.{Lawful, HasParent}
+use Rattle.crush_model.proofs.Attached.{is_there-append}
+use Rattle.crush_model.specs.Count.{one_if}
+use Rattle.crush_model.proofs.Found.{times-cons, times-append, times-is_there}
 use Rattle.crush_edits.specs.Setting.{StepData, take, choose, set, emit, RuleData, bucket_taken, taken_buckets}
 use Rattle.crush_edits.specs.Fits.{IsKind, IsThere}
 use Rattle.crush_map.specs.WrittenItems.{weight_or_one, placed_row, put_below}
@@ -26,7 +26,7 @@ use Rattle.crush_builder.proofs.RowSteps.{new_device, new_bucket}
 use Rattle.crush_print.proofs.PrintedTexts.{All-left}
 use Rattle.crush_text.specs.declared.opening.Opening.{Opening}
 use Rattle.crush_text.specs.declared.opening.Opening.TheVariants as openings
-use Rattle.crush_bytes.specs.Numbers.{signed_value}
+use Rattle.crush_units.specs.Numbers.{signed_value}
 use Rattle.crush_text.specs.Role.{opening, taken_bucket, StepWord, takes, chooses, sets, emits, value, kind_of_word, item_of, bucket_of_word, units, opened, step_said}
 use Rattle.crush_text.specs.Form.{Mode, first, second, begun, numbered, filling, ruled, Progress, at, Form, done, word, optional, ahead}
 use Rattle.crush_text.specs.Grammar.{device_line, bucket_line, tunable_line, type_line, rule_line, id_line, class_id_line, alg_line, id_or_alg_line, item_line, item_or_brace, new_rule, with_step, step_behind, step_or_brace, statement, line_forms}

@@ -1,12 +1,12 @@
 -- What spells a lawful document is the text of its map.
 use Rattle.std.proofs.Common.{◌≡◌, ℕ, ◌+◌, Bool, true, false, List, [], ◌∷◌, ◌++◌, refl, sym, subst, ◌∙◌, append_assoc, append-nil, add_assoc, arith}
 use Rattle.std.specs.Prelude.{All, flat_map}
-use Rattle.crush_table.specs.Table.{Row}
-use Rattle.crush_table.specs.Lawful.{Lawful}
+use Rattle.crush_model.specs.Table.{Row}
+use Rattle.crush_model.specs.Lawful.{Lawful}
 use Rattle.crush_edits.specs.Setting.{KindData, TunableData, RuleData, SettingData}
 use Rattle.crush_edits.specs.Fits.{Fits, IsKind}
 use Rattle.crush_builder.specs.Built.{Draft}
-use Rattle.crush_bytes.specs.Words.{words, texts}
+use Rattle.crush_units.specs.Words.{words, texts}
 use Rattle.crush_text.specs.Form.{second, at}
 use Rattle.crush_text.specs.Flow.{between}
 use Rattle.crush_text.specs.Document.{start, IsMapText}

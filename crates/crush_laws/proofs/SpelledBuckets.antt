@@ -10,15 +10,15 @@ use Rattle.crush_units.specs.declared.limits.TheConstants.{FARTHEST_BUCKET_ID}
 use Rattle.crush_units.specs.Alg.{alg_text, alg_of_text}
 use Rattle.crush_units.specs.Weight.{are_digits}
 use Rattle.crush_units.proofs.Algs.{alg_of_text-alg_text}
-use Rattle.crush_table.specs.Items.{ShadowData}
-use Rattle.crush_table.specs.Table.{Row, is_placed}
+use Rattle.crush_model.specs.Items.{ShadowData}
+use Rattle.crush_model.specs.Table.{Row, is_placed}
 use Rattle.crush_edits.specs.Setting.{KindData, TunableData, RuleData}
 use Rattle.crush_edits.specs.Fits.{is_reserved}
 use Rattle.crush_map.specs.WrittenItems.{put_below, weight_or_one, adjustment}
 use Rattle.crush_builder.specs.Built.{Draft, Pending, numbered as is_numbered, filling as is_filling, with_class_id, with_alg, with_next_item}
 use Rattle.crush_builder.specs.Building.{closed_item, item_named}
-use Rattle.crush_bytes.specs.Words.{begins_with_key}
-use Rattle.crush_bytes.specs.Numbers.{is_number}
+use Rattle.crush_units.specs.Words.{begins_with_key}
+use Rattle.crush_units.specs.Numbers.{is_number}
 use Rattle.crush_text.specs.Role.{key, number, item_of, units, units_or_none}
 use Rattle.crush_text.specs.Form.{second, numbered, filling, at, Form, done, word, optional}
 use Rattle.crush_text.specs.Grammar.{bucket_line, item_line, weightless_item}

@@ -4,10 +4,10 @@ use Rattle.std.proofs.lemmas.Bool.{and_parts}
 use Rattle.std.specs.Prelude.{codes, flat_map, drop}
 use Rattle.crush_units.specs.Weight.{are_digits}
 use Rattle.crush_units.specs.declared.limits.TheConstants.{LARGEST_TUNABLE, LAST_DEVICE_ID, LAST_TYPE}
-use Rattle.crush_table.specs.Table.{Row}
+use Rattle.crush_model.specs.Table.{Row}
 use Rattle.crush_edits.specs.Setting.{KindData, TunableData, RuleData}
 use Rattle.crush_builder.specs.Built.{Draft, nothing, with_tunable, with_kind, with_device}
-use Rattle.crush_bytes.specs.Words.{Word, texts, begins_with_key}
+use Rattle.crush_units.specs.Words.{Word, texts, begins_with_key}
 use Rattle.crush_text.specs.Role.{value}
 use Rattle.crush_text.specs.Form.{first, at, Form, done, word, optional, ahead}
 use Rattle.crush_text.specs.Grammar.{next, device_class}

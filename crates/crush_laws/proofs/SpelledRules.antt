@@ -4,13 +4,13 @@ use Rattle.std.proofs.lemmas.List.Elements.{All-head, All-tail}
 use Rattle.std.specs.Prelude.{ℤ, All, codes, map, unwrap_or, option_and_then}
 use Rattle.crush_units.specs.declared.id.ItemId.{ItemId}
 use Rattle.crush_units.specs.declared.limits.TheConstants.{LARGEST_RULE_NUMBER}
-use Rattle.crush_table.specs.Table.{Row, id_named}
+use Rattle.crush_model.specs.Table.{Row, id_named}
 use Rattle.crush_edits.specs.Setting.{KindData, TunableData, StepData, take, choose, set, RuleData}
 use Rattle.crush_edits.specs.Stops.{number_of, bucket_named}
 use Rattle.crush_builder.specs.Built.{Draft, nothing, add_rule}
 use Rattle.crush_builder.specs.Building.{closed_item}
 use Rattle.crush_builder.specs.Rules.{complete_bucket_named}
-use Rattle.crush_bytes.specs.Words.{begins_with_key}
+use Rattle.crush_units.specs.Words.{begins_with_key}
 use Rattle.crush_text.specs.Form.{second, ruled, at, Form, word, optional}
 use Rattle.crush_text.specs.Role.{key, any_word, step_word, bucket_of_word}
 use Rattle.crush_text.specs.Grammar.{new_rule, max_size, sizes, rule_line, with_step, step_done, set_step, step_behind}

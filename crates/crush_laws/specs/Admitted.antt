@@ -4,13 +4,13 @@ use Rattle.std.specs.List.{starts_with}
 use Rattle.crush_units.specs.declared.alg.Alg.{Alg}
 use Rattle.crush_units.specs.Alg.{alg_text}
 use Rattle.crush_units.specs.Weight.{are_digits, weight_of_text}
-use Rattle.crush_table.specs.Table.{Row, is_placed}
+use Rattle.crush_model.specs.Table.{Row, is_placed}
 use Rattle.crush_edits.specs.Setting.{SettingData}
 use Rattle.crush_builder.specs.Built.{Draft, add_rule}
 use Rattle.crush_builder.specs.Building.{IsPending, item_named}
 use Rattle.crush_builder.specs.Rules.{complete_bucket_named}
-use Rattle.crush_bytes.specs.Words.{Word, ended, words}
-use Rattle.crush_bytes.specs.Numbers.{is_number, is_signed}
+use Rattle.crush_units.specs.Words.{Word, ended, words}
+use Rattle.crush_units.specs.Numbers.{is_number, is_signed}
 use Rattle.crush_text.specs.Role.{Role, value, kind_of_word, item_of, bucket_of_word, units, key, any_word, number, opening, tunable_name, type_number, type_name, device_id, new_name, bucket_id, id_or_alg, id_class, algorithm, item_or_end, item, lone_item, weight, rule_name, rule_id_key, rule_id, step_or_end, step_word, taken_bucket, step_order, step_count, step_type}
 use Rattle.crush_text.specs.Form.{Mode, first, second, begun, numbered, filling, ruled, Form, done, word, optional, ahead}
 use Rattle.crush_text.specs.Grammar.{next}

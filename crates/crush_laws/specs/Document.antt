@@ -1,7 +1,7 @@
 -- A TEXT AS A DOCUMENT: its statements in order, with all names as they are written.
 use Rattle.std.specs.Prelude.{ℕ, ℤ, Bool, List, Option}
 use Rattle.crush_units.specs.declared.alg.Alg.{Alg}
-use Rattle.crush_table.specs.Items.{ShadowData}
+use Rattle.crush_model.specs.Items.{ShadowData}
 
 -- an item of a bucket, with its written weight in units or with none
 pub record ItemLine : Type 0 where

@@ -3,7 +3,7 @@
 use Rattle.std.specs.Prelude.{◌≡◌, ℕ, pos, neg_ℤ, List, [], ◌∷◌, true, false, Some, None, codes}
 use Rattle.crush_units.specs.declared.alg.Alg.TheVariants.{Straw2}
 use Rattle.crush_units.specs.declared.id.ItemId.TheVariants.{Device, Bucket}
-use Rattle.crush_table.specs.Table.{Row}
+use Rattle.crush_model.specs.Table.{Row}
 use Rattle.crush_edits.specs.Setting.{SettingData, take, choose, set, emit}
 use Rattle.crush_laws.specs.Document.{Document, takes, chooses, sets, emits, tunable, kind, device, bucket, rule}
 use Rattle.crush_laws.specs.Spells.{Spells}

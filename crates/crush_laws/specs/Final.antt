@@ -1,12 +1,12 @@
 -- WHICH TEXTS END LAWFULLY: each word is of the form that is due, and the map that all lines together build is lawful. Nothing is
 -- asked where a line before the last one ends.
 use Rattle.std.specs.Prelude.{◌≡◌, ℕ, List, [], ◌∷◌}
-use Rattle.crush_table.specs.Table.{Row}
-use Rattle.crush_table.specs.Lawful.{Lawful}
+use Rattle.crush_model.specs.Table.{Row}
+use Rattle.crush_model.specs.Lawful.{Lawful}
 use Rattle.crush_edits.specs.Setting.{SettingData}
 use Rattle.crush_edits.specs.Fits.{Fits}
 use Rattle.crush_builder.specs.Built.{Draft}
-use Rattle.crush_bytes.specs.Words.{Word, ended, words}
+use Rattle.crush_units.specs.Words.{Word, ended, words}
 use Rattle.crush_text.specs.Flow.{State}
 use Rattle.crush_text.specs.Document.{IsWhole, start}
 use Rattle.crush_laws.specs.Admitted.{WordLeads}

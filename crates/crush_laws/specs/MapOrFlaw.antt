@@ -1,13 +1,13 @@
 -- What bytes can be: the text of one map, or bytes with one flaw.
 use Rattle.std.specs.Prelude.{◌≡◌, ◌⊎◌, ◌↔◌, ℕ, List, ◌∷◌, ◌++◌, Err, codes}
-use Rattle.crush_table.specs.Table.{Row}
+use Rattle.crush_model.specs.Table.{Row}
 use Rattle.crush_edits.specs.Setting.{SettingData}
 use Rattle.crush_edits.specs.Fits.{Fits}
-use Rattle.crush_table.specs.Lawful.{Lawful}
+use Rattle.crush_model.specs.Lawful.{Lawful}
 use Rattle.crush_builder.specs.Built.{Draft}
 use Rattle.crush_text.specs.declared.fault.TextFaultKind.{TextFaultKind}
 use Rattle.crush_text.specs.declared.fault.TextFault.{TextFault}
-use Rattle.crush_bytes.specs.Words.{Word, words, begins_with_key}
+use Rattle.crush_units.specs.Words.{Word, words, begins_with_key}
 use Rattle.crush_text.specs.Document.{IsMapText}
 use Rattle.crush_laws.specs.Admitted.{IsLawfulText}
 use Rattle.crush_laws.specs.Final.{EndsLawfully}

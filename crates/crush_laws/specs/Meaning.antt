@@ -3,14 +3,14 @@ use Rattle.std.specs.Prelude.{◌≡◌, ℕ, ◌+◌, ◌<◌, List, [], ◌∷
 use Rattle.crush_units.specs.declared.id.ItemId.{ItemId}
 use Rattle.crush_units.specs.declared.id.ItemId.TheVariants.{Device, Bucket}
 use Rattle.crush_units.specs.Id.{same_id}
-use Rattle.crush_table.specs.Table.{Row, id_named, is_placed}
-use Rattle.crush_table.specs.ItemRows.{device_row, bucket_row}
-use Rattle.crush_table.specs.Lawful.{Lawful}
+use Rattle.crush_model.specs.Table.{Row, id_named, is_placed}
+use Rattle.crush_model.specs.ItemRows.{device_row, bucket_row}
+use Rattle.crush_model.specs.Lawful.{Lawful}
 use Rattle.crush_edits.specs.Setting.{KindData, TunableData, StepData, take, choose, set, emit, RuleData, SettingData, kind_number}
 use Rattle.crush_edits.specs.Stops.{bucket_named}
 use Rattle.crush_edits.specs.Fits.{Fits}
 use Rattle.crush_map.specs.WrittenItems.{put_below, weight_or_one, adjustment}
-use Rattle.crush_bytes.specs.Words.{words, texts, ended}
+use Rattle.crush_units.specs.Words.{words, texts, ended}
 use Rattle.crush_laws.specs.Document.{ItemLine, BucketLines, StepLine, takes, chooses, sets, emits, RuleLines, First, tunable, kind, device, Second, bucket, rule, Document}
 use Rattle.crush_laws.specs.Spells.{Spells}
 

@@ -2,16 +2,16 @@
 use Rattle.std.specs.Prelude.{◌≡◌, ℕ, ◌≤◌, List, [], ◌∷◌, ◌++◌, All, Option, true, codes, length, map}
 use Rattle.crush_units.specs.Name.{IsName}
 use Rattle.crush_units.specs.declared.limits.TheConstants.{LONGEST_JOB, MOST_CALLS}
-use Rattle.crush_table.specs.Table.{Row}
+use Rattle.crush_model.specs.Table.{Row}
 use Rattle.crush_edits.specs.Setting.{SettingData}
 use Rattle.crush_edits.specs.declared.edit.Edit.{Edit}
 use Rattle.crush_text.specs.Document.{IsMapText}
-use Rattle.crush_calls.specs.declared.call.Call.TheVariants.{One}
-use Rattle.crush_calls.specs.History.{EntryData, is_change, table_after, turns}
-use Rattle.crush_calls.specs.Script.{ScriptData}
+use Rattle.crush_history.specs.declared.call.Call.TheVariants.{One}
+use Rattle.crush_history.specs.History.{EntryData, is_change, table_after, turns}
+use Rattle.crush_history.specs.Script.{ScriptData}
 use Rattle.crush_script.specs.Job.{IsJob}
 use Rattle.crush_script.specs.ScriptsText.{ends_line}
-use Rattle.crush_since.specs.Since.{Told}
+use Rattle.crush_since.specs.Since.{PlainMap}
 use Rattle.crush_plan.specs.Leads.{Leads}
 use Rattle.crush_plan.specs.Part.{IsAllowed}
 use Rattle.crush_plan.specs.Plan.{IsPlan, PlanData}
@@ -29,7 +29,7 @@ planned_job text name plan = text ++ (codes "%operator " ++ name ++ codes "\n" +
 -- PLANS ARE SCRIPTS: such a text of a plan, of whatever part and whatever way it was found, is the job of that map with a call for each
 -- edit of the plan, and no other; what is told to stay is nothing to a reader, whatever it is
 abbrev pub PlansAreScripts : Type 0
-PlansAreScripts = (under : Option (List ℕ)) (old new : Told) (text : List ℕ) (adjusted : ℕ) (name : List ℕ) (plan : PlanData) → IsMapText text old.setting old.table adjusted → ends_line true text ≡ true
+PlansAreScripts = (under : Option (List ℕ)) (old new : PlainMap) (text : List ℕ) (adjusted : ℕ) (name : List ℕ) (plan : PlanData) → IsMapText text old.setting old.table adjusted → ends_line true text ≡ true
     → IsName name → IsPlan under old new plan → length plan.edits ≤ MOST_CALLS → length (planned_job text name plan) ≤ LONGEST_JOB
     → IsJob (planned_job text name plan) (record { setting = old.setting; table = old.table; adjusted = adjusted; scripts = script_of name plan.edits ∷ [] })
 

@@ -1,9 +1,9 @@
 -- What is printed of a map is read back as that map.
 use Rattle.std.specs.Prelude.{◌≡◌, ℕ, ◌==◌, Bool, true, false, not, ◌&&◌, List, [], ◌∷◌, ◌++◌, map}
-use Rattle.crush_table.specs.Table.{Row}
-use Rattle.crush_table.specs.Lawful.{Lawful}
-use Rattle.crush_table.specs.Reordered.{IsReordered}
-use Rattle.crush_table.specs.Same.{Same}
+use Rattle.crush_model.specs.Table.{Row}
+use Rattle.crush_model.specs.Lawful.{Lawful}
+use Rattle.crush_model.specs.Reordered.{IsReordered}
+use Rattle.crush_model.specs.Same.{Same}
 use Rattle.crush_edits.specs.Setting.{KindData, SettingData}
 use Rattle.crush_edits.specs.Fits.{Fits}
 use Rattle.crush_print.specs.MapText.{kind_numbers, kind_text, map_text}

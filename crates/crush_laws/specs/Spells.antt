@@ -7,8 +7,8 @@ use Rattle.std.specs.Str.Parse.{digits_value}
 use Rattle.crush_units.specs.declared.limits.TheConstants.{LARGEST_RULE_NUMBER, LARGEST_TUNABLE, LAST_DEVICE_ID, LAST_TYPE}
 use Rattle.crush_units.specs.Alg.{alg_text}
 use Rattle.crush_units.specs.Weight.{weight_of_text}
-use Rattle.crush_table.specs.Items.{ShadowData}
-use Rattle.crush_bytes.specs.Numbers.{is_number, is_negative, is_signed, signed_value}
+use Rattle.crush_model.specs.Items.{ShadowData}
+use Rattle.crush_units.specs.Numbers.{is_number, is_negative, is_signed, signed_value}
 use Rattle.crush_laws.specs.Document.{ItemLine, BucketLines, StepLine, takes, chooses, sets, emits, RuleLines, First, tunable, kind, device, Second, bucket, rule, Document}
 
 -- N, up to a greatest one

@@ -1,8 +1,8 @@
 -- What is written of a run, and that it is read back.
 use Rattle.std.specs.Prelude.{ℕ, ◌≤◌, ◌++◌, List, All, length}
 use Rattle.crush_units.specs.Name.{IsName}
-use Rattle.crush_table.specs.Table.{Row}
-use Rattle.crush_table.specs.Lawful.{Lawful}
+use Rattle.crush_model.specs.Table.{Row}
+use Rattle.crush_model.specs.Lawful.{Lawful}
 use Rattle.crush_edits.specs.Setting.{SettingData}
 use Rattle.crush_edits.specs.Fits.{Fits}
 use Rattle.crush_edits.specs.LawEdit.{Keeps}
@@ -11,13 +11,13 @@ use Rattle.crush_edits.specs.declared.edit.Edit.{Edit}
 use Rattle.crush_edits.specs.declared.edit.Edit.TheVariants.{Insert, CreateOrMove, Update, Move, Swap, Reweight, ReweightSubtree, Remove, AddBucket, Rename, SetClass, RemoveClass}
 use Rattle.crush_print.specs.MapText.{map_text}
 use Rattle.crush_laws.specs.ReadingBack.{IsReadAs, AreCommentLines}
-use Rattle.crush_calls.specs.declared.call.Call.{Call}
-use Rattle.crush_calls.specs.declared.call.Call.TheVariants.{One, Batch, Guarded}
-use Rattle.crush_calls.specs.History.{EntryData, table_after, turns}
-use Rattle.crush_calls.specs.LawRun.{IsCall}
-use Rattle.crush_calls.specs.HistoryText.{entries_text, names_of}
+use Rattle.crush_history.specs.declared.call.Call.{Call}
+use Rattle.crush_history.specs.declared.call.Call.TheVariants.{One, Batch, Guarded}
+use Rattle.crush_history.specs.History.{EntryData, table_after, turns}
+use Rattle.crush_history.specs.LawRun.{IsCall}
+use Rattle.crush_history.specs.HistoryText.{entries_text, names_of}
 use Rattle.crush_units.specs.declared.limits.TheConstants.{LONGEST_JOB}
-use Rattle.crush_calls.specs.Script.{ScriptData}
+use Rattle.crush_history.specs.Script.{ScriptData}
 use Rattle.crush_script.specs.Job.{JobData, IsJob}
 use Rattle.crush_script.specs.ScriptsText.{AreScripts, scripts_text}
 

@@ -1,8 +1,8 @@
 -- Maps as values of one plain type, from which each can be told again.
 use Rattle.std.specs.Prelude.{refl}
 use Rattle.std.specs.Coded.{Coded, code_by, coded×}
-use Rattle.crush_table.specs.Forest.{ForestData}
-use Rattle.crush_table.specs.Codes.{coded_forest}
+use Rattle.crush_model.specs.Forest.{ForestData}
+use Rattle.crush_model.specs.Codes.{coded_forest}
 use Rattle.crush_edits.specs.Setting.{SettingData}
 use Rattle.crush_edits.specs.Codes.{coded_setting}
 use Rattle.crush_map.specs.MapData.{MapData}

@@ -1,8 +1,8 @@
 -- A map: its setting and its hierarchy.
 use Rattle.std.specs.Prelude.{◌≡◌, List}
-use Rattle.crush_table.specs.Table.{Row}
-use Rattle.crush_table.specs.Forest.{ForestData, rows_of}
-use Rattle.crush_table.specs.Stands.{Stands}
+use Rattle.crush_model.specs.Table.{Row}
+use Rattle.crush_model.specs.Forest.{ForestData, rows_of}
+use Rattle.crush_model.specs.Stands.{Stands}
 use Rattle.crush_edits.specs.Setting.{SettingData}
 use Rattle.crush_edits.specs.Fits.{Fits}
 

@@ -4,9 +4,9 @@ use Rattle.crush_units.specs.declared.id.ItemId.{ItemId}
 use Rattle.crush_units.specs.declared.id.ItemId.TheVariants.{Device, Bucket}
 use Rattle.crush_units.specs.declared.limits.TheConstants.{UNITS_OF_ONE}
 use Rattle.crush_units.specs.Id.{same_id}
-use Rattle.crush_table.specs.Count.{one_if}
-use Rattle.crush_table.specs.Table.{Row, is_device, sum_below}
-use Rattle.crush_table.specs.Columns.{without_row}
+use Rattle.crush_model.specs.Count.{one_if}
+use Rattle.crush_model.specs.Table.{Row, is_device, sum_below}
+use Rattle.crush_model.specs.Columns.{without_row}
 
 -- an item put into a bucket: its row is taken out and put last with its new parent, a device's with its weight
 abbrev pub placed_row : ℕ → ℕ → Row → Row

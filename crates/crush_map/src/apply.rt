@@ -2,8 +2,8 @@
 
 ghost use Rattle.std.specs.Prelude.{◌≡◌, ℕ, ◌≤◌, List, length, IfOk, OnErr, true, false};
 ghost use Rattle.crush_units.specs.declared.limits.TheConstants.{MOST_EDITS};
-ghost use Rattle.crush_table.specs.Table.{Row};
-ghost use Rattle.crush_table.specs.Stands.{Stands};
+ghost use Rattle.crush_model.specs.Table.{Row};
+ghost use Rattle.crush_model.specs.Stands.{Stands};
 ghost use Rattle.crush_edits.specs.declared.refusal.Refusal.{Refusal as DeclaredRefusal};
 ghost use Rattle.crush_edits.specs.Answer.{refused};
 ghost use Rattle.crush_edits.specs.Batch.{batch, batch_refused};
@@ -11,11 +11,11 @@ ghost use Rattle.crush_edits.specs.Edit.{edit, takes_memory, sets_weights};
 ghost use Rattle.crush_apply.specs.Answered.{KeepsRooms};
 ghost use Rattle.crush_apply.specs.AsBefore.{IsAsBefore};
 ghost use Rattle.crush_apply.specs.Batched.{IsBatchDone};
-ghost use Rattle.crush_apply.specs.Blamed.{blamed};
+ghost use Rattle.crush_apply.specs.Culprit.{culprit};
 ghost use Rattle.crush_edits.specs.Outcome.{IsDone, IsChange};
 
 use crate::map::CrushMap;
-use crush_apply::{apply_batch, apply_edit, blamed};
+use crush_apply::{apply_batch, apply_edit, culprit};
 use crush_edits::{BatchFault, Done, Dones, Edit, EditFault, Refusal};
 use crush_units::Name;
 use std::alloc::{Allocator, Global};
@@ -26,25 +26,25 @@ impl<A: Allocator> CrushMap<A> {
     /// Of several refusals the one of least number is answered, and out of memory only where
     /// nothing refuses an edit that would change something: so never of new weights, of an exchange
     /// or of a removal. After an Err the map is as before, also its room.
-    pub fn apply(&mut self, asked: &Edit) -> Result<Done, EditFault>
+    pub fn apply(&mut self, requested: &Edit) -> Result<Done, EditFault>
     where
         A: Clone,
         ensures done { IfOk result (λ d. (t : List Row) → Stands self.old.forest t
-            → IsDone (Stands self.new.forest) (edit self.old.setting t asked.now) d) }
+            → IsDone (Stands self.new.forest) (edit self.old.setting t requested.now) d) }
         ensures refused { (r : DeclaredRefusal) → result ≡ Err (EditFault.Refused r)
             → (t : List Row) → Stands self.old.forest t
-            → edit self.old.setting t asked.now ≡ refused r }
+            → edit self.old.setting t requested.now ≡ refused r }
         ensures change { result ≡ Err EditFault.OutOfMemory
             → (t : List Row) → Stands self.old.forest t
-            → IsChange (edit self.old.setting t asked.now) }
-        ensures memory { result ≡ Err EditFault.OutOfMemory → takes_memory asked.now ≡ true }
-        ensures rooms { sets_weights asked.now ≡ true
+            → IsChange (edit self.old.setting t requested.now) }
+        ensures memory { result ≡ Err EditFault.OutOfMemory → takes_memory requested.now ≡ true }
+        ensures rooms { sets_weights requested.now ≡ true
             → KeepsRooms self.old.forest self.new.forest }
         ensures unchanged { OnErr result (self.new ≡ self.old) }
         ensures still { IfOk result (λ d. d.changed ≡ false → self.new ≡ self.old) }
         ensures setting { self.new.setting ≡ self.old.setting }
     {
-        apply_edit(&mut self.hierarchy, &self.setting, asked)
+        apply_edit(&mut self.hierarchy, &self.setting, requested)
     }
 
     /// The name of an edit that its refusal is about, where this map has refused it: of a location
@@ -52,11 +52,11 @@ impl<A: Allocator> CrushMap<A> {
     /// be edited.
     ///
     /// An edit of a batch is refused by the map that the edits before it made, and not by this one.
-    pub fn blamed<'a>(&self, asked: &'a Edit, refusal: Refusal) -> &'a Name<Global>
+    pub fn culprit<'a>(&self, requested: &'a Edit, refusal: Refusal) -> &'a Name<Global>
         ensures { (t : List Row) → Stands self.now.forest t
-            → result.now ≡ blamed self.now.setting t asked.now refusal }
+            → result.now ≡ culprit self.now.setting t requested.now refusal }
     {
-        blamed(&self.hierarchy, &self.setting, asked, refusal)
+        culprit(&self.hierarchy, &self.setting, requested, refusal)
     }
 
     /// Makes the edits one after the other, each on what the ones before it made, or none of them:

@@ -10,16 +10,16 @@ use Rattle.crush_units.specs.Name.{IsName}
 use Rattle.crush_units.specs.declared.alg.Alg.TheVariants.{Straw2}
 use Rattle.crush_units.specs.declared.id.ItemId.TheVariants.{Device, Bucket}
 use Rattle.crush_units.specs.declared.limits.TheConstants.{DEVICE_IDS, FARTHEST_BUCKET_ID, HEAVIEST_DEVICE, LAST_TYPE, MOST_BUCKETS, MOST_DEVICES}
-use Rattle.crush_table.specs.Count.{one_if}
-use Rattle.crush_table.specs.ItemRows.{device_row, bucket_row, rows}
-use Rattle.crush_table.specs.Items.{LeafData, HeaderData, ShadowData, Items, none, device, bucket}
-use Rattle.crush_table.specs.Lawful.{IsRow, IsShadowId, Lawful, has_too_many, is_too_heavy}
-use Rattle.crush_table.specs.Stored.{weight_sum}
-use Rattle.crush_table.specs.Table.{Row, member, used_ids, is_device, is_bucket, is_there, is_named, device_count, bucket_count}
-use Rattle.crush_table.proofs.Appended.{Lawful-push_device, Lawful-push_bucket, times_used-push}
-use Rattle.crush_table.proofs.Attached.{Lawful-attach}
-use Rattle.crush_table.proofs.Found.{Distinct, DistinctNames}
-use Rattle.crush_table.proofs.Same.{times_used}
+use Rattle.crush_model.specs.Count.{one_if}
+use Rattle.crush_model.specs.ItemRows.{device_row, bucket_row, rows}
+use Rattle.crush_model.specs.Items.{LeafData, HeaderData, ShadowData, Items, none, device, bucket}
+use Rattle.crush_model.specs.Lawful.{IsRow, IsShadowId, Lawful, has_too_many, is_too_heavy}
+use Rattle.crush_model.specs.Stored.{weight_sum}
+use Rattle.crush_model.specs.Table.{Row, member, used_ids, is_device, is_bucket, is_there, is_named, device_count, bucket_count}
+use Rattle.crush_model.proofs.Appended.{Lawful-push_device, Lawful-push_bucket, times_used-push}
+use Rattle.crush_model.proofs.Attached.{Lawful-attach}
+use Rattle.crush_model.proofs.Found.{Distinct, DistinctNames}
+use Rattle.crush_model.proofs.Same.{times_used}
 use Rattle.crush_nodes.specs.Ops.{CanCome}
 use Rattle.crush_nodes.specs.declared.place.Place.TheVariants.{Bucket as AtBucket}
 use Rattle.crush_map_tests.proofs.Passed.{passed}

@@ -4,8 +4,8 @@ use Rattle.std.specs.Prelude.{Option, Some, None, is_some, option_and_then}
 use Rattle.std.specs.Option.{option_map}
 use Rattle.crush_units.specs.Id.{is_device_id}
 use Rattle.crush_units.specs.declared.id.ItemId.{ItemId}
-use Rattle.crush_table.specs.Table.{Row, row_of, parent_of, is_there, is_device}
-use Rattle.crush_table.proofs.Moved.{row_id}
+use Rattle.crush_model.specs.Table.{Row, row_of, parent_of, is_there, is_device}
+use Rattle.crush_model.proofs.Moved.{row_id}
 use Rattle.crush_nodes.specs.Guides.{place_in, place_under}
 
 -- an item that is there stands where its parent says

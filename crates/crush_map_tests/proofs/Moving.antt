@@ -4,24 +4,24 @@ use Rattle.std.specs.Prelude.{Some, None, is_some, if◌then◌else◌}
 use Rattle.crush_units.specs.Id.{same_id}
 use Rattle.crush_units.specs.declared.id.ItemId.TheVariants.{Device, Bucket}
 use Rattle.crush_units.specs.declared.limits.TheConstants.{HEAVIEST_DEVICE}
-use Rattle.crush_table.specs.Columns.{is_part, part, table_without, without_row}
-use Rattle.crush_table.specs.Forest.{OnlyDevices}
-use Rattle.crush_table.specs.ItemRows.{rows}
-use Rattle.crush_table.specs.Items.{LeafData, Items, none, device, bucket}
-use Rattle.crush_table.specs.Law.{IsOne}
-use Rattle.crush_table.specs.Lawful.{IsRow, Lawful, is_too_heavy}
-use Rattle.crush_table.specs.Same.{Same}
-use Rattle.crush_table.specs.Stored.{weight_sum}
-use Rattle.crush_table.specs.Table.{Row, row_of, is_there}
-use Rattle.crush_table.proofs.Forms.{placed_device}
-use Rattle.crush_table.proofs.Found.{Distinct, Distinct-same}
-use Rattle.crush_table.proofs.Kept.{Distinct-map}
-use Rattle.crush_table.proofs.Moved.{at_parent, place, place-id, placed_last, row_id, Lawful-moved}
-use Rattle.crush_table.proofs.Relocated.{relocate_device}
-use Rattle.crush_table.proofs.Removed.{row_of-only}
-use Rattle.crush_table.proofs.Renamed.{All-row}
-use Rattle.crush_table.proofs.Reorder.{reordered-sym}
-use Rattle.crush_table.proofs.Same.{Same-sym, Lawful-same, is_too_heavy-same}
+use Rattle.crush_model.specs.Columns.{is_part, part, table_without, without_row}
+use Rattle.crush_model.specs.Forest.{OnlyDevices}
+use Rattle.crush_model.specs.ItemRows.{rows}
+use Rattle.crush_model.specs.Items.{LeafData, Items, none, device, bucket}
+use Rattle.crush_model.specs.Law.{IsOne}
+use Rattle.crush_model.specs.Lawful.{IsRow, Lawful, is_too_heavy}
+use Rattle.crush_model.specs.Same.{Same}
+use Rattle.crush_model.specs.Stored.{weight_sum}
+use Rattle.crush_model.specs.Table.{Row, row_of, is_there}
+use Rattle.crush_model.proofs.Forms.{placed_device}
+use Rattle.crush_model.proofs.Found.{Distinct, Distinct-same}
+use Rattle.crush_model.proofs.Kept.{Distinct-map}
+use Rattle.crush_model.proofs.Moved.{at_parent, place, place-id, placed_last, row_id, Lawful-moved}
+use Rattle.crush_model.proofs.Relocated.{relocate_device}
+use Rattle.crush_model.proofs.Removed.{row_of-only}
+use Rattle.crush_model.proofs.Renamed.{All-row}
+use Rattle.crush_model.proofs.Reorder.{reordered-sym}
+use Rattle.crush_model.proofs.Same.{Same-sym, Lawful-same, is_too_heavy-same}
 use Rattle.crush_nodes.proofs.LastSteps.{OnlyDevices-join}
 use Rattle.crush_nodes.specs.Ops.{CanCome, part_of}
 use Rattle.crush_nodes.specs.declared.place.Place.TheVariants.{Bucket as AtBucket}

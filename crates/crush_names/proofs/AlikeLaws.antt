@@ -12,20 +12,20 @@ use Rattle.crush_units.specs.Id.{same_id}
 use Rattle.crush_units.specs.Name.{IsName, are_name_bytes}
 use Rattle.crush_units.proofs.Algs.{same_alg_equal, equal_same_alg}
 use Rattle.crush_units.proofs.Ids.{same_id_refl}
-use Rattle.crush_table.specs.Count.{one_if}
-use Rattle.crush_table.specs.Lawful.{HasParent, IsRow, IsRowOf, Lawful}
-use Rattle.crush_table.specs.Table.{Row, row_of, row_named, is_there, item_weight, name_of}
-use Rattle.crush_table.proofs.Found.{Distinct, Distinct-tail, is_there-times, times-cons}
-use Rattle.crush_table.proofs.NameColumn.{id_named-by}
-use Rattle.crush_table.proofs.Renamed.{All-row}
-use Rattle.crush_table.proofs.Tested.{bytes_equal, bytes_itself}
+use Rattle.crush_model.specs.Count.{one_if}
+use Rattle.crush_model.specs.Lawful.{HasParent, IsRow, IsRowOf, Lawful}
+use Rattle.crush_model.specs.Table.{Row, row_of, row_named, is_there, item_weight, name_of}
+use Rattle.crush_model.proofs.Found.{Distinct, Distinct-tail, is_there-times, times-cons}
+use Rattle.crush_model.proofs.NameColumn.{id_named-by}
+use Rattle.crush_model.proofs.Renamed.{All-row}
+use Rattle.crush_model.proofs.Tested.{bytes_equal, bytes_itself}
 use Rattle.crush_edits.specs.Setting.{KindData, TunableData, SettingData, first_name, kind_name}
 use Rattle.crush_since.specs.Equal.{same_text}
 use Rattle.crush_since.specs.ItemData.{ItemData, with_holder, row_item}
 use Rattle.crush_since.specs.ItemParts.{part, same_algs}
 use Rattle.crush_since.specs.ItemWords.{type_word}
-use Rattle.crush_since.specs.Settings.{same_tunable, agree_on, same_kinds, kind_numbers, told_if_not, tunables_line, kinds_line}
-use Rattle.crush_since.specs.Since.{Told}
+use Rattle.crush_since.specs.Settings.{same_tunable, agree_on, same_kinds, kind_numbers, listed_if_not, tunables_line, kinds_line}
+use Rattle.crush_since.specs.Since.{PlainMap}
 use Rattle.crush_since.proofs.SinceItself.{pairs_itself}
 use Rattle.crush_names.specs.Alike.{AreOne, place_of, AreAlike, HaveAlike, SettingsAgree, AreAlikeByNames, NothingStaysWhereAlike}
 use Rattle.crush_names.specs.declared.named.Devices.{Devices}
@@ -204,12 +204,12 @@ part_none same text e = ap (λ b. part b text) e
 pub none_of_five : {X : Type 0} (a b c d e : List X) → a ≡ [] → b ≡ [] → c ≡ [] → d ≡ [] → e ≡ [] → a ++ b ++ c ++ d ++ e ≡ []
 none_of_five a b c d e ha hb hc hd he = λ k. ha k ++ hb k ++ hc k ++ hd k ++ he k
 
-told_is_none : (same : Bool) (c : ℕ) (cs : List ℕ) → told_if_not same (c ∷ cs) ≡ [] → same ≡ true
+told_is_none : (same : Bool) (c : ℕ) (cs : List ℕ) → listed_if_not same (c ∷ cs) ≡ [] → same ≡ true
 told_is_none true c cs h = refl
 told_is_none false c cs h = absurd (not_none c cs h)
 
-told_none : (same : Bool) (text : List ℕ) → same ≡ true → told_if_not same text ≡ []
-told_none same text e = ap (λ b. told_if_not b text) e
+told_none : (same : Bool) (text : List ℕ) → same ≡ true → listed_if_not same text ≡ []
+told_none same text e = ap (λ b. listed_if_not b text) e
 
 first_of : (a b : Bool) → (a && b) ≡ true → a ≡ true
 first_of true b h = refl
@@ -265,13 +265,13 @@ kinds_same s p agree = λ k. all_true (agree_on s p) each (kind_numbers s) k && 
   each : (n : ℕ) → agree_on s p n ≡ true
   each n = ap (same_text (kind_name s n)) (sym (agree n)) ∙ text_itself (kind_name s n)
 
-pub settings_none : (old new : Told) → SettingsAgree old new → named_setting_lines old new ≡ []
+pub settings_none : (old new : PlainMap) → SettingsAgree old new → named_setting_lines old new ≡ []
 unfolding named_setting_lines tunables_line kinds_line named_rules_line
 settings_none old new agree =
     let tunables : pointwise same_tunable old.setting.tunables new.setting.tunables ≡ true = ap (pointwise same_tunable old.setting.tunables) (sym agree.tunables) ∙ pairs_itself same_tunable tunable_itself old.setting.tunables in
     λ k. told_none _ (codes "tunables differ\n") tunables k ++ told_none _ (codes "types differ\n") (kinds_same old.setting new.setting agree.kinds) k ++ told_none _ (codes "rules differ\n") agree.rules k
 
-settings_agree : (old new : Told) → named_setting_lines old new ≡ [] → SettingsAgree old new
+settings_agree : (old new : PlainMap) → named_setting_lines old new ≡ [] → SettingsAgree old new
 unfolding named_setting_lines tunables_line kinds_line named_rules_line
 settings_agree old new none =
     let front = nil_left _ (named_rules_line old new) none in
@@ -282,7 +282,7 @@ settings_agree old new none =
     }
 
 -- ITEMS that both have
-module _ (old new : Told) (lt : Lawful old.table) (lu : Lawful new.table) where
+module _ (old new : PlainMap) (lt : Lawful old.table) (lu : Lawful new.table) where
   held_here : (q : Row) → row_of old.table q.id ≡ Some q → IsHeld q.parent (place_of old.table q)
   held_here q found = held old.table lt q.parent (All-row (HasParent old.table) old.table lt.parents q.id q found)
 

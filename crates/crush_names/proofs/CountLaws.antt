@@ -1,13 +1,13 @@
 -- The counts of steps, one step more at a time.
 use Rattle.std.proofs.Common.{◌≡◌, ℕ, ◌+◌, ◌<◌, ◌≤◌, Bool, true, false, List, length, get_or, take, ap, sym, ◌∙◌, arith}
 use Rattle.std.specs.Prelude.{Option, Some}
-use Rattle.crush_table.specs.Count.{one_if}
-use Rattle.crush_table.specs.Table.{Row}
+use Rattle.crush_model.specs.Count.{one_if}
+use Rattle.crush_model.specs.Table.{Row}
 use Rattle.crush_since.specs.ItemData.{ItemData}
 use Rattle.crush_since.specs.Tallies.{is_made, is_reweighed, is_reclassed}
 use Rattle.crush_since.specs.declared.since.tally.Tally.{Tally}
 use Rattle.crush_since.proofs.TallyLaws.{AtMost, count_more}
-use Rattle.crush_view.specs.Tree.{StepData}
+use Rattle.crush_print.specs.Tree.{StepData}
 use Rattle.crush_names.specs.declared.named.Devices.TheVariants.{ByName}
 use Rattle.crush_names.specs.Counted.{both_meet, is_moved_by_name, new_tally, tally_plus}
 use Rattle.crush_names.specs.Named.{counterpart}

@@ -8,10 +8,10 @@ use Rattle.crush_units.specs.declared.id.ItemId.{ItemId}
 use Rattle.crush_units.specs.declared.id.ItemId.TheVariants.{Device, Bucket}
 use Rattle.crush_units.specs.Id.{same_id}
 use Rattle.crush_units.proofs.Ids.{same_id_refl}
-use Rattle.crush_table.specs.Table.{Row, id_named, is_there, row_of}
-use Rattle.crush_table.proofs.Found.{Distinct}
-use Rattle.crush_table.proofs.Moved.{row_id}
-use Rattle.crush_table.proofs.NameColumn.{name_of-found}
+use Rattle.crush_model.specs.Table.{Row, id_named, is_there, row_of}
+use Rattle.crush_model.proofs.Found.{Distinct}
+use Rattle.crush_model.proofs.Moved.{row_id}
+use Rattle.crush_model.proofs.NameColumn.{name_of-found}
 use Rattle.crush_since.specs.ItemData.{ItemData, own_class_ids, row_item}
 use Rattle.crush_since.specs.ItemParts.{same_class_id}
 use Rattle.crush_names.specs.Aside.{has_other_id, has_other_class_ids}

@@ -2,14 +2,14 @@
 use Rattle.std.proofs.Common.{◌≡◌, ℕ, Bool, true, false, List, [], ◌∷◌, ◌++◌, refl, ap, ◌∙◌, append-nil}
 use Rattle.std.specs.Prelude.{flat_map, Option, None, Some, is_some, not, if◌then◌else◌, codes}
 use Rattle.std.proofs.lemmas.List.Concat.{flat_map-append}
-use Rattle.crush_table.specs.Table.{Row}
+use Rattle.crush_model.specs.Table.{Row}
 use Rattle.crush_since.specs.ItemData.{ItemData}
-use Rattle.crush_since.specs.Since.{Told}
-use Rattle.crush_view.specs.Tree.{StepData, tree_rows}
+use Rattle.crush_since.specs.Since.{PlainMap}
+use Rattle.crush_print.specs.Tree.{StepData, tree_rows}
 use Rattle.crush_names.specs.declared.named.Devices.{Devices}
 use Rattle.crush_names.specs.declared.named.Devices.TheVariants.{ById}
 use Rattle.crush_names.specs.Named.{counterpart}
-use Rattle.crush_names.specs.Pairs.{PairData, if_told, new_pair, old_pair, new_pairs, old_pairs, pairs, step_item}
+use Rattle.crush_names.specs.Pairs.{PairData, if_listed, new_pair, old_pair, new_pairs, old_pairs, pairs, step_item}
 use Rattle.crush_names.specs.Stays.{wanted_parts, stay_line, stay_pair, stay_lines, named_setting_lines, stays_part, stays}
 use Rattle.crush_names.proofs.TreeLaws.{flat_twice}
 
@@ -18,7 +18,7 @@ same_of f g each [] = refl
 same_of f g each (x ∷ xs) = λ k. each x k ++ same_of f g each xs k
 
 -- what is told of a pair that is told by a test
-pub line_if : {Z : Type 0} (f : PairData → List Z) (b : Bool) (p : PairData) → flat_map f (if_told b p) ≡ (if b then f p else [])
+pub line_if : {Z : Type 0} (f : PairData → List Z) (b : Bool) (p : PairData) → flat_map f (if_listed b p) ≡ (if b then f p else [])
 line_if f true p = append-nil (f p)
 line_if f false p = refl
 
@@ -29,7 +29,7 @@ module _ {Z : Type 0} (g : PairData → List Z) (by : Devices) (t u : List Row) 
   abbrev of_old : StepData → List Z
   of_old s = if is_some (counterpart by u (step_item t s)) then [] else g (record { before = Some (step_item t s); after = None })
 
-  by_test : (b : Bool) (p : PairData) → flat_map g (if_told (not b) p) ≡ (if b then [] else g p)
+  by_test : (b : Bool) (p : PairData) → flat_map g (if_listed (not b) p) ≡ (if b then [] else g p)
   by_test true p = refl
   by_test false p = append-nil (g p)
 
@@ -48,19 +48,19 @@ told_unwanted is_wanted = if is_wanted then [] else codes "not wanted" ∷ []
 abbrev pub unwanted_parts : Option ItemData → List (List ℕ)
 unwanted_parts o = told_unwanted (is_some o)
 
-unfoldable pub wanted_line : Told → Told → ItemData → List ℕ
+unfoldable pub wanted_line : PlainMap → PlainMap → ItemData → List ℕ
 wanted_line old new y = stay_line y.view.name (wanted_parts old.setting new.setting (counterpart ById old.table y) y)
 
-unfoldable pub unwanted_line : Told → ItemData → List ℕ
+unfoldable pub unwanted_line : PlainMap → ItemData → List ℕ
 unwanted_line new x = stay_line x.view.name (unwanted_parts (counterpart ById new.table x))
 
-unfoldable pub wanted_lines : Told → Told → List ℕ
+unfoldable pub wanted_lines : PlainMap → PlainMap → List ℕ
 wanted_lines old new = flat_map (λ step. wanted_line old new (step_item new.table step)) (tree_rows new.table)
 
-unfoldable pub unwanted_lines : Told → Told → List ℕ
+unfoldable pub unwanted_lines : PlainMap → PlainMap → List ℕ
 unwanted_lines old new = flat_map (λ step. unwanted_line new (step_item old.table step)) (tree_rows old.table)
 
-stay_lines_are : (old new : Told) → stay_lines None old new ≡ wanted_lines old new ++ unwanted_lines old new
+stay_lines_are : (old new : PlainMap) → stay_lines None old new ≡ wanted_lines old new ++ unwanted_lines old new
 unfolding stay_lines wanted_lines unwanted_lines wanted_line unwanted_line stay_pair
 stay_lines_are old new =
     whole_pairs (stay_pair old.setting new.setting) ById old.table new.table
@@ -70,6 +70,6 @@ stay_lines_are old new =
       by_test x true = refl
       by_test x false = refl
 
-pub stays_are : (old new : Told) → stays old new ≡ wanted_lines old new ++ unwanted_lines old new ++ named_setting_lines old new
+pub stays_are : (old new : PlainMap) → stays old new ≡ wanted_lines old new ++ unwanted_lines old new ++ named_setting_lines old new
 unfolding stays_part
 stays_are old new = ap (λ l. l ++ named_setting_lines old new) (stay_lines_are old new)

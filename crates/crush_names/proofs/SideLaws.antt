@@ -4,7 +4,7 @@ use Rattle.std.specs.Prelude.{Option, None, Some}
 use Rattle.std.specs.Option.{option_map, option_map_or}
 use Rattle.crush_units.specs.declared.id.ItemId.{ItemId}
 use Rattle.crush_units.specs.declared.id.ItemId.TheVariants.{Device as DeviceItem}
-use Rattle.crush_table.specs.Table.{Row, id_named}
+use Rattle.crush_model.specs.Table.{Row, id_named}
 use Rattle.crush_names.specs.declared.sides.Part.{Part}
 use Rattle.crush_names.specs.declared.sides.Part.TheVariants.{Whole, Nothing, Device}
 use Rattle.crush_names.specs.Named.{is_at, is_in}

@@ -6,20 +6,20 @@ use Rattle.std.specs.Cmp.{signed_Decides}
 use Rattle.std.proofs.lemmas.List.Sums.{sum_by-cons}
 use Rattle.crush_units.specs.declared.id.ItemId.{ItemId}
 use Rattle.crush_units.specs.declared.id.ItemId.TheVariants.{Device, Bucket}
-use Rattle.crush_table.specs.Count.{one_if}
-use Rattle.crush_table.specs.Lawful.{Lawful}
-use Rattle.crush_table.specs.Table.{Row, row_of, name_of, total}
-use Rattle.crush_table.proofs.Tested.{bytes_itself}
+use Rattle.crush_model.specs.Count.{one_if}
+use Rattle.crush_model.specs.Lawful.{Lawful}
+use Rattle.crush_model.specs.Table.{Row, row_of, name_of, total}
+use Rattle.crush_model.proofs.Tested.{bytes_itself}
 use Rattle.crush_edits.specs.Setting.{SettingData, StepData, take, choose, set, emit, RuleData}
 use Rattle.crush_nodes.specs.Views.{ViewData}
 use Rattle.crush_since.specs.Equal.{same_option}
 use Rattle.crush_since.specs.ItemData.{ItemData, with_holder, row_item}
 use Rattle.crush_since.specs.Settings.{same_bool}
-use Rattle.crush_since.specs.Since.{told, totals_line}
+use Rattle.crush_since.specs.Since.{plain_map, totals_line}
 use Rattle.crush_since.specs.SinceLaws.{nothing_counted}
 use Rattle.crush_since.specs.Tallies.{counts_line, is_made, is_reweighed, is_reclassed}
 use Rattle.crush_since.proofs.SinceItself.{pairs_itself}
-use Rattle.crush_view.specs.Tree.{tree_rows}
+use Rattle.crush_print.specs.Tree.{tree_rows}
 use Rattle.crush_names.specs.declared.named.Devices.{Devices}
 use Rattle.crush_names.specs.declared.named.Devices.TheVariants.{ById, ByName}
 use Rattle.crush_names.specs.Counted.{both_meet, is_gone_by_name, is_moved_by_name, tally_by_name}
@@ -52,8 +52,8 @@ rule_itself : (t : List Row) (x : RuleData) → named_rule t t x x ≡ true
 rule_itself t x = λ i.
     bytes_itself x.name i && eq-eqb x.id x.id refl i && bytes_itself x.kind i && option_itself x.min_size i && option_itself x.max_size i && pairs_itself (named_step t t) (step_itself t) x.steps i
 
-no_settings : (s : SettingData) (t : List Row) → settings_beside None (told s t) (told s t) ≡ []
-no_settings s t = settings_none (told s t) (told s t) (record { tunables = refl; kinds = λ n. refl; rules = pairs_itself (named_rule t t) (rule_itself t) s.rules })
+no_settings : (s : SettingData) (t : List Row) → settings_beside None (plain_map s t) (plain_map s t) ≡ []
+no_settings s t = settings_none (plain_map s t) (plain_map s t) (record { tunables = refl; kinds = λ n. refl; rules = pairs_itself (named_rule t t) (rule_itself t) s.rules })
 
 -- EACH ITEM is found by its own name
 one_device : (by : Devices) (d : ℕ) → are_one by (Device d) (Device d) ≡ true
@@ -94,7 +94,7 @@ no_part s x =
     (part_none _ _ (text_itself x.view.class))
     (part_none _ _ (algs_itself x.view.alg))
 
-no_lines : (s : SettingData) (t : List Row) → Lawful t → changed_lines None (told s t) (told s t) ≡ []
+no_lines : (s : SettingData) (t : List Row) → Lawful t → changed_lines None (plain_map s t) (plain_map s t) ≡ []
 unfolding changed_lines changed_pair
 no_lines s t l = none_of_pairs (changed_pair s s) (λ x. ap (stay_line x.view.name) (no_part s x)) ByName t l
 

@@ -6,14 +6,14 @@ use Rattle.std.proofs.lemmas.List.Concat.{flat_map-append}
 use Rattle.crush_units.specs.declared.id.ItemId.{ItemId}
 use Rattle.crush_units.specs.declared.id.ItemId.TheVariants.{Device, Bucket}
 use Rattle.crush_units.proofs.Ids.{same_id_tells}
-use Rattle.crush_table.specs.Lawful.{HasParent, Lawful}
-use Rattle.crush_table.specs.Table.{Row, row_of, is_there, then_up, climb, above, kids, is_parent, bucket_ids}
-use Rattle.crush_table.proofs.Attached.{chain_length}
-use Rattle.crush_table.proofs.Moved.{row_id}
-use Rattle.crush_table.proofs.Renamed.{All-row}
+use Rattle.crush_model.specs.Lawful.{HasParent, Lawful}
+use Rattle.crush_model.specs.Table.{Row, row_of, is_there, then_up, climb, above, kids, is_parent, bucket_ids}
+use Rattle.crush_model.proofs.Attached.{chain_length}
+use Rattle.crush_model.proofs.Moved.{row_id}
+use Rattle.crush_model.proofs.Renamed.{All-row}
 use Rattle.crush_nodes.specs.Views.{ViewData, row_view}
 use Rattle.crush_print.specs.MapText.{put_in, ascending, device_number, root_number, root_numbers}
-use Rattle.crush_view.specs.Tree.{StepData, step_at, steps_at, unplaced_number, unplaced_numbers, tree_rows}
+use Rattle.crush_print.specs.Tree.{StepData, step_at, steps_at, unplaced_number, unplaced_numbers, tree_rows}
 
 -- LISTS side by side of which each is empty
 pub nil_left : {X : Type 0} (xs ys : List X) → xs ++ ys ≡ [] → xs ≡ []

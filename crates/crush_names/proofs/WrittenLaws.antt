@@ -3,13 +3,13 @@ use Rattle.std.proofs.Common.{◌≡◌, ℕ, ◌<◌, List, [], ◌∷◌, ◌+
 use Rattle.std.specs.Prelude.{◌==◌, not, Option, None, Result, Ok, Err, IfErr, codes}
 use Rattle.std.proofs.lemmas.List.{length-append}
 use Rattle.crush_units.specs.Weight.{weight_text}
-use Rattle.crush_table.specs.Table.{total}
+use Rattle.crush_model.specs.Table.{total}
 use Rattle.std.proofs.lemmas.Bool.Decides.{eqb_tells}
-use Rattle.crush_bytes.specs.Writes.{Writes}
-use Rattle.crush_bytes.specs.declared.write.WriteFault.{WriteFault}
-use Rattle.crush_bytes.specs.declared.write.WriteFault.TheVariants.{Write, OutOfMemory}
+use Rattle.crush_units.specs.Writes.{Writes}
+use Rattle.crush_units.specs.declared.write.WriteFault.{WriteFault}
+use Rattle.crush_units.specs.declared.write.WriteFault.TheVariants.{Write, OutOfMemory}
 use Rattle.crush_since.specs.Changes.{has_some}
-use Rattle.crush_since.specs.Since.{Told, totals_line}
+use Rattle.crush_since.specs.Since.{PlainMap, totals_line}
 use Rattle.crush_since.specs.Tallies.{counts_line}
 use Rattle.crush_names.specs.Counted.{tally_by_name}
 use Rattle.crush_names.specs.SinceNames.{WritesOrNothing, since_names_part, since_names_text}
@@ -30,7 +30,7 @@ totals_are_some : (a b : ℕ) → 0 < length (totals_line a b)
 unfolding totals_line
 totals_are_some a b = let last = length-append (codes "total " ++ weight_text a ++ codes " to " ++ weight_text b) (10 ∷ []) in omega (arith, last)
 
-pub text_is_some : (old new : Told) → 0 < length (since_names_text old new)
+pub text_is_some : (old new : PlainMap) → 0 < length (since_names_text old new)
 unfolding since_names_text
 text_is_some old new =
     let items = since_names_part None old new in

@@ -3,10 +3,10 @@ use Rattle.std.specs.Prelude.{◌≡◌, ℕ, ◌==◌, Bool, not, false, ◌&&�
 use Rattle.std.specs.Cmp.Lexicographic.{pointwise}
 use Rattle.std.specs.List.{count_by}
 use Rattle.crush_units.specs.Id.{same_id}
-use Rattle.crush_table.specs.Table.{Row}
+use Rattle.crush_model.specs.Table.{Row}
 use Rattle.crush_since.specs.ItemData.{ItemData, own_class_ids}
 use Rattle.crush_since.specs.ItemParts.{same_class_id}
-use Rattle.crush_view.specs.Tree.{StepData, tree_rows}
+use Rattle.crush_print.specs.Tree.{StepData, tree_rows}
 use Rattle.crush_names.specs.declared.aside.Counts.{Counts}
 use Rattle.crush_names.specs.declared.named.Devices.TheVariants.{ById}
 use Rattle.crush_names.specs.Named.{counterpart}

@@ -1,12 +1,12 @@
 -- How many items of two maps differ by names, and in which way.
 use Rattle.std.specs.Prelude.{◌+◌, Bool, not, List, Option, Some, is_some}
 use Rattle.std.specs.List.{count_by}
-use Rattle.crush_table.specs.Count.{one_if}
-use Rattle.crush_table.specs.Table.{Row}
+use Rattle.crush_model.specs.Count.{one_if}
+use Rattle.crush_model.specs.Table.{Row}
 use Rattle.crush_since.specs.ItemData.{ItemData}
 use Rattle.crush_since.specs.Tallies.{in_both, is_made, is_reweighed, is_reclassed}
 use Rattle.crush_since.specs.declared.since.tally.Tally.{Tally}
-use Rattle.crush_view.specs.Tree.{StepData, tree_rows}
+use Rattle.crush_print.specs.Tree.{StepData, tree_rows}
 use Rattle.crush_names.specs.declared.named.Devices.TheVariants.{ByName}
 use Rattle.crush_names.specs.Named.{counterpart}
 use Rattle.crush_names.specs.Pairs.{step_item}

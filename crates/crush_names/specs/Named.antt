@@ -4,7 +4,7 @@ use Rattle.std.specs.Option.{option_map_or}
 use Rattle.crush_units.specs.declared.id.ItemId.{ItemId}
 use Rattle.crush_units.specs.declared.id.ItemId.TheVariants.{Device, Bucket}
 use Rattle.crush_units.specs.Id.{same_id}
-use Rattle.crush_table.specs.Table.{Row, id_named, is_below}
+use Rattle.crush_model.specs.Table.{Row, id_named, is_below}
 use Rattle.crush_since.specs.ItemData.{ItemData, item_of}
 use Rattle.crush_names.specs.declared.named.Devices.{Devices}
 use Rattle.crush_names.specs.declared.named.Devices.TheVariants.{ById, ByName}

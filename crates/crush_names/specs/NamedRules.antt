@@ -2,11 +2,11 @@
 use Rattle.std.specs.Prelude.{ℕ, ◌==◌, Bool, ◌&&◌, List, bytes_eq, codes}
 use Rattle.std.specs.Cmp.Lexicographic.{pointwise}
 use Rattle.crush_units.specs.declared.id.ItemId.TheVariants.{Bucket}
-use Rattle.crush_table.specs.Table.{Row, name_of}
+use Rattle.crush_model.specs.Table.{Row, name_of}
 use Rattle.crush_edits.specs.Setting.{StepData, take, RuleData}
 use Rattle.crush_since.specs.Equal.{same_option, same_text}
-use Rattle.crush_since.specs.Settings.{same_step, told_if_not}
-use Rattle.crush_since.specs.Since.{Told}
+use Rattle.crush_since.specs.Settings.{same_step, listed_if_not}
+use Rattle.crush_since.specs.Since.{PlainMap}
 
 -- whether a bucket of each has one name
 abbrev pub same_bucket : List Row → List Row → ℕ → ℕ → Bool
@@ -23,5 +23,5 @@ named_rule t u x y =
     && pointwise (named_step t u) x.steps y.steps
 
 -- a line where the rules differ
-unfoldable pub named_rules_line : Told → Told → List ℕ
-named_rules_line old new = told_if_not (pointwise (named_rule old.table new.table) old.setting.rules new.setting.rules) (codes "rules differ\n")
+unfoldable pub named_rules_line : PlainMap → PlainMap → List ℕ
+named_rules_line old new = listed_if_not (pointwise (named_rule old.table new.table) old.setting.rules new.setting.rules) (codes "rules differ\n")

@@ -1,9 +1,9 @@
 -- What two maps have of each name.
 use Rattle.std.specs.Prelude.{ℕ, Bool, false, not, ◌&&◌, ◌||◌, List, [], ◌∷◌, ◌++◌, Option, None, Some, is_some, if◌then◌else◌, flat_map}
 use Rattle.std.specs.Option.{option_map_or}
-use Rattle.crush_table.specs.Table.{Row}
+use Rattle.crush_model.specs.Table.{Row}
 use Rattle.crush_since.specs.ItemData.{ItemData, with_holder}
-use Rattle.crush_view.specs.Tree.{StepData, tree_rows}
+use Rattle.crush_print.specs.Tree.{StepData, tree_rows}
 use Rattle.crush_names.specs.declared.named.Devices.{Devices}
 use Rattle.crush_names.specs.Named.{counterpart, is_in}
 
@@ -24,18 +24,18 @@ is_found_in under t o = option_map_or (λ (x : ItemData). is_in under t x.view.i
 abbrev pub is_of_part : Devices → Option (List ℕ) → List Row → List Row → ItemData → Bool
 is_of_part by under t u y = is_in under u y.view.id || is_found_in under t (counterpart by t y)
 
-abbrev pub if_told : Bool → PairData → List PairData
-if_told told p = if told then p ∷ [] else []
+abbrev pub if_listed : Bool → PairData → List PairData
+if_listed told p = if told then p ∷ [] else []
 
 abbrev pub new_pair : Devices → Option (List ℕ) → List Row → List Row → ItemData → List PairData
-new_pair by under t u y = if_told (is_of_part by under t u y) (record { before = counterpart by t y; after = Some y })
+new_pair by under t u y = if_listed (is_of_part by under t u y) (record { before = counterpart by t y; after = Some y })
 
 -- of an item of the old map: told where it stood in the part and is there no longer
 abbrev pub is_gone : Devices → Option (List ℕ) → List Row → List Row → ItemData → Bool
 is_gone by under t u x = is_in under t x.view.id && not (is_some (counterpart by u x))
 
 abbrev pub old_pair : Devices → Option (List ℕ) → List Row → List Row → ItemData → List PairData
-old_pair by under t u x = if_told (is_gone by under t u x) (record { before = Some x; after = None })
+old_pair by under t u x = if_listed (is_gone by under t u x) (record { before = Some x; after = None })
 
 -- PAIRS: of the items of the new map in the order of its tree, and then of those that the old map alone has in the order of its own
 unfoldable pub new_pairs : Devices → Option (List ℕ) → List Row → List Row → List PairData

@@ -2,15 +2,15 @@
 use Rattle.std.specs.Prelude.{ℕ, ◌==◌, Bool, List, [], ◌∷◌, ◌++◌, Option, None, Some, Result, Ok, Err, flat_map, codes}
 use Rattle.std.specs.Io.KnownBytes.{Appends}
 use Rattle.crush_units.specs.Weight.{weight_text}
-use Rattle.crush_bytes.specs.Writes.{AppendsLess}
-use Rattle.crush_bytes.specs.declared.write.WriteFault.{WriteFault}
-use Rattle.crush_bytes.specs.declared.write.WriteFault.TheVariants.{Write, OutOfMemory}
-use Rattle.crush_table.specs.Table.{total}
+use Rattle.crush_units.specs.Writes.{AppendsLess}
+use Rattle.crush_units.specs.declared.write.WriteFault.{WriteFault}
+use Rattle.crush_units.specs.declared.write.WriteFault.TheVariants.{Write, OutOfMemory}
+use Rattle.crush_model.specs.Table.{total}
 use Rattle.crush_edits.specs.Setting.{SettingData}
 use Rattle.crush_since.specs.Changes.{has_some}
 use Rattle.crush_since.specs.ItemData.{ItemData}
 use Rattle.crush_since.specs.ItemWords.{with_class}
-use Rattle.crush_since.specs.Since.{Told, totals_line}
+use Rattle.crush_since.specs.Since.{PlainMap, totals_line}
 use Rattle.crush_since.specs.Tallies.{counts_line}
 use Rattle.crush_names.specs.declared.named.Devices.TheVariants.{ByName}
 use Rattle.crush_names.specs.Counted.{tally_by_name}
@@ -41,19 +41,19 @@ unfoldable pub changed_pair : SettingData → SettingData → PairData → List 
 changed_pair s p pair = stay_line (pair_name pair.before pair.after) (changed_parts s p pair.before pair.after)
 
 -- the names of the new map in the order of its tree, and then those that the old map alone has in the order of its own
-unfoldable pub changed_lines : Option (List ℕ) → Told → Told → List ℕ
+unfoldable pub changed_lines : Option (List ℕ) → PlainMap → PlainMap → List ℕ
 changed_lines under old new = flat_map (changed_pair old.setting new.setting) (pairs ByName under old.table new.table)
 
 -- OF A PART: its items; of everything also a line each where tunables, types and rules differ
-unfoldable pub since_names_part : Option (List ℕ) → Told → Told → List ℕ
+unfoldable pub since_names_part : Option (List ℕ) → PlainMap → PlainMap → List ℕ
 since_names_part under old new = changed_lines under old new ++ settings_beside under old new
 
 -- BY NAMES: the same of everything, the totals and the counts
-unfoldable pub since_names_text : Told → Told → List ℕ
+unfoldable pub since_names_text : PlainMap → PlainMap → List ℕ
 since_names_text old new = since_names_part None old new ++ totals_line (total old.table) (total new.table) ++ counts_line (tally_by_name old.table new.table)
 
 -- whether an item of the part is told, or of everything an item or a setting
-abbrev pub is_changed_by_name : Option (List ℕ) → Told → Told → Bool
+abbrev pub is_changed_by_name : Option (List ℕ) → PlainMap → PlainMap → Bool
 is_changed_by_name under old new = has_some (since_names_part under old new)
 
 -- WRITTEN: the whole text, after a failed write a prefix that isn't the whole, and out of memory nothing; a text may be empty

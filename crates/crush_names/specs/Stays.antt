@@ -9,7 +9,7 @@ use Rattle.crush_since.specs.ItemData.{ItemData}
 use Rattle.crush_since.specs.ItemParts.{part, behind, same_algs}
 use Rattle.crush_since.specs.ItemWords.{type_word, class_or_none, alg_word}
 use Rattle.crush_since.specs.Settings.{tunables_line, kinds_line}
-use Rattle.crush_since.specs.Since.{Told}
+use Rattle.crush_since.specs.Since.{PlainMap}
 use Rattle.crush_names.specs.declared.named.Devices.TheVariants.{ById}
 use Rattle.crush_names.specs.NamedRules.{named_rules_line}
 use Rattle.crush_names.specs.Pairs.{PairData, pairs}
@@ -120,20 +120,20 @@ unfoldable pub stay_pair : SettingData → SettingData → PairData → List ℕ
 stay_pair s p pair = stay_line (pair_name pair.before pair.after) (stay_parts s p pair.before pair.after)
 
 -- the names of the wanted map in the order of its tree, and then those that it lacks in the order of the map's
-unfoldable pub stay_lines : Option (List ℕ) → Told → Told → List ℕ
+unfoldable pub stay_lines : Option (List ℕ) → PlainMap → PlainMap → List ℕ
 stay_lines under old new = flat_map (stay_pair old.setting new.setting) (pairs ById under old.table new.table)
 
-unfoldable pub named_setting_lines : Told → Told → List ℕ
+unfoldable pub named_setting_lines : PlainMap → PlainMap → List ℕ
 named_setting_lines old new = tunables_line old.setting new.setting ++ kinds_line old.setting new.setting ++ named_rules_line old new
 
 -- settings are told of whole maps
-abbrev pub settings_beside : Option (List ℕ) → Told → Told → List ℕ
+abbrev pub settings_beside : Option (List ℕ) → PlainMap → PlainMap → List ℕ
 settings_beside None old new = named_setting_lines old new
 settings_beside (Some n) old new = []
 
 -- STAYS of a part: a line for each item of it that differs by its name; of everything also one each where tunables, types and rules do
-unfoldable pub stays_part : Option (List ℕ) → Told → Told → List ℕ
+unfoldable pub stays_part : Option (List ℕ) → PlainMap → PlainMap → List ℕ
 stays_part under old new = stay_lines under old new ++ settings_beside under old new
 
-abbrev pub stays : Told → Told → List ℕ
+abbrev pub stays : PlainMap → PlainMap → List ℕ
 stays old new = stays_part None old new

@@ -2,10 +2,10 @@
 
 ghost use Rattle.std.specs.Prelude.{◌≡◌, ◌+◌, ◌^◌, ◌<◌, ◌≤◌, ◌++◌, ℕ, List, Option, OnOk, IfOk};
 ghost use Rattle.std.specs.List.{count_by};
-ghost use Rattle.crush_table.specs.Count.{one_if};
-ghost use Rattle.crush_table.specs.Stands.{Stands};
-ghost use Rattle.crush_table.specs.Table.{Row};
-ghost use Rattle.crush_view.specs.SeenStep.{step_data};
+ghost use Rattle.crush_model.specs.Count.{one_if};
+ghost use Rattle.crush_model.specs.Stands.{Stands};
+ghost use Rattle.crush_model.specs.Table.{Row};
+ghost use Rattle.crush_print.specs.SeenStep.{step_data};
 ghost use Rattle.crush_since.specs.SeenItem.{seen_data};
 ghost use Rattle.crush_names.specs.Aside.{CountsAsideOf, aside_line, aside_text, has_other_class_ids, has_other_id, is_aside, other_class_ids, other_id};
 ghost use Rattle.crush_names.specs.Named.{counterpart};
@@ -17,11 +17,11 @@ ghost use Rattle.std.specs.Option.{option_map};
 use crate::named::{Devices, counterpart};
 use crate::pairs::{Comparison, Telling, is_of_part};
 use crate::sides::Side;
-use crush_bytes::put_all;
 use crush_map::CrushMap;
+use crush_print::{Step, walk};
 use crush_since::{Seen, same_class_ids};
 use crush_tree::Node;
-use crush_view::{Step, walk};
+use crush_units::put_all;
 use itoa::Buffer;
 use std::alloc::{AllocError, Allocator, Global};
 

@@ -3,8 +3,8 @@
 ghost use Rattle.std.specs.Prelude.{◌≡◌, ℕ, List, Option, is_some};
 ghost use Rattle.std.specs.Option.{option_map};
 ghost use Rattle.crush_nodes.specs.SeenView.{view_data};
-ghost use Rattle.crush_table.specs.Stands.{Stands};
-ghost use Rattle.crush_table.specs.Table.{Row};
+ghost use Rattle.crush_model.specs.Stands.{Stands};
+ghost use Rattle.crush_model.specs.Table.{Row};
 ghost use Rattle.crush_since.specs.SeenItem.{seen_data};
 ghost use Rattle.crush_names.specs.Named.{are_one, counterpart, is_at, is_in, is_one_device};
 ghost use Rattle.crush_names.specs.Sides.{IsSide};

@@ -2,9 +2,9 @@
 
 ghost use Rattle.std.specs.Prelude.{◌≡◌, ◌||◌, [], ◌++◌, ℕ, List, None, Option, OnOk, flat_map, if◌then◌else◌};
 ghost use Rattle.std.specs.Option.{option_map};
-ghost use Rattle.crush_table.specs.Table.{Row};
+ghost use Rattle.crush_model.specs.Table.{Row};
 ghost use Rattle.crush_since.specs.SeenItem.{seen_data};
-ghost use Rattle.crush_view.specs.SeenStep.{step_data};
+ghost use Rattle.crush_print.specs.SeenStep.{step_data};
 ghost use Rattle.crush_names.specs.Named.{is_in};
 ghost use Rattle.crush_names.specs.PairLines.{pair_line};
 ghost use Rattle.crush_names.specs.Pairs.{is_found_in, is_gone, new_pair, new_pairs, old_pair, old_pairs, pairs, step_item};
@@ -16,8 +16,8 @@ use crate::sides::Side;
 use crate::since::parts::push_changed_pair;
 use crate::staying::push_stay_pair;
 use crush_map::Setting;
+use crush_print::{Step, walk};
 use crush_since::Seen;
-use crush_view::{Step, walk};
 use std::alloc::{AllocError, Allocator, Global};
 
 /// What the lines say of two maps.
@@ -83,8 +83,8 @@ fn push_each_new<'a, A: Allocator, B: Allocator>(
     for step in steps {
         let after = maps.new.step_seen(step);
         let before = counterpart(maps.devices, &maps.old, &after);
-        let is_told = is_of_part(maps, &before, &after);
-        push_if(alloc, is_told, maps, &before, &Some(after), lines)?;
+        let is_listed = is_of_part(maps, &before, &after);
+        push_if(alloc, is_listed, maps, &before, &Some(after), lines)?;
     }
     Ok(())
 }
@@ -142,8 +142,8 @@ fn push_each_old<'a, A: Allocator, B: Allocator>(
 {
     for step in steps {
         let before = maps.old.step_seen(step);
-        let is_told = is_gone(maps, &before);
-        push_if(alloc, is_told, maps, &Some(before), &None, lines)?;
+        let is_listed = is_gone(maps, &before);
+        push_if(alloc, is_listed, maps, &Some(before), &None, lines)?;
     }
     Ok(())
 }
@@ -159,20 +159,20 @@ fn is_gone<A: Allocator, B: Allocator>(maps: &Comparison<'_, A, B>, item: &Seen<
 
 fn push_if<A: Allocator, B: Allocator>(
     alloc: Global,
-    is_told: bool,
+    is_listed: bool,
     maps: &Comparison<'_, A, B>,
     before: &Option<Seen<'_>>,
     after: &Option<Seen<'_>>,
     lines: &mut Vec<u8>,
 ) -> Result<(), AllocError>
-    ensures { OnOk result (lines.new.items ≡ lines.old.items ++ (if is_told then
+    ensures { OnOk result (lines.new.items ≡ lines.old.items ++ (if is_listed then
         pair_line maps.now.telling maps.now.old.map.now.setting maps.now.new.map.now.setting
         (record {
           before = option_map seen_data before.now;
           after = option_map seen_data after.now;
         }) else [])) }
 {
-    if !is_told {
+    if !is_listed {
         return Ok(());
     }
     let (old, new) = (maps.old.map.setting(), maps.new.map.setting());

@@ -3,21 +3,21 @@
 ghost use Rattle.std.specs.Prelude.{◌≡◌, ℕ, List, Option, Some, IfOk, map as each};
 ghost use Rattle.std.specs.Option.{option_map};
 ghost use Rattle.crush_nodes.specs.Seen.{shadow_data};
-ghost use Rattle.crush_table.specs.Stands.{Stands};
-ghost use Rattle.crush_table.specs.Table.{Row, id_named};
+ghost use Rattle.crush_model.specs.Stands.{Stands};
+ghost use Rattle.crush_model.specs.Table.{Row, id_named};
 ghost use Rattle.crush_units.specs.declared.id.ItemId.TheVariants.{Bucket};
 ghost use Rattle.crush_since.specs.Below.{AreBelow};
 ghost use Rattle.crush_since.specs.ItemData.{item_of, own_class_ids, with_holder};
 ghost use Rattle.crush_since.specs.SeenItem.{seen_data};
-ghost use Rattle.crush_view.specs.SeenStep.{step_data};
+ghost use Rattle.crush_print.specs.SeenStep.{step_data};
 ghost use Rattle.crush_names.specs.Named.{is_at, is_in};
 ghost use Rattle.crush_names.specs.Sides.{IsPart, IsPartAt, IsSide};
 
 use crush_map::CrushMap;
+use crush_print::Step;
 use crush_since::{Listing, Seen, all_below, is_among, listing_of};
 use crush_tree::ShadowId;
 use crush_units::{BucketId, DeviceId, ItemId};
-use crush_view::Step;
 use std::alloc::{AllocError, Allocator, Global};
 
 /// Which items of a map are in the part.

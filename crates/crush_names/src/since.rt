@@ -4,10 +4,10 @@
 ghost use Rattle.std.specs.Prelude.{◌≡◌, ◌++◌, List, Some, Err, OnOk, IfOk};
 ghost use Rattle.std.specs.Io.KnownBytes.{Keeps};
 ghost use Rattle.std.specs.Option.{option_map};
-ghost use Rattle.crush_bytes.specs.Writes.{Writes};
-ghost use Rattle.crush_table.specs.Stands.{Stands};
-ghost use Rattle.crush_table.specs.Table.{Row};
-ghost use Rattle.crush_since.specs.Since.{told};
+ghost use Rattle.crush_units.specs.Writes.{Writes};
+ghost use Rattle.crush_model.specs.Stands.{Stands};
+ghost use Rattle.crush_model.specs.Table.{Row};
+ghost use Rattle.crush_since.specs.Since.{plain_map};
 ghost use Rattle.crush_names.specs.SinceNames.{WritesOrNothing, changed_lines, is_changed_by_name, since_names_part, since_names_text};
 ghost use Rattle.crush_names.specs.Stays.{settings_beside};
 
@@ -19,9 +19,9 @@ use crate::pairs::{Comparison, Telling, push_told};
 use crate::sides::Side;
 use crate::staying::push_beside;
 use counting::tally_of;
-use crush_bytes::{WriteFault, put};
 use crush_map::CrushMap;
 use crush_since::{push_counts, push_totals};
+use crush_units::{WriteFault, put};
 use std::alloc::{AllocError, Allocator, Global};
 use std::io::Write;
 
@@ -38,7 +38,7 @@ pub fn write_since_by_name<A: Allocator, B: Allocator, W: Write>(
 ) -> Result<(), WriteFault>
     ensures writes { (t u : List Row) → Stands old.now.forest t → Stands new.now.forest u
         → Writes result (W.contents out.old) (W.contents out.new)
-        (since_names_text (told old.now.setting t) (told new.now.setting u)) }
+        (since_names_text (plain_map old.now.setting t) (plain_map new.now.setting u)) }
     ensures none { result ≡ Err WriteFault.OutOfMemory
         → Keeps (W.contents out.old) (W.contents out.new) }
 {
@@ -62,7 +62,7 @@ pub fn write_since_by_name_part<A: Allocator, B: Allocator, W: Write>(
 ) -> Result<(), WriteFault>
     ensures writes { (t u : List Row) → Stands old.now.forest t → Stands new.now.forest u
         → WritesOrNothing result (W.contents out.old) (W.contents out.new)
-        (since_names_part (Some under.now) (told old.now.setting t) (told new.now.setting u)) }
+        (since_names_part (Some under.now) (plain_map old.now.setting t) (plain_map new.now.setting u)) }
     ensures none { result ≡ Err WriteFault.OutOfMemory
         → Keeps (W.contents out.old) (W.contents out.new) }
 {
@@ -83,7 +83,7 @@ pub fn is_changed_by_name<A: Allocator, B: Allocator>(
     ensures { IfOk result (λ is_changed. (t u : List Row)
         → Stands old.now.forest t → Stands new.now.forest u
         → is_changed ≡ is_changed_by_name (option_map (λ n. n.now) under.entry)
-        (told old.now.setting t) (told new.now.setting u)) }
+        (plain_map old.now.setting t) (plain_map new.now.setting u)) }
 {
     let mut text = Vec::new(alloc);
     push_part(alloc, under, old, new, &mut text)?;
@@ -98,7 +98,7 @@ fn push_text<A: Allocator, B: Allocator>(
 ) -> Result<(), AllocError>
     ensures { (t u : List Row) → Stands old.now.forest t → Stands new.now.forest u
         → OnOk result (out.new.items ≡ out.old.items
-        ++ since_names_text (told old.now.setting t) (told new.now.setting u)) }
+        ++ since_names_text (plain_map old.now.setting t) (plain_map new.now.setting u)) }
 {
     push_part(alloc, None, old, new, out)?;
     push_totals(old.total(), new.total(), out)?;
@@ -115,8 +115,8 @@ fn push_part<A: Allocator, B: Allocator>(
 ) -> Result<(), AllocError>
     ensures { (t u : List Row) → Stands old.now.forest t → Stands new.now.forest u
         → OnOk result (out.new.items ≡ out.old.items
-        ++ since_names_part (option_map (λ n. n.now) under.entry) (told old.now.setting t)
-        (told new.now.setting u)) }
+        ++ since_names_part (option_map (λ n. n.now) under.entry) (plain_map old.now.setting t)
+        (plain_map new.now.setting u)) }
 {
     push_items(alloc, under, old, new, out)?;
     push_beside(under, old, new, out)
@@ -131,8 +131,8 @@ fn push_items<A: Allocator, B: Allocator>(
 ) -> Result<(), AllocError>
     ensures { (t u : List Row) → Stands old.now.forest t → Stands new.now.forest u
         → OnOk result (out.new.items ≡ out.old.items
-        ++ changed_lines (option_map (λ n. n.now) under.entry) (told old.now.setting t)
-        (told new.now.setting u)) }
+        ++ changed_lines (option_map (λ n. n.now) under.entry) (plain_map old.now.setting t)
+        (plain_map new.now.setting u)) }
 {
     let before = Side::of(alloc, old, under)?;
     let after = Side::of(alloc, new, under)?;

@@ -2,11 +2,11 @@
 
 ghost use Rattle.std.specs.Prelude.{◌≡◌, ◌++◌, List, OnOk, IfOk};
 ghost use Rattle.std.specs.Option.{option_map};
-ghost use Rattle.crush_table.specs.Stands.{Stands};
-ghost use Rattle.crush_table.specs.Table.{Row};
+ghost use Rattle.crush_model.specs.Stands.{Stands};
+ghost use Rattle.crush_model.specs.Table.{Row};
 ghost use Rattle.crush_since.specs.ItemParts.{behind};
 ghost use Rattle.crush_since.specs.SeenItem.{seen_data};
-ghost use Rattle.crush_since.specs.Since.{told};
+ghost use Rattle.crush_since.specs.Since.{plain_map};
 ghost use Rattle.crush_names.specs.Stays.{differing, named_setting_lines, settings_beside, stay_line, stay_lines, stay_pair, stay_parts, stay_text_line, stays, stays_part, wanted_parts};
 
 pub(crate) mod columns;
@@ -17,9 +17,9 @@ use crate::pairs::{Comparison, Telling, pair_name, push_told};
 use crate::sides::Side;
 pub use columns::are_near;
 use columns::{push_alg, push_class, push_far_weight, push_lacking, push_place, push_type};
-use crush_bytes::put_all;
 use crush_map::{CrushMap, Setting};
 use crush_since::{Seen, push_kinds, push_part, push_tunables};
+use crush_units::put_all;
 use rules::push_rules;
 use std::alloc::{AllocError, Allocator, Global};
 
@@ -34,7 +34,7 @@ pub fn stays<A: Allocator, B: Allocator>(
 ) -> Result<Vec<u8>, AllocError>
     ensures { IfOk result (λ lines. (t u : List Row)
         → Stands map.now.forest t → Stands wanted.now.forest u
-        → lines.items ≡ stays (told map.now.setting t) (told wanted.now.setting u)) }
+        → lines.items ≡ stays (plain_map map.now.setting t) (plain_map wanted.now.setting u)) }
 {
     stays_part(alloc, None, map, wanted)
 }
@@ -49,8 +49,8 @@ pub fn stays_part<A: Allocator, B: Allocator>(
 ) -> Result<Vec<u8>, AllocError>
     ensures { IfOk result (λ lines. (t u : List Row)
         → Stands map.now.forest t → Stands wanted.now.forest u
-        → lines.items ≡ stays_part (option_map (λ n. n.now) under.entry) (told map.now.setting t)
-        (told wanted.now.setting u)) }
+        → lines.items ≡ stays_part (option_map (λ n. n.now) under.entry) (plain_map map.now.setting t)
+        (plain_map wanted.now.setting u)) }
 {
     let mut lines = Vec::new(alloc);
     push_lines(alloc, under, map, wanted, &mut lines)?;
@@ -67,8 +67,8 @@ fn push_lines<A: Allocator, B: Allocator>(
 ) -> Result<(), AllocError>
     ensures { (t u : List Row) → Stands map.now.forest t → Stands wanted.now.forest u
         → OnOk result (lines.new.items ≡ lines.old.items
-        ++ stay_lines (option_map (λ n. n.now) under.entry) (told map.now.setting t)
-        (told wanted.now.setting u)) }
+        ++ stay_lines (option_map (λ n. n.now) under.entry) (plain_map map.now.setting t)
+        (plain_map wanted.now.setting u)) }
 {
     let old = Side::of(alloc, map, under)?;
     let new = Side::of(alloc, wanted, under)?;
@@ -177,7 +177,7 @@ pub(crate) fn push_settings<A: Allocator, B: Allocator>(
 ) -> Result<(), AllocError>
     ensures { (t u : List Row) → Stands map.now.forest t → Stands wanted.now.forest u
         → OnOk result (lines.new.items ≡ lines.old.items
-        ++ named_setting_lines (told map.now.setting t) (told wanted.now.setting u)) }
+        ++ named_setting_lines (plain_map map.now.setting t) (plain_map wanted.now.setting u)) }
 {
     push_tunables(map.setting(), wanted.setting(), lines)?;
     push_kinds(map.setting(), wanted.setting(), lines)?;
@@ -192,8 +192,8 @@ pub(crate) fn push_beside<A: Allocator, B: Allocator>(
 ) -> Result<(), AllocError>
     ensures { (t u : List Row) → Stands map.now.forest t → Stands wanted.now.forest u
         → OnOk result (lines.new.items ≡ lines.old.items
-        ++ settings_beside (option_map (λ n. n.now) under.entry) (told map.now.setting t)
-        (told wanted.now.setting u)) }
+        ++ settings_beside (option_map (λ n. n.now) under.entry) (plain_map map.now.setting t)
+        (plain_map wanted.now.setting u)) }
 {
     match under {
         Some(_) => Ok(()),

@@ -12,21 +12,21 @@ use Rattle.crush_units.specs.declared.id.ItemId.{ItemId}
 use Rattle.crush_units.specs.declared.id.ItemId.TheVariants.{Device, Bucket}
 use Rattle.crush_units.specs.Id.{same_id}
 use Rattle.crush_units.proofs.Ids.{same_id_tells, same_id_refl}
-use Rattle.crush_table.specs.Items.{LeafData, HeaderData, Items, none, device, bucket}
-use Rattle.crush_table.specs.Reordered.{IsReordered}
-use Rattle.crush_table.specs.Forest.{ForestData, rows_of}
-use Rattle.crush_table.specs.ItemRows.{rows, device_row, bucket_row}
-use Rattle.crush_table.specs.Stands.{Stands}
-use Rattle.crush_table.specs.Table.{Row, row_named, is_named, member, used_ids}
-use Rattle.crush_table.specs.Tested.{are_apart}
-use Rattle.crush_table.proofs.Appended.{unnamed, times-used, unused_times}
-use Rattle.crush_table.proofs.Climbs.{eqb_turned}
-use Rattle.crush_table.proofs.Found.{times, times-cons, times-append}
-use Rattle.crush_table.proofs.Reorder.{reordered-count}
-use Rattle.crush_table.specs.Count.{one_if}
-use Rattle.crush_table.proofs.Same.{uses, times_used, times_used-rows, times_used-same, member-count}
-use Rattle.crush_table.proofs.Tested.{apart_once}
-use Rattle.crush_table.proofs.Weighs.{or_left, or_right, true_or_false}
+use Rattle.crush_model.specs.Items.{LeafData, HeaderData, Items, none, device, bucket}
+use Rattle.crush_model.specs.Reordered.{IsReordered}
+use Rattle.crush_model.specs.Forest.{ForestData, rows_of}
+use Rattle.crush_model.specs.ItemRows.{rows, device_row, bucket_row}
+use Rattle.crush_model.specs.Stands.{Stands}
+use Rattle.crush_model.specs.Table.{Row, row_named, is_named, member, used_ids}
+use Rattle.crush_model.specs.Tested.{are_apart}
+use Rattle.crush_model.proofs.Appended.{unnamed, times-used, unused_times}
+use Rattle.crush_model.proofs.Climbs.{eqb_turned}
+use Rattle.crush_model.proofs.Found.{times, times-cons, times-append}
+use Rattle.crush_model.proofs.Reorder.{reordered-count}
+use Rattle.crush_model.specs.Count.{one_if}
+use Rattle.crush_model.proofs.Same.{uses, times_used, times_used-rows, times_used-same, member-count}
+use Rattle.crush_model.proofs.Tested.{apart_once}
+use Rattle.crush_model.proofs.Weighs.{or_left, or_right, true_or_false}
 use Rattle.crush_nodes.specs.Apart.{header_uses, AreApart, header_ids, leaf_shares_a_key, header_shares_a_key, shares_a_key, bucket_has_distinct_keys, have_distinct_keys, uses_in}
 use Rattle.crush_nodes.specs.Ops.{count_of_id}
 use Rattle.crush_nodes.specs.Search.{id_in}

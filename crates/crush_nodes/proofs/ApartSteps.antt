@@ -4,9 +4,9 @@ use Rattle.std.proofs.lemmas.List.{take_all, take_more, drop_all}
 use Rattle.std.proofs.lemmas.List.Elements.{All-push}
 use Rattle.std.specs.Prelude.{◌&&◌, ◌||◌, not, All, map}
 use Rattle.std.specs.List.{list_any}
-use Rattle.crush_table.specs.Lawful.{IsShadowId}
-use Rattle.crush_table.specs.Tested.{are_apart}
-use Rattle.crush_table.proofs.Reorder.{map_append}
+use Rattle.crush_model.specs.Lawful.{IsShadowId}
+use Rattle.crush_model.specs.Tested.{are_apart}
+use Rattle.crush_model.proofs.Reorder.{map_append}
 use Rattle.crush_nodes.specs.Seen.{shadow_data, shadow_numbers}
 use Rattle.crush_nodes.specs.Attachable.{shadow_classes}
 use Rattle.crush_nodes.specs.declared.node.ShadowId.{ShadowId}

@@ -3,11 +3,11 @@ use Rattle.std.proofs.Common.{◌≡◌, ℕ, ◌+◌, ◌<◌, ◌≤◌, Bool,
 use Rattle.std.specs.Prelude.{Option, Some, if◌then◌else◌}
 use Rattle.std.specs.List.{sum_by}
 use Rattle.std.proofs.lemmas.List.Sums.{sum_by-append, sum_by-cons}
-use Rattle.crush_table.specs.Classes.{classed_weight, has_class}
-use Rattle.crush_table.specs.Items.{Items, none, device, bucket}
-use Rattle.crush_table.specs.Forest.{join}
-use Rattle.crush_table.specs.ItemRows.{rows, device_row, bucket_row}
-use Rattle.crush_table.specs.Stored.{weight_sum, StoresSums}
+use Rattle.crush_model.specs.Classes.{classed_weight, has_class}
+use Rattle.crush_model.specs.Items.{Items, none, device, bucket}
+use Rattle.crush_model.specs.Forest.{join}
+use Rattle.crush_model.specs.ItemRows.{rows, device_row, bucket_row}
+use Rattle.crush_model.specs.Stored.{weight_sum, StoresSums}
 use Rattle.crush_nodes.specs.Classed.{leaf_class_weight, class_sum_in}
 use Rattle.crush_nodes.specs.Seen.{items_of}
 use Rattle.crush_nodes.specs.declared.node.Node.{Node}

@@ -2,9 +2,9 @@
 use Rattle.std.proofs.Common.{◌≡◌, ℕ, ◌+◌, ◌-◌, ◌<◌, Bool, true, false, List, [], ◌∷◌, ◌++◌, length, get_or, take, map, ap, sym, subst, ◌∙◌, refl, arith}
 use Rattle.std.specs.Prelude.{◌==◌, if◌then◌else◌}
 use Rattle.std.proofs.lemmas.List.{map-append, take_more}
-use Rattle.crush_table.specs.Items.{HeaderData, Items, none, device, bucket}
-use Rattle.crush_table.specs.Forest.{ForestData, rows_of, IsSound, OnlyDevices, join}
-use Rattle.crush_table.specs.Stands.{Stands}
+use Rattle.crush_model.specs.Items.{HeaderData, Items, none, device, bucket}
+use Rattle.crush_model.specs.Forest.{ForestData, rows_of, IsSound, OnlyDevices, join}
+use Rattle.crush_model.specs.Stands.{Stands}
 use Rattle.crush_nodes.specs.Copies.{IsPushed}
 use Rattle.crush_nodes.specs.Ops.{without_capacity}
 use Rattle.crush_nodes.specs.Room.{bucket_room, count, room}

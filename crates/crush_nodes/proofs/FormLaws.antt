@@ -9,15 +9,15 @@ use Rattle.std.proofs.lemmas.List.Sums.{sum_by-cons}
 use Rattle.std.proofs.lemmas.Slice.Eq.{bytes_eq-Decides}
 use Rattle.crush_units.specs.declared.limits.TheConstants.{DEVICE_IDS, HEAVIEST_BUCKET, HEAVIEST_DEVICE, MOST_CLASS_IDS}
 use Rattle.crush_units.specs.Name.{IsName}
-use Rattle.crush_table.specs.Items.{LeafData, ShadowData, HeaderData, Items, none, device, bucket}
-use Rattle.crush_table.specs.Lawful.{IsRow}
-use Rattle.crush_table.specs.Forest.{join}
-use Rattle.crush_table.specs.ItemRows.{rows, device_row, bucket_row}
-use Rattle.crush_table.specs.Table.{Row}
-use Rattle.crush_table.specs.Tested.{are_apart}
-use Rattle.crush_table.proofs.Reorder.{sum_by-map}
-use Rattle.crush_table.specs.Count.{one_if}
-use Rattle.crush_table.proofs.Tested.{apart_once}
+use Rattle.crush_model.specs.Items.{LeafData, ShadowData, HeaderData, Items, none, device, bucket}
+use Rattle.crush_model.specs.Lawful.{IsRow}
+use Rattle.crush_model.specs.Forest.{join}
+use Rattle.crush_model.specs.ItemRows.{rows, device_row, bucket_row}
+use Rattle.crush_model.specs.Table.{Row}
+use Rattle.crush_model.specs.Tested.{are_apart}
+use Rattle.crush_model.proofs.Reorder.{sum_by-map}
+use Rattle.crush_model.specs.Count.{one_if}
+use Rattle.crush_model.proofs.Tested.{apart_once}
 use Rattle.crush_nodes.specs.Attachable.{is_formed, are_formed, IsTyped, AreTyped}
 use Rattle.crush_nodes.specs.Ops.{StoresUpTo}
 use Rattle.crush_nodes.specs.Seen.{items_of}

@@ -1,7 +1,7 @@
 -- How many devices and buckets there are along a list of nodes.
 use Rattle.std.proofs.Common.{◌≡◌, ℕ, ◌+◌, ◌<◌, List, [], ◌∷◌, length, get_or, take, drop, ap, ◌∙◌}
-use Rattle.crush_table.specs.Items.{size_of}
-use Rattle.crush_table.specs.Forest.{join}
+use Rattle.crush_model.specs.Items.{size_of}
+use Rattle.crush_model.specs.Forest.{join}
 use Rattle.crush_nodes.specs.Search.{devices_in}
 use Rattle.crush_nodes.specs.Seen.{items_of}
 use Rattle.crush_nodes.specs.declared.node.Node.{Node}

@@ -4,9 +4,9 @@ use Rattle.std.specs.List.{count_by, list_any}
 use Rattle.crush_units.specs.declared.id.ItemId.{ItemId}
 use Rattle.crush_units.specs.declared.id.ItemId.TheVariants.{Device}
 use Rattle.crush_units.specs.Id.{same_id}
-use Rattle.crush_table.specs.Items.{LeafData, ShadowData, HeaderData, Items, none, device, bucket}
-use Rattle.crush_table.specs.Table.{Row, member, used_ids}
-use Rattle.crush_table.specs.Tested.{are_apart}
+use Rattle.crush_model.specs.Items.{LeafData, ShadowData, HeaderData, Items, none, device, bucket}
+use Rattle.crush_model.specs.Table.{Row, member, used_ids}
+use Rattle.crush_model.specs.Tested.{are_apart}
 use Rattle.crush_nodes.specs.Ops.{count_of_id}
 use Rattle.crush_nodes.specs.Search.{id_in}
 

@@ -1,7 +1,7 @@
 -- What the devices of a class weigh, as items.
 use Rattle.std.specs.Prelude.{ℕ, ◌+◌, List, Some, if◌then◌else◌, bytes_eq}
 use Rattle.std.specs.Option.{option_eq}
-use Rattle.crush_table.specs.Items.{LeafData, Items, none, device, bucket}
+use Rattle.crush_model.specs.Items.{LeafData, Items, none, device, bucket}
 
 -- what one device adds: its weight, where it has the class
 abbrev pub leaf_class_weight : List ℕ → LeafData → ℕ

@@ -1,6 +1,6 @@
 -- What a copy adds to the copies before it.
 use Rattle.std.specs.Prelude.{◌≡◌, List, [], ◌∷◌, ◌++◌}
-use Rattle.crush_table.specs.Items.{Items}
+use Rattle.crush_model.specs.Items.{Items}
 use Rattle.crush_nodes.specs.Seen.{items_of}
 use Rattle.crush_nodes.specs.declared.node.Node.{Node}
 

@@ -1,7 +1,7 @@
 //! Whether a node can come to a place of the forest.
 
 ghost use Rattle.std.specs.Prelude.{◌≡◌, ◌+◌, ◌<◌, ◌≤◌, ◌∷◌, [], ◌↔◌, IfNone, IfSome, nat_le};
-ghost use Rattle.crush_table.specs.Items.{size_of};
+ghost use Rattle.crush_model.specs.Items.{size_of};
 ghost use Rattle.crush_nodes.specs.Attachable.{takes};
 ghost use Rattle.crush_nodes.specs.Search.{devices_in};
 ghost use Rattle.crush_nodes.specs.Seen.{items_of};

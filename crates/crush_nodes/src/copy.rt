@@ -3,7 +3,7 @@
 //! Calls nest as deep as buckets do: hence `inline(never)` for what else they do.
 
 ghost use Rattle.std.specs.Prelude.{◌≡◌, ℕ, ◌<◌, ◌+◌, ◌∷◌, [], map, IfOk, OnOk, vec_len, vec_capacity};
-ghost use Rattle.crush_table.specs.Items.{bucket, device, none};
+ghost use Rattle.crush_model.specs.Items.{bucket, device, none};
 ghost use Rattle.crush_nodes.specs.Copies.{IsPushed};
 ghost use Rattle.crush_nodes.specs.Ops.{without_capacity};
 ghost use Rattle.crush_nodes.specs.Room.{bucket_room, count};

@@ -4,8 +4,8 @@ ghost use Rattle.std.specs.Prelude.{◌≡◌, ◌<◌, ◌≤◌, ◌∷◌, []
 ghost use Rattle.std.specs.Bool.{OnTrue};
 ghost use Rattle.std.specs.List.{list_any};
 ghost use Rattle.crush_units.specs.Name.{IsName};
-ghost use Rattle.crush_table.specs.Lawful.{IsShadowId};
-ghost use Rattle.crush_table.specs.Tested.{are_apart};
+ghost use Rattle.crush_model.specs.Lawful.{IsShadowId};
+ghost use Rattle.crush_model.specs.Tested.{are_apart};
 ghost use Rattle.crush_nodes.specs.Attachable.{shadow_classes, are_formed, is_formed, AreTyped, IsTyped};
 ghost use Rattle.crush_nodes.specs.Seen.{shadow_data, header_data, items_of};
 ghost use Rattle.crush_units.specs.declared.limits.TheConstants.{DEVICE_IDS, HEAVIEST_DEVICE};

@@ -1,10 +1,10 @@
 //! Buckets that are filled before they stand in a forest.
 
 ghost use Rattle.std.specs.Prelude.{◌≡◌, ℕ, ◌+◌, ◌<◌, ◌≤◌, ◌∷◌, [], ◌++◌, Option, nat_lt};
-ghost use Rattle.crush_table.specs.ItemRows.{rows};
-ghost use Rattle.crush_table.specs.Stored.{weight_sum, StoresSums};
+ghost use Rattle.crush_model.specs.ItemRows.{rows};
+ghost use Rattle.crush_model.specs.Stored.{weight_sum, StoresSums};
 ghost use Rattle.crush_nodes.specs.Held.{first_room, first_bucket, is_own_place, bucket_with};
-ghost use Rattle.crush_table.specs.Count.{one_if};
+ghost use Rattle.crush_model.specs.Count.{one_if};
 ghost use Rattle.crush_nodes.specs.Room.{room_in};
 ghost use Rattle.crush_nodes.specs.Seen.{items_of};
 ghost use Rattle.crush_nodes.specs.declared.place.Place.{Place};

@@ -2,7 +2,7 @@
 //! or copy them.
 //!
 //! [`node`] has the types, [`way`] the ways down to an item, [`path`] the one by a [`guide`].
-//! `crush_changes` changes items, and `crush_tree` has the forest of all.
+//! `crush_walks` changes items, and `crush_tree` has the forest of all.
 #![tactic(auto)]
 
 pub mod apart;

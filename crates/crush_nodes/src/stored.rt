@@ -1,7 +1,7 @@
 //! Whether buckets store their sums.
 
 ghost use Rattle.std.specs.Prelude.{◌≡◌, ◌==◌, ◌∷◌, [], ◌↔◌, IsTrue};
-ghost use Rattle.crush_table.specs.Stored.{StoresSums, weight_sum};
+ghost use Rattle.crush_model.specs.Stored.{StoresSums, weight_sum};
 ghost use Rattle.crush_nodes.specs.Seen.{items_of};
 
 use crate::node::{Bucket, Node};

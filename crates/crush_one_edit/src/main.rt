@@ -5,7 +5,7 @@
 
 ghost use Rattle.std.specs.Prelude.{◌≡◌, ℕ, List, IfOk};
 ghost use Rattle.std.specs.Io.KnownBytes.{Appends, Keeps};
-ghost use Rattle.crush_table.specs.Table.{Row};
+ghost use Rattle.crush_model.specs.Table.{Row};
 ghost use Rattle.crush_edits.specs.declared.refusal.EditFault.{EditFault as DeclaredFault};
 ghost use Rattle.crush_edits.specs.declared.refusal.Refusal.{Refusal as DeclaredRefusal};
 ghost use Rattle.crush_edits.specs.Answer.{done, refused};

@@ -1,7 +1,7 @@
 //! The command line of `crushedit`: its words, its options and its help.
 //!
 //! [`options`] reads words into [`Options`], which `crush_run` runs, or an [`OptionsFault`], which
-//! `crush_report` prints.
+//! `crush_input` prints.
 #![tactic(auto)]
 
 mod asked;

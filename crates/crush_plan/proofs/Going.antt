@@ -2,8 +2,8 @@
 use Rattle.std.proofs.Common.{◌≡◌, ℕ, Bool, true, false, List, [], ◌∷◌, ◌++◌, refl, sym, subst, ap, append_assoc, append-nil, ◌∙◌}
 use Rattle.std.specs.Prelude.{Result, OnOk, if◌then◌else◌}
 use Rattle.std.proofs.lemmas.Result.{on_ok_weaker}
-use Rattle.crush_table.specs.Stands.{Stands}
-use Rattle.crush_table.specs.Table.{Row}
+use Rattle.crush_model.specs.Stands.{Stands}
+use Rattle.crush_model.specs.Table.{Row}
 use Rattle.crush_edits.specs.declared.edit.Edit.{Edit}
 use Rattle.crush_edits.specs.Setting.{SettingData}
 use Rattle.crush_edits.specs.Answer.{done}

@@ -1,9 +1,9 @@
 -- A map on its way to another.
 use Rattle.std.specs.Prelude.{◌≡◌, List, ◌++◌}
 use Rattle.std.specs.Option.{option_map}
-use Rattle.crush_table.specs.Forest.{ForestData}
-use Rattle.crush_table.specs.Stands.{Stands}
-use Rattle.crush_table.specs.Table.{Row}
+use Rattle.crush_model.specs.Forest.{ForestData}
+use Rattle.crush_model.specs.Stands.{Stands}
+use Rattle.crush_model.specs.Table.{Row}
 use Rattle.crush_edits.specs.declared.edit.Edit.{Edit}
 use Rattle.crush_edits.specs.Setting.{SettingData}
 use Rattle.crush_plan.specs.declared.aim.Aim.{Aim}

@@ -1,7 +1,7 @@
 -- The text of a plan.
 use Rattle.std.specs.Prelude.{ℕ, ◌==◌, Bool, true, List, [], ◌∷◌, ◌++◌, if◌then◌else◌, codes, decimal, flat_map, length}
 use Rattle.crush_edits.specs.declared.edit.Edit.{Edit}
-use Rattle.crush_calls.specs.HistoryText.{edit_text}
+use Rattle.crush_history.specs.HistoryText.{edit_text}
 use Rattle.crush_reasons.specs.Ceph.{ceph_heading, ceph_line}
 use Rattle.crush_names.specs.Aside.{aside_text}
 use Rattle.crush_plan.specs.Plan.{PlanData, line_count}

@@ -1,8 +1,8 @@
 //! A map on its way to another.
 
 ghost use Rattle.std.specs.Prelude.{◌≡◌, ◌++◌, ◌∷◌, [], List, OnOk, if◌then◌else◌, true};
-ghost use Rattle.crush_table.specs.Stands.{Stands};
-ghost use Rattle.crush_table.specs.Table.{Row};
+ghost use Rattle.crush_model.specs.Stands.{Stands};
+ghost use Rattle.crush_model.specs.Table.{Row};
 ghost use Rattle.crush_plan.specs.Draft.{Allows, GoesOn};
 
 use crate::aim::Aim;

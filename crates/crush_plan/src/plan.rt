@@ -2,9 +2,9 @@
 
 ghost use Rattle.std.specs.Prelude.{◌≡◌, [], IfOk, List, OnOk, true};
 ghost use Rattle.std.specs.Option.{option_map};
-ghost use Rattle.crush_table.specs.Stands.{Stands};
-ghost use Rattle.crush_table.specs.Table.{Row};
-ghost use Rattle.crush_since.specs.Since.{told};
+ghost use Rattle.crush_model.specs.Stands.{Stands};
+ghost use Rattle.crush_model.specs.Table.{Row};
+ghost use Rattle.crush_since.specs.Since.{plain_map};
 ghost use Rattle.crush_plan.specs.Draft.{GoesOn, IsDraftOf};
 ghost use Rattle.crush_plan.specs.Plan.{GoesTo, IsBetter, IsPlan, TellsRest, line_count, plan_data};
 
@@ -49,8 +49,8 @@ pub fn find_plan<A: Allocator + Clone, B: Allocator>(
 ) -> Result<Plan, AllocError>
     ensures { IfOk result (λ plan. (t u : List Row)
         → Stands map.now.forest t → Stands wanted.now.forest u
-        → IsPlan (option_map (λ name. name.now) under.entry) (told map.now.setting t)
-        (told wanted.now.setting u) (plan_data plan)) }
+        → IsPlan (option_map (λ name. name.now) under.entry) (plain_map map.now.setting t)
+        (plain_map wanted.now.setting u) (plan_data plan)) }
 {
     let whole = with_edits(alloc, Extent::Whole, identity, under, map, wanted)?;
     if whole.has_no_edits() {
@@ -76,8 +76,8 @@ fn without_edits<A: Allocator, B: Allocator>(
     ensures none { IfOk result (λ plan. plan.edits.items ≡ []) }
     ensures tells { IfOk result (λ plan. (t u : List Row)
         → Stands map.now.forest t → Stands wanted.now.forest u
-        → TellsRest (option_map (λ name. name.now) under.entry) (told map.now.setting t)
-        (told wanted.now.setting u) (plan_data plan)) }
+        → TellsRest (option_map (λ name. name.now) under.entry) (plain_map map.now.setting t)
+        (plain_map wanted.now.setting u) (plan_data plan)) }
 {
     let rest = stays_part(alloc, under, map, wanted)?;
     let aside = count_aside(alloc, under, map, wanted)?;
@@ -98,8 +98,8 @@ fn with_edits<A: Allocator + Clone, B: Allocator>(
 ) -> Result<Plan, AllocError>
     ensures { IfOk result (λ plan. (t u : List Row)
         → Stands map.now.forest t → Stands wanted.now.forest u
-        → GoesTo (option_map (λ name. name.now) under.entry) (told map.now.setting t)
-        (told wanted.now.setting u) (plan_data plan)) }
+        → GoesTo (option_map (λ name. name.now) under.entry) (plain_map map.now.setting t)
+        (plain_map wanted.now.setting u) (plan_data plan)) }
 {
     let aim = Aim {
         identity,
@@ -119,7 +119,7 @@ fn to_aim<A: Allocator + Clone, B: Allocator>(
     ensures { IfOk result (λ plan. (t u : List Row)
         → Stands aim.now.before.now.forest t → Stands aim.now.wanted.now.forest u
         → GoesTo (option_map (λ name. name.now) aim.now.under)
-        (told aim.now.before.now.setting t) (told aim.now.wanted.now.setting u) (plan_data plan)) }
+        (plain_map aim.now.before.now.setting t) (plain_map aim.now.wanted.now.setting u) (plan_data plan)) }
 {
     let draft = drafted(alloc, aim)?;
     let rest = stays_part(alloc, aim.under, &draft.map, aim.wanted)?;

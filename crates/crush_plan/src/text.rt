@@ -1,17 +1,17 @@
 //! The text of a plan.
 
 ghost use Rattle.std.specs.Prelude.{◌≡◌, ◌∷◌, [], ◌++◌, IfOk, OnOk, codes, flat_map, true};
-ghost use Rattle.crush_calls.specs.HistoryText.{edit_text};
+ghost use Rattle.crush_history.specs.HistoryText.{edit_text};
 ghost use Rattle.crush_names.specs.Aside.{aside_text};
 ghost use Rattle.crush_plan.specs.Plan.{plan_data};
 ghost use Rattle.crush_plan.specs.PlanText.{commented, mark, plan_line, plan_text, stay_heading, stay_text};
 
 use crate::plan::{Plan, count_lines};
-use crush_bytes::put_all;
-use crush_calls::write_edit;
 use crush_edits::Edit;
+use crush_history::write_edit;
 use crush_names::{Counts, push_aside};
 use crush_reasons::{push_ceph_heading, push_ceph_line};
+use crush_units::put_all;
 use itoa::Buffer;
 use std::alloc::{AllocError, Global};
 

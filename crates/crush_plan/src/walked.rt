@@ -1,9 +1,9 @@
 //! The items of a map, looked up by name and by id.
 
 use crush_map::{CrushMap, Setting};
+use crush_print::{Step, walk};
 use crush_tree::View;
 use crush_units::{BucketId, ItemId};
-use crush_view::{Step, walk};
 use std::alloc::{AllocError, Allocator, Global};
 
 /// A map of which items are looked up; one that changes climbs through all buckets above an item.

@@ -7,13 +7,13 @@ use Rattle.std.proofs.lemmas.List.{map-append}
 use Rattle.std.proofs.lemmas.List.Sorted.{All-permutation}
 use Rattle.std.proofs.lemmas.List.Elements.{All-nil, All-cons, All-head, All-tail, All-append}
 use Rattle.crush_units.specs.declared.id.ItemId.TheVariants.{Device as DeviceItem, Bucket as BucketItem}
-use Rattle.crush_table.specs.Items.{LeafData, BucketData, Items, none, bucket, size_of}
-use Rattle.crush_table.specs.Forest.{ForestData, rows_of, all_items, OnlyBuckets, IsSound}
-use Rattle.crush_table.specs.ItemRows.{device_row}
-use Rattle.crush_table.specs.Stands.{Stands}
+use Rattle.crush_model.specs.Items.{LeafData, BucketData, Items, none, bucket, size_of}
+use Rattle.crush_model.specs.Forest.{ForestData, rows_of, all_items, OnlyBuckets, IsSound}
+use Rattle.crush_model.specs.ItemRows.{device_row}
+use Rattle.crush_model.specs.Stands.{Stands}
 use Rattle.crush_edits.specs.Setting.{SettingData}
-use Rattle.crush_table.specs.Table.{Row}
-use Rattle.crush_table.proofs.Reorder.{reordered-length}
+use Rattle.crush_model.specs.Table.{Row}
+use Rattle.crush_model.proofs.Reorder.{reordered-length}
 use Rattle.crush_nodes.specs.Seen.{items_of, node_id}
 use Rattle.crush_nodes.specs.declared.node.Node.{Node}
 use Rattle.crush_nodes.specs.declared.node.Node.TheVariants.{Device, Bucket}

@@ -5,8 +5,8 @@ use Rattle.std.proofs.lemmas.List.{append-nil, take_more}
 use Rattle.std.proofs.lemmas.List.Concat.{flat_map-append}
 use Rattle.std.proofs.lemmas.List.Folds.{flat_map-map}
 use Rattle.crush_units.specs.declared.id.ItemId.TheVariants.{Bucket as BucketItem}
-use Rattle.crush_table.specs.Items.{LeafData, BucketData, Items, none, device, bucket, size_of}
-use Rattle.crush_table.specs.Forest.{join}
+use Rattle.crush_model.specs.Items.{LeafData, BucketData, Items, none, device, bucket, size_of}
+use Rattle.crush_model.specs.Forest.{join}
 use Rattle.crush_nodes.specs.Seen.{items_of, leaf_data}
 use Rattle.crush_nodes.specs.declared.node.Node.{Node}
 use Rattle.crush_nodes.specs.declared.node.Node.TheVariants.{Device, Bucket}

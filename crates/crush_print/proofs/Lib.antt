@@ -13,3 +13,8 @@ pub mod SameText
 pub mod Sorting
 pub mod TakenNames
 pub mod Told
+pub mod BelowLaws
+pub mod Examples
+pub mod PlaceLaws
+pub mod SameTree
+pub mod WalkLaws

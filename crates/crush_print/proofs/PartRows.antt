@@ -8,16 +8,16 @@ use Rattle.crush_units.specs.declared.id.ItemId.{ItemId}
 use Rattle.crush_units.specs.declared.id.ItemId.TheVariants.{Bucket}
 use Rattle.crush_units.specs.Id.{same_id, is_device_id}
 use Rattle.crush_units.proofs.Ids.{same_id_equal}
-use Rattle.crush_table.specs.Reordered.{IsReordered, through}
-use Rattle.crush_table.specs.Count.{one_if}
-use Rattle.crush_table.specs.Columns.{without_row}
-use Rattle.crush_table.specs.Lawful.{Lawful}
-use Rattle.crush_table.specs.Table.{Row, row_of, row_named, id_named, is_named, parent_of, member, used_ids, sum_below}
-use Rattle.crush_table.proofs.Reorder.{reordered-refl, reordered-sym, reordered-count, reordered-filter}
-use Rattle.crush_table.proofs.Found.{row_of-same}
-use Rattle.crush_table.proofs.Same.{uses, times_used, times_used-same, member-count, sum_below-same, Lawful-reordered}
-use Rattle.crush_table.proofs.Appended.{times_used-push}
-use Rattle.crush_table.proofs.Tested.{bytes_itself}
+use Rattle.crush_model.specs.Reordered.{IsReordered, through}
+use Rattle.crush_model.specs.Count.{one_if}
+use Rattle.crush_model.specs.Columns.{without_row}
+use Rattle.crush_model.specs.Lawful.{Lawful}
+use Rattle.crush_model.specs.Table.{Row, row_of, row_named, id_named, is_named, parent_of, member, used_ids, sum_below}
+use Rattle.crush_model.proofs.Reorder.{reordered-refl, reordered-sym, reordered-count, reordered-filter}
+use Rattle.crush_model.proofs.Found.{row_of-same}
+use Rattle.crush_model.proofs.Same.{uses, times_used, times_used-same, member-count, sum_below-same, Lawful-reordered}
+use Rattle.crush_model.proofs.Appended.{times_used-push}
+use Rattle.crush_model.proofs.Tested.{bytes_itself}
 use Rattle.crush_print.proofs.PartTables.{bare, shown, part_of, Lawful-part, row_of-part}
 use Rattle.crush_print.proofs.PartSteps.{with_one, IsClosed, part_more, part_put}
 use Rattle.crush_print.proofs.PartSums.{sum_below-part}

@@ -7,13 +7,13 @@ use Rattle.crush_units.specs.declared.id.ItemId.{ItemId}
 use Rattle.crush_units.specs.declared.id.ItemId.TheVariants.{Bucket}
 use Rattle.crush_units.specs.Id.{same_id}
 use Rattle.crush_units.proofs.Ids.{same_id_refl, same_id_equal}
-use Rattle.crush_table.specs.Reordered.{IsReordered}
-use Rattle.crush_table.specs.Columns.{without_row}
-use Rattle.crush_table.specs.Lawful.{Lawful}
-use Rattle.crush_table.specs.Table.{Row, row_of, parent_of, is_parent, kids}
-use Rattle.crush_table.proofs.Moved.{last_row, row_id}
-use Rattle.crush_table.proofs.Changes.{kids-append, kids-filter}
-use Rattle.crush_table.proofs.Relocated.{All-kids}
+use Rattle.crush_model.specs.Reordered.{IsReordered}
+use Rattle.crush_model.specs.Columns.{without_row}
+use Rattle.crush_model.specs.Lawful.{Lawful}
+use Rattle.crush_model.specs.Table.{Row, row_of, parent_of, is_parent, kids}
+use Rattle.crush_model.proofs.Moved.{last_row, row_id}
+use Rattle.crush_model.proofs.Changes.{kids-append, kids-filter}
+use Rattle.crush_model.proofs.Relocated.{All-kids}
 use Rattle.crush_print.proofs.PartTables.{bare, shown, shown-id, part_of, Lawful-part, row_of-part}
 
 -- one filter behind another

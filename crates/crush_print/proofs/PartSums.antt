@@ -5,13 +5,13 @@ use Rattle.std.specs.Prelude.{map, filter, ◌||◌, ◌==◌, if◌then◌else�
 use Rattle.std.specs.List.{sum_by}
 use Rattle.crush_units.specs.declared.id.ItemId.{ItemId}
 use Rattle.crush_units.specs.declared.id.ItemId.TheVariants.{Bucket}
-use Rattle.crush_table.specs.Lawful.{Lawful}
-use Rattle.crush_table.specs.Table.{Row, is_device, is_device_id, parent_of, then_up, climb, member, is_below, sum_below, summed_weight}
-use Rattle.crush_table.proofs.Reorder.{sum_by-map}
-use Rattle.crush_table.proofs.Kept.{length_map}
-use Rattle.crush_table.proofs.KidSums.{sum_by-agree}
-use Rattle.crush_table.proofs.Climbs.{climb-above}
-use Rattle.crush_table.proofs.Removed.{parent_of-only, length-filter_le, not_below_only}
+use Rattle.crush_model.specs.Lawful.{Lawful}
+use Rattle.crush_model.specs.Table.{Row, is_device, is_device_id, parent_of, then_up, climb, member, is_below, sum_below, summed_weight}
+use Rattle.crush_model.proofs.Reorder.{sum_by-map}
+use Rattle.crush_model.proofs.Kept.{length_map}
+use Rattle.crush_model.proofs.KidSums.{sum_by-agree}
+use Rattle.crush_model.proofs.Climbs.{climb-above}
+use Rattle.crush_model.proofs.Removed.{parent_of-only, length-filter_le, not_below_only}
 use Rattle.crush_print.proofs.PartTables.{bare, shown, shown-id, part_of, parent_shown, not_below_shown, Lawful-part}
 
 sum_if : {X : Type 0} (p : X → Bool) (f : X → ℕ) (b : Bool) (x : X) (xs : List X) (n : ℕ) → p x ≡ b → sum_by f (filter p xs) ≡ n → sum_by f (if b then x ∷ filter p xs else filter p xs) ≡ (if b then f x else 0) + n

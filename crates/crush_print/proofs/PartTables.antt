@@ -7,15 +7,15 @@ use Rattle.std.specs.Option.{option_map}
 use Rattle.crush_units.specs.declared.limits.TheConstants.{MOST_DEVICES, MOST_BUCKETS}
 use Rattle.crush_units.specs.declared.id.ItemId.{ItemId}
 use Rattle.crush_units.specs.declared.id.ItemId.TheVariants.{Device, Bucket}
-use Rattle.crush_table.specs.Table.{Row, is_device, is_device_id, is_bucket, row_of, is_there, parent_of, then_up, climb, above, is_below, sum_below, summed_weight}
-use Rattle.crush_table.specs.Lawful.{Lawful, IsRow, IsRowOf, HasParent}
-use Rattle.crush_table.proofs.Reorder.{sum_by-map}
-use Rattle.crush_table.proofs.Same.{uses}
-use Rattle.crush_table.proofs.Kept.{length_map, row_of-map, is_there-map, Distinct-map}
-use Rattle.crush_table.proofs.Columns.{count-map, times_used-map}
-use Rattle.crush_table.proofs.Climbs.{times_in, member-times_in, times_in-member}
-use Rattle.crush_table.proofs.Removed.{only, row_of-only, Lawful-only}
-use Rattle.crush_table.proofs.Moved.{row_id}
+use Rattle.crush_model.specs.Table.{Row, is_device, is_device_id, is_bucket, row_of, is_there, parent_of, then_up, climb, above, is_below, sum_below, summed_weight}
+use Rattle.crush_model.specs.Lawful.{Lawful, IsRow, IsRowOf, HasParent}
+use Rattle.crush_model.proofs.Reorder.{sum_by-map}
+use Rattle.crush_model.proofs.Same.{uses}
+use Rattle.crush_model.proofs.Kept.{length_map, row_of-map, is_there-map, Distinct-map}
+use Rattle.crush_model.proofs.Columns.{count-map, times_used-map}
+use Rattle.crush_model.proofs.Climbs.{times_in, member-times_in, times_in-member}
+use Rattle.crush_model.proofs.Removed.{only, row_of-only, Lawful-only}
+use Rattle.crush_model.proofs.Moved.{row_id}
 
 -- a row in no bucket
 abbrev pub bare : Row → Row

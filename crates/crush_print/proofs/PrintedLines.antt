@@ -11,9 +11,9 @@ use Rattle.crush_units.specs.Alg.{alg_text}
 use Rattle.crush_units.specs.declared.alg.Alg.{Alg}
 use Rattle.crush_units.specs.declared.id.ItemId.{ItemId}
 use Rattle.crush_units.specs.declared.id.ItemId.TheVariants.{Device, Bucket}
-use Rattle.crush_table.specs.Items.{ShadowData}
-use Rattle.crush_table.specs.Lawful.{IsDeviceRow, IsBucketRow, IsShadowId}
-use Rattle.crush_table.specs.Table.{Row, row_of, kids, item_weight}
+use Rattle.crush_model.specs.Items.{ShadowData}
+use Rattle.crush_model.specs.Lawful.{IsDeviceRow, IsBucketRow, IsShadowId}
+use Rattle.crush_model.specs.Table.{Row, row_of, kids, item_weight}
 use Rattle.crush_edits.specs.Setting.{TunableData, StepData, take, choose, set, emit, RuleData, SettingData}
 use Rattle.crush_edits.specs.Fits.{IsTunable, IsRule, IsCount}
 use Rattle.crush_print.specs.Lines.{id_text, class_text, tunable_line, device_line, kind_line, item_line, class_id_line, bucket_head, bucket_choice, bucket_lines}

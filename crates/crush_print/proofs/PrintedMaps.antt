@@ -3,10 +3,10 @@ use Rattle.std.proofs.Common.{◌≡◌, refl}
 use Rattle.std.specs.Prelude.{ℕ, pos, negsuc, true, false, List, [], ◌∷◌, Some, None, codes}
 use Rattle.std.specs.Fmt.{digits}
 use Rattle.crush_units.specs.declared.alg.Alg.TheVariants.{Straw, Straw2}
-use Rattle.crush_table.specs.Items.{LeafData, HeaderData, none, device, bucket}
-use Rattle.crush_table.specs.Forest.{rows_of}
+use Rattle.crush_model.specs.Items.{LeafData, HeaderData, none, device, bucket}
+use Rattle.crush_model.specs.Forest.{rows_of}
 use Rattle.crush_edits.specs.Setting.{KindData, SettingData, RuleData, take, choose, set, emit}
-use Rattle.crush_table.specs.Table.{Row}
+use Rattle.crush_model.specs.Table.{Row}
 use Rattle.crush_print.specs.Lines.{tunable_line, device_line, kind_line, item_line, class_id_line, bucket_head, bucket_choice, bucket_lines}
 use Rattle.crush_print.specs.RuleLines.{bucket_name, take_line, choice_text, choose_line, set_line, rule_head, size_line, rule_lines}
 use Rattle.crush_print.specs.MapText.{device_numbers, kind_numbers, root_numbers, device_lines, root_texts, of_row, kind_text, kids_lines, bucket_text, bucket_numbers, tunable_section, device_section, kind_section, bucket_section, rule_section, map_text}

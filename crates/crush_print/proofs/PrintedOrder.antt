@@ -9,14 +9,14 @@ use Rattle.crush_units.specs.declared.id.ItemId.{ItemId}
 use Rattle.crush_units.specs.declared.id.ItemId.TheVariants.{Device, Bucket}
 use Rattle.crush_units.specs.Id.{same_id}
 use Rattle.crush_units.proofs.Ids.{same_id_tells}
-use Rattle.crush_table.specs.Lawful.{Lawful}
-use Rattle.crush_table.specs.Table.{Row, row_of, is_there, parent_of, then_up, climb, above, kids, bucket_ids}
-use Rattle.crush_table.specs.Count.{one_if}
-use Rattle.crush_table.proofs.Reorder.{sum_by-flat_map}
-use Rattle.crush_table.proofs.Found.{times as rows_of_id, times-cons}
-use Rattle.crush_table.proofs.Climbs.{above-parent, times_in, member-times_in, parent_there, climb_there, sum_by-plus, sum_by-zero, sum_by-most, met_rows, times_in_once, above_once}
-use Rattle.crush_table.proofs.KidSums.{sum_by-agree, over_kids-kids, climb_kids}
-use Rattle.crush_table.proofs.Relocated.{All-kids}
+use Rattle.crush_model.specs.Lawful.{Lawful}
+use Rattle.crush_model.specs.Table.{Row, row_of, is_there, parent_of, then_up, climb, above, kids, bucket_ids}
+use Rattle.crush_model.specs.Count.{one_if}
+use Rattle.crush_model.proofs.Reorder.{sum_by-flat_map}
+use Rattle.crush_model.proofs.Found.{times as rows_of_id, times-cons}
+use Rattle.crush_model.proofs.Climbs.{above-parent, times_in, member-times_in, parent_there, climb_there, sum_by-plus, sum_by-zero, sum_by-most, met_rows, times_in_once, above_once}
+use Rattle.crush_model.proofs.KidSums.{sum_by-agree, over_kids-kids, climb_kids}
+use Rattle.crush_model.proofs.Relocated.{All-kids}
 use Rattle.crush_print.specs.MapText.{root_number, root_numbers, bucket_numbers_at, bucket_numbers}
 use Rattle.crush_print.proofs.Sorting.{times, times-ascending}
 use Rattle.crush_print.proofs.PrintedTexts.{root_order}

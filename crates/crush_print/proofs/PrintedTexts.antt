@@ -7,14 +7,14 @@ use Rattle.std.specs.Option.{option_map, option_map_or}
 use Rattle.crush_units.specs.Name.{IsName}
 use Rattle.crush_units.specs.declared.id.ItemId.{ItemId}
 use Rattle.crush_units.specs.declared.id.ItemId.TheVariants.{Device, Bucket}
-use Rattle.crush_table.specs.Lawful.{Lawful, IsRow, IsRowOf}
-use Rattle.crush_table.specs.Table.{Row, row_of, kids, sum_below, item_weight}
-use Rattle.crush_table.proofs.Moved.{row_id}
-use Rattle.crush_table.proofs.Renamed.{All-row}
-use Rattle.crush_table.proofs.Tested.{bytes_equal}
+use Rattle.crush_model.specs.Lawful.{Lawful, IsRow, IsRowOf}
+use Rattle.crush_model.specs.Table.{Row, row_of, kids, sum_below, item_weight}
+use Rattle.crush_model.proofs.Moved.{row_id}
+use Rattle.crush_model.proofs.Renamed.{All-row}
+use Rattle.crush_model.proofs.Tested.{bytes_equal}
 use Rattle.crush_edits.specs.Setting.{KindData, StepData, take, choose, set, emit, RuleData, SettingData, bucket_taken}
 use Rattle.crush_edits.specs.Fits.{Fits, IsSetting, IsTunable, IsKind, IsStep, IsRule, IsThere, HasKind}
-use Rattle.crush_bytes.proofs.Printed.{Holds}
+use Rattle.crush_units.proofs.Printed.{Holds}
 use Rattle.crush_print.specs.Lines.{tunable_line, device_line, kind_line}
 use Rattle.crush_print.specs.RuleLines.{bucket_name, rule_lines}
 use Rattle.crush_print.specs.MapText.{put_in, ascending, device_numbers, kind_numbers, of_row, kind_text, kids_lines, bucket_text, bucket_numbers, device_lines, root_texts, tunable_section, device_section, kind_section, bucket_section, rule_section, map_text}

@@ -16,8 +16,8 @@ use Rattle.crush_units.specs.declared.alg.Alg.{Alg}
 use Rattle.crush_units.specs.declared.alg.Alg.TheVariants.{Straw, Straw2, List as Linked}
 use Rattle.crush_units.proofs.Names.{is_name_holds}
 use Rattle.crush_units.proofs.Parts.{whole_part_short}
-use Rattle.crush_bytes.specs.Words.{is_blank, is_brace}
-use Rattle.crush_bytes.proofs.Printed.{Holds, holds_blank, holds_brace, holds_word, holds_comment}
+use Rattle.crush_units.specs.Words.{is_blank, is_brace}
+use Rattle.crush_units.proofs.Printed.{Holds, holds_blank, holds_brace, holds_word, holds_comment}
 
 -- a piece of text has these words, whatever stands behind it
 pub record Spells (text : List ℕ) (ws : List (List ℕ)) : Type 0 where

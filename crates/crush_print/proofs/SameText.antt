@@ -4,13 +4,13 @@ use Rattle.std.specs.Prelude.{flat_map, length, codes, unwrap_or}
 use Rattle.std.specs.Option.{option_map, option_map_or}
 use Rattle.crush_units.specs.declared.id.ItemId.{ItemId}
 use Rattle.crush_units.specs.declared.id.ItemId.TheVariants.{Device, Bucket}
-use Rattle.crush_table.specs.Lawful.{Lawful}
-use Rattle.crush_table.specs.Same.{Same}
+use Rattle.crush_model.specs.Lawful.{Lawful}
+use Rattle.crush_model.specs.Same.{Same}
 use Rattle.crush_edits.specs.Setting.{StepData, take, choose, set, emit, RuleData, SettingData}
-use Rattle.crush_table.specs.Table.{Row, item_weight}
-use Rattle.crush_table.proofs.Found.{row_of-same}
-use Rattle.crush_table.proofs.Reorder.{reordered-length}
-use Rattle.crush_table.proofs.Same.{sum_below-same, item_weight-same}
+use Rattle.crush_model.specs.Table.{Row, item_weight}
+use Rattle.crush_model.proofs.Found.{row_of-same}
+use Rattle.crush_model.proofs.Reorder.{reordered-length}
+use Rattle.crush_model.proofs.Same.{sum_below-same, item_weight-same}
 use Rattle.crush_print.specs.Lines.{device_line, item_line, bucket_lines}
 use Rattle.crush_print.specs.RuleLines.{bucket_name, take_line, step_line, rule_head, size_line, rule_lines}
 use Rattle.crush_print.specs.MapText.{device_number, root_number, device_numbers, root_numbers, of_row, kind_text, kids_lines, bucket_text, bucket_numbers_at, bucket_numbers, device_lines, root_texts, tunable_section, device_section, kind_section, bucket_section, rule_section, map_text, SameTablesPrintAlike}

@@ -8,9 +8,9 @@ use Rattle.std.proofs.lemmas.List.Sums.{sum_by-append, sum_by-cons}
 use Rattle.std.proofs.lemmas.List.Sorted.{All-permutation, sum_by-IsPermutation}
 use Rattle.std.proofs.lemmas.List.{map-id}
 use Rattle.std.proofs.lemmas.List.Elements.{All-head, All-tail}
-use Rattle.crush_table.specs.Reordered.{IsReordered}
-use Rattle.crush_table.proofs.Reorder.{reordered-sum}
-use Rattle.crush_table.specs.Count.{one_if}
+use Rattle.crush_model.specs.Reordered.{IsReordered}
+use Rattle.crush_model.proofs.Reorder.{reordered-sum}
+use Rattle.crush_model.specs.Count.{one_if}
 use Rattle.crush_print.specs.MapText.{put_in, ascending}
 
 -- how often a number is in a list

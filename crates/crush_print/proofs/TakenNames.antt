@@ -4,7 +4,7 @@ use Rattle.std.specs.Prelude.{is_some, unwrap_or}
 use Rattle.std.specs.Option.{option_map}
 use Rattle.std.proofs.lemmas.List.Elements.{All-weaker}
 use Rattle.crush_units.specs.declared.id.ItemId.TheVariants.{Bucket}
-use Rattle.crush_table.specs.Table.{Row, row_of}
+use Rattle.crush_model.specs.Table.{Row, row_of}
 use Rattle.crush_edits.specs.Setting.{taken_buckets}
 use Rattle.crush_edits.specs.Fits.{IsThere}
 use Rattle.crush_print.specs.RuleLines.{bucket_name}

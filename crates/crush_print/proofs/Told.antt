@@ -8,18 +8,18 @@ use Rattle.std.proofs.lemmas.List.Elements.{All-nil, All-cons, All-head, All-tai
 use Rattle.std.proofs.lemmas.List.{map-append}
 use Rattle.crush_units.specs.declared.id.ItemId.{ItemId}
 use Rattle.crush_units.specs.declared.id.ItemId.TheVariants.{Device, Bucket}
-use Rattle.crush_table.specs.Items.{LeafData, HeaderData, BucketData, Items, none, device, bucket, size_of}
-use Rattle.crush_table.specs.Forest.{ForestData, rows_of, all_items, join, OnlyDevices}
-use Rattle.crush_table.specs.ItemRows.{rows, device_row, bucket_row}
-use Rattle.crush_table.specs.Stands.{Stands}
-use Rattle.crush_table.specs.Stored.{stored_weight}
+use Rattle.crush_model.specs.Items.{LeafData, HeaderData, BucketData, Items, none, device, bucket, size_of}
+use Rattle.crush_model.specs.Forest.{ForestData, rows_of, all_items, join, OnlyDevices}
+use Rattle.crush_model.specs.ItemRows.{rows, device_row, bucket_row}
+use Rattle.crush_model.specs.Stands.{Stands}
+use Rattle.crush_model.specs.Stored.{stored_weight}
 use Rattle.crush_edits.specs.Setting.{SettingData}
-use Rattle.crush_table.specs.Table.{Row, row_of, kids, sum_below, item_weight}
-use Rattle.crush_table.specs.Count.{one_if}
-use Rattle.crush_table.proofs.Sums.{buckets, buckets-rows, stored_weight-absent}
-use Rattle.crush_table.proofs.Found.{row_of-same}
-use Rattle.crush_table.proofs.Stands.{stands_lawful}
-use Rattle.crush_table.proofs.Weighs.{All-found}
+use Rattle.crush_model.specs.Table.{Row, row_of, kids, sum_below, item_weight}
+use Rattle.crush_model.specs.Count.{one_if}
+use Rattle.crush_model.proofs.Sums.{buckets, buckets-rows, stored_weight-absent}
+use Rattle.crush_model.proofs.Found.{row_of-same}
+use Rattle.crush_model.proofs.Stands.{stands_lawful}
+use Rattle.crush_model.proofs.Weighs.{All-found}
 use Rattle.crush_nodes.specs.Search.{kids_in}
 use Rattle.crush_tree.proofs.ReadLemmas.Items.{ids_of, kids_in-kids}
 use Rattle.crush_print.specs.Lines.{device_line, item_line, bucket_choice, bucket_lines}

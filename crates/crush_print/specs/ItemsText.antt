@@ -2,8 +2,8 @@
 use Rattle.std.specs.Prelude.{ℕ, List, [], ◌∷◌, ◌++◌, None}
 use Rattle.crush_units.specs.declared.id.ItemId.{ItemId}
 use Rattle.crush_units.specs.declared.id.ItemId.TheVariants.{Device, Bucket}
-use Rattle.crush_table.specs.Items.{LeafData, BucketData, Items, none, device, bucket}
-use Rattle.crush_table.specs.ItemRows.{bucket_row}
+use Rattle.crush_model.specs.Items.{LeafData, BucketData, Items, none, device, bucket}
+use Rattle.crush_model.specs.ItemRows.{bucket_row}
 use Rattle.crush_edits.specs.Setting.{SettingData}
 use Rattle.crush_print.specs.Lines.{item_line, bucket_lines}
 use Rattle.crush_print.specs.MapText.{kind_text}

@@ -2,3 +2,8 @@ pub mod ItemsText
 pub mod Lines
 pub mod MapText
 pub mod RuleLines
+pub mod SeenPart
+pub mod SeenStep
+pub mod Tree
+pub mod TreePart
+pub mod TreeText

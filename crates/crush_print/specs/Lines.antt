@@ -5,8 +5,8 @@ use Rattle.crush_units.specs.declared.id.ItemId.{ItemId}
 use Rattle.crush_units.specs.declared.id.ItemId.TheVariants.{Device, Bucket}
 use Rattle.crush_units.specs.Alg.{alg_text}
 use Rattle.crush_units.specs.Weight.{weight_text}
-use Rattle.crush_table.specs.Items.{ShadowData}
-use Rattle.crush_table.specs.Table.{Row}
+use Rattle.crush_model.specs.Items.{ShadowData}
+use Rattle.crush_model.specs.Table.{Row}
 use Rattle.crush_edits.specs.Setting.{TunableData}
 
 -- an item's id: that of a bucket is below 0

@@ -3,11 +3,11 @@ use Rattle.std.specs.Prelude.{◌≡◌, ℕ, zero, suc, List, [], ◌∷◌, �
 use Rattle.std.specs.Option.{option_map_or}
 use Rattle.crush_units.specs.declared.id.ItemId.{ItemId}
 use Rattle.crush_units.specs.declared.id.ItemId.TheVariants.{Device, Bucket}
-use Rattle.crush_table.specs.Lawful.{Lawful}
-use Rattle.crush_table.specs.Same.{Same}
+use Rattle.crush_model.specs.Lawful.{Lawful}
+use Rattle.crush_model.specs.Same.{Same}
 use Rattle.crush_edits.specs.Setting.{KindData, SettingData, kind_name, taken_buckets}
 use Rattle.crush_edits.specs.Fits.{Fits}
-use Rattle.crush_table.specs.Table.{Row, row_of, kids, sum_below, item_weight, bucket_ids}
+use Rattle.crush_model.specs.Table.{Row, row_of, kids, sum_below, item_weight, bucket_ids}
 use Rattle.crush_print.specs.Lines.{tunable_line, device_line, kind_line, item_line, bucket_lines}
 use Rattle.crush_print.specs.RuleLines.{bucket_name, rule_lines}
 

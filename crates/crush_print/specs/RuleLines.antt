@@ -2,7 +2,7 @@
 use Rattle.std.specs.Prelude.{ℕ, ℤ, Bool, List, [], ◌++◌, Option, Some, None, codes, decimal, flat_map, unwrap_or, if◌then◌else◌}
 use Rattle.std.specs.Fmt.{signed_decimal}
 use Rattle.crush_units.specs.declared.id.ItemId.TheVariants.{Bucket}
-use Rattle.crush_table.specs.Table.{Row, name_of}
+use Rattle.crush_model.specs.Table.{Row, name_of}
 use Rattle.crush_edits.specs.Setting.{StepData, take, choose, set, emit, RuleData}
 use Rattle.crush_print.specs.Lines.{class_text}
 

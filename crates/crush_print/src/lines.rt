@@ -1,14 +1,13 @@
 //! The lines of a printed map.
 
 ghost use Rattle.std.specs.Prelude.{◌≡◌, [], ◌∷◌, ◌++◌, None, OnOk, flat_map, map};
-ghost use Rattle.crush_table.specs.ItemRows.{device_row, bucket_row};
+ghost use Rattle.crush_model.specs.ItemRows.{device_row, bucket_row};
 ghost use Rattle.crush_nodes.specs.Seen.{leaf_data, header_data, items_of, shadow_data};
 ghost use Rattle.crush_print.specs.Lines.{device_line, kind_line, item_line, class_id_line, bucket_head, bucket_choice, bucket_lines};
 ghost use Rattle.crush_print.specs.ItemsText.{item_lines};
 
-use crush_bytes::put_all;
 use crush_tree::{Bucket, Header, Leaf, Node, ShadowId};
-use crush_units::{ItemId, Weight};
+use crush_units::{ItemId, Weight, put_all};
 use itoa::Buffer;
 use std::alloc::{AllocError, Allocator};
 

@@ -2,10 +2,10 @@
 
 ghost use Rattle.std.specs.Prelude.{IfOk, ◌≡◌, List, ◌++◌, OnOk};
 ghost use Rattle.std.specs.Io.KnownBytes.{Keeps};
-ghost use Rattle.crush_table.specs.Stands.{Stands};
-ghost use Rattle.crush_table.specs.Table.{Row};
+ghost use Rattle.crush_model.specs.Stands.{Stands};
+ghost use Rattle.crush_model.specs.Table.{Row};
 ghost use Rattle.crush_print.specs.MapText.{map_text, SameTablesPrintAlike, TakenBucketsAreNamed};
-ghost use Rattle.crush_bytes.specs.Writes.{Writes};
+ghost use Rattle.crush_units.specs.Writes.{Writes};
 
 mod buckets;
 mod devices;
@@ -14,8 +14,8 @@ mod rules;
 mod tunables;
 
 use buckets::push_roots;
-use crush_bytes::{WriteFault, put};
 use crush_map::CrushMap;
+use crush_units::{WriteFault, put};
 use devices::push_devices;
 use kinds::push_kinds;
 use rules::push_rules;

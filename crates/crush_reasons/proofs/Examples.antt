@@ -2,21 +2,21 @@
 use Rattle.std.proofs.Common.{◌≡◌, ℕ, Bool, true, false, List, [], ◌∷◌, ◌++◌, refl}
 use Rattle.std.specs.Fmt.{digits}
 use Rattle.std.specs.Prelude.{None, codes}
-use Rattle.crush_table.specs.Table.{Row}
+use Rattle.crush_model.specs.Table.{Row}
 use Rattle.crush_edits.specs.declared.edit.Edit.TheVariants.{Insert, Move, Reweight, Remove, SetClass, Swap, Update}
 use Rattle.crush_edits.specs.declared.location.Pair.{Pair}
 use Rattle.crush_edits.specs.declared.refusal.Refusal.TheVariants.{AlreadyPlaced, BadLocation, InUse, Loop, NotEmpty, NoSuchItem, WrongType}
 use Rattle.crush_edits.specs.Setting.{SettingData, take, emit}
-use Rattle.crush_bytes.specs.Words.{split, up_to_long, words_in}
-use Rattle.crush_calls.specs.declared.call.Call.{Call}
-use Rattle.crush_calls.specs.declared.call.Call.TheVariants.{One, Batch, Guarded}
-use Rattle.crush_calls.specs.declared.call.Reply.{Reply}
-use Rattle.crush_calls.specs.declared.call.Reply.TheVariants.{Done, Dones, Refused, BatchRefused, Stale}
-use Rattle.crush_calls.specs.History.{EntryData}
-use Rattle.crush_calls.specs.HistoryText.{line_head, line_end}
+use Rattle.crush_units.specs.Words.{split, up_to_long, words_in}
+use Rattle.crush_history.specs.declared.call.Call.{Call}
+use Rattle.crush_history.specs.declared.call.Call.TheVariants.{One, Batch, Guarded}
+use Rattle.crush_history.specs.declared.call.Reply.{Reply}
+use Rattle.crush_history.specs.declared.call.Reply.TheVariants.{Done, Dones, Refused, BatchRefused, Stale}
+use Rattle.crush_history.specs.History.{EntryData}
+use Rattle.crush_history.specs.HistoryText.{line_head, line_end}
 use Rattle.crush_print.specs.MapText.{root_numbers}
-use Rattle.crush_view.specs.Tree.{step_at, steps_at, tree_rows, unplaced_numbers}
-use Rattle.crush_view.proofs.Examples.{example, setting}
+use Rattle.crush_print.specs.Tree.{step_at, steps_at, tree_rows, unplaced_numbers}
+use Rattle.crush_print.proofs.Examples.{example, setting}
 use Rattle.crush_script.specs.declared.fault.JobFault.TheVariants as job
 use Rattle.crush_text.specs.declared.fault.TextFaultKind.TheVariants.{Ended, UnknownType}
 use Rattle.crush_reasons.specs.Ceph.{ceph_heading, ceph_line, ceph_text, edits_for_ceph}

@@ -2,12 +2,12 @@
 use Rattle.std.proofs.Common.{◌≡◌, ℕ, ◌+◌, ◌<◌, List, [], ◌∷◌, ◌++◌, length, take, get_or, refl, subst, sym, ap, ◌∙◌, append_assoc, arith}
 use Rattle.std.proofs.lemmas.List.{append-nil, take_more, length-take-le}
 use Rattle.std.specs.Prelude.{slice_index_or}
-use Rattle.crush_table.specs.Stands.{Stands}
-use Rattle.crush_table.specs.Table.{Row}
+use Rattle.crush_model.specs.Stands.{Stands}
+use Rattle.crush_model.specs.Table.{Row}
 use Rattle.crush_map.specs.MapData.{MapData}
 use Rattle.crush_edits.specs.Setting.{SettingData}
-use Rattle.crush_calls.specs.declared.entry.Entry.{Entry}
-use Rattle.crush_calls.specs.History.{EntryData}
+use Rattle.crush_history.specs.declared.entry.Entry.{Entry}
+use Rattle.crush_history.specs.History.{EntryData}
 use Rattle.crush_reasons.specs.Explained.{AreExplained, explained_behind, explained_line}
 use Rattle.crush_reasons.specs.EditsLeft.{HeadData, entry_head}
 use Rattle.crush_reasons.specs.Replay.{changing_edits, history_edits, table_after_edits, table_after_entry}

@@ -1,16 +1,16 @@
 -- Behind the edits of a legal history stands the table after its calls.
 use Rattle.std.proofs.Common.{◌≡◌, ℕ, ◌==◌, Bool, true, false, List, [], ◌∷◌, cond, refl, sym, ap, ◌∙◌}
-use Rattle.crush_table.specs.Table.{Row}
+use Rattle.crush_model.specs.Table.{Row}
 use Rattle.crush_edits.specs.declared.edit.Edit.{Edit}
 use Rattle.crush_edits.specs.declared.refusal.Dones.{Dones}
 use Rattle.crush_edits.specs.Setting.{SettingData}
 use Rattle.crush_edits.specs.Answer.{Answer, refused, done}
 use Rattle.crush_edits.specs.Edit.{edit}
 use Rattle.crush_edits.specs.Batch.{BatchAnswer, batch_refused, batch_done, and_then, batch, batch_from, no_dones, with_done}
-use Rattle.crush_calls.specs.declared.call.Call.{Call}
-use Rattle.crush_calls.specs.declared.call.Call.TheVariants.{One, Batch, Guarded}
-use Rattle.crush_calls.specs.History.{Counted, EntryData, IsLegalBehind, batch_outcome, call_outcome, counted_after, edit_outcome, guarded_outcome, is_change, later, untouched}
-use Rattle.crush_calls.proofs.Unchanged.{no_change_keeps}
+use Rattle.crush_history.specs.declared.call.Call.{Call}
+use Rattle.crush_history.specs.declared.call.Call.TheVariants.{One, Batch, Guarded}
+use Rattle.crush_history.specs.History.{Counted, EntryData, IsLegalBehind, batch_outcome, call_outcome, counted_after, edit_outcome, guarded_outcome, is_change, later, untouched}
+use Rattle.crush_history.proofs.Unchanged.{no_change_keeps}
 use Rattle.crush_reasons.specs.Replay.{changing_edits, edits_of, history_edits, table_after_edit, table_after_edits}
 use Rattle.crush_reasons.specs.LawReplay.{LeadsToTableAfter}
 use Rattle.crush_reasons.proofs.Replays.{table-append}

@@ -8,9 +8,9 @@ use Rattle.std.specs.Str.{IsUtf8}
 use Rattle.crush_units.specs.declared.id.ItemId.{ItemId}
 use Rattle.crush_units.specs.declared.id.ItemId.TheVariants.{Device, Bucket}
 use Rattle.crush_units.proofs.Names.{are_name_bytes_utf8}
-use Rattle.crush_table.specs.Lawful.{IsRow}
-use Rattle.crush_table.specs.Table.{Row, id_named, is_there, row_named}
-use Rattle.crush_table.proofs.Tested.{bytes_equal}
+use Rattle.crush_model.specs.Lawful.{IsRow}
+use Rattle.crush_model.specs.Table.{Row, id_named, is_there, row_named}
+use Rattle.crush_model.proofs.Tested.{bytes_equal}
 use Rattle.crush_edits.specs.Stops.{bucket_named, number_of}
 use Rattle.crush_apply.proofs.Found.{there_by_name}
 

@@ -2,10 +2,10 @@
 use Rattle.std.proofs.Common.{◌≡◌, ℕ, ◌+◌, ◌<◌, List, [], ◌∷◌, ◌++◌, length, take, get_or, refl, sym, ap, ◌∙◌}
 use Rattle.std.proofs.lemmas.List.{append-nil, take_more}
 use Rattle.std.proofs.lemmas.List.Concat.{flat_map-append}
-use Rattle.crush_table.specs.Table.{Row}
+use Rattle.crush_model.specs.Table.{Row}
 use Rattle.crush_edits.specs.declared.edit.Edit.{Edit}
 use Rattle.crush_edits.specs.Setting.{SettingData}
-use Rattle.crush_calls.specs.declared.entry.Entry.{Entry}
+use Rattle.crush_history.specs.declared.entry.Entry.{Entry}
 use Rattle.crush_reasons.specs.Replay.{changing_edits, history_edits, table_after_edit, table_after_edits}
 
 -- the edits of two lists

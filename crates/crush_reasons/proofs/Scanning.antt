@@ -1,8 +1,8 @@
 -- The lines of written weights, one word further.
 use Rattle.std.proofs.Common.{◌≡◌, ℕ, Bool, true, false, List, [], ◌∷◌, ◌++◌, refl, ap, sym, ◌∙◌, append_assoc}
 use Rattle.std.specs.Prelude.{◌&&◌, bytes_eq, codes, if◌then◌else◌}
-use Rattle.crush_bytes.specs.Words.{Word, texts}
-use Rattle.crush_table.specs.Table.{Row}
+use Rattle.crush_units.specs.Words.{Word, texts}
+use Rattle.crush_model.specs.Table.{Row}
 use Rattle.crush_reasons.specs.Written.{IsNextWord, is_inside, item_line, item_lines}
 
 -- the line of the first of four words, and what is left behind it

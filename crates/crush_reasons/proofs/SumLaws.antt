@@ -12,14 +12,14 @@ use Rattle.std.proofs.lemmas.List.Sorted.{All-permutation, sum_by-IsPermutation}
 use Rattle.std.proofs.lemmas.List.Elements.{All-nil, All-cons, All-head, All-tail, All-append}
 use Rattle.crush_units.specs.declared.id.ItemId.TheVariants.{Bucket as BucketItem}
 use Rattle.crush_units.specs.Id.{same_id}
-use Rattle.crush_table.specs.Count.{one_if}
-use Rattle.crush_table.specs.Items.{BucketData, Items, none, device, bucket}
-use Rattle.crush_table.specs.Forest.{ForestData, all_items, join, OnlyDevices}
-use Rattle.crush_table.specs.Stands.{Stands}
-use Rattle.crush_table.specs.Table.{Row, item_weight, weight_of}
-use Rattle.crush_table.proofs.Found.{row_of-absent}
-use Rattle.crush_table.proofs.Reorder.{reordered-sum}
-use Rattle.crush_table.proofs.Sums.{buckets, buckets-rows}
+use Rattle.crush_model.specs.Count.{one_if}
+use Rattle.crush_model.specs.Items.{BucketData, Items, none, device, bucket}
+use Rattle.crush_model.specs.Forest.{ForestData, all_items, join, OnlyDevices}
+use Rattle.crush_model.specs.Stands.{Stands}
+use Rattle.crush_model.specs.Table.{Row, item_weight, weight_of}
+use Rattle.crush_model.proofs.Found.{row_of-absent}
+use Rattle.crush_model.proofs.Reorder.{reordered-sum}
+use Rattle.crush_model.proofs.Sums.{buckets, buckets-rows}
 use Rattle.crush_nodes.specs.Seen.{items_of}
 use Rattle.crush_nodes.specs.declared.node.Node.{Node}
 use Rattle.crush_nodes.specs.declared.node.Node.TheVariants.{Bucket}

@@ -2,10 +2,10 @@
 use Rattle.std.specs.Prelude.{◌≡◌, ℕ, ◌+◌, ◌==◌, Bool, List, [], Option, None, Some, drop, if◌then◌else◌, length, map, nat_lt, set, slice_index_or}
 use Rattle.std.specs.List.{sum_by}
 use Rattle.std.specs.Option.{option_map_or}
-use Rattle.crush_calls.specs.declared.call.Reply.{Reply}
-use Rattle.crush_calls.specs.declared.call.Reply.TheVariants.{BatchRefused}
-use Rattle.crush_calls.specs.History.{EntryData}
-use Rattle.crush_calls.specs.Refused.{refusals}
+use Rattle.crush_history.specs.declared.call.Reply.{Reply}
+use Rattle.crush_history.specs.declared.call.Reply.TheVariants.{BatchRefused}
+use Rattle.crush_history.specs.History.{EntryData}
+use Rattle.crush_history.specs.Refused.{refusals}
 use Rattle.crush_reasons.specs.declared.edits_left.EditPlace.{EditPlace}
 use Rattle.crush_reasons.specs.declared.edits_left.EditsLeft.{EditsLeft}
 use Rattle.crush_reasons.specs.declared.explained.EntryHead.{EntryHead}

@@ -1,18 +1,18 @@
 -- The lines of the entries that were refused, with reasons.
 use Rattle.std.specs.Prelude.{◌≡◌, ℕ, ◌+◌, Bool, List, [], ◌∷◌, ◌++◌, codes, decimal, drop, if◌then◌else◌, nat_lt, slice_index_or, take}
-use Rattle.crush_table.specs.Stands.{Stands}
-use Rattle.crush_table.specs.Table.{Row}
+use Rattle.crush_model.specs.Stands.{Stands}
+use Rattle.crush_model.specs.Table.{Row}
 use Rattle.crush_map.specs.MapData.{MapData}
 use Rattle.crush_edits.specs.declared.edit.Edit.{Edit}
 use Rattle.crush_edits.specs.declared.refusal.Refusal.{Refusal}
 use Rattle.crush_edits.specs.Setting.{SettingData}
-use Rattle.crush_calls.specs.declared.call.Call.{Call}
-use Rattle.crush_calls.specs.declared.call.Call.TheVariants.{One, Batch, Guarded}
-use Rattle.crush_calls.specs.declared.call.Reply.{Reply}
-use Rattle.crush_calls.specs.declared.call.Reply.TheVariants.{Refused, BatchRefused, Stale}
-use Rattle.crush_calls.specs.History.{EntryData}
-use Rattle.crush_calls.specs.HistoryText.{edit_text, entry_text}
-use Rattle.crush_calls.specs.Refused.{is_refused}
+use Rattle.crush_history.specs.declared.call.Call.{Call}
+use Rattle.crush_history.specs.declared.call.Call.TheVariants.{One, Batch, Guarded}
+use Rattle.crush_history.specs.declared.call.Reply.{Reply}
+use Rattle.crush_history.specs.declared.call.Reply.TheVariants.{Refused, BatchRefused, Stale}
+use Rattle.crush_history.specs.History.{EntryData}
+use Rattle.crush_history.specs.HistoryText.{edit_text, entry_text}
+use Rattle.crush_history.specs.Refused.{is_refused}
 use Rattle.crush_reasons.specs.EditLines.{job_edits}
 use Rattle.crush_reasons.specs.EditsLeft.{HeadData, entry_head, head_in}
 use Rattle.crush_reasons.specs.Named.{edit_reason}

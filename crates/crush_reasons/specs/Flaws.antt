@@ -1,7 +1,7 @@
 -- What is told of a flaw of a map's text: what was wanted, by what stands at its place and before it.
 use Rattle.std.specs.Prelude.{ℕ, ◌-◌, ◌==◌, Bool, true, false, ◌&&◌, List, [], ◌∷◌, ◌++◌, bytes_eq, codes, decimal, drop, if◌then◌else◌, is_some, length, take}
 use Rattle.std.specs.List.{list_all}
-use Rattle.crush_bytes.specs.Words.{Word, is_blank, words}
+use Rattle.crush_units.specs.Words.{Word, is_blank, words}
 use Rattle.crush_text.specs.declared.fault.TextFaultKind.{TextFaultKind}
 use Rattle.crush_text.specs.declared.fault.TextFaultKind.TheVariants as text
 use Rattle.crush_reasons.specs.declared.wanted.InLine.{InLine}

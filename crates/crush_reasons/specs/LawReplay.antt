@@ -1,8 +1,8 @@
 -- The law of the edits that changed a map.
 use Rattle.std.specs.Prelude.{◌≡◌, List}
-use Rattle.crush_table.specs.Table.{Row}
+use Rattle.crush_model.specs.Table.{Row}
 use Rattle.crush_edits.specs.Setting.{SettingData}
-use Rattle.crush_calls.specs.History.{EntryData, IsLegal, table_after}
+use Rattle.crush_history.specs.History.{EntryData, IsLegal, table_after}
 use Rattle.crush_reasons.specs.Replay.{history_edits, table_after_edits}
 
 -- AT ITS POINT: the edits of a legal history lead to the table after its calls, and so those of each beginning of it to the table

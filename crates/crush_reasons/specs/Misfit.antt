@@ -7,7 +7,7 @@ use Rattle.crush_units.specs.Weight.{are_digits, weight_of_text}
 use Rattle.crush_units.specs.declared.weight.WeightFault.{WeightFault}
 use Rattle.crush_units.specs.declared.weight.WeightFault.TheVariants.{Syntax, TooLarge}
 use Rattle.crush_units.specs.declared.limits.TheConstants.{LAST_DEVICE_ID, MOST_PAIRS}
-use Rattle.crush_bytes.specs.Numbers.{is_number}
+use Rattle.crush_units.specs.Numbers.{is_number}
 use Rattle.crush_reasons.specs.declared.forms.Form.{Form}
 use Rattle.crush_reasons.specs.declared.forms.Due.{Due}
 use Rattle.crush_reasons.specs.declared.forms.Due.TheVariants as due

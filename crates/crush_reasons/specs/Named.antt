@@ -1,13 +1,13 @@
 -- What is told of a refused edit: the name that was in its way on the map that refused it, and what was wanted of it.
 use Rattle.std.specs.Prelude.{Bool, List, ◌++◌, ℕ, Option, None, Some, codes, option_and_then}
-use Rattle.crush_table.specs.Table.{Row}
+use Rattle.crush_model.specs.Table.{Row}
 use Rattle.crush_edits.specs.declared.edit.Edit.{Edit}
 use Rattle.crush_edits.specs.declared.edit.Edit.TheVariants.{SetClass, RemoveClass}
 use Rattle.crush_edits.specs.declared.refusal.Refusal.{Refusal}
 use Rattle.crush_edits.specs.declared.refusal.Refusal.TheVariants as refusal
 use Rattle.crush_edits.specs.Setting.{SettingData}
 use Rattle.crush_edits.specs.Stops.{bucket_named}
-use Rattle.crush_apply.specs.Blamed.{blamed}
+use Rattle.crush_apply.specs.Culprit.{culprit}
 use Rattle.crush_reasons.specs.Sentences.{refusal_sentence}
 use Rattle.crush_reasons.specs.Way.{absent_reason, bound_said, class_named, held_count, held_said, holder_name, location_of, loop_reason, moved_name, placed_said, taken_reason, taking_rule, type_reason}
 
@@ -53,4 +53,4 @@ reason_of looks s t e n refusal.WrongType = type_reason s t (location_of e) n
 reason_of looks s t e n r = named_or n (said_by e r) (refusal_sentence r)
 
 abbrev pub edit_reason : Bool → SettingData → List Row → Edit → Refusal → List ℕ
-edit_reason looks s t e r = reason_of looks s t e (blamed s t e r) r
+edit_reason looks s t e r = reason_of looks s t e (culprit s t e r) r

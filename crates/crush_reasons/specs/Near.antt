@@ -2,8 +2,8 @@
 use Rattle.std.specs.Prelude.{ℕ, ◌+◌, ◌==◌, ◌||◌, List, [], ◌∷◌, Option, None, Bool, false, bytes_eq, drop, find, if◌then◌else◌}
 use Rattle.std.specs.Option.{option_map}
 use Rattle.std.specs.Str.{str_eq_ignore_ascii_case}
-use Rattle.crush_table.specs.Table.{Row}
-use Rattle.crush_view.specs.Tree.{StepData, tree_rows}
+use Rattle.crush_model.specs.Table.{Row}
+use Rattle.crush_print.specs.Tree.{StepData, tree_rows}
 
 -- whether two names begin with the same letter
 abbrev pub same_heads : List ℕ → List ℕ → Bool

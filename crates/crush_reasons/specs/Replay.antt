@@ -1,12 +1,12 @@
 -- The edits of a history that changed the map, made once more on a copy of the map before it.
 use Rattle.std.specs.Prelude.{List, [], ◌∷◌, if◌then◌else◌, flat_map}
-use Rattle.crush_table.specs.Table.{Row}
+use Rattle.crush_model.specs.Table.{Row}
 use Rattle.crush_edits.specs.declared.edit.Edit.{Edit}
 use Rattle.crush_edits.specs.Edit.{edit}
 use Rattle.crush_edits.specs.Setting.{SettingData}
-use Rattle.crush_calls.specs.declared.call.Call.{Call}
-use Rattle.crush_calls.specs.declared.call.Call.TheVariants.{One, Batch, Guarded}
-use Rattle.crush_calls.specs.History.{EntryData, edit_outcome, is_change}
+use Rattle.crush_history.specs.declared.call.Call.{Call}
+use Rattle.crush_history.specs.declared.call.Call.TheVariants.{One, Batch, Guarded}
+use Rattle.crush_history.specs.History.{EntryData, edit_outcome, is_change}
 
 -- the edits of a call, in order
 abbrev pub edits_of : Call → List Edit

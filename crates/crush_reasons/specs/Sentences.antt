@@ -1,7 +1,7 @@
 -- What is told of a fault or a refusal: what was wanted, in an operator's words. RULES.md has the same sentences.
 use Rattle.std.specs.Prelude.{ℕ, List, [], codes}
-use Rattle.crush_calls.specs.declared.call.Reply.{Reply}
-use Rattle.crush_calls.specs.declared.call.Reply.TheVariants.{Done, Dones, Refused, BatchRefused, Stale}
+use Rattle.crush_history.specs.declared.call.Reply.{Reply}
+use Rattle.crush_history.specs.declared.call.Reply.TheVariants.{Done, Dones, Refused, BatchRefused, Stale}
 use Rattle.crush_edits.specs.declared.refusal.Refusal.{Refusal}
 use Rattle.crush_edits.specs.declared.refusal.Refusal.TheVariants as refusal
 use Rattle.crush_script.specs.declared.fault.JobFault.{JobFault}

@@ -4,10 +4,10 @@ use Rattle.std.specs.List.{count_by, sum_by}
 use Rattle.std.specs.List.Sorted.{IsNonDecreasingBy}
 use Rattle.crush_units.specs.Id.{same_id}
 use Rattle.crush_units.specs.declared.id.ItemId.TheVariants.{Bucket}
-use Rattle.crush_table.specs.Count.{one_if}
-use Rattle.crush_table.specs.Items.{Items, none, device, bucket}
-use Rattle.crush_table.specs.Stands.{Stands}
-use Rattle.crush_table.specs.Table.{Row, weight_of}
+use Rattle.crush_model.specs.Count.{one_if}
+use Rattle.crush_model.specs.Items.{Items, none, device, bucket}
+use Rattle.crush_model.specs.Stands.{Stands}
+use Rattle.crush_model.specs.Table.{Row, weight_of}
 use Rattle.crush_reasons.specs.declared.sums.Sum.{Sum}
 use Rattle.crush_reasons.specs.declared.sums.SummedMap.{SummedMap}
 

@@ -1,7 +1,7 @@
 -- Which word of a map's text is wanted behind others that are right, and which statement it belongs to.
 use Rattle.std.specs.Prelude.{ℕ, Bool, true, false, ◌||◌, not, List, [], ◌∷◌, bytes_eq, codes, if◌then◌else◌, nat_eq, take}
 use Rattle.std.specs.List.{starts_with}
-use Rattle.crush_bytes.specs.Words.{Word, words}
+use Rattle.crush_units.specs.Words.{Word, words}
 use Rattle.crush_reasons.specs.declared.wanted.Going.{Going}
 use Rattle.crush_reasons.specs.declared.wanted.InLine.{InLine}
 use Rattle.crush_reasons.specs.declared.wanted.InLine.TheVariants as line

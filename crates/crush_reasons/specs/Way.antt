@@ -3,7 +3,7 @@ use Rattle.std.specs.Prelude.{ℕ, ◌==◌, List, [], ◌++◌, Option, None, S
 use Rattle.std.specs.List.{list_any}
 use Rattle.std.specs.Option.{option_map, option_map_or}
 use Rattle.crush_units.specs.declared.id.ItemId.TheVariants.{Bucket}
-use Rattle.crush_table.specs.Table.{Row, class_of, id_named, kids, kind_of, member, name_of, parent_of}
+use Rattle.crush_model.specs.Table.{Row, class_of, id_named, kids, kind_of, member, name_of, parent_of}
 use Rattle.crush_edits.specs.declared.edit.Edit.{Edit}
 use Rattle.crush_edits.specs.declared.edit.Edit.TheVariants.{Insert, CreateOrMove, Update, Move}
 use Rattle.crush_edits.specs.declared.location.Pair.{Pair}

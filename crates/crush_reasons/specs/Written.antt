@@ -5,9 +5,9 @@ use Rattle.crush_units.specs.declared.id.ItemId.TheVariants.{Device, Bucket}
 use Rattle.crush_units.specs.declared.weight.WeightFault.{WeightFault}
 use Rattle.crush_units.specs.Weight.{weight_of_text, weight_text}
 use Rattle.std.specs.List.{list_any}
-use Rattle.crush_bytes.specs.Words.{Word, texts, words}
+use Rattle.crush_units.specs.Words.{Word, texts, words}
 use Rattle.crush_script.specs.Lines.{line_feeds}
-use Rattle.crush_table.specs.Table.{Row, id_named, weight_of}
+use Rattle.crush_model.specs.Table.{Row, id_named, weight_of}
 use Rattle.crush_reasons.specs.declared.written.Scan.{Scan}
 
 -- what is told behind a weight that was written

@@ -2,16 +2,16 @@
 
 ghost use Rattle.std.specs.Prelude.{◌≡◌, ◌∷◌, [], ◌≤◌, ◌<◌, ◌^◌, ◌++◌, List, IfOk, OnOk, codes, length};
 ghost use Rattle.crush_units.specs.declared.limits.TheConstants.{MOST_EDITS};
-ghost use Rattle.crush_table.specs.Stands.{Stands};
-ghost use Rattle.crush_table.specs.Table.{Row};
-ghost use Rattle.crush_calls.specs.HistoryText.{edit_text};
+ghost use Rattle.crush_model.specs.Stands.{Stands};
+ghost use Rattle.crush_model.specs.Table.{Row};
+ghost use Rattle.crush_history.specs.HistoryText.{edit_text};
 ghost use Rattle.crush_reasons.specs.Ceph.{AreTold, added, assent, ceph_heading, ceph_line, ceph_text, edit_for_ceph, sets_unplaced};
 ghost use Rattle.crush_reasons.specs.Replay.{changing_edits, history_edits};
 
 use crate::replay::{changing_edits, make_edit};
 use crate::words::push_all;
-use crush_calls::{Entry, write_edit};
 use crush_edits::Edit;
+use crush_history::{Entry, write_edit};
 use crush_map::CrushMap;
 use crush_units::ItemId;
 use itoa::Buffer;

@@ -7,7 +7,7 @@ ghost use Rattle.crush_reasons.specs.EditsLeft.{head_left, left_behind, line_pla
 use crate::locates::Locates;
 use crate::place::{Origin, push_command_head};
 use crate::replay::edits_of;
-use crush_calls::{Entry, Reply};
+use crush_history::{Entry, Reply};
 use std::alloc::{AllocError, Global};
 
 #[derive(Clone, Copy)]

@@ -1,12 +1,12 @@
 //! The lines of the entries that were refused, with reasons.
 
 ghost use Rattle.std.specs.Prelude.{◌≡◌, ◌<◌, ◌^◌, ◌++◌, List, [], IfOk, OnOk, drop, length, map as each, take};
-ghost use Rattle.crush_table.specs.Stands.{Stands};
-ghost use Rattle.crush_table.specs.Table.{Row};
-ghost use Rattle.crush_calls.specs.Entries.{AreOf};
-ghost use Rattle.crush_calls.specs.HistoryText.{names_of, line_text};
-ghost use Rattle.crush_calls.specs.Script.{scripts_data};
-ghost use Rattle.crush_calls.specs.HistoryText.{edit_text};
+ghost use Rattle.crush_model.specs.Stands.{Stands};
+ghost use Rattle.crush_model.specs.Table.{Row};
+ghost use Rattle.crush_history.specs.Entries.{AreOf};
+ghost use Rattle.crush_history.specs.HistoryText.{names_of, line_text};
+ghost use Rattle.crush_history.specs.Script.{scripts_data};
+ghost use Rattle.crush_history.specs.HistoryText.{edit_text};
 ghost use Rattle.crush_reasons.specs.Explained.{AreExplained, batched_reason, call_reason, explained_behind, explained_job, explained_line, explained_text, first_reason, refused_reason, so_far, stale_reason, too_high};
 ghost use Rattle.crush_reasons.specs.EditsLeft.{head_data, head_in};
 ghost use Rattle.crush_reasons.specs.Shown.{reason_line};
@@ -20,8 +20,10 @@ use crate::near::MOST_LOOKS;
 use crate::replay::{make_edits, make_entry};
 use crate::sentences::{STALE, refusal_sentence, reply_sentence};
 use crate::words::push_all;
-use crush_calls::{Call, Entry, Reply, Script, is_refused, operator_name, write_edit, write_entry};
 use crush_edits::{Edit, Refusal};
+use crush_history::{
+    Call, Entry, Reply, Script, is_refused, operator_name, write_edit, write_entry,
+};
 use crush_map::CrushMap;
 use itoa::Buffer;
 use std::alloc::{AllocError, Global};
@@ -241,7 +243,7 @@ fn push_made(
 fn push_entries<O: Locates>(
     alloc: Global,
     map: &mut CrushMap<Global>,
-    told: &ToldOf<'_, O>,
+    told: &Subject<'_, O>,
     entries: &[Entry],
     text: &mut Vec<u8>,
 ) -> Result<(), AllocError>
@@ -272,7 +274,7 @@ fn push_entries<O: Locates>(
 }
 
 #[derive(Clone, Copy)]
-struct ToldOf<'a, O> {
+struct Subject<'a, O> {
     scripts: &'a [Script],
     sections: &'a [Vec<usize>],
     origins: &'a O,
@@ -299,7 +301,7 @@ pub fn explained_job<O: Locates>(
         (names_of (scripts_data scripts.now)) entries.now) }
 {
     let sections = job_edits(alloc, job.bytes)?;
-    let told = ToldOf {
+    let told = Subject {
         scripts,
         sections: sections.as_slice(),
         origins: job.origins,
@@ -319,7 +321,7 @@ pub fn explained_text(
     ensures { IfOk result (λ text. (t : List Row) → Stands opening.forest t → text.items
         ≡ explained_text opening.setting t (names_of (scripts_data scripts.now)) 1 entries.now) }
 {
-    let told = ToldOf {
+    let told = Subject {
         scripts,
         sections: &[],
         origins: &Nowhere,
@@ -330,7 +332,7 @@ pub fn explained_text(
 fn explained<O: Locates>(
     alloc: Global,
     opening: CrushMap<Global>,
-    told: &ToldOf<'_, O>,
+    told: &Subject<'_, O>,
     entries: &[Entry],
 ) -> Result<Vec<u8>, AllocError>
     requires few { length entries.now < 2 ^ 32 }

@@ -2,7 +2,7 @@
 
 ghost use Rattle.std.specs.Prelude.{◌≡◌, ◌++◌, ◌<◌, ◌^◌, OnOk, codes, drop, length};
 ghost use Rattle.std.specs.List.{list_all};
-ghost use Rattle.crush_bytes.specs.Words.{is_blank, words};
+ghost use Rattle.crush_units.specs.Words.{is_blank, words};
 ghost use Rattle.crush_reasons.specs.Flaws.{bad_word, begins_at, begins_line, bucket_wanted, first_of, flaw_place, flaw_reason, flaw_sentence, inside, is_command, is_open, left_out, line_wanted, no_word, open_text, range_text, rule_wanted, step_wanted, two_of, unclosed, unexpected, unknown_type, wanted_text, word_at};
 ghost use Rattle.crush_reasons.specs.Place.{origin_data};
 
@@ -11,8 +11,8 @@ use crate::place::{Origin, behind_feed, last_line};
 use crate::sentences::text_sentence;
 use crate::wanted::{Going, InBucket, InLine, InRule, InStep, Wanted, going_at};
 use crate::words::{from_place, next_placed, push_all, push_bytes, up_to};
-use crush_bytes::Reader;
 use crush_text::{TextFault, TextFaultKind};
+use crush_units::Reader;
 use itoa::Buffer;
 use std::alloc::AllocError;
 

@@ -9,9 +9,9 @@ ghost use Rattle.crush_reasons.specs.Misfit.{bare, device_meant, digits_of, is_l
 use crate::forms::{Due, after, first_due, form_of, form_text, is_weight};
 use crate::shown::push_told;
 use crate::words::{push_all, push_bytes};
-use crush_bytes::number::number_up_to;
 use crush_script::LineWords;
 use crush_units::limits::{LAST_DEVICE_ID, MOST_PAIRS};
+use crush_units::number::number_up_to;
 use crush_units::{Weight, WeightFault, is_name};
 use itoa::Buffer;
 use std::alloc::AllocError;

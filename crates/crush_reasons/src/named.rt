@@ -1,8 +1,8 @@
 //! What was wanted of the name that was in a refused edit's way.
 
 ghost use Rattle.std.specs.Prelude.{◌≡◌, ◌++◌, List, None, OnOk, Some, MatchOption};
-ghost use Rattle.crush_table.specs.Stands.{Stands};
-ghost use Rattle.crush_table.specs.Table.{Row};
+ghost use Rattle.crush_model.specs.Stands.{Stands};
+ghost use Rattle.crush_model.specs.Table.{Row};
 ghost use Rattle.crush_reasons.specs.Named.{edit_reason, named_or, reason_of, said_by, said_of, said_of_class};
 ghost use Rattle.crush_reasons.specs.Sentences.{refusal_sentence};
 
@@ -113,6 +113,6 @@ pub(crate) fn push_edit_reason(
     ensures { OnOk result ((t : List Row) → Stands map.now.forest t → text.new.items
         ≡ text.old.items ++ edit_reason looks map.now.setting t edit.now refusal) }
 {
-    let name = map.blamed(edit, refusal);
+    let name = map.culprit(edit, refusal);
     push_reason_of(alloc, looks, map, edit, name, refusal, text)
 }

@@ -3,14 +3,14 @@
 ghost use Rattle.std.specs.Prelude.{◌≡◌, ◌≤◌, ◌<◌, List, IfOk, IsTrue, drop, length, map as each};
 ghost use Rattle.std.specs.Option.{option_map};
 ghost use Rattle.std.specs.Str.{str_eq_ignore_ascii_case};
-ghost use Rattle.crush_table.specs.Stands.{Stands};
-ghost use Rattle.crush_table.specs.Table.{Row};
-ghost use Rattle.crush_view.specs.SeenStep.{step_data};
+ghost use Rattle.crush_model.specs.Stands.{Stands};
+ghost use Rattle.crush_model.specs.Table.{Row};
+ghost use Rattle.crush_print.specs.SeenStep.{step_data};
 ghost use Rattle.crush_reasons.specs.Near.{first_near, is_near, is_one_off, near_if, near_name, same_heads, shared};
 
 use crate::words::from_place;
 use crush_map::CrushMap;
-use crush_view::{Step, walk};
+use crush_print::{Step, walk};
 use std::alloc::{AllocError, Global};
 
 /// The first refused entries for which near names are looked for: each look is at all names, and up

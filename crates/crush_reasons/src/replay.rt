@@ -2,13 +2,13 @@
 
 ghost use Rattle.std.specs.Prelude.{◌≡◌, ◌≤◌, List, OnOk, length};
 ghost use Rattle.crush_units.specs.declared.limits.TheConstants.{MOST_EDITS};
-ghost use Rattle.crush_table.specs.Stands.{Stands};
-ghost use Rattle.crush_table.specs.Table.{Row};
+ghost use Rattle.crush_model.specs.Stands.{Stands};
+ghost use Rattle.crush_model.specs.Table.{Row};
 ghost use Rattle.crush_reasons.specs.LawReplay.{LeadsToTableAfter};
 ghost use Rattle.crush_reasons.specs.Replay.{changing_edits, edits_of, table_after_edit, table_after_edits, table_after_entry};
 
-use crush_calls::{Call, Entry, is_change};
 use crush_edits::{Edit, EditFault};
+use crush_history::{Call, Entry, is_change};
 use crush_map::CrushMap;
 use std::alloc::{AllocError, Global};
 use std::slice;

@@ -3,8 +3,8 @@
 ghost use Rattle.std.specs.Prelude.{◌≡◌};
 ghost use Rattle.crush_reasons.specs.Sentences.{job_sentence, refusal_sentence, reply_sentence, stale_sentence, text_sentence};
 
-use crush_calls::Reply;
 use crush_edits::Refusal;
+use crush_history::Reply;
 use crush_script::JobFault;
 use crush_text::TextFaultKind;
 

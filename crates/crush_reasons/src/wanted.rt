@@ -2,11 +2,11 @@
 
 ghost use Rattle.std.specs.Prelude.{◌≡◌, codes, nat_eq};
 ghost use Rattle.std.specs.List.{starts_with};
-ghost use Rattle.crush_bytes.specs.Words.{words};
+ghost use Rattle.crush_units.specs.Words.{words};
 ghost use Rattle.crush_reasons.specs.Wanted.{begins, begins_line, begun_behind, behind, further, going_at, in_bucket, in_line, in_rule, in_step, item_or_end, max_or_step, nothing_yet, one_further, opened, step_begun, step_or_end};
 
 use crate::words::{next_placed, up_to};
-use crush_bytes::Reader;
+use crush_units::Reader;
 
 /// A word of a tunable, a type or a device.
 #[derive(Clone, Copy)]

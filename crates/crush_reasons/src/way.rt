@@ -3,8 +3,8 @@
 ghost use Rattle.std.specs.Prelude.{◌≡◌, ◌++◌, List, OnOk, find, map as each, option_and_then};
 ghost use Rattle.std.specs.List.{list_any};
 ghost use Rattle.std.specs.Option.{option_copied, option_map};
-ghost use Rattle.crush_table.specs.Stands.{Stands};
-ghost use Rattle.crush_table.specs.Table.{Row, id_named, kind_of, member};
+ghost use Rattle.crush_model.specs.Stands.{Stands};
+ghost use Rattle.crush_model.specs.Table.{Row, id_named, kind_of, member};
 ghost use Rattle.crush_edits.specs.Setting.{bucket_taken, kind_name};
 ghost use Rattle.crush_edits.specs.SettingSeen.{rule_data, step_data};
 ghost use Rattle.crush_edits.specs.Stops.{bucket_named};

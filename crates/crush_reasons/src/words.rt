@@ -3,7 +3,7 @@
 ghost use Rattle.std.specs.Prelude.{◌≡◌, ◌≤◌, ◌++◌, ◌∷◌, [], MatchOption, OnOk, drop, flat_map, length, take};
 ghost use Rattle.crush_reasons.specs.Shown.{reason_line};
 
-use crush_bytes::{Reader, Token, put_all};
+use crush_units::{Reader, Token, put_all};
 use std::alloc::AllocError;
 
 pub(crate) fn push_all(parts: &[&[u8]], text: &mut Vec<u8>) -> Result<(), AllocError>

@@ -3,17 +3,16 @@
 ghost use Rattle.std.specs.Prelude.{◌≡◌, ◌<◌, ◌==◌, ◌∷◌, ◌++◌, List, [], IfOk, IsTrue, MatchOption, OnOk, bytes_eq, if◌then◌else◌, length};
 ghost use Rattle.std.specs.List.{list_any};
 ghost use Rattle.crush_units.specs.Weight.{weight_of_text};
-ghost use Rattle.crush_table.specs.Stands.{Stands};
-ghost use Rattle.crush_table.specs.Table.{Row, id_named};
+ghost use Rattle.crush_model.specs.Stands.{Stands};
+ghost use Rattle.crush_model.specs.Table.{Row, id_named};
 ghost use Rattle.crush_reasons.specs.Sums.{IsSummed};
 ghost use Rattle.crush_reasons.specs.Written.{IsNextWord, bucket_sum, first_line, is_inside, item_line, line_of_sum, line_of_weight, lines_left, sum_told, unequal_line, has_returns_alone, returns_text, weights_text, written_text};
 
 use crate::sums::SummedMap;
 use crate::words::push_all;
-use crush_bytes::{Reader, Token};
 use crush_map::CrushMap;
 use crush_script::line_feeds;
-use crush_units::{ItemId, Weight};
+use crush_units::{ItemId, Reader, Token, Weight};
 use std::alloc::{AllocError, Global};
 
 fn is(word: &[u8], key: &[u8]) -> bool

@@ -4,10 +4,10 @@ use Rattle.std.proofs.lemmas.List.{get_or_past}
 use mathlib.Core.Logic.{dite}
 use native.Mathlib.Decide.{dec_le}
 use Rattle.crush_map.specs.MapData.{MapData}
-use Rattle.crush_calls.specs.Script.{scripts_data}
-use Rattle.crush_calls.specs.declared.script.Script.{Script}
-use Rattle.crush_calls.specs.History.{EntryData}
-use Rattle.crush_calls.specs.Turns.{calls_at, calls_of}
+use Rattle.crush_history.specs.Script.{scripts_data}
+use Rattle.crush_history.specs.declared.script.Script.{Script}
+use Rattle.crush_history.specs.History.{EntryData}
+use Rattle.crush_history.specs.Turns.{calls_at, calls_of}
 use Rattle.crush_editor.specs.Seat.{SeatData, seat_data, slips_of, IsHistoryOfSeats}
 use Rattle.crush_run.specs.Script.{Carries}
 

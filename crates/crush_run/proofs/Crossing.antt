@@ -12,14 +12,14 @@ use Rattle.std.proofs.Crossing.{crosses}
 use Rattle.std.specs.contracts.alloc.Global as Global
 use Rattle.std.specs.contracts.impls.GlobalAllocator.TheImpl as GlobalImpl
 use Rattle.std.specs.declared.sync.ledger.Ledger as Ledger
-use Rattle.crush_calls.specs.contracts.call.Call as Call
+use Rattle.crush_history.specs.contracts.call.Call as Call
 use Rattle.std.specs.contracts.vec.Vec as Vec
-use Rattle.crush_calls.proofs.call.Call.TheSendSync.{the_send as call_send}
+use Rattle.crush_history.proofs.call.Call.TheSendSync.{the_send as call_send}
 use Rattle.crush_editor.specs.declared.locked.Desk as Desk
 use Rattle.crush_editor.specs.contracts.locked.Seat as Seat
 use Rattle.crush_editor.specs.contracts.editor.Editor as Editor
 use Rattle.crush_editor.proofs.locked.Seat.TheSendSync.{the_send as seat_send}
-use Rattle.crush_editor.specs.contracts.opening.Unkept as Unkept
+use Rattle.crush_editor.specs.contracts.opening.WithoutSnapshot as WithoutSnapshot
 use Rattle.crush_editor.specs.declared.opening.Opening as Opening
 use Rattle.crush_editor.proofs.Sharing.{unkept_editor_sync}
 
@@ -27,13 +27,13 @@ use Rattle.crush_editor.proofs.Sharing.{unkept_editor_sync}
 alloc_sent : IsSend Global.the_row
 alloc_sent = search (sendable, crosses) depth 20
 
-module _ (R G N : RattleType) (g : Desk.Ghosts N.Denot) (l : Ledger.Ghosts N.Denot) (o : Opening.Ghosts Unkept.the_row.Denot) (a b c : NamedLft) where
+module _ (R G N : RattleType) (g : Desk.Ghosts N.Denot) (l : Ledger.Ghosts N.Denot) (o : Opening.Ghosts WithoutSnapshot.the_row.Denot) (a b c : NamedLft) where
   -- what a worker's closure owns: the handle, memory, the editor, the gate, the seat and the calls
   abbrev pub owned : List RattleType
-  owned = (shr_ref_field a (param 2 R) tt).row ∷ Global.the_row ∷ (shr_ref_field b (Editor.the_row (param 0 N) Unkept.the_row g l o) tt).row
+  owned = (shr_ref_field a (param 2 R) tt).row ∷ Global.the_row ∷ (shr_ref_field b (Editor.the_row (param 0 N) WithoutSnapshot.the_row g l o) tt).row
       ∷ (shr_ref_field c (param 1 G) tt).row ∷ Seat.the_row (param 0 N) g l ∷ Vec.the_row Call.the_row Global.the_row GlobalImpl.ghosts ∷ []
 
-  editor_shared : IsSync (Editor.the_row (param 0 N) Unkept.the_row g l o)
+  editor_shared : IsSync (Editor.the_row (param 0 N) WithoutSnapshot.the_row g l o)
   editor_shared = unkept_editor_sync (param 0 N) g l o
 
   calls_sent : IsSend (Vec.the_row Call.the_row Global.the_row GlobalImpl.ghosts)

@@ -1,10 +1,10 @@
 -- Faults that come before there is a history, and what is noted of them.
 use Rattle.std.proofs.Common.{◌≡◌, ℕ, Bool, List, [], Option, Result, Err}
-use Rattle.crush_table.specs.Table.{Row}
+use Rattle.crush_model.specs.Table.{Row}
 use Rattle.crush_edits.specs.Setting.{SettingData}
-use Rattle.crush_calls.specs.History.{EntryData}
+use Rattle.crush_history.specs.History.{EntryData}
 use Rattle.crush_options.specs.declared.asked.Mode.{Mode}
-use Rattle.crush_input.specs.declared.asked.Asked.{Asked}
+use Rattle.crush_input.specs.declared.output.Output.{Output}
 use Rattle.crush_input.specs.declared.fault.RunFault.{RunFault}
 use Rattle.crush_input.specs.declared.fault.RunFault.TheVariants as run
 use Rattle.crush_input.specs.Notes.{HistoryNoted, IsFaultNoted, IsNoMake, IsNoted, IsStrict, TextData}
@@ -49,7 +49,7 @@ pub early_make : {X : Type 0} (no_make : Bool) (h : List EntryData) (r : Result 
 early_make {X = X} no_make h r f is early = rw is (make_of_early X no_make h f early)
 
 -- nor is one of names that the map doesn't have
-found_of_early : (X : Type 0) (what : Asked) (s : SettingData) (t : List Row) (f : RunFault) → IsEarlyFault f → IsFound {X = X} what s t (Err f)
+found_of_early : (X : Type 0) (what : Output) (s : SettingData) (t : List Row) (f : RunFault) → IsEarlyFault f → IsFound {X = X} what s t (Err f)
 found_of_early X what s t (run.Job j) early = tt
 found_of_early X what s t run.Read early = tt
 found_of_early X what s t run.Write early = absurd early
@@ -62,7 +62,7 @@ found_of_early X what s t run.NoItem early = absurd early
 found_of_early X what s t run.NoType early = absurd early
 found_of_early X what s t (run.Other w o) early = tt
 
-pub early_found : {X : Type 0} (what : Asked) (s : SettingData) (t : List Row) (r : Result X RunFault) (f : RunFault) → r ≡ Err f → IsEarlyFault f → IsFound what s t r
+pub early_found : {X : Type 0} (what : Output) (s : SettingData) (t : List Row) (r : Result X RunFault) (f : RunFault) → r ≡ Err f → IsEarlyFault f → IsFound what s t r
 early_found {X = X} what s t r f is early = rw is (found_of_early X what s t f early)
 
 -- nor is one of what stays behind a plan

@@ -1,9 +1,9 @@
 -- Scripts without their calls.
 use Rattle.std.proofs.Common.{◌≡◌, ℕ, ◌+◌, ◌<◌, List, [], ◌∷◌, ◌++◌, length, take, get_or, sym, ap, ◌∙◌}
 use Rattle.std.proofs.lemmas.List.{map_push, take_more}
-use Rattle.crush_calls.specs.HistoryText.{names_of}
-use Rattle.crush_calls.specs.Script.{ScriptData, script_data, scripts_data}
-use Rattle.crush_calls.specs.declared.script.Script.{Script}
+use Rattle.crush_history.specs.HistoryText.{names_of}
+use Rattle.crush_history.specs.Script.{ScriptData, script_data, scripts_data}
+use Rattle.crush_history.specs.declared.script.Script.{Script}
 
 -- one script more has one name more
 names-push : (ys : List Script) (y : Script) → names_of (scripts_data (ys ++ y ∷ [])) ≡ names_of (scripts_data ys) ++ y.name ∷ []

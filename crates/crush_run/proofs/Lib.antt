@@ -1,4 +1,4 @@
-pub mod Asking
+pub mod Outputs
 pub mod Carry
 pub mod Crossing
 pub mod Early

@@ -2,16 +2,16 @@
 use Rattle.std.proofs.Common.{◌≡◌, ℕ, ◌+◌, Bool, true, false, cond, List, [], ◌∷◌, ◌++◌, Option, Some, None, Result, Ok, Err, refl, sym, ap, subst, ◌∙◌, arith}
 use Rattle.std.specs.Prelude.{IfErr, IfSome, slice_index_or}
 use Rattle.crush_map.specs.MapData.{MapData}
-use Rattle.crush_table.specs.Table.{Row}
+use Rattle.crush_model.specs.Table.{Row}
 use Rattle.crush_edits.specs.Setting.{SettingData}
-use Rattle.crush_calls.specs.History.{EntryData}
-use Rattle.crush_calls.specs.HistoryText.{entry_text}
-use Rattle.crush_calls.specs.Refused.{is_refused, refusals, refused_text}
+use Rattle.crush_history.specs.History.{EntryData}
+use Rattle.crush_history.specs.HistoryText.{entry_text}
+use Rattle.crush_history.specs.Refused.{is_refused, refusals, refused_text}
 use Rattle.crush_reasons.specs.Explained.{explained_job}
 use Rattle.crush_reasons.specs.Place.{OriginData}
 use Rattle.crush_options.specs.declared.asked.Mode.{Mode}
-use Rattle.crush_input.specs.declared.asked.Asked.{Asked}
-use Rattle.crush_input.specs.declared.asked.Asked.TheVariants as asked
+use Rattle.crush_input.specs.declared.output.Output.{Output}
+use Rattle.crush_input.specs.declared.output.Output.TheVariants as output
 use Rattle.crush_input.specs.declared.fault.RunFault.{RunFault}
 use Rattle.crush_input.specs.declared.fault.RunFault.TheVariants as run
 use Rattle.crush_input.specs.declared.summary.Summary.{Summary}
@@ -66,7 +66,7 @@ quiet_notes : (mode : Mode) (text : TextData) (s : SettingData) (t : List Row) (
 quiet_notes mode text s t names h notes plain none is quiet = is quiet ∙ (λ i. quiet_refused mode text s t names h none quiet i ++ plain quiet i)
 
 -- a run that was out of memory before anything was written
-pub memory_ends : (mode : Mode) (what : Asked) (plan : PlanData) (adjusted : ℕ) (kept : Option MapData) (m : MapData) (text : TextData) (names : List (List ℕ)) (h : List EntryData) (r : Result Summary RunFault) (old : Option (List ℕ)) (notes : List ℕ) → r ≡ Err run.Memory → notes ≡ []
+pub memory_ends : (mode : Mode) (what : Output) (plan : PlanData) (adjusted : ℕ) (kept : Option MapData) (m : MapData) (text : TextData) (names : List (List ℕ)) (h : List EntryData) (r : Result Summary RunFault) (old : Option (List ℕ)) (notes : List ℕ) → r ≡ Err run.Memory → notes ≡ []
     → EndsLeft mode what plan adjusted kept m text names h r old old notes
 memory_ends mode what plan adjusted kept m text names h r old notes is none = record {
   writes = λ o t opening stands. rw is (keeps_same old);
@@ -82,13 +82,13 @@ memory_ends mode what plan adjusted kept m text names h r old notes is none = re
 }
 
 -- a run with reasons needs the map as it was read
-pub explained_needs : (mode : Mode) (what : Asked) → mode.explain ≡ true → needs_opening mode what ≡ true
-explained_needs mode asked.Map on = on
-explained_needs mode (asked.Tree part) on = on
-explained_needs mode (asked.Since old) on = on
-explained_needs mode (asked.Changes m) on = on
-explained_needs mode asked.AsCeph on = refl
-explained_needs mode (asked.To w) on = on
+pub explained_needs : (mode : Mode) (what : Output) → mode.explain ≡ true → needs_opening mode what ≡ true
+explained_needs mode output.Map on = on
+explained_needs mode (output.Tree part) on = on
+explained_needs mode (output.Since old) on = on
+explained_needs mode (output.Changes m) on = on
+explained_needs mode output.AsCeph on = refl
+explained_needs mode (output.To w) on = on
 
 -- what is told of a run is that of its history
 pub told_of_end : (mode : Mode) (text : TextData) (s : SettingData) (t : List Row) (names : List (List ℕ)) (h : List EntryData) (rest : List ℕ) (r : Result Summary RunFault) (noted : Noted) (notes : List ℕ) → AreNoted mode text s t names h rest noted

@@ -4,20 +4,20 @@ use Rattle.std.proofs.lemmas.List.{length-append, length-map}
 use Rattle.std.proofs.lemmas.List.Elements.{All-nil, All-cons}
 use Rattle.std.proofs.lemmas.Result.{IfOk-weaker}
 use Rattle.std.specs.Prelude.{IfOk, IfSome, is_some}
-use Rattle.crush_table.specs.Stands.{Stands}
-use Rattle.crush_table.specs.Table.{Row}
+use Rattle.crush_model.specs.Stands.{Stands}
+use Rattle.crush_model.specs.Table.{Row}
 use Rattle.crush_edits.specs.Setting.{SettingData}
 use Rattle.crush_map.specs.MapData.{MapData, MapStands}
 use Rattle.crush_options.specs.declared.asked.Mode.{Mode}
-use Rattle.crush_calls.specs.declared.script.Script.{Script}
-use Rattle.crush_calls.specs.Entries.{AreOf}
-use Rattle.crush_calls.specs.Script.{ScriptData, script_data, scripts_data}
-use Rattle.crush_calls.specs.History.{EntryData, of_operator, table_after, turns}
-use Rattle.crush_calls.specs.Turns.{calls_at, calls_of}
-use Rattle.crush_calls.specs.HistoryText.{names_of}
-use Rattle.crush_calls.proofs.Histories.{turns_are_history}
+use Rattle.crush_history.specs.declared.script.Script.{Script}
+use Rattle.crush_history.specs.Entries.{AreOf}
+use Rattle.crush_history.specs.Script.{ScriptData, script_data, scripts_data}
+use Rattle.crush_history.specs.History.{EntryData, of_operator, table_after, turns}
+use Rattle.crush_history.specs.Turns.{calls_at, calls_of}
+use Rattle.crush_history.specs.HistoryText.{names_of}
+use Rattle.crush_history.proofs.Histories.{turns_are_history}
 use Rattle.crush_editor.specs.Book.{MakesAll}
-use Rattle.crush_input.specs.declared.asked.Asked.{Asked}
+use Rattle.crush_input.specs.declared.output.Output.{Output}
 use Rattle.crush_input.specs.declared.fault.RunFault.{RunFault}
 use Rattle.crush_input.specs.declared.summary.Summary.{Summary}
 use Rattle.crush_script.specs.Job.{JobData}
@@ -109,27 +109,27 @@ pub entries_of_scripts : (scripts : List Script) (h : List EntryData) → ((k : 
 entries_of_scripts scripts h calls = entries_below (length scripts) h (λ k past. calls k ∙ no_calls (scripts_data scripts) k (omega (arith, past, length-map scripts script_data)))
 
 -- where nothing was written of a job, it is told of its turns
-pub ended_early : (mode : Mode) (asked : Asked) (job : JobData) (text : TextData) (r : Result Summary RunFault) (f : RunFault) (old : Option (List ℕ)) (notes : List ℕ) → r ≡ Err f → IsEarlyFault f
-    → Ends mode asked job text r old old notes
-ended_early mode asked job text r f old notes is early =
+pub ended_early : (mode : Mode) (output : Output) (job : JobData) (text : TextData) (r : Result Summary RunFault) (f : RunFault) (old : Option (List ℕ)) (notes : List ℕ) → r ≡ Err f → IsEarlyFault f
+    → Ends mode output job text r old old notes
+ended_early mode output job text r f old notes is early =
     let h = turns job.setting job.table job.scripts in
-    let plan = some_plan asked job.setting (table_after job.setting job.table h) in
+    let plan = some_plan output job.setting (table_after job.setting job.table h) in
     record {
       history = h;
       run = turns_run mode.in_turn job;
       plan = plan;
-      planned = some_plan_is asked job.setting (table_after job.setting job.table h);
-      writes = nothing_written r f old (output_of mode asked plan job h) is early;
+      planned = some_plan_is output job.setting (table_after job.setting job.table h);
+      writes = nothing_written r f old (output_of mode output plan job h) is early;
       summary = rw is tt;
       strict = early_strict mode.strict h r f is early;
       no_make = early_make mode.no_make h r f is early;
-      found = early_found asked job.setting (table_after job.setting job.table h) r f is early;
+      found = early_found output job.setting (table_after job.setting job.table h) r f is early;
       whole = early_whole mode.strict plan.rest r f is early;
       noted = early_told mode text job.setting job.table (names_of job.scripts) h plan.rest r f notes is early;
     }
 
 -- a run that left a map and a history ends with it
-pub left_ends : (mode : Mode) (what : Asked) (plan : PlanData) (job : JobData) (adjusted : ℕ) (kept : Option MapData) (m : MapData) (text : TextData) (names : List (List ℕ)) (h es : List EntryData) (r : Result Summary RunFault) (old new : Option (List ℕ)) (notes : List ℕ)
+pub left_ends : (mode : Mode) (what : Output) (plan : PlanData) (job : JobData) (adjusted : ℕ) (kept : Option MapData) (m : MapData) (text : TextData) (names : List (List ℕ)) (h es : List EntryData) (r : Result Summary RunFault) (old new : Option (List ℕ)) (notes : List ℕ)
     → EndsLeft mode what plan adjusted kept m text names es r old new notes → ((t : List Row) → Stands m.forest t → IsPlanned what m.setting t plan) → IsOpening mode what kept job.setting job.table → HaveRun mode.in_turn job m h → names ≡ names_of job.scripts → es ≡ h → adjusted ≡ job.adjusted → Ends mode what job text r old new notes
 left_ends mode what plan job adjusted kept m text names h es r old new notes left planned opening ran same entries replaced =
     let own = subst (λ (e : List EntryData). EndsLeft mode what plan adjusted kept m text names e r old new notes) entries left in
@@ -153,11 +153,11 @@ left_ends mode what plan job adjusted kept m text names h es r old new notes lef
     }
 
 -- a map of which a copy is kept where it is needed
-pub kept_opening : (mode : Mode) (what : Asked) (kept : Option MapData) (s : SettingData) (t : List Row) → (needs_opening mode what ≡ true → is_some kept ≡ true) → IfSome kept (λ (m : MapData). MapStands m s t) → IsOpening mode what kept s t
+pub kept_opening : (mode : Mode) (what : Output) (kept : Option MapData) (s : SettingData) (t : List Row) → (needs_opening mode what ≡ true → is_some kept ≡ true) → IfSome kept (λ (m : MapData). MapStands m s t) → IsOpening mode what kept s t
 kept_opening mode what None s t is stands needs = let none = is needs in absurd cc
 kept_opening mode what (Some m) s t is stands needs = stands
 
 -- what is noted by the text of bytes is noted by that of the same bytes
-pub weighed_of_all : (mode : Mode) (what : Asked) (job : JobData) (origin : ℕ → OriginData) (bytes xs : List ℕ) (r : Result Summary RunFault) (old new : Option (List ℕ)) (notes : List ℕ) → bytes ≡ xs
+pub weighed_of_all : (mode : Mode) (what : Output) (job : JobData) (origin : ℕ → OriginData) (bytes xs : List ℕ) (r : Result Summary RunFault) (old new : Option (List ℕ)) (notes : List ℕ) → bytes ≡ xs
     → Ends mode what job (text_of mode.explain origin bytes job.table) r old new notes → Ends mode what job (text_of mode.explain origin xs job.table) r old new notes
 weighed_of_all mode what job origin bytes xs r old new notes same ends = subst (λ (z : List ℕ). Ends mode what job (text_of mode.explain origin z job.table) r old new notes) same ends

@@ -2,10 +2,10 @@
 use Rattle.std.proofs.Common.{◌≡◌, ℕ, List, ◌++◌, Option, Some, None, Result, Ok, Err, refl}
 use Rattle.std.specs.Prelude.{IfErr}
 use Rattle.std.specs.Io.KnownBytes.{Appends, Keeps}
-use Rattle.crush_bytes.specs.Writes.{Writes}
-use Rattle.crush_bytes.specs.declared.write.WriteFault.{WriteFault}
-use Rattle.crush_bytes.specs.declared.write.WriteFault.TheVariants as write
-use Rattle.crush_bytes.proofs.Appending.{appends_both, less_of_both, then_less}
+use Rattle.crush_units.specs.Writes.{Writes}
+use Rattle.crush_units.specs.declared.write.WriteFault.{WriteFault}
+use Rattle.crush_units.specs.declared.write.WriteFault.TheVariants as write
+use Rattle.crush_units.proofs.Appending.{appends_both, less_of_both, then_less}
 use Rattle.crush_names.specs.SinceNames.{WritesOrNothing}
 use Rattle.crush_options.specs.declared.asked.Mode.{Mode}
 use Rattle.crush_input.specs.declared.fault.RunFault.{RunFault}

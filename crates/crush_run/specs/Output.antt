@@ -1,22 +1,22 @@
 -- What a run writes: what is asked for of the map after its scripts, for a person or for a program.
 use Rattle.std.specs.Prelude.{◌≡◌, ℕ, List, [], ◌++◌, Bool, true, false, Option, Some, None, Result, Ok, Err, if◌then◌else◌}
 use Rattle.std.specs.Io.KnownBytes.{Appends, Keeps}
-use Rattle.crush_bytes.specs.Writes.{AppendsLess}
-use Rattle.crush_bytes.specs.declared.write.WriteFault.{WriteFault}
-use Rattle.crush_bytes.specs.declared.write.WriteFault.TheVariants as write
+use Rattle.crush_units.specs.Writes.{AppendsLess}
+use Rattle.crush_units.specs.declared.write.WriteFault.{WriteFault}
+use Rattle.crush_units.specs.declared.write.WriteFault.TheVariants as write
 use Rattle.serde_json.specs.Data.{Data}
 use Rattle.crush_units.specs.declared.id.ItemId.{ItemId}
-use Rattle.crush_table.specs.Forest.{rows_of}
-use Rattle.crush_table.specs.Table.{Row}
+use Rattle.crush_model.specs.Forest.{rows_of}
+use Rattle.crush_model.specs.Table.{Row}
 use Rattle.crush_edits.specs.Setting.{SettingData}
-use Rattle.crush_calls.specs.History.{EntryData}
-use Rattle.crush_calls.specs.HistoryText.{entries_text}
+use Rattle.crush_history.specs.History.{EntryData}
+use Rattle.crush_history.specs.HistoryText.{entries_text}
 use Rattle.crush_print.specs.MapText.{map_text}
 use Rattle.crush_since.specs.ChangeText.{changes_text}
-use Rattle.crush_since.specs.Since.{Told, told, since_text}
+use Rattle.crush_since.specs.Since.{PlainMap, plain_map, since_text}
 use Rattle.crush_since.specs.SincePart.{since_part_text}
 use Rattle.crush_names.specs.SinceNames.{since_names_part, since_names_text}
-use Rattle.crush_view.specs.TreePart.{part_steps, tree_part_text}
+use Rattle.crush_print.specs.TreePart.{part_steps, tree_part_text}
 use Rattle.crush_reasons.specs.Ceph.{ceph_text}
 use Rattle.crush_plan.specs.Plan.{PlanData}
 use Rattle.crush_plan.specs.PlanText.{plan_text}
@@ -27,67 +27,67 @@ use Rattle.crush_json.specs.PlanDocument.{plan_document, plan_document_text}
 use Rattle.crush_json.specs.SinceDocument.{document_of_since, since_document}
 use Rattle.crush_json.specs.TreeDocument.{tree_document}
 use Rattle.crush_options.specs.declared.asked.Mode.{Mode}
-use Rattle.crush_input.specs.declared.asked.Asked.{Asked}
-use Rattle.crush_input.specs.declared.asked.Asked.TheVariants as asked
+use Rattle.crush_input.specs.declared.output.Output.{Output}
+use Rattle.crush_input.specs.declared.output.Output.TheVariants as output
 use Rattle.crush_input.specs.declared.fault.RunFault.{RunFault}
 use Rattle.crush_input.specs.declared.fault.RunFault.TheVariants as run
 use Rattle.crush_input.specs.Options.{name_text}
-use Rattle.crush_run.specs.Found.{item_asked, part_of}
+use Rattle.crush_run.specs.Found.{named_item, part_of}
 use Rattle.crush_run.specs.Planned.{plan_words}
 
 -- a line for each entry, where they are asked for
-abbrev pub lines_asked : Bool → List (List ℕ) → List EntryData → List ℕ
-lines_asked history names h = if history then entries_text names 1 h else []
+abbrev pub wanted_lines : Bool → List (List ℕ) → List EntryData → List ℕ
+wanted_lines history names h = if history then entries_text names 1 h else []
 
 -- what has changed of items that are told apart by their ids: of all, or of a part
-abbrev pub changed_by_id : Option ItemId → Told → Told → List ℕ
+abbrev pub changed_by_id : Option ItemId → PlainMap → PlainMap → List ℕ
 changed_by_id None old new = since_text old new
 changed_by_id (Some i) old new = since_part_text i old new
 
 -- of those that are by their names: of all, or of a part
-abbrev pub changed_by_name : Option (List ℕ) → Told → Told → List ℕ
+abbrev pub changed_by_name : Option (List ℕ) → PlainMap → PlainMap → List ℕ
 changed_by_name None old new = since_names_text old new
 changed_by_name (Some name) old new = since_names_part (Some name) old new
 
 -- WHAT HAS CHANGED, of the part below the item that has the name now, where there is a name
-abbrev pub changed_text : Bool → Option (List ℕ) → Told → Told → List ℕ
-changed_text false under old new = changed_by_id (item_asked new.table under) old new
+abbrev pub changed_text : Bool → Option (List ℕ) → PlainMap → PlainMap → List ℕ
+changed_text false under old new = changed_by_id (named_item new.table under) old new
 changed_text true under old new = changed_by_name under old new
 
 -- what is asked for of a map with this setting, and with these tables before a history and after it: its text, its tree, what has
 -- changed in it since another map, in lines or as a tree, the commands that changed it, or a plan from it
-abbrev pub main_text : Asked → PlanData → SettingData → List Row → List Row → List EntryData → List ℕ
-main_text asked.Map plan s o t h = map_text s t
-main_text (asked.Tree words) plan s o t h = tree_part_text s (part_of words s t) t
-main_text (asked.Since old) plan s o t h = changed_text old.by_name (name_text old.under) (told old.map.setting (rows_of old.map.forest)) (told s t)
-main_text (asked.Changes m) plan s o t h = changes_text (told m.setting (rows_of m.forest)) (told s t)
-main_text asked.AsCeph plan s o t h = ceph_text s o h
-main_text (asked.To wanted) plan s o t h = plan_text (plan_words wanted.as_ceph) plan
+abbrev pub main_text : Output → PlanData → SettingData → List Row → List Row → List EntryData → List ℕ
+main_text output.Map plan s o t h = map_text s t
+main_text (output.Tree words) plan s o t h = tree_part_text s (part_of words s t) t
+main_text (output.Since old) plan s o t h = changed_text old.by_name (name_text old.under) (plain_map old.map.setting (rows_of old.map.forest)) (plain_map s t)
+main_text (output.Changes m) plan s o t h = changes_text (plain_map m.setting (rows_of m.forest)) (plain_map s t)
+main_text output.AsCeph plan s o t h = ceph_text s o h
+main_text (output.To wanted) plan s o t h = plan_text (plan_words wanted.as_ceph) plan
 
 -- FOR A PERSON: that, and behind it the lines that are asked for
-abbrev pub person_text : Bool → Asked → PlanData → SettingData → List Row → List Row → List (List ℕ) → List EntryData → List ℕ
-person_text history what plan s o t names h = main_text what plan s o t h ++ lines_asked history names h
+abbrev pub person_text : Bool → Output → PlanData → SettingData → List Row → List Row → List (List ℕ) → List EntryData → List ℕ
+person_text history what plan s o t names h = main_text what plan s o t h ++ wanted_lines history names h
 
 -- the history as a value, where it is asked for
-abbrev pub history_asked : Bool → List (List ℕ) → List EntryData → Option Data
-history_asked history names h = if history then Some (history_document names h) else None
+abbrev pub wanted_history : Bool → List (List ℕ) → List EntryData → Option Data
+wanted_history history names h = if history then Some (history_document names h) else None
 
 -- the document of what has changed: of all items, or of a part, by their ids, also where a person is told by their names
-abbrev pub since_program_text : Option Data → Option ItemId → Told → Told → List ℕ
+abbrev pub since_program_text : Option Data → Option ItemId → PlainMap → PlainMap → List ℕ
 since_program_text history under old new = document_text (document_of_since history (since_document under old new))
 
 -- FOR A PROGRAM: one document, with the history in it, of a tree of changes that of the changes; what has none, Ceph's own commands, is told
 -- as for a person
-abbrev pub program_text : Bool → Asked → PlanData → SettingData → List Row → List Row → List (List ℕ) → List EntryData → List ℕ
-program_text history asked.Map plan s o t names h = document_text (document (history_asked history names h) (map_document s t))
-program_text history (asked.Tree words) plan s o t names h = document_text (document_of_tree (history_asked history names h) (tree_document s t (part_steps (part_of words s t) t)))
-program_text history (asked.Since old) plan s o t names h = since_program_text (history_asked history names h) (item_asked t (name_text old.under)) (told old.map.setting (rows_of old.map.forest)) (told s t)
-program_text history (asked.Changes m) plan s o t names h = since_program_text (history_asked history names h) None (told m.setting (rows_of m.forest)) (told s t)
-program_text history (asked.To wanted) plan s o t names h = plan_document_text (plan_document (history_asked history names h) plan.edits plan.rest)
-program_text history asked.AsCeph plan s o t names h = person_text history asked.AsCeph plan s o t names h
+abbrev pub program_text : Bool → Output → PlanData → SettingData → List Row → List Row → List (List ℕ) → List EntryData → List ℕ
+program_text history output.Map plan s o t names h = document_text (document (wanted_history history names h) (map_document s t))
+program_text history (output.Tree words) plan s o t names h = document_text (document_of_tree (wanted_history history names h) (tree_document s t (part_steps (part_of words s t) t)))
+program_text history (output.Since old) plan s o t names h = since_program_text (wanted_history history names h) (named_item t (name_text old.under)) (plain_map old.map.setting (rows_of old.map.forest)) (plain_map s t)
+program_text history (output.Changes m) plan s o t names h = since_program_text (wanted_history history names h) None (plain_map m.setting (rows_of m.forest)) (plain_map s t)
+program_text history (output.To wanted) plan s o t names h = plan_document_text (plan_document (wanted_history history names h) plan.edits plan.rest)
+program_text history output.AsCeph plan s o t names h = person_text history output.AsCeph plan s o t names h
 
 -- OUTPUT: all of what is written
-abbrev pub written_text : Mode → Asked → PlanData → SettingData → List Row → List Row → List (List ℕ) → List EntryData → List ℕ
+abbrev pub written_text : Mode → Output → PlanData → SettingData → List Row → List Row → List (List ℕ) → List EntryData → List ℕ
 written_text mode what plan s o t names h = if mode.json then program_text mode.history what plan s o t names h else person_text mode.history what plan s o t names h
 
 -- WRITTEN: of a run that is done all of it, after a failed write a prefix of it that isn't the whole, and after any other fault nothing

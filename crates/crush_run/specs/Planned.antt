@@ -1,14 +1,14 @@
 -- The plan of a run: which it is, in which words it is printed, and when what stays behind it ends the run.
 use Rattle.std.specs.Prelude.{◌≡◌, ◌≢◌, ℕ, List, [], Bool, true, Result, Ok, Err, if◌then◌else◌}
-use Rattle.crush_table.specs.Forest.{rows_of}
-use Rattle.crush_table.specs.Table.{Row}
+use Rattle.crush_model.specs.Forest.{rows_of}
+use Rattle.crush_model.specs.Table.{Row}
 use Rattle.crush_edits.specs.Setting.{SettingData}
-use Rattle.crush_since.specs.Since.{told}
+use Rattle.crush_since.specs.Since.{plain_map}
 use Rattle.crush_plan.specs.Plan.{IsPlan, PlanData, line_count}
 use Rattle.crush_plan.specs.declared.text.PlanWords.{PlanWords}
 use Rattle.crush_plan.specs.declared.text.PlanWords.TheVariants.{Script, Ceph}
-use Rattle.crush_input.specs.declared.asked.Asked.{Asked}
-use Rattle.crush_input.specs.declared.asked.Asked.TheVariants as asked
+use Rattle.crush_input.specs.declared.output.Output.{Output}
+use Rattle.crush_input.specs.declared.output.Output.TheVariants as output
 use Rattle.crush_input.specs.Options.{name_text}
 use Rattle.crush_input.specs.declared.fault.RunFault.{RunFault}
 use Rattle.crush_input.specs.declared.fault.RunFault.TheVariants as run
@@ -18,8 +18,8 @@ plan_words as_ceph = if as_ceph then Ceph else Script
 
 -- PLANNED: where one is asked for, a plan from the map with this setting and this table to the wanted one; where none is, nothing
 -- stays behind it
-abbrev pub IsPlanned : Asked → SettingData → List Row → PlanData → Type 0
-IsPlanned (asked.To wanted) s t plan = IsPlan (name_text wanted.under) (told s t) (told wanted.map.setting (rows_of wanted.map.forest)) plan
+abbrev pub IsPlanned : Output → SettingData → List Row → PlanData → Type 0
+IsPlanned (output.To wanted) s t plan = IsPlan (name_text wanted.under) (plain_map s t) (plain_map wanted.map.setting (rows_of wanted.map.forest)) plan
 IsPlanned what s t plan = plan.rest ≡ []
 
 -- WHOLE: a strict run that comes to its output leaves nothing behind its plan, and one that ends by differences tells how many stay

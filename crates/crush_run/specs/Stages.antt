@@ -1,19 +1,19 @@
 -- The stages of a run of a job: what comes of each, and which faults may come at which.
 use Rattle.std.specs.Prelude.{◌≡◌, ◌≢◌, ℕ, List, [], ◌++◌, Bool, false, true, ◌&&◌, Option, Result, Ok, Err, IfOk, IfErr}
 use Rattle.std.specs.Io.KnownBytes.{Keeps}
-use Rattle.crush_table.specs.Stands.{Stands}
-use Rattle.crush_table.specs.Table.{Row}
+use Rattle.crush_model.specs.Stands.{Stands}
+use Rattle.crush_model.specs.Table.{Row}
 use Rattle.crush_edits.specs.Setting.{SettingData}
 use Rattle.crush_map.specs.MapData.{MapData, MapStands}
-use Rattle.crush_calls.specs.History.{EntryData, table_after}
-use Rattle.crush_calls.specs.Script.{ScriptData}
+use Rattle.crush_history.specs.History.{EntryData, table_after}
+use Rattle.crush_history.specs.Script.{ScriptData}
 use Rattle.crush_plan.specs.Plan.{PlanData}
 use Rattle.crush_script.specs.Job.{JobData}
 use Rattle.crush_options.specs.declared.asked.Mode.{Mode}
 use Rattle.crush_input.specs.declared.fault.RunFault.{RunFault}
 use Rattle.crush_input.specs.declared.fault.RunFault.TheVariants as run
-use Rattle.crush_input.specs.declared.asked.Asked.{Asked}
-use Rattle.crush_input.specs.declared.asked.Asked.TheVariants as asked
+use Rattle.crush_input.specs.declared.output.Output.{Output}
+use Rattle.crush_input.specs.declared.output.Output.TheVariants as output
 use Rattle.crush_input.specs.declared.summary.Summary.{Summary}
 use Rattle.crush_reasons.specs.Place.{OriginData}
 use Rattle.crush_input.specs.Made.{made_text}
@@ -87,12 +87,12 @@ abbrev pub RunsScripts : Bool → MapData → List ScriptData → MapData → Li
 RunsScripts in_turn map scripts after h = (job : JobData) → MapStands map job.setting job.table → scripts ≡ job.scripts → HaveRun in_turn job after h
 
 -- whether a run needs the map as it was read, beside that after its history: for reasons, and for the commands that changed it
-abbrev pub needs_opening : Mode → Asked → Bool
-needs_opening mode asked.AsCeph = true
+abbrev pub needs_opening : Mode → Output → Bool
+needs_opening mode output.AsCeph = true
 needs_opening mode what = mode.explain
 
 -- OPENING: where a run needs that map, it is kept, and has this setting and stands for this table
-abbrev pub IsOpening : Mode → Asked → Option MapData → SettingData → List Row → Type 0
+abbrev pub IsOpening : Mode → Output → Option MapData → SettingData → List Row → Type 0
 IsOpening mode what kept s t = needs_opening mode what ≡ true → IsKept kept s t
 
 -- what may be told of a run, of which this setting and this table were before the first call: of its history; where it is to make no
@@ -119,7 +119,7 @@ told_of (Err fault) noted = told_by fault noted
 -- how a run ends that left a map, a history and a plan: what is asked for is written, or a prefix of it, the summary is of the
 -- history, its refused entries, or what stays behind the plan, end it where it is strict, buckets made unasked where it is to make
 -- none, and names that its map doesn't have, and are noted by this text
-pub record EndsLeft (mode : Mode) (what : Asked) (plan : PlanData) (adjusted : ℕ) (kept : Option MapData) (m : MapData) (text : TextData) (names : List (List ℕ)) (h : List EntryData) (result : Result Summary RunFault) (old new : Option (List ℕ)) (notes : List ℕ) : Type 0 where
+pub record EndsLeft (mode : Mode) (what : Output) (plan : PlanData) (adjusted : ℕ) (kept : Option MapData) (m : MapData) (text : TextData) (names : List (List ℕ)) (h : List EntryData) (result : Result Summary RunFault) (old new : Option (List ℕ)) (notes : List ℕ) : Type 0 where
   pub writes : (o t : List Row) → IsOpening mode what kept m.setting o → Stands m.forest t → IsWritten result old new (written_text mode what plan m.setting o t names h)
   pub summary : IfOk result (λ (s : Summary). (t : List Row) → Stands m.forest t → s ≡ summed adjusted (mode.exit_code && differs_of what plan m.setting t h) h)
   pub nothing : IfErr result (λ fault. fault ≢ run.Write → Keeps old new)

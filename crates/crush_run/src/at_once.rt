@@ -8,8 +8,8 @@ ghost use Rattle.crush_run.specs.Stages.{IsAtOnceFault};
 
 use crate::gate::Gate;
 use crate::worker::{Crew, Finished};
-use crush_calls::Script;
-use crush_editor::{Closed, Desk, Editor, Seat, Started, Unkept};
+use crush_editor::{Closed, Desk, Editor, Seat, Started, WithoutSnapshot};
+use crush_history::Script;
 use crush_input::RunFault;
 use crush_map::CrushMap;
 use std::alloc::Global;
@@ -25,7 +25,7 @@ pub(crate) fn run_at_once<G: Gate + Sync, R: Threads + Wait + Sync>(
     gate: &G,
     map: CrushMap<Global>,
     scripts: Vec<Script>,
-) -> Result<Closed<Global, Unkept>, RunFault>
+) -> Result<Closed<Global, WithoutSnapshot>, RunFault>
     requires some { 0 < length scripts.items }
     requires few { length scripts.items ≤ MOST_OPERATORS }
     ensures run { IfOk result (λ c. Carries map scripts.items c.map c.history.items) }
@@ -44,9 +44,9 @@ fn operate<N: Desk + Send + Sync, G: Gate + Sync, R: Threads + Wait + Sync>(
     rt: &R,
     alloc: Global,
     gate: &G,
-    started: Started<Global, Unkept>,
+    started: Started<Global, WithoutSnapshot>,
     scripts: Vec<Script>,
-) -> Result<Closed<Global, Unkept>, RunFault>
+) -> Result<Closed<Global, WithoutSnapshot>, RunFault>
     requires gauge { started.table ≡ N.gauge }
     requires opening { started.opening ≡ N.opening }
     requires ledger { (started.name ≡ N.name) × (started.parts ≡ N.parts) }
@@ -57,7 +57,7 @@ fn operate<N: Desk + Send + Sync, G: Gate + Sync, R: Threads + Wait + Sync>(
     ensures few { IfOk result (λ c. length c.history.items ≤ MOST_ENTRIES) }
     ensures fault { IfErr result IsAtOnceFault }
 {
-    let Ok((editor, seats)) = Editor::<N, Unkept>::open_unkept(started, alloc) else {
+    let Ok((editor, seats)) = Editor::<N, WithoutSnapshot>::open_unkept(started, alloc) else {
         return Err(RunFault::Memory);
     };
     let crew = Crew {

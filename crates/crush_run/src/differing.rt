@@ -2,18 +2,18 @@
 
 ghost use Rattle.std.specs.Prelude.{◌≡◌, ◌≤◌, ◌&&◌, List, IfOk, length, true};
 ghost use Rattle.crush_input.specs.Options.{name_text};
-ghost use Rattle.crush_table.specs.Forest.{rows_of};
-ghost use Rattle.crush_table.specs.Stands.{Stands};
-ghost use Rattle.crush_table.specs.Table.{Row};
-ghost use Rattle.crush_since.specs.Since.{told};
+ghost use Rattle.crush_model.specs.Forest.{rows_of};
+ghost use Rattle.crush_model.specs.Stands.{Stands};
+ghost use Rattle.crush_model.specs.Table.{Row};
+ghost use Rattle.crush_since.specs.Since.{plain_map};
 ghost use Rattle.crush_plan.specs.Plan.{plan_data};
 ghost use Rattle.crush_run.specs.Run.{differs_of, has_changed, is_changed_by_id};
 ghost use Rattle.crush_units.specs.declared.limits.TheConstants.{MOST_ENTRIES};
 
-use crate::finding::{item_asked, name_of};
+use crate::finding::{name_of, named_item};
 use crate::left::Left;
-use crush_calls::count_changes;
-use crush_input::{Asked, OldMap, Request};
+use crush_history::count_changes;
+use crush_input::{OldMap, Output, Request};
 use crush_map::CrushMap;
 use crush_names::is_changed_by_name;
 use crush_since::{is_changed, is_part_changed};
@@ -26,9 +26,9 @@ fn is_changed_by_id(
     old: &CrushMap<Global>,
     map: &CrushMap<Global>,
 ) -> Result<bool, AllocError>
-    ensures { IfOk result (λ is_told. (t : List Row) → Stands map.now.forest t
-        → is_told ≡ is_changed_by_id under (told old.now.setting (rows_of old.now.forest))
-        (told map.now.setting t)) }
+    ensures { IfOk result (λ is_listed. (t : List Row) → Stands map.now.forest t
+        → is_listed ≡ is_changed_by_id under (plain_map old.now.setting (rows_of old.now.forest))
+        (plain_map map.now.setting t)) }
 {
     old.forest().recall_invariant();
     match under {
@@ -38,55 +38,55 @@ fn is_changed_by_id(
 }
 
 fn is_named_changed(alloc: Global, old: &OldMap, map: &CrushMap<Global>) -> Result<bool, AllocError>
-    ensures { IfOk result (λ is_told. (t : List Row) → Stands map.now.forest t
-        → is_told ≡ has_changed true (name_text old.now.under)
-        (told old.now.map.setting (rows_of old.now.map.forest)) (told map.now.setting t)) }
+    ensures { IfOk result (λ is_listed. (t : List Row) → Stands map.now.forest t
+        → is_listed ≡ has_changed true (name_text old.now.under)
+        (plain_map old.now.map.setting (rows_of old.now.map.forest)) (plain_map map.now.setting t)) }
 {
     old.map.forest().recall_invariant();
     is_changed_by_name(alloc, name_of(&old.under), &old.map, map)
 }
 
 fn has_changed(alloc: Global, old: &OldMap, map: &CrushMap<Global>) -> Result<bool, AllocError>
-    ensures { IfOk result (λ is_told. (t : List Row) → Stands map.now.forest t
-        → is_told ≡ has_changed old.now.by_name (name_text old.now.under)
-        (told old.now.map.setting (rows_of old.now.map.forest)) (told map.now.setting t)) }
+    ensures { IfOk result (λ is_listed. (t : List Row) → Stands map.now.forest t
+        → is_listed ≡ has_changed old.now.by_name (name_text old.now.under)
+        (plain_map old.now.map.setting (rows_of old.now.map.forest)) (plain_map map.now.setting t)) }
 {
     if old.by_name {
         return is_named_changed(alloc, old, map);
     }
-    let under = item_asked(name_of(&old.under), map);
+    let under = named_item(name_of(&old.under), map);
     is_changed_by_id(alloc, under, &old.map, map)
 }
 
-fn differs(alloc: Global, asked: &Asked, left: &Left<'_>) -> Result<bool, AllocError>
+fn differs(alloc: Global, output: &Output, left: &Left<'_>) -> Result<bool, AllocError>
     requires { length left.now.entries.now ≤ MOST_ENTRIES }
     ensures { IfOk result (λ differs. (t : List Row) → Stands left.now.map.now.forest t
-        → differs ≡ differs_of asked.now (plan_data left.now.plan.now) left.now.map.now.setting t
+        → differs ≡ differs_of output.now (plan_data left.now.plan.now) left.now.map.now.setting t
         left.now.entries.now) }
 {
-    match asked {
-        Asked::Since(old) => has_changed(alloc, old, left.map),
-        Asked::Changes(old) => is_changed_by_id(alloc, None, old, left.map),
-        Asked::To(_) => {
+    match output {
+        Output::Since(old) => has_changed(alloc, old, left.map),
+        Output::Changes(old) => is_changed_by_id(alloc, None, old, left.map),
+        Output::To(_) => {
             let (edits, rest) = (left.plan.edits.as_slice(), left.plan.rest.as_slice());
             Ok(!edits.is_empty() || !rest.is_empty())
         }
-        Asked::Map | Asked::Tree(_) | Asked::AsCeph => Ok(count_changes(left.entries) > 0),
+        Output::Map | Output::Tree(_) | Output::AsCeph => Ok(count_changes(left.entries) > 0),
     }
 }
 
-pub(crate) fn differs_asked(
+pub(crate) fn wanted_differs(
     alloc: Global,
     request: &Request,
     left: &Left<'_>,
 ) -> Result<bool, AllocError>
     requires { length left.now.entries.now ≤ MOST_ENTRIES }
     ensures { IfOk result (λ differs. (t : List Row) → Stands left.now.map.now.forest t
-        → differs ≡ (request.now.mode.exit_code && differs_of request.now.asked
+        → differs ≡ (request.now.mode.exit_code && differs_of request.now.output
         (plan_data left.now.plan.now) left.now.map.now.setting t left.now.entries.now)) }
 {
     if request.mode.exit_code {
-        return differs(alloc, &request.asked, left);
+        return differs(alloc, &request.output, left);
     }
     Ok(false)
 }

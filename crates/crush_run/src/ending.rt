@@ -2,7 +2,7 @@
 
 ghost use Rattle.std.specs.Prelude.{◌≡◌, [], Err};
 
-use crush_input::{RunFault, Stopped, Summary};
+use crush_input::{Aborted, RunFault, Summary};
 use std::alloc::Global;
 
 /// How a run ended.
@@ -29,11 +29,11 @@ impl Ending {
     }
 
     /// That of a run that stopped before its scripts ran.
-    pub(crate) fn of_stopped(stopped: Stopped) -> Ending
-        ensures outcome { result.outcome ≡ Err stopped.fault }
-        ensures notes { result.notes.items ≡ stopped.notes.items }
+    pub(crate) fn of_aborted(aborted: Aborted) -> Ending
+        ensures outcome { result.outcome ≡ Err aborted.fault }
+        ensures notes { result.notes.items ≡ aborted.notes.items }
     {
-        let Stopped { fault, notes } = stopped;
+        let Aborted { fault, notes } = aborted;
         Ending {
             outcome: Err(fault),
             notes,

@@ -3,15 +3,15 @@
 ghost use Rattle.std.specs.Prelude.{◌≡◌, List, IfErr};
 ghost use Rattle.std.specs.Option.{option_map};
 ghost use Rattle.crush_input.specs.Options.{name_text};
-ghost use Rattle.crush_table.specs.Stands.{Stands};
-ghost use Rattle.crush_table.specs.Table.{Row};
-ghost use Rattle.crush_run.specs.Found.{IsFindFault, IsFound, down_to_of, has_item, has_kind, item_asked, kind_asked, part_of, under_of};
+ghost use Rattle.crush_model.specs.Stands.{Stands};
+ghost use Rattle.crush_model.specs.Table.{Row};
+ghost use Rattle.crush_run.specs.Found.{IsFindFault, IsFound, down_to_of, has_item, has_kind, named_item, named_kind, part_of, under_of};
 
-use crush_input::{Asked, RunFault};
+use crush_input::{Output, RunFault};
 use crush_map::CrushMap;
 use crush_options::Part;
+use crush_print::Part as TreePart;
 use crush_units::{ItemId, TypeId};
-use crush_view::Part as TreePart;
 use std::alloc::Global;
 
 pub(crate) fn name_of(name: &Option<String>) -> Option<&str>
@@ -23,29 +23,29 @@ pub(crate) fn name_of(name: &Option<String>) -> Option<&str>
     }
 }
 
-fn under_of(asked: &Asked) -> Option<&str>
-    ensures { option_map (λ name. name.now) result ≡ under_of asked.now }
+fn under_of(output: &Output) -> Option<&str>
+    ensures { option_map (λ name. name.now) result ≡ under_of output.now }
 {
-    match asked {
-        Asked::Tree(part) => name_of(&part.under),
-        Asked::Since(old) => name_of(&old.under),
-        Asked::To(wanted) => name_of(&wanted.under),
-        Asked::Map | Asked::Changes(_) | Asked::AsCeph => None,
+    match output {
+        Output::Tree(part) => name_of(&part.under),
+        Output::Since(old) => name_of(&old.under),
+        Output::To(wanted) => name_of(&wanted.under),
+        Output::Map | Output::Changes(_) | Output::AsCeph => None,
     }
 }
 
-fn down_to_of(asked: &Asked) -> Option<&str>
-    ensures { option_map (λ name. name.now) result ≡ down_to_of asked.now }
+fn down_to_of(output: &Output) -> Option<&str>
+    ensures { option_map (λ name. name.now) result ≡ down_to_of output.now }
 {
-    match asked {
-        Asked::Tree(part) => name_of(&part.down_to),
+    match output {
+        Output::Tree(part) => name_of(&part.down_to),
         _ => None,
     }
 }
 
-pub(crate) fn item_asked(name: Option<&str>, map: &CrushMap<Global>) -> Option<ItemId>
+pub(crate) fn named_item(name: Option<&str>, map: &CrushMap<Global>) -> Option<ItemId>
     ensures { (t : List Row) → Stands map.now.forest t
-        → result ≡ item_asked t (option_map (λ name. name.now) name.entry) }
+        → result ≡ named_item t (option_map (λ name. name.now) name.entry) }
 {
     match name {
         Some(name) => map.locate(name),
@@ -53,9 +53,9 @@ pub(crate) fn item_asked(name: Option<&str>, map: &CrushMap<Global>) -> Option<I
     }
 }
 
-fn kind_asked(name: Option<&str>, map: &CrushMap<Global>) -> Option<TypeId>
+fn named_kind(name: Option<&str>, map: &CrushMap<Global>) -> Option<TypeId>
     ensures { result
-        ≡ kind_asked map.now.setting (option_map (λ name. name.now) name.entry) }
+        ≡ named_kind map.now.setting (option_map (λ name. name.now) name.entry) }
 {
     match name {
         Some(name) => map.setting().kind_number(name.as_bytes()),
@@ -69,8 +69,8 @@ pub(crate) fn part_of(words: &Part, map: &CrushMap<Global>) -> TreePart
         → result ≡ part_of words.now map.now.setting t }
 {
     TreePart {
-        under: item_asked(name_of(&words.under), map),
-        down_to: kind_asked(name_of(&words.down_to), map),
+        under: named_item(name_of(&words.under), map),
+        down_to: named_kind(name_of(&words.down_to), map),
     }
 }
 
@@ -94,15 +94,15 @@ fn has_kind(name: Option<&str>, map: &CrushMap<Global>) -> bool
     }
 }
 
-pub(crate) fn check_found(asked: &Asked, map: &CrushMap<Global>) -> Result<(), RunFault>
+pub(crate) fn check_found(output: &Output, map: &CrushMap<Global>) -> Result<(), RunFault>
     ensures found { (t : List Row) → Stands map.now.forest t
-        → IsFound asked.now map.now.setting t result }
+        → IsFound output.now map.now.setting t result }
     ensures fault { IfErr result IsFindFault }
 {
-    if !has_item(under_of(asked), map) {
+    if !has_item(under_of(output), map) {
         return Err(RunFault::NoItem);
     }
-    if !has_kind(down_to_of(asked), map) {
+    if !has_kind(down_to_of(output), map) {
         return Err(RunFault::NoType);
     }
     Ok(())

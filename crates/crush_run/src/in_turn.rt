@@ -2,16 +2,16 @@
 
 ghost use Rattle.std.specs.Prelude.{◌≡◌, ◌<◌, ◌≤◌, ◌++◌, ℕ, List, IfOk, IfErr, OnOk, length};
 ghost use Rattle.crush_units.specs.declared.limits.TheConstants.{MOST_ENTRIES, MOST_OPERATORS};
-ghost use Rattle.crush_table.specs.Table.{Row};
+ghost use Rattle.crush_model.specs.Table.{Row};
 ghost use Rattle.crush_edits.specs.Setting.{SettingData};
 ghost use Rattle.crush_map.specs.MapData.{MapStands};
-ghost use Rattle.crush_calls.specs.Script.{scripts_data};
-ghost use Rattle.crush_calls.specs.History.{behind, counted_after, table_after, turn, turns};
-ghost use Rattle.crush_calls.specs.Entries.{AreOf};
+ghost use Rattle.crush_history.specs.Script.{scripts_data};
+ghost use Rattle.crush_history.specs.History.{behind, counted_after, table_after, turn, turns};
+ghost use Rattle.crush_history.specs.Entries.{AreOf};
 
 use crate::gate::Gate;
-use crush_calls::{Call, Script};
-use crush_editor::{Book, Closed, MapGauge, Started, Unkept};
+use crush_editor::{Book, Closed, MapGauge, Started, WithoutSnapshot};
+use crush_history::{Call, Script};
 use crush_input::RunFault;
 use crush_map::CrushMap;
 use std::alloc::Global;
@@ -29,7 +29,7 @@ impl<'t, G: Gate, R: Wait> InTurn<'t, G, R> {
     /// Stops at a call for which there is no memory. Each call is moved into its entry.
     fn run_script(
         &self,
-        book: &mut Book<Global, Unkept>,
+        book: &mut Book<Global, WithoutSnapshot>,
         operator: usize,
         calls: Vec<Call>,
     ) -> Result<(), RunFault>
@@ -67,7 +67,7 @@ pub(crate) fn run_in_turn<G: Gate, R: Wait>(
     gate: &G,
     map: CrushMap<Global>,
     scripts: Vec<Script>,
-) -> Result<Closed<Global, Unkept>, RunFault>
+) -> Result<Closed<Global, WithoutSnapshot>, RunFault>
     requires few { length scripts.items ≤ MOST_OPERATORS }
     ensures operators { IfOk result (λ c. AreOf (length scripts.items) c.history.items) }
     ensures turns { IfOk result (λ c. (s : SettingData) (t : List Row) → MapStands map s t

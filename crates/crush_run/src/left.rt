@@ -1,6 +1,6 @@
 //! What scripts left of a job.
 
-use crush_calls::{Entry, Script};
+use crush_history::{Entry, Script};
 use crush_input::TextKept;
 use crush_map::CrushMap;
 use crush_plan::Plan;

@@ -1,10 +1,9 @@
 //! The run of a job, from the bytes read to the bytes written.
 //!
 //! [`run_options`] runs what a command line selects, [`run_job`] a job that a reader has.
-//! `crush_script` reads a job, `crush_editor` runs it, and `crush_print`, `crush_view`,
-//! `crush_since`, `crush_names`, `crush_reasons`, `crush_plan` or `crush_json` write the output;
-//! `crush_report` reports the end. `specs/Output.antt` says what is written, `specs/Run.antt` how a
-//! run ends.
+//! `crush_script` reads a job, `crush_editor` runs it, and `crush_print`, `crush_since`,
+//! `crush_names`, `crush_reasons`, `crush_plan` or `crush_json` write the output; `crush_input`
+//! reports the end. `specs/Output.antt` says what is written, `specs/Run.antt` how a run ends.
 #![tactic(auto)]
 
 mod at_once;
@@ -24,7 +23,7 @@ mod worker;
 mod workers;
 
 pub use crush_input::{
-    Asked, OldMap, Opens, OtherFault, OtherMap, Request, RunFault, Summary, SystemFiles, WantedMap,
+    OldMap, Opens, OtherFault, OtherMap, Output, Request, RunFault, Summary, SystemFiles, WantedMap,
 };
 pub use ending::Ending;
 pub use gate::{Gate, NoGate};

@@ -4,14 +4,14 @@ ghost use Rattle.std.specs.Prelude.{◌≡◌, ◌≢◌, ℕ, List, None, Some,
 ghost use Rattle.std.specs.Io.KnownBytes.{Keeps};
 ghost use Rattle.crush_script.specs.Job.{HasJob, IsJob, JobData};
 ghost use Rattle.crush_input.specs.Input.{TakesFew, job_bytes};
-ghost use Rattle.crush_input.specs.Options.{IsNotedAsAsked};
+ghost use Rattle.crush_input.specs.Options.{IsNotedAsWanted};
 ghost use Rattle.crush_input.specs.Origins.{job_origin};
-ghost use Rattle.crush_run.specs.Options.{EndsAsAsked, IsOptionsFault};
+ghost use Rattle.crush_run.specs.Options.{EndsAsWanted, IsOptionsFault};
 
 use crate::ending::Ending;
 use crate::gate::NoGate;
 use crate::run::run_read;
-use crush_input::{Opens, Request, RunFault, asked_of, read_whole};
+use crush_input::{Opens, Request, RunFault, output_of, read_whole};
 use crush_options::Options;
 use std::io::{Read, Write};
 use std::random::RandomSource;
@@ -35,7 +35,7 @@ pub fn run_options<H, F, R, W>(
     files: &F,
     options: &Options,
     input: &mut R,
-    output: &mut W,
+    writer: &mut W,
 ) -> Ending
 where
     H: AllocGlobal + RandomSource + Threads + Wait + Sync,
@@ -47,26 +47,26 @@ where
     ensures output { (bytes : List ℕ) (job : JobData)
         → job_bytes (F.content files.now) options.now (R.remaining input.old) ≡ Some bytes
         → IsJob bytes job
-        → EndsAsAsked (F.content files.now) options.now
+        → EndsAsWanted (F.content files.now) options.now
         (job_origin (F.content files.now) options.now (R.remaining input.old)) bytes job result.outcome
-        (W.contents output.old) (W.contents output.new) result.notes.items }
+        (W.contents writer.old) (W.contents writer.new) result.notes.items }
     ensures fault { IfErr result.outcome (IsOptionsFault (F.content files.now) options.now
         (job_bytes (F.content files.now) options.now (R.remaining input.old))) }
     ensures input { options.now.file ≢ None → R.remaining input.new ≡ R.remaining input.old }
     ensures taken { TakesFew (R.remaining input.old) (R.remaining input.new) }
     ensures nothing { IfErr result.outcome (λ fault. fault ≢ RunFault.Write
-        → Keeps (W.contents output.old) (W.contents output.new)) }
-    ensures noted { IsNotedAsAsked (F.content files.now) options.now (R.remaining input.old)
+        → Keeps (W.contents writer.old) (W.contents writer.new)) }
+    ensures noted { IsNotedAsWanted (F.content files.now) options.now (R.remaining input.old)
         result.outcome result.notes.items }
 {
     let job = match read_whole(rt, files, options, input) {
         Ok(job) => job,
-        Err(stopped) => return Ending::of_stopped(stopped),
+        Err(aborted) => return Ending::of_aborted(aborted),
     };
     let mode = options.mode;
-    let asked = match asked_of(rt, files, mode.explain, &options.printed) {
-        Ok(asked) => asked,
-        Err(stopped) => return Ending::of_stopped(stopped),
+    let output = match output_of(rt, files, mode.explain, &options.printed) {
+        Ok(output) => output,
+        Err(aborted) => return Ending::of_aborted(aborted),
     };
-    run_read(rt, &NoGate, &Request { mode, asked }, job, output)
+    run_read(rt, &NoGate, &Request { mode, output }, job, writer)
 }

@@ -2,11 +2,11 @@
 
 ghost use Rattle.std.specs.Prelude.{◌≡◌, ◌≢◌, ◌≤◌, ◌&&◌, List, [], Err, IfErr, IfOk, false, is_some, length, true};
 ghost use Rattle.std.specs.Io.KnownBytes.{Keeps};
-ghost use Rattle.crush_table.specs.Stands.{Stands};
-ghost use Rattle.crush_table.specs.Table.{Row};
-ghost use Rattle.crush_calls.specs.Entries.{AreOf};
-ghost use Rattle.crush_calls.specs.HistoryText.{names_of};
-ghost use Rattle.crush_calls.specs.Script.{scripts_data};
+ghost use Rattle.crush_model.specs.Stands.{Stands};
+ghost use Rattle.crush_model.specs.Table.{Row};
+ghost use Rattle.crush_history.specs.Entries.{AreOf};
+ghost use Rattle.crush_history.specs.HistoryText.{names_of};
+ghost use Rattle.crush_history.specs.Script.{scripts_data};
 ghost use Rattle.crush_edits.specs.Setting.{SettingData};
 ghost use Rattle.crush_input.specs.Notes.{IsKept, IsNoMake, IsStrict, text_data};
 ghost use Rattle.crush_plan.specs.Plan.{plan_data};
@@ -17,19 +17,19 @@ ghost use Rattle.crush_run.specs.Run.{differs_of, summed};
 ghost use Rattle.crush_run.specs.Stages.{AreNoted, EndsLeft, IsCheckFault, IsOpening, IsWritingFault, needs_opening, told_by, told_of};
 ghost use Rattle.crush_units.specs.declared.limits.TheConstants.{LONGEST_JOB, MOST_ENTRIES};
 
-use crate::differing::differs_asked;
+use crate::differing::wanted_differs;
 use crate::document::write_document;
 use crate::ending::Ending;
 use crate::finding::check_found;
 use crate::left::Left;
 use crate::planned::{check_whole, whole_notes};
 use crate::text::write_text;
-use crush_bytes::WriteFault;
-use crush_calls::count_changes;
+use crush_history::count_changes;
 use crush_input::{
     History, Request, RunFault, Summary, check_made, check_strict, history_notes, made_notes,
 };
 use crush_options::Mode;
+use crush_units::WriteFault;
 use std::alloc::{AllocError, Global};
 use std::io::Write;
 
@@ -62,13 +62,13 @@ fn check_left(request: &Request, left: &Left<'_>) -> Result<(), RunFault>
     ensures strict { IsStrict request.now.mode.strict left.now.entries.now result }
     ensures no_make { IsNoMake request.now.mode.no_make left.now.entries.now result }
     ensures found { (t : List Row) → Stands left.now.map.now.forest t
-        → IsFound request.now.asked left.now.map.now.setting t result }
+        → IsFound request.now.output left.now.map.now.setting t result }
     ensures whole { IsWhole request.now.mode.strict left.now.plan.now.rest.items result }
 {
     let mode = request.mode;
     check_strict(mode.strict, left.entries)?;
     check_made(mode.no_make, left.entries)?;
-    check_found(&request.asked, left.map)?;
+    check_found(&request.output, left.map)?;
     check_whole(mode.strict, left.plan)
 }
 
@@ -80,12 +80,12 @@ fn write_output<W: Write>(
 ) -> Result<(), WriteFault>
     requires few { length left.now.entries.now ≤ MOST_ENTRIES }
     requires operators { AreOf (length left.now.scripts.now) left.now.entries.now }
-    requires kept { needs_opening request.now.mode request.now.asked ≡ true
+    requires kept { needs_opening request.now.mode request.now.output ≡ true
         → is_some left.now.opening.now ≡ true }
-    ensures writes { (o t : List Row) → IsOpening request.now.mode request.now.asked
+    ensures writes { (o t : List Row) → IsOpening request.now.mode request.now.output
         left.now.opening.now left.now.map.now.setting o → Stands left.now.map.now.forest t
         → IsPut result (W.contents writer.old) (W.contents writer.new)
-        (written_text request.now.mode request.now.asked (plan_data left.now.plan.now)
+        (written_text request.now.mode request.now.output (plan_data left.now.plan.now)
         left.now.map.now.setting o t (names_of (scripts_data left.now.scripts.now))
         left.now.entries.now) }
     ensures none { result ≡ Err WriteFault.OutOfMemory
@@ -105,17 +105,17 @@ fn write_outcome<W: Write>(
 ) -> Result<Summary, RunFault>
     requires few { length left.now.entries.now ≤ MOST_ENTRIES }
     requires operators { AreOf (length left.now.scripts.now) left.now.entries.now }
-    requires kept { needs_opening request.now.mode request.now.asked ≡ true
+    requires kept { needs_opening request.now.mode request.now.output ≡ true
         → is_some left.now.opening.now ≡ true }
-    ensures writes { (o t : List Row) → IsOpening request.now.mode request.now.asked
+    ensures writes { (o t : List Row) → IsOpening request.now.mode request.now.output
         left.now.opening.now left.now.map.now.setting o → Stands left.now.map.now.forest t
         → IsWritten result (W.contents writer.old) (W.contents writer.new)
-        (written_text request.now.mode request.now.asked (plan_data left.now.plan.now)
+        (written_text request.now.mode request.now.output (plan_data left.now.plan.now)
         left.now.map.now.setting o t (names_of (scripts_data left.now.scripts.now))
         left.now.entries.now) }
     ensures summary { IfOk result (λ summary. (t : List Row) → Stands left.now.map.now.forest t
         → summary ≡ summed left.now.adjusted (request.now.mode.exit_code
-        && differs_of request.now.asked (plan_data left.now.plan.now) left.now.map.now.setting t
+        && differs_of request.now.output (plan_data left.now.plan.now) left.now.map.now.setting t
         left.now.entries.now) left.now.entries.now) }
     ensures nothing { IfErr result (λ fault. fault ≢ RunFault.Write
         → Keeps (W.contents writer.old) (W.contents writer.new)) }
@@ -123,11 +123,11 @@ fn write_outcome<W: Write>(
     ensures strict { IsStrict request.now.mode.strict left.now.entries.now result }
     ensures no_make { IsNoMake request.now.mode.no_make left.now.entries.now result }
     ensures found { (t : List Row) → Stands left.now.map.now.forest t
-        → IsFound request.now.asked left.now.map.now.setting t result }
+        → IsFound request.now.output left.now.map.now.setting t result }
     ensures whole { IsWhole request.now.mode.strict left.now.plan.now.rest.items result }
 {
     check_left(request, left)?;
-    let differs = differs_asked(alloc, request, left)?;
+    let differs = wanted_differs(alloc, request, left)?;
     write_output(alloc, request, left, writer)?;
     Ok(summary_of(left, differs))
 }
@@ -212,9 +212,9 @@ pub(crate) fn end_run<W: Write>(
     requires operators { AreOf (length left.now.scripts.now) left.now.entries.now }
     requires plain { request.now.mode.explain ≡ false → left.now.text.now.weights.items ≡ [] }
     requires short { length left.now.text.now.bytes.items ≤ LONGEST_JOB }
-    requires kept { needs_opening request.now.mode request.now.asked ≡ true
+    requires kept { needs_opening request.now.mode request.now.output ≡ true
         → is_some left.now.opening.now ≡ true }
-    ensures { EndsLeft request.now.mode request.now.asked (plan_data left.now.plan.now)
+    ensures { EndsLeft request.now.mode request.now.output (plan_data left.now.plan.now)
         left.now.adjusted left.now.opening.now left.now.map.now (text_data left.now.text.now)
         (names_of (scripts_data left.now.scripts.now)) left.now.entries.now result.outcome
         (W.contents writer.old) (W.contents writer.new) result.notes.items }

@@ -2,19 +2,19 @@
 
 ghost use Rattle.std.specs.Prelude.{◌≡◌, ◌++◌, [], Err, IfErr, IfOk, List, true};
 ghost use Rattle.std.specs.Io.KnownBytes.{Keeps};
-ghost use Rattle.crush_table.specs.Stands.{Stands};
-ghost use Rattle.crush_table.specs.Table.{Row};
+ghost use Rattle.crush_model.specs.Stands.{Stands};
+ghost use Rattle.crush_model.specs.Table.{Row};
 ghost use Rattle.crush_plan.specs.Plan.{plan_data};
 ghost use Rattle.crush_plan.specs.PlanText.{plan_text};
 ghost use Rattle.crush_run.specs.Output.{IsPut};
 ghost use Rattle.crush_run.specs.Planned.{IsDiffersFault, IsPlanned, IsWhole, plan_words};
 
 use crate::finding::name_of;
-use crush_bytes::{WriteFault, put};
-use crush_input::{Asked, RunFault, WantedMap};
+use crush_input::{Output, RunFault, WantedMap};
 use crush_map::CrushMap;
 use crush_names::Counts;
 use crush_plan::{Identity, Plan, PlanWords, find_plan, plan_text};
+use crush_units::{WriteFault, put};
 use std::alloc::{AllocError, Global};
 use std::io::Write;
 
@@ -50,16 +50,16 @@ fn no_plan(alloc: Global) -> Plan
 }
 
 /// The plan that leads from the map to the wanted one; empty without one.
-pub(crate) fn plan_asked(
+pub(crate) fn wanted_plan(
     alloc: Global,
-    asked: &Asked,
+    output: &Output,
     map: &CrushMap<Global>,
 ) -> Result<Plan, AllocError>
     ensures { IfOk result (λ plan. (t : List Row) → Stands map.now.forest t
-        → IsPlanned asked.now map.now.setting t (plan_data plan)) }
+        → IsPlanned output.now map.now.setting t (plan_data plan)) }
 {
-    match asked {
-        Asked::To(wanted) => {
+    match output {
+        Output::To(wanted) => {
             wanted.map.forest().recall_invariant();
             let under = name_of(&wanted.under);
             find_plan(alloc, identity_of(wanted), under, map, &wanted.map)

@@ -2,13 +2,13 @@
 
 ghost use Rattle.std.specs.Prelude.{◌≡◌, ◌≢◌, ◌≤◌, ℕ, List, [], Option, Some, IfOk, IfErr, IfSome, false, is_some, length, true};
 ghost use Rattle.std.specs.Io.KnownBytes.{Keeps};
-ghost use Rattle.crush_table.specs.Table.{Row};
+ghost use Rattle.crush_model.specs.Table.{Row};
 ghost use Rattle.crush_edits.specs.Setting.{SettingData};
 ghost use Rattle.crush_map.specs.MapData.{MapStands};
-ghost use Rattle.crush_calls.specs.Entries.{AreOf};
-ghost use Rattle.crush_calls.specs.HistoryText.{names_of};
+ghost use Rattle.crush_history.specs.Entries.{AreOf};
+ghost use Rattle.crush_history.specs.HistoryText.{names_of};
 ghost use Rattle.crush_script.specs.Job.{HasJob, IsJob, JobData, JobStands};
-ghost use Rattle.crush_calls.specs.Script.{scripts_data};
+ghost use Rattle.crush_history.specs.Script.{scripts_data};
 ghost use Rattle.crush_reasons.specs.Place.{OriginData};
 ghost use Rattle.crush_input.specs.Input.{TakesFew};
 ghost use Rattle.crush_input.specs.Notes.{IsNoted, text_data, text_of};
@@ -23,10 +23,10 @@ use crate::gate::Gate;
 use crate::in_turn::run_in_turn;
 use crate::left::Left;
 use crate::outcome::end_run;
-use crate::planned::plan_asked;
-use crush_calls::Script;
-use crush_editor::{Closed, Unkept};
-use crush_input::{Asked, Origins, Request, RunFault, Weighed, job_of, read_bytes};
+use crate::planned::wanted_plan;
+use crush_editor::{Closed, WithoutSnapshot};
+use crush_history::Script;
+use crush_input::{Origins, Output, ParsedJob, Request, RunFault, job_of, read_bytes};
 use crush_map::CrushMap;
 use crush_script::Job;
 use std::alloc::{AllocError, Global};
@@ -60,16 +60,16 @@ fn copy_of(map: &CrushMap<Global>) -> Result<CrushMap<Global>, AllocError>
 }
 
 /// A copy of the map as it was read, where the run needs it beside that after its history.
-fn opening_asked(
+fn wanted_opening(
     request: &Request,
     map: &CrushMap<Global>,
 ) -> Result<Option<CrushMap<Global>>, AllocError>
-    ensures kept { IfOk result (λ opening. needs_opening request.now.mode request.now.asked ≡ true
+    ensures kept { IfOk result (λ opening. needs_opening request.now.mode request.now.output ≡ true
         → is_some opening ≡ true) }
     ensures stands { IfOk result (λ opening. IfSome opening (λ copy. (s : SettingData)
         (t : List Row) → MapStands map.now s t → MapStands copy s t)) }
 {
-    if request.mode.explain || matches!(request.asked, Asked::AsCeph) {
+    if request.mode.explain || matches!(request.output, Output::AsCeph) {
         return Ok(Some(copy_of(map)?));
     }
     Ok(None)
@@ -81,7 +81,7 @@ fn run_scripts<H: AllocGlobal + Threads + Wait + Sync, G: Gate + Sync>(
     in_turn: bool,
     map: CrushMap<Global>,
     scripts: Vec<Script>,
-) -> Result<Closed<Global, Unkept>, RunFault>
+) -> Result<Closed<Global, WithoutSnapshot>, RunFault>
     requires few { length scripts.items ≤ MOST_OPERATORS }
     ensures runs { IfOk result (λ c.
         RunsScripts in_turn map (scripts_data scripts.items) c.map c.history.items) }
@@ -100,14 +100,14 @@ pub(crate) fn run_read<H: AllocGlobal + Threads + Wait + Sync, G: Gate + Sync, W
     rt: &H,
     gate: &G,
     request: &Request,
-    weighed: Weighed<'_>,
+    weighed: ParsedJob<'_>,
     writer: &mut W,
 ) -> Ending
     requires few { length weighed.job.scripts.items ≤ MOST_OPERATORS }
     requires plain { request.now.mode.explain ≡ false → weighed.text.weights.items ≡ [] }
     requires short { length weighed.text.bytes.items ≤ LONGEST_JOB }
     ensures ends { (read : JobData) → JobStands weighed.entry.job read
-        → Ends request.now.mode request.now.asked read (text_data weighed.entry.text)
+        → Ends request.now.mode request.now.output read (text_data weighed.entry.text)
         result.outcome
         (W.contents writer.old) (W.contents writer.new) result.notes.items }
     ensures nothing { IfErr result.outcome (λ fault. fault ≢ RunFault.Write
@@ -117,7 +117,7 @@ pub(crate) fn run_read<H: AllocGlobal + Threads + Wait + Sync, G: Gate + Sync, W
         → IsNoted request.now.mode.explain origin all result.outcome result.notes.items }
 {
     let alloc = rt.alloc();
-    let Weighed { job, text } = weighed;
+    let ParsedJob { job, text } = weighed;
     let Job {
         map,
         adjusted,
@@ -126,7 +126,7 @@ pub(crate) fn run_read<H: AllocGlobal + Threads + Wait + Sync, G: Gate + Sync, W
     let Ok(named) = headings(alloc, scripts.as_slice()) else {
         return Ending::quietly(alloc, RunFault::Memory);
     };
-    let Ok(opening) = opening_asked(request, &map) else {
+    let Ok(opening) = wanted_opening(request, &map) else {
         return Ending::quietly(alloc, RunFault::Memory);
     };
     let closed = match run_scripts(rt, gate, request.mode.in_turn, map, scripts) {
@@ -134,11 +134,11 @@ pub(crate) fn run_read<H: AllocGlobal + Threads + Wait + Sync, G: Gate + Sync, W
         Err(fault) => return Ending::quietly(alloc, fault),
     };
     let Closed {
-        opening: Unkept,
+        opening: WithoutSnapshot,
         map,
         history,
     } = closed;
-    let Ok(plan) = plan_asked(alloc, &request.asked, &map) else {
+    let Ok(plan) = wanted_plan(alloc, &request.output, &map) else {
         return Ending::quietly(alloc, RunFault::Memory);
     };
     let entries = history.as_slice();
@@ -161,7 +161,7 @@ where
     W: Write,
     ensures job { IfOk result.outcome (λ _. HasJob bytes.items) }
     ensures output { (job : JobData) → IsJob bytes.items job
-        → Ends request.now.mode request.now.asked job
+        → Ends request.now.mode request.now.output job
         (text_of request.now.mode.explain no_origin bytes.items job.table) result.outcome
         (W.contents writer.old) (W.contents writer.new) result.notes.items }
     ensures noted { IsNoted request.now.mode.explain no_origin (Some bytes.items)
@@ -172,7 +172,7 @@ where
 {
     match job_of(rt, request.mode.explain, Origins::none(rt.alloc()), bytes) {
         Ok(job) => run_read(rt, gate, request, job, writer),
-        Err(stopped) => Ending::of_stopped(stopped),
+        Err(aborted) => Ending::of_aborted(aborted),
     }
 }
 
@@ -204,7 +204,7 @@ where
     ensures job { IfOk result.outcome (λ _. IfSome (R.remaining reader.old) HasJob) }
     ensures output { (bytes : List ℕ) (job : JobData) → R.remaining reader.old ≡ Some bytes
         → IsJob bytes job
-        → Ends request.now.mode request.now.asked job
+        → Ends request.now.mode request.now.output job
         (text_of request.now.mode.explain no_origin bytes job.table) result.outcome
         (W.contents writer.old) (W.contents writer.new) result.notes.items }
     ensures noted { IsNoted request.now.mode.explain no_origin (R.remaining reader.old)

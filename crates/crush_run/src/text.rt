@@ -3,39 +3,37 @@
 ghost use Rattle.std.specs.Prelude.{◌≡◌, ◌≤◌, List, Err, IfErr, IfOk, is_some, length, true};
 ghost use Rattle.std.specs.Io.KnownBytes.{Keeps};
 ghost use Rattle.crush_input.specs.Options.{name_text};
-ghost use Rattle.crush_since.specs.Since.{told};
+ghost use Rattle.crush_since.specs.Since.{plain_map};
 ghost use Rattle.crush_since.specs.SincePart.{since_part_text};
-ghost use Rattle.crush_table.specs.Forest.{rows_of};
-ghost use Rattle.crush_table.specs.Stands.{Stands};
-ghost use Rattle.crush_table.specs.Table.{Row};
-ghost use Rattle.crush_calls.specs.Entries.{AreOf};
-ghost use Rattle.crush_calls.specs.HistoryText.{names_of};
-ghost use Rattle.crush_calls.specs.Script.{scripts_data};
+ghost use Rattle.crush_model.specs.Forest.{rows_of};
+ghost use Rattle.crush_model.specs.Stands.{Stands};
+ghost use Rattle.crush_model.specs.Table.{Row};
+ghost use Rattle.crush_history.specs.Entries.{AreOf};
+ghost use Rattle.crush_history.specs.HistoryText.{names_of};
+ghost use Rattle.crush_history.specs.Script.{scripts_data};
 ghost use Rattle.crush_edits.specs.Setting.{SettingData};
 ghost use Rattle.crush_input.specs.Notes.{IsKept};
 ghost use Rattle.crush_reasons.specs.Ceph.{ceph_text};
 ghost use Rattle.crush_plan.specs.Plan.{plan_data};
-ghost use Rattle.crush_run.specs.Output.{IsPut, changed_by_id, changed_by_name, changed_text, lines_asked, main_text, person_text};
+ghost use Rattle.crush_run.specs.Output.{IsPut, changed_by_id, changed_by_name, changed_text, wanted_lines, main_text, person_text};
 ghost use Rattle.crush_run.specs.Stages.{IsOpening, needs_opening};
 ghost use Rattle.crush_units.specs.declared.limits.TheConstants.{MOST_ENTRIES};
 
-use crate::finding::{item_asked, name_of, part_of};
+use crate::finding::{name_of, named_item, part_of};
 use crate::left::Left;
 use crate::planned::write_plan;
-use crush_bytes::{WriteFault, put};
-use crush_calls::{Entry, Script, history_text};
-use crush_input::{Asked, OldMap, Request};
+use crush_history::{Entry, Script, history_text};
+use crush_input::{OldMap, Output, Request};
 use crush_map::CrushMap;
 use crush_names::{write_since_by_name, write_since_by_name_part};
-use crush_print::write_map;
+use crush_print::{write_map, write_tree_part};
 use crush_reasons::ceph_text;
 use crush_since::{since_part_text, write_changes, write_since};
-use crush_units::ItemId;
-use crush_view::write_tree_part;
+use crush_units::{ItemId, WriteFault, put};
 use std::alloc::{AllocError, Global};
 use std::io::Write;
 
-fn lines_asked(
+fn wanted_lines(
     alloc: Global,
     history: bool,
     scripts: &[Script],
@@ -44,7 +42,7 @@ fn lines_asked(
     requires few { length entries.now ≤ MOST_ENTRIES }
     requires operators { AreOf (length scripts.now) entries.now }
     ensures { IfOk result (λ lines. lines.items
-        ≡ lines_asked history (names_of (scripts_data scripts.now)) entries.now) }
+        ≡ wanted_lines history (names_of (scripts_data scripts.now)) entries.now) }
 {
     if history {
         return history_text(alloc, scripts, entries);
@@ -92,7 +90,7 @@ fn write_part<W: Write>(
 ) -> Result<(), WriteFault>
     ensures writes { (t u : List Row) → Stands old.now.forest t → Stands map.now.forest u
         → IsPut result (W.contents writer.old) (W.contents writer.new)
-        (since_part_text under (told old.now.setting t) (told map.now.setting u)) }
+        (since_part_text under (plain_map old.now.setting t) (plain_map map.now.setting u)) }
     ensures none { result ≡ Err WriteFault.OutOfMemory
         → Keeps (W.contents writer.old) (W.contents writer.new) }
 {
@@ -111,7 +109,7 @@ fn write_by_id<W: Write>(
 ) -> Result<(), WriteFault>
     ensures writes { (t : List Row) → Stands map.now.forest t
         → IsPut result (W.contents writer.old) (W.contents writer.new) (changed_by_id under
-        (told old.now.setting (rows_of old.now.forest)) (told map.now.setting t)) }
+        (plain_map old.now.setting (rows_of old.now.forest)) (plain_map map.now.setting t)) }
     ensures none { result ≡ Err WriteFault.OutOfMemory
         → Keeps (W.contents writer.old) (W.contents writer.new) }
 {
@@ -131,7 +129,7 @@ fn write_by_name<W: Write>(
     ensures writes { (t : List Row) → Stands map.now.forest t
         → IsPut result (W.contents writer.old) (W.contents writer.new)
         (changed_by_name (name_text old.now.under)
-        (told old.now.map.setting (rows_of old.now.map.forest)) (told map.now.setting t)) }
+        (plain_map old.now.map.setting (rows_of old.now.map.forest)) (plain_map map.now.setting t)) }
     ensures none { result ≡ Err WriteFault.OutOfMemory
         → Keeps (W.contents writer.old) (W.contents writer.new) }
 {
@@ -151,44 +149,44 @@ fn write_changed<W: Write>(
     ensures writes { (t : List Row) → Stands map.now.forest t
         → IsPut result (W.contents writer.old) (W.contents writer.new)
         (changed_text old.now.by_name (name_text old.now.under)
-        (told old.now.map.setting (rows_of old.now.map.forest)) (told map.now.setting t)) }
+        (plain_map old.now.map.setting (rows_of old.now.map.forest)) (plain_map map.now.setting t)) }
     ensures none { result ≡ Err WriteFault.OutOfMemory
         → Keeps (W.contents writer.old) (W.contents writer.new) }
 {
     if old.by_name {
         return write_by_name(alloc, old, map, writer);
     }
-    let under = item_asked(name_of(&old.under), map);
+    let under = named_item(name_of(&old.under), map);
     write_by_id(alloc, under, &old.map, map, writer)
 }
 
-fn write_asked<W: Write>(
+fn write_output<W: Write>(
     alloc: Global,
     request: &Request,
     left: &Left<'_>,
     writer: &mut W,
 ) -> Result<(), WriteFault>
     requires few { length left.now.entries.now ≤ MOST_ENTRIES }
-    requires kept { needs_opening request.now.mode request.now.asked ≡ true
+    requires kept { needs_opening request.now.mode request.now.output ≡ true
         → is_some left.now.opening.now ≡ true }
-    ensures writes { (o t : List Row) → IsOpening request.now.mode request.now.asked
+    ensures writes { (o t : List Row) → IsOpening request.now.mode request.now.output
         left.now.opening.now left.now.map.now.setting o → Stands left.now.map.now.forest t
         → IsPut result (W.contents writer.old) (W.contents writer.new)
-        (main_text request.now.asked (plan_data left.now.plan.now) left.now.map.now.setting o t
+        (main_text request.now.output (plan_data left.now.plan.now) left.now.map.now.setting o t
         left.now.entries.now) }
     ensures none { result ≡ Err WriteFault.OutOfMemory
         → Keeps (W.contents writer.old) (W.contents writer.new) }
 {
-    match &request.asked {
-        Asked::Map => write_map(alloc, left.map, writer),
-        Asked::Tree(words) => write_tree_part(alloc, left.map, part_of(words, left.map), writer),
-        Asked::Since(old) => write_changed(alloc, old, left.map, writer),
-        Asked::Changes(old) => {
+    match &request.output {
+        Output::Map => write_map(alloc, left.map, writer),
+        Output::Tree(words) => write_tree_part(alloc, left.map, part_of(words, left.map), writer),
+        Output::Since(old) => write_changed(alloc, old, left.map, writer),
+        Output::Changes(old) => {
             old.forest().recall_invariant();
             write_changes(alloc, old, left.map, writer)
         }
-        Asked::AsCeph => write_ceph(alloc, left, writer),
-        Asked::To(wanted) => write_plan(alloc, wanted.as_ceph, left.plan, writer),
+        Output::AsCeph => write_ceph(alloc, left, writer),
+        Output::To(wanted) => write_plan(alloc, wanted.as_ceph, left.plan, writer),
     }
 }
 
@@ -201,21 +199,21 @@ pub(crate) fn write_text<W: Write>(
 ) -> Result<(), WriteFault>
     requires few { length left.now.entries.now ≤ MOST_ENTRIES }
     requires operators { AreOf (length left.now.scripts.now) left.now.entries.now }
-    requires kept { needs_opening request.now.mode request.now.asked ≡ true
+    requires kept { needs_opening request.now.mode request.now.output ≡ true
         → is_some left.now.opening.now ≡ true }
-    ensures writes { (o t : List Row) → IsOpening request.now.mode request.now.asked
+    ensures writes { (o t : List Row) → IsOpening request.now.mode request.now.output
         left.now.opening.now left.now.map.now.setting o → Stands left.now.map.now.forest t
         → IsPut result (W.contents writer.old) (W.contents writer.new)
-        (person_text request.now.mode.history request.now.asked (plan_data left.now.plan.now)
+        (person_text request.now.mode.history request.now.output (plan_data left.now.plan.now)
         left.now.map.now.setting o t (names_of (scripts_data left.now.scripts.now))
         left.now.entries.now) }
     ensures none { result ≡ Err WriteFault.OutOfMemory
         → Keeps (W.contents writer.old) (W.contents writer.new) }
 {
-    let lines = lines_asked(alloc, request.mode.history, left.scripts, left.entries);
+    let lines = wanted_lines(alloc, request.mode.history, left.scripts, left.entries);
     let Ok(lines) = lines else {
         return Err(WriteFault::OutOfMemory);
     };
-    write_asked(alloc, request, left, writer)?;
+    write_output(alloc, request, left, writer)?;
     put(writer, lines.as_slice())
 }

@@ -4,8 +4,8 @@ ghost use Rattle.std.specs.Prelude.{◌≡◌, []};
 ghost use Rattle.crush_run.specs.Script.{HasRun};
 
 use crate::gate::Gate;
-use crush_calls::Call;
-use crush_editor::{Desk, Editor, Seat, SubmitFault, Unkept};
+use crush_editor::{Desk, Editor, Seat, SubmitFault, WithoutSnapshot};
+use crush_history::Call;
 use std::alloc::Global;
 use std::snapshot::Snapshot;
 use std::sync::Wait;
@@ -40,7 +40,7 @@ pub(crate) struct Crew<'s, N: Desk, G, R> {
     pub(crate) rt: &'s R,
     /// Where their slips lie.
     pub(crate) alloc: Global,
-    pub(crate) editor: &'s Editor<N, Unkept>,
+    pub(crate) editor: &'s Editor<N, WithoutSnapshot>,
     pub(crate) gate: &'s G,
 }
 

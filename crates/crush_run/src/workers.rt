@@ -7,8 +7,8 @@ ghost use Rattle.crush_run.specs.Stages.{IsAtOnceFault};
 
 use crate::gate::Gate;
 use crate::worker::{Crew, Finished, Task};
-use crush_calls::{Call, Script};
 use crush_editor::{Desk, Seat};
+use crush_history::{Call, Script};
 use crush_input::RunFault;
 use std::alloc::Global;
 use std::snapshot::Snapshot;

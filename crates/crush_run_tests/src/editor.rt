@@ -6,10 +6,10 @@ ghost use Rattle.crush_units.specs.declared.limits.TheConstants.{MOST_OPERATORS}
 ghost use Rattle.crush_run_tests.specs.Seats.{AreAll};
 
 use crate::maps::PLAIN;
-use crush_calls::{Call, Reply};
 use crush_editor::{Desk, Editor, Seat, Started, SubmitFault};
 use crush_edits::Edit;
 use crush_gauge::Reading;
+use crush_history::{Call, Reply};
 use crush_map::CrushMap;
 use crush_text::read_map;
 use crush_units::{Name, Weight};

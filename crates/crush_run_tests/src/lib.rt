@@ -1,5 +1,5 @@
-//! Tests of runs and of the editor in them: `run` is of `crush_options`, `crush_input`,
-//! `crush_report` and `crush_run`, `editor` of `crush_editor` and `crush_gauge`.
+//! Tests of runs and of the editor in them: `run` is of `crush_options`, `crush_input` and
+//! `crush_run`, `editor` of `crush_editor` and `crush_gauge`.
 #![tactic(auto)]
 
 #[cfg(test)]

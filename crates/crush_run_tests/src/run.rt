@@ -1,9 +1,9 @@
 //! Runs of whole jobs, from their bytes to the bytes written.
 
 use crate::maps::PLAIN;
+use crush_input::{Words, report};
 use crush_options::Mode;
-use crush_report::{Words, report};
-use crush_run::{Asked, Ending, Gate, NoGate, Request, RunFault, Summary, run_job};
+use crush_run::{Ending, Gate, NoGate, Output, Request, RunFault, Summary, run_job};
 use std::io::{Read, Write};
 use std::process::Abort;
 use std::random::RandomSource;
@@ -72,7 +72,7 @@ where
 {
     let request = Request {
         mode,
-        asked: Asked::Map,
+        output: Output::Map,
     };
     let Ending { outcome, notes } = run_job(rt, gate, &request, reader, writer);
     drop(notes);
@@ -116,7 +116,7 @@ fn summary(adjusted: u32, calls: u32, changes: u32) -> Summary {
     }
 }
 
-fn is_told(
+fn is_listed(
     rt: &impl AllocGlobal,
     outcome: &Result<Summary, RunFault>,
     line: &[u8],

@@ -1,8 +1,8 @@
 -- A call that is added to the last script.
 use Rattle.std.proofs.Common.{◌≡◌, ℕ, zero, suc, ◌+◌, List, [], ◌∷◌, ◌++◌, length, map, get_or, set, ap, sym, ◌∙◌, arith}
-use Rattle.crush_calls.specs.declared.call.Call.{Call}
-use Rattle.crush_calls.specs.declared.script.Script.{Script}
-use Rattle.crush_calls.specs.Script.{ScriptData, script_data}
+use Rattle.crush_history.specs.declared.call.Call.{Call}
+use Rattle.crush_history.specs.declared.script.Script.{Script}
+use Rattle.crush_history.specs.Script.{ScriptData, script_data}
 use Rattle.crush_script.specs.Sections.{call_in_last}
 
 -- the last script is set to one with one more call

@@ -3,7 +3,7 @@ use Rattle.std.proofs.Common.{◌≡◌, ℕ, List, [], ◌∷◌, Ok, Err, Some
 use Rattle.std.specs.Prelude.{codes}
 use Rattle.crush_units.specs.declared.limits.TheConstants.{UNITS_OF_ONE, LAST_DEVICE_ID}
 use Rattle.crush_edits.specs.declared.edit.Edit.TheVariants.{Insert, CreateOrMove, Update, Move, Swap, Reweight, ReweightSubtree, Remove, AddBucket, Rename, SetClass, RemoveClass}
-use Rattle.crush_calls.specs.declared.call.Call.TheVariants.{One, Batch, Guarded}
+use Rattle.crush_history.specs.declared.call.Call.TheVariants.{One, Batch, Guarded}
 use Rattle.crush_script.specs.declared.command.Command.TheVariants.{Nothing, Edit, Begin, Commit}
 use Rattle.crush_script.specs.declared.command.LineFault.TheVariants as line
 use Rattle.crush_script.specs.declared.fault.JobFault.TheVariants as job

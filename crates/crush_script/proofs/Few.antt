@@ -4,8 +4,8 @@ use Rattle.std.specs.Prelude.{IfOk}
 use Rattle.std.proofs.lemmas.List.Sums.{sum_by-append, sum_by-cons}
 use Rattle.crush_units.specs.declared.limits.TheConstants.{MOST_CALLS, MOST_EDITS, MOST_OPERATORS}
 use Rattle.crush_edits.specs.declared.edit.Edit.{Edit}
-use Rattle.crush_calls.specs.declared.call.Call.{Call}
-use Rattle.crush_calls.specs.declared.call.Call.TheVariants.{One}
+use Rattle.crush_history.specs.declared.call.Call.{Call}
+use Rattle.crush_history.specs.declared.call.Call.TheVariants.{One}
 use Rattle.crush_script.proofs.Oks.{bind-if_ok_at, bind-if_ok, if_ok-either, if_ok-else, if_ok-at}
 use Rattle.crush_script.specs.declared.command.Command.{Command}
 use Rattle.crush_script.specs.declared.command.Command.TheVariants as says
@@ -13,7 +13,7 @@ use Rattle.crush_script.specs.declared.sections.BegunBatch.{BegunBatch}
 use Rattle.crush_text.specs.Flow.{◌>>=◌}
 use Rattle.crush_script.specs.Command.{command, operator}
 use Rattle.crush_script.specs.Lines.{line_words, begins_section}
-use Rattle.crush_calls.specs.Script.{ScriptData, call_count}
+use Rattle.crush_history.specs.Script.{ScriptData, call_count}
 use Rattle.crush_script.specs.Sections.{SectionsData, no_sections, call_in_last, in_line, without_batch, closed, has_operator, with_section, counted, with_call, batch_call, with_edit, with_begin, with_commit, with_command, with_line, with_lines}
 
 -- a batch that is open is one call

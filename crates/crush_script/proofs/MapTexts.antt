@@ -3,7 +3,7 @@ use Rattle.std.proofs.Common.{◌≡◌, ℕ, ◌+◌, ◌==◌, ◌&&◌, Bool,
 use Rattle.std.proofs.lemmas.Bool.Decides.{nat_tests}
 use Rattle.crush_units.specs.Name.{is_name_byte}
 use Rattle.crush_units.specs.declared.limits.TheConstants.{LONGEST_NAME}
-use Rattle.crush_bytes.specs.Words.{Word, Stop, ended, bad, is_blank, is_brace, without_comments, first, stopped, onto_words, begins_with_name_byte, split, up_to_long, words_in}
+use Rattle.crush_units.specs.Words.{Word, Stop, ended, bad, is_blank, is_brace, without_comments, first, stopped, onto_words, begins_with_name_byte, split, up_to_long, words_in}
 use Rattle.crush_script.specs.Lines.{length_to_section}
 use Rattle.crush_script.specs.ScriptsText.{MapTextsHaveNoSection}
 

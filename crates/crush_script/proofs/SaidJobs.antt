@@ -9,10 +9,10 @@ use Rattle.std.specs.Prelude.{All, AllPairs, IfOk, IfSome, bytes_eq}
 use Rattle.crush_units.specs.Name.{IsName}
 use Rattle.crush_units.specs.declared.limits.TheConstants.{MOST_CALLS, MOST_EDITS, MOST_ENTRIES, MOST_OPERATORS}
 use Rattle.crush_edits.specs.declared.edit.Edit.{Edit}
-use Rattle.crush_calls.specs.declared.call.Call.{Call}
-use Rattle.crush_calls.specs.declared.call.Call.TheVariants.{One}
-use Rattle.crush_calls.specs.Script.{ScriptData}
-use Rattle.crush_calls.specs.HistoryText.{names_of}
+use Rattle.crush_history.specs.declared.call.Call.{Call}
+use Rattle.crush_history.specs.declared.call.Call.TheVariants.{One}
+use Rattle.crush_history.specs.Script.{ScriptData}
+use Rattle.crush_history.specs.HistoryText.{names_of}
 use Rattle.crush_script.specs.declared.command.Command.{Command}
 use Rattle.crush_script.specs.declared.command.Command.TheVariants as says
 use Rattle.crush_script.specs.declared.command.LineFault.{LineFault}

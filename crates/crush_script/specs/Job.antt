@@ -1,6 +1,6 @@
 -- What a job is, and why bytes are none.
 use Rattle.std.specs.Prelude.{◌≡◌, ℕ, ◌<◌, ◌≤◌, List, length, Ok, Err}
-use Rattle.crush_table.specs.Table.{Row}
+use Rattle.crush_model.specs.Table.{Row}
 use Rattle.crush_edits.specs.Setting.{SettingData}
 use Rattle.crush_map.specs.MapData.{MapStands}
 use Rattle.crush_text.specs.Document.{IsMapText}
@@ -10,7 +10,7 @@ use Rattle.crush_script.specs.declared.fault.JobFault.TheVariants.{Text, OutOfMe
 use Rattle.crush_script.specs.declared.job.Job.{Job}
 use Rattle.crush_script.specs.Lines.{map_part}
 use Rattle.crush_script.specs.MapPart.{IsTextFault}
-use Rattle.crush_calls.specs.Script.{ScriptData, scripts_data}
+use Rattle.crush_history.specs.Script.{ScriptData, scripts_data}
 use Rattle.crush_script.specs.Sections.{SectionsData, sections_of}
 use Rattle.crush_units.specs.declared.limits.TheConstants.{LONGEST_JOB}
 

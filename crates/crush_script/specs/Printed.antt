@@ -9,7 +9,7 @@ use Rattle.crush_script.specs.declared.command.Command.TheVariants as says
 use Rattle.crush_script.specs.Lines.{line_words}
 use Rattle.crush_script.specs.Words.{device_named}
 use Rattle.crush_script.specs.Command.{command}
-use Rattle.crush_calls.specs.HistoryText.{edit_text}
+use Rattle.crush_history.specs.HistoryText.{edit_text}
 
 -- the forms of what a command says of a device: its name is `osd.N`, and the others are those that their types keep
 pub record IsSaidPlacing (d : ℕ) (n : List ℕ) (w : ℕ) (l : List Pair) : Type 0 where

@@ -2,13 +2,13 @@
 use Rattle.std.specs.Prelude.{◌≡◌, ℕ, ◌≤◌, List, [], ◌∷◌, ◌++◌, Bool, true, false, ◌==◌, All, AllPairs, bytes_eq, codes, decimal, length, map, flat_map}
 use Rattle.crush_units.specs.Name.{IsName}
 use Rattle.crush_units.specs.declared.limits.TheConstants.{MOST_CALLS, MOST_EDITS, MOST_ENTRIES, MOST_OPERATORS, LONGEST_JOB}
-use Rattle.crush_table.specs.Table.{Row}
+use Rattle.crush_model.specs.Table.{Row}
 use Rattle.crush_edits.specs.Setting.{SettingData}
 use Rattle.crush_text.specs.Document.{IsMapText}
-use Rattle.crush_calls.specs.declared.call.Call.{Call}
-use Rattle.crush_calls.specs.declared.call.Call.TheVariants.{One, Batch, Guarded}
-use Rattle.crush_calls.specs.Script.{ScriptData, call_count}
-use Rattle.crush_calls.specs.HistoryText.{edit_text, names_of}
+use Rattle.crush_history.specs.declared.call.Call.{Call}
+use Rattle.crush_history.specs.declared.call.Call.TheVariants.{One, Batch, Guarded}
+use Rattle.crush_history.specs.Script.{ScriptData, call_count}
+use Rattle.crush_history.specs.HistoryText.{edit_text, names_of}
 use Rattle.crush_script.specs.Lines.{length_to_section}
 use Rattle.crush_script.specs.Printed.{IsSaid}
 use Rattle.crush_script.specs.Job.{IsJob, JobData}

@@ -2,8 +2,8 @@
 use Rattle.std.specs.Prelude.{ℕ, ◌+◌, List, [], ◌∷◌, ◌++◌, Bool, Option, Some, None, length, Result, Ok, Err, if◌then◌else◌, nat_le, bytes_eq}
 use Rattle.std.specs.List.{list_any}
 use Rattle.crush_edits.specs.declared.edit.Edit.{Edit}
-use Rattle.crush_calls.specs.declared.call.Call.{Call}
-use Rattle.crush_calls.specs.declared.call.Call.TheVariants.{One, Batch, Guarded}
+use Rattle.crush_history.specs.declared.call.Call.{Call}
+use Rattle.crush_history.specs.declared.call.Call.TheVariants.{One, Batch, Guarded}
 use Rattle.crush_script.specs.declared.command.Command.{Command}
 use Rattle.crush_script.specs.declared.command.Command.TheVariants as says
 use Rattle.crush_script.specs.declared.command.LineFault.{LineFault}
@@ -11,7 +11,7 @@ use Rattle.crush_script.specs.declared.command.LineFault.TheVariants as line
 use Rattle.crush_script.specs.declared.fault.JobFault.{JobFault}
 use Rattle.crush_script.specs.declared.fault.JobFault.TheVariants as job
 use Rattle.crush_script.specs.declared.sections.BegunBatch.{BegunBatch}
-use Rattle.crush_calls.specs.Script.{ScriptData, scripts_data}
+use Rattle.crush_history.specs.Script.{ScriptData, scripts_data}
 use Rattle.crush_script.specs.declared.sections.Sections.{Sections}
 use Rattle.crush_text.specs.Flow.{◌>>=◌}
 use Rattle.crush_script.specs.Command.{command, operator}

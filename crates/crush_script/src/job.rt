@@ -1,7 +1,7 @@
 //! The reading of a job.
 
 ghost use Rattle.std.specs.Prelude.{◌≡◌, ◌≤◌, true, IfOk, IfErr, length};
-ghost use Rattle.crush_calls.specs.Script.{scripts_data, call_count};
+ghost use Rattle.crush_history.specs.Script.{scripts_data, call_count};
 ghost use Rattle.crush_script.specs.Fault.{lacks_memory};
 ghost use Rattle.crush_script.specs.Job.{IsJob, IsJobFault, JobData, JobStands};
 ghost use Rattle.crush_units.specs.declared.limits.TheConstants.{MOST_CALLS, MOST_OPERATORS};
@@ -9,7 +9,7 @@ ghost use Rattle.crush_units.specs.declared.limits.TheConstants.{MOST_CALLS, MOS
 use crate::fault::JobFault;
 use crate::line::{cut_job, line_feeds};
 use crate::sections::{Sections, read_sections};
-use crush_calls::Script;
+use crush_history::Script;
 use crush_map::{CrushMap, Hashing};
 use crush_text::read_map_in;
 use crush_units::limits::LONGEST_JOB;

@@ -2,15 +2,15 @@
 
 ghost use Rattle.std.specs.Prelude.{◌≡◌, ◌+◌, ◌<◌, ◌^◌, false, true, length};
 ghost use Rattle.crush_script.specs.Lines.{lines, begins_section};
-ghost use Rattle.crush_calls.specs.Script.{scripts_data};
+ghost use Rattle.crush_history.specs.Script.{scripts_data};
 ghost use Rattle.crush_script.specs.Sections.{with_lines, no_sections, has_operator, batch_call};
 ghost use Rattle.crush_script.specs.Steps.{GivesSections};
 
 use crate::command::Command;
 use crate::fault::JobFault;
 use crate::line::{LineWords, begins_section, cut_line};
-use crush_calls::{Call, Edits, Script};
 use crush_edits::Edit;
+use crush_history::{Call, Edits, Script};
 use crush_units::Name;
 use crush_units::limits::{MOST_CALLS, MOST_OPERATORS};
 use std::alloc::Global;

@@ -4,9 +4,9 @@ ghost use Rattle.std.specs.Prelude.{◌≡◌, ◌==◌, ◌||◌, not, length, 
 ghost use Rattle.crush_script.specs.Words.{count_of, device_named, pair_of};
 
 use crate::line::place_of;
-use crush_bytes::number::number_up_to;
 use crush_units::DeviceId;
 use crush_units::limits::{LAST_DEVICE_ID, MOST_ENTRIES};
+use crush_units::number::number_up_to;
 
 /// Whether no digit could be left out at the head of a number.
 fn begins_plain(digits: &[u8]) -> bool

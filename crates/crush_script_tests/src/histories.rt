@@ -1,9 +1,9 @@
 //! The history of one operator.
 
 ghost use Rattle.std.specs.Prelude.{◌<◌, length};
-ghost use Rattle.crush_calls.specs.Entries.{AreOf};
+ghost use Rattle.crush_history.specs.Entries.{AreOf};
 
-use crush_calls::{Entry, Script, is_change, make_call};
+use crush_history::{Entry, Script, is_change, make_call};
 use crush_map::CrushMap;
 use std::alloc::Global;
 use std::process::Abort;

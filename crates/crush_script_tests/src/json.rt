@@ -7,11 +7,11 @@ mod since;
 mod trees;
 
 ghost use Rattle.std.specs.Prelude.{◌<◌, length};
-ghost use Rattle.crush_calls.specs.Entries.{AreOf};
+ghost use Rattle.crush_history.specs.Entries.{AreOf};
 
 use crate::histories::entries_of;
 use crate::maps::EXAMPLE_MAP;
-use crush_calls::{Entry, Script};
+use crush_history::{Entry, Script};
 use crush_json::{History, write_map_document};
 use crush_map::{CrushMap, Hashing};
 use crush_script::{Job, read_job};
@@ -20,7 +20,7 @@ use maps::*;
 use std::alloc::Global;
 use std::process::Abort;
 
-fn is_told(rt: &(impl Abort + AllocGlobal), text: &[u8], document: &[u8]) -> bool {
+fn is_listed(rt: &(impl Abort + AllocGlobal), text: &[u8], document: &[u8]) -> bool {
     let (map, _) = read_map(rt.alloc(), text).expect(rt, "no map");
     let mut told = Vec::new(rt.alloc());
     write_map_document(rt.alloc(), &map, None, &mut told).expect(rt, "not written");
@@ -30,17 +30,17 @@ fn is_told(rt: &(impl Abort + AllocGlobal), text: &[u8], document: &[u8]) -> boo
 
 #[test]
 fn the_example_map_is_told_as_ceph_tells_it(rt: HostRuntime) {
-    assert!(rt; is_told(&rt, EXAMPLE_MAP, EXAMPLE_DOCUMENT));
+    assert!(rt; is_listed(&rt, EXAMPLE_MAP, EXAMPLE_DOCUMENT));
 }
 
 #[test]
 fn classes_are_told(rt: HostRuntime) {
-    assert!(rt; is_told(&rt, CLASSED_MAP, CLASSED_DOCUMENT));
+    assert!(rt; is_listed(&rt, CLASSED_MAP, CLASSED_DOCUMENT));
 }
 
 #[test]
 fn an_empty_map_has_empty_members(rt: HostRuntime) {
-    assert!(rt; is_told(&rt, b"", EMPTY_DOCUMENT));
+    assert!(rt; is_listed(&rt, b"", EMPTY_DOCUMENT));
 }
 
 fn is_told_behind(

@@ -1,7 +1,7 @@
 //! Tests of texts, jobs and prints of maps, through public calls.
 //!
-//! `script` tests `crush_text`, `crush_print`, `crush_calls`, `crush_script` and `crush_bytes`;
-//! `view` tests `crush_view` and `crush_since`; `plan` tests `crush_plan` and `crush_names`; `json`
+//! `script` tests `crush_text`, `crush_print`, `crush_history`, `crush_script` and `crush_units`;
+//! `view` tests `crush_print` and `crush_since`; `plan` tests `crush_plan` and `crush_names`; `json`
 //! tests `crush_json`; `reasons` tests `crush_reasons`. What owns a map, a job or a call lets it go
 //! by `drop`, so that its parts are taken apart in one place, and not in each proof.
 #![tactic(auto)]

@@ -2,10 +2,10 @@
 //! docs/FORMATS.md and the sentences in docs/RULES.md.
 
 ghost use Rattle.std.specs.Prelude.{◌<◌, length};
-ghost use Rattle.crush_calls.specs.Entries.{AreOf};
+ghost use Rattle.crush_history.specs.Entries.{AreOf};
 
 use crate::histories::entries_of;
-use crush_calls::{Entry, Script};
+use crush_history::{Entry, Script};
 use crush_map::{CrushMap, Hashing};
 use crush_reasons::{
     JobText, Locates, Origin, ceph_text, explained_job, explained_text, fault_line, fault_text,
@@ -31,7 +31,12 @@ fn fault_of(rt: &(impl Abort + AllocGlobal), bytes: &[u8]) -> JobFault {
     }
 }
 
-fn is_told(rt: &(impl Abort + AllocGlobal), origin: Origin<'_>, bytes: &[u8], told: &[u8]) -> bool {
+fn is_listed(
+    rt: &(impl Abort + AllocGlobal),
+    origin: Origin<'_>,
+    bytes: &[u8],
+    told: &[u8],
+) -> bool {
     if bytes.len() > 10_000 {
         return false;
     }
@@ -43,7 +48,7 @@ fn is_told(rt: &(impl Abort + AllocGlobal), origin: Origin<'_>, bytes: &[u8], to
 #[test]
 fn a_fault_is_told_with_its_place(rt: HostRuntime) {
     assert!(rt;
-        is_told(
+        is_listed(
             &rt,
             Origin {
                 name: b"",
@@ -51,7 +56,7 @@ fn a_fault_is_told_with_its_place(rt: HostRuntime) {
             },
             MISSPELT,
             b"  line 24, column 1\n    hots h2 {\n    ^\n  no type of this name is declared above\n"
-        ) && is_told(
+        ) && is_listed(
             &rt,
             Origin {
                 name: b"alice.txt",
@@ -74,17 +79,17 @@ fn what_does_not_fit_is_told(rt: HostRuntime) {
         before: 0,
     };
     assert!(rt;
-        is_told(
+        is_listed(
             &rt,
             origin,
             b"%operator a\nreweight osd.0 1,5\n",
             b"  line 2\n    reweight osd.0 1,5\n  reweight NAME WEIGHT: `1,5` is no weight; write 1.5\n"
-        ) && is_told(
+        ) && is_listed(
             &rt,
             origin,
             CUT,
             b"  line 3, column 5\n     id -2\n        ^\n  the host h1 that begins at line 2 isn't closed\n"
-        ) && is_told(
+        ) && is_listed(
             &rt,
             origin,
             ALGO,
@@ -106,12 +111,12 @@ fn a_line_is_told_as_that_of_its_own_file(rt: HostRuntime) {
         before: 4,
     };
     assert!(rt;
-        is_told(
+        is_listed(
             &rt,
             second,
             JOINED,
             b"  bob.txt line 2\n    fly z\n  the first word of a line is to be a command: --help has all of them\n"
-        ) && is_told(
+        ) && is_listed(
             &rt,
             second,
             DUPLICATE,

@@ -6,14 +6,14 @@ use Rattle.std.proofs.lemmas.List.{take_more}
 use Rattle.std.proofs.lemmas.List.Elements.{filter-append}
 use Rattle.crush_edits.specs.Setting.{SettingData}
 use Rattle.crush_units.specs.declared.id.ItemId.{ItemId}
-use Rattle.crush_table.specs.Table.{Row}
-use Rattle.crush_since.specs.Changes.{has_some, is_told}
-use Rattle.crush_since.specs.Since.{Told, told, all_ids, id_line, item_lines}
-use Rattle.crush_since.specs.SincePart.{is_changed, is_part_changed, part_ids, since_part_text, told_ids}
-use Rattle.crush_since.specs.Settings.{same_kinds, same_rule, same_tunable, setting_lines, tunables_line, kinds_line, rules_line, told_if_not}
+use Rattle.crush_model.specs.Table.{Row}
+use Rattle.crush_since.specs.Changes.{has_some, is_listed}
+use Rattle.crush_since.specs.Since.{PlainMap, plain_map, all_ids, id_line, item_lines}
+use Rattle.crush_since.specs.SincePart.{is_changed, is_part_changed, part_ids, since_part_text, listed_ids}
+use Rattle.crush_since.specs.Settings.{same_kinds, same_rule, same_tunable, setting_lines, tunables_line, kinds_line, rules_line, listed_if_not}
 
 -- THE SETTINGS
-three_told : (x y z : Bool) → has_some (told_if_not x (codes "tunables differ\n") ++ told_if_not y (codes "types differ\n") ++ told_if_not z (codes "rules differ\n")) ≡ not (x && (y && z))
+three_told : (x y z : Bool) → has_some (listed_if_not x (codes "tunables differ\n") ++ listed_if_not y (codes "types differ\n") ++ listed_if_not z (codes "rules differ\n")) ≡ not (x && (y && z))
 three_told true true true = refl
 three_told true true false = refl
 three_told true false z = refl
@@ -63,18 +63,18 @@ or_false : (x : Bool) → x || false ≡ x
 or_false true = refl
 or_false false = refl
 
-pub setting_is_told : (s p : SettingData) (t u : List Row) → has_some (setting_lines s p) ≡ true → true ≡ is_changed (told s t) (told p u)
+pub setting_is_told : (s p : SettingData) (t u : List Row) → has_some (setting_lines s p) ≡ true → true ≡ is_changed (plain_map s t) (plain_map p u)
 unfolding is_changed
 setting_is_told s p t u some =
-    let items = item_lines (told s t) (told p u) in
+    let items = item_lines (plain_map s t) (plain_map p u) in
     sym (some_of_both items (setting_lines s p) ∙ ap (λ z. has_some items || z) some ∙ or_true (has_some items))
 
-pub items_are_told : (s p : SettingData) (t u : List Row) (x : Bool) → has_some (setting_lines s p) ≡ false → x ≡ has_some (told_ids None (told s t) (told p u)) → x ≡ is_changed (told s t) (told p u)
-unfolding is_changed told_ids item_lines is_told
+pub items_are_told : (s p : SettingData) (t u : List Row) (x : Bool) → has_some (setting_lines s p) ≡ false → x ≡ has_some (listed_ids None (plain_map s t) (plain_map p u)) → x ≡ is_changed (plain_map s t) (plain_map p u)
+unfolding is_changed listed_ids item_lines is_listed
 items_are_told s p t u x none_told is =
-    let items = item_lines (told s t) (told p u) in
-    is ∙ sym (some_told (id_line (told s t) (told p u)) (all_ids t u)) ∙ sym (some_of_both items (setting_lines s p) ∙ ap (λ z. has_some items || z) none_told ∙ or_false (has_some items))
+    let items = item_lines (plain_map s t) (plain_map p u) in
+    is ∙ sym (some_told (id_line (plain_map s t) (plain_map p u)) (all_ids t u)) ∙ sym (some_of_both items (setting_lines s p) ∙ ap (λ z. has_some items || z) none_told ∙ or_false (has_some items))
 
-pub part_is_told : (i : ItemId) (old new : Told) (x : Bool) → x ≡ has_some (told_ids (Some i) old new) → x ≡ is_part_changed i old new
-unfolding is_part_changed since_part_text told_ids is_told
+pub part_is_told : (i : ItemId) (old new : PlainMap) (x : Bool) → x ≡ has_some (listed_ids (Some i) old new) → x ≡ is_part_changed i old new
+unfolding is_part_changed since_part_text listed_ids is_listed
 part_is_told i old new x is = is ∙ sym (some_told (id_line old new) (part_ids old.table new.table i))

@@ -11,12 +11,12 @@ use Rattle.std.proofs.lemmas.List.Sorted.{sum_by-IsPermutation}
 use Rattle.crush_units.specs.declared.id.ItemId.{ItemId}
 use Rattle.crush_units.specs.Id.{same_id}
 use Rattle.crush_units.proofs.Ids.{equal_same_id}
-use Rattle.crush_table.specs.Count.{one_if}
-use Rattle.crush_table.specs.Forest.{ForestData, all_items}
-use Rattle.crush_table.specs.Items.{Items}
-use Rattle.crush_table.specs.Stands.{Stands}
-use Rattle.crush_table.specs.Table.{Row, is_below}
-use Rattle.crush_table.proofs.Reorder.{sum_by-map}
+use Rattle.crush_model.specs.Count.{one_if}
+use Rattle.crush_model.specs.Forest.{ForestData, all_items}
+use Rattle.crush_model.specs.Items.{Items}
+use Rattle.crush_model.specs.Stands.{Stands}
+use Rattle.crush_model.specs.Table.{Row, is_below}
+use Rattle.crush_model.proofs.Reorder.{sum_by-map}
 use Rattle.crush_nodes.specs.Search.{kids_in}
 use Rattle.crush_nodes.proofs.RowLaws.{times-rows}
 use Rattle.crush_tree.proofs.ReadLemmas.Below.{ids_below, contains-below}

@@ -5,7 +5,7 @@ use Rattle.std.proofs.lemmas.List.{length-append}
 use Rattle.crush_since.specs.ChangeText.{brackets, brackets_text, rows_text, changes_text}
 use Rattle.crush_since.specs.Changes.{change_rows}
 use Rattle.crush_since.specs.ItemParts.{behind}
-use Rattle.crush_since.specs.Since.{Told, all_ids, last_lines}
+use Rattle.crush_since.specs.Since.{PlainMap, all_ids, last_lines}
 use Rattle.crush_since.specs.Tallies.{tally_of}
 use Rattle.crush_since.proofs.PartLaws.{last_lines_are_some}
 
@@ -25,7 +25,7 @@ both_pushed (Ok x) old one new first rows second begun are ended = ended ∙ ap 
 both_pushed (Err e) old one new first rows second begun are ended = tt
 
 -- no text is empty: it has its totals
-pub changes_text_is_some : (old new : Told) → 0 < length (changes_text old new)
+pub changes_text_is_some : (old new : PlainMap) → 0 < length (changes_text old new)
 unfolding changes_text
 changes_text_is_some old new =
     let counts = tally_of old.table new.table (all_ids old.table new.table) in

@@ -8,18 +8,18 @@ use Rattle.std.proofs.lemmas.List.Folds.{flat_map-map}
 use Rattle.crush_units.specs.declared.id.ItemId.{ItemId}
 use Rattle.crush_units.specs.declared.id.ItemId.TheVariants.{Device, Bucket}
 use Rattle.crush_edits.specs.Setting.{SettingData}
-use Rattle.crush_table.specs.Lawful.{Lawful}
-use Rattle.crush_table.specs.Table.{Row, row_of, kids, is_parent, bucket_ids}
-use Rattle.crush_table.proofs.Weighs.{All-found}
+use Rattle.crush_model.specs.Lawful.{Lawful}
+use Rattle.crush_model.specs.Table.{Row, row_of, kids, is_parent, bucket_ids}
+use Rattle.crush_model.proofs.Weighs.{All-found}
 use Rattle.crush_print.specs.MapText.{put_in, ascending, device_number, root_number, root_numbers}
-use Rattle.crush_since.specs.Changes.{change_at, stood_at, left_at, left_from, has_some, is_told, with_below, stands_at, root_rows, unplaced_rows, change_rows}
+use Rattle.crush_since.specs.Changes.{change_at, stood_at, left_at, left_from, has_some, is_listed, with_below, stands_at, root_rows, unplaced_rows, change_rows}
 use Rattle.crush_since.specs.ChangeText.{heading, rows_text, changes_text}
 use Rattle.crush_since.specs.Equal.{same_option}
 use Rattle.crush_since.specs.ItemData.{ItemData, row_item}
-use Rattle.crush_since.specs.Since.{told}
+use Rattle.crush_since.specs.Since.{plain_map}
 use Rattle.crush_since.specs.SinceLaws.{NoRowSinceItself}
-use Rattle.crush_view.specs.Tree.{unplaced_number, unplaced_numbers}
-use Rattle.crush_view.specs.TreeText.{at_left}
+use Rattle.crush_print.specs.Tree.{unplaced_number, unplaced_numbers}
+use Rattle.crush_print.specs.TreeText.{at_left}
 use Rattle.crush_since.proofs.EqualItems.{nil_left, nil_right}
 use Rattle.crush_since.proofs.SinceItself.{nothing_of, no_line_of, last_since_itself}
 
@@ -86,28 +86,28 @@ module _ (t : List Row) where
 
 -- NO ROW of what stands, as deep as it may be
 module _ (s : SettingData) (t : List Row) (l : Lawful t) where
-  untold : (i : ItemId) → is_told (told s t) (told s t) i ≡ false
-  unfolding is_told
+  untold : (i : ItemId) → is_listed (plain_map s t) (plain_map s t) i ≡ false
+  unfolding is_listed
   untold i = ap has_some (no_line_of s t i)
 
-  none_stands : (n depth : ℕ) (i : ItemId) → stands_at (told s t) (told s t) n depth i ≡ []
+  none_stands : (n depth : ℕ) (i : ItemId) → stands_at (plain_map s t) (plain_map s t) n depth i ≡ []
   unfolding stands_at left_from
   none_stands n depth (Device d) = ap (λ z. with_below z (change_at t t true depth (Device d)) []) (untold (Device d))
   none_stands zero depth (Bucket b) = refl
   none_stands (suc n) depth (Bucket b) =
       (λ k. with_below (untold (Bucket b) k) (change_at t t true depth (Bucket b))
-      (nothing_of (stands_at (told s t) (told s t) n (depth + 1)) (none_stands n (depth + 1)) (kids t b) k ++ kids_stay t (depth + 1) b t (All-found t l.ids) k))
+      (nothing_of (stands_at (plain_map s t) (plain_map s t) n (depth + 1)) (none_stands n (depth + 1)) (kids t b) k ++ kids_stay t (depth + 1) b t (All-found t l.ids) k))
 
   none_left : (f : ℕ → ItemId) (numbers : List ℕ) → flat_map (λ x. left_at t t 0 None (f x)) numbers ≡ [] → left_from t t 0 None (map f (ascending numbers)) ≡ []
   unfolding left_from
   none_left f numbers none = flat_map-map (left_at t t 0 None) f (ascending numbers) ∙ ordered_nothing (λ x. left_at t t 0 None (f x)) numbers none
 
-  no_rows : change_rows (told s t) (told s t) ≡ []
+  no_rows : change_rows (plain_map s t) (plain_map s t) ≡ []
   unfolding change_rows root_rows unplaced_rows root_numbers unplaced_numbers
   no_rows = λ k.
-      (nothing_of (λ b. stands_at (told s t) (told s t) (length t) 0 (Bucket b)) (λ b. none_stands (length t) 0 (Bucket b)) (ascending (flat_map root_number t)) k
+      (nothing_of (λ b. stands_at (plain_map s t) (plain_map s t) (length t) 0 (Bucket b)) (λ b. none_stands (length t) 0 (Bucket b)) (ascending (flat_map root_number t)) k
       ++ none_left Bucket (flat_map root_number t) (roots_stay t t (All-found t l.ids)) k)
-      ++ (nothing_of (λ d. stands_at (told s t) (told s t) (length t) 0 (Device d)) (λ d. none_stands (length t) 0 (Device d)) (ascending (flat_map unplaced_number t)) k
+      ++ (nothing_of (λ d. stands_at (plain_map s t) (plain_map s t) (length t) 0 (Device d)) (λ d. none_stands (length t) 0 (Device d)) (ascending (flat_map unplaced_number t)) k
       ++ none_left Device (flat_map unplaced_number t) (unplaced_stay t t (All-found t l.ids)) k)
 
 headings : (s : SettingData) → rows_text s s [] ≡ codes "ID  CLASS  WAS  WEIGHT  TYPE NAME\n"

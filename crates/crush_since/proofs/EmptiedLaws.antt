@@ -3,10 +3,10 @@ use Rattle.std.proofs.Common.{◌≡◌, ℕ, List, ap, sym, refl}
 use Rattle.std.specs.Prelude.{Option, None, Some, is_some, if◌then◌else◌, option_and_then, unwrap_or}
 use Rattle.std.specs.Option.{option_map}
 use Rattle.crush_units.specs.declared.id.ItemId.TheVariants.{Bucket}
-use Rattle.crush_table.specs.Classes.{class_sum}
-use Rattle.crush_table.specs.Lawful.{Lawful}
-use Rattle.crush_table.specs.Table.{Row, row_of, name_of, id_named, item_weight}
-use Rattle.crush_table.proofs.NameColumn.{id_named-by}
+use Rattle.crush_model.specs.Classes.{class_sum}
+use Rattle.crush_model.specs.Lawful.{Lawful}
+use Rattle.crush_model.specs.Table.{Row, row_of, name_of, id_named, item_weight}
+use Rattle.crush_model.proofs.NameColumn.{id_named-by}
 use Rattle.crush_since.specs.Emptied.{weight_as, taken_weight}
 
 -- a bucket that is there is the item of its name

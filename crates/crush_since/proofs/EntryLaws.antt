@@ -14,14 +14,14 @@ use Rattle.crush_units.specs.declared.id.ItemId.{ItemId}
 use Rattle.crush_units.specs.declared.id.ItemId.TheVariants.{Device as DeviceItem, Bucket as BucketItem}
 use Rattle.crush_units.specs.Id.{same_id}
 use Rattle.crush_units.proofs.Ids.{same_id_tells}
-use Rattle.crush_table.specs.Count.{one_if}
-use Rattle.crush_table.specs.Items.{BucketData, ShadowData, Items, none, device, bucket}
-use Rattle.crush_table.specs.Forest.{ForestData, all_items, join}
-use Rattle.crush_table.specs.ItemRows.{rows, device_row, bucket_row}
-use Rattle.crush_table.specs.Stands.{Stands}
-use Rattle.crush_table.specs.Table.{Row, row_of, name_of}
-use Rattle.crush_table.proofs.Found.{row_of-absent}
-use Rattle.crush_table.proofs.Reorder.{reordered-sum, sum_by-map}
+use Rattle.crush_model.specs.Count.{one_if}
+use Rattle.crush_model.specs.Items.{BucketData, ShadowData, Items, none, device, bucket}
+use Rattle.crush_model.specs.Forest.{ForestData, all_items, join}
+use Rattle.crush_model.specs.ItemRows.{rows, device_row, bucket_row}
+use Rattle.crush_model.specs.Stands.{Stands}
+use Rattle.crush_model.specs.Table.{Row, row_of, name_of}
+use Rattle.crush_model.proofs.Found.{row_of-absent}
+use Rattle.crush_model.proofs.Reorder.{reordered-sum, sum_by-map}
 use Rattle.crush_nodes.specs.Seen.{items_of, node_id}
 use Rattle.crush_nodes.specs.declared.node.Node.{Node}
 use Rattle.crush_nodes.specs.declared.node.Node.TheVariants.{Device, Bucket}
@@ -30,9 +30,9 @@ use Rattle.crush_print.proofs.Told.{Told, stands_told}
 use Rattle.crush_since.specs.Entries.{EntryData, row_entry, entry_of, device_entry, bucket_entry, entries_of, id_key}
 use Rattle.crush_since.specs.ItemData.{ItemData, row_item, item_of, own_class_ids}
 use Rattle.crush_since.specs.Listing.{Lists, entry_data, listed_id, node_class_ids}
-use Rattle.crush_view.specs.SeenStep.{node_view}
+use Rattle.crush_print.specs.SeenStep.{node_view}
 use Rattle.crush_since.specs.declared.since.listing.Listed.{Listed}
-use Rattle.crush_view.proofs.WalkLaws.{All-unmap}
+use Rattle.crush_print.proofs.WalkLaws.{All-unmap}
 
 -- the entries of the items of both
 pub entries-join : (p : Option ℕ) (n : Option (List ℕ)) (a b : Items) → entries_of p n (join a b) ≡ entries_of p n a ++ entries_of p n b

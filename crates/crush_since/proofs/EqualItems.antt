@@ -12,25 +12,25 @@ use Rattle.crush_units.specs.declared.id.ItemId.{ItemId}
 use Rattle.crush_units.specs.declared.id.ItemId.TheVariants.{Device, Bucket}
 use Rattle.crush_units.proofs.Algs.{same_alg_equal}
 use Rattle.crush_units.proofs.Ids.{same_id_tells}
-use Rattle.crush_table.specs.Items.{ShadowData}
-use Rattle.crush_table.specs.Lawful.{Lawful, IsRow, IsRowOf}
-use Rattle.crush_table.specs.Table.{Row, row_of, bucket_ids, item_weight}
-use Rattle.crush_table.proofs.Moved.{row_id}
-use Rattle.crush_table.proofs.Same.{item_weight-same}
-use Rattle.crush_table.proofs.Tested.{bytes_equal}
+use Rattle.crush_model.specs.Items.{ShadowData}
+use Rattle.crush_model.specs.Lawful.{Lawful, IsRow, IsRowOf}
+use Rattle.crush_model.specs.Table.{Row, row_of, bucket_ids, item_weight}
+use Rattle.crush_model.proofs.Moved.{row_id}
+use Rattle.crush_model.proofs.Same.{item_weight-same}
+use Rattle.crush_model.proofs.Tested.{bytes_equal}
 use Rattle.crush_edits.specs.Setting.{SettingData}
 use Rattle.crush_print.specs.MapText.{put_in, ascending, device_number}
 use Rattle.crush_since.specs.Equal.{same_option, same_text}
 use Rattle.crush_since.specs.ItemData.{ItemData, row_item, item_of, own_class_ids}
 use Rattle.crush_since.specs.ItemParts.{same_algs, same_class_id, part, name_part, type_part, place_part, weight_part, class_part, alg_part, class_ids_part, changes, parts, behind, line, item_line}
 use Rattle.crush_since.specs.ItemWords.{item_word, whole_word}
-use Rattle.crush_since.specs.Since.{told, same_class_ids, id_line, once_behind, all_ids, all_buckets, all_devices, item_lines}
+use Rattle.crush_since.specs.Since.{plain_map, same_class_ids, id_line, once_behind, all_ids, all_buckets, all_devices, item_lines}
 use Rattle.crush_since.specs.SinceLaws.{NoItemWhereRowsAreEqual}
 use Rattle.crush_since.proofs.EqualRows.{equal_rows_reordered}
 use Rattle.crush_since.proofs.SinceItself.{no_line, nothing_of, pairs_itself, class_id_itself}
 
 -- EQUAL ROWS, so no lines
-rows_tell_nothing : (s p : SettingData) (t u : List Row) → Lawful t → Lawful u → ((i : ItemId) → row_of t i ≡ row_of u i) → item_lines (told s t) (told p u) ≡ []
+rows_tell_nothing : (s p : SettingData) (t u : List Row) → Lawful t → Lawful u → ((i : ItemId) → row_of t i ≡ row_of u i) → item_lines (plain_map s t) (plain_map p u) ≡ []
 unfolding item_lines id_line
 rows_tell_nothing s p t u lt lu same = nothing_of (λ i. item_line s p i (item_of t i) (item_of u i) (same_class_ids t u i)) each (all_ids t u) where
   row_item-same : (r : Row) → row_item t r ≡ row_item u r
@@ -219,7 +219,7 @@ module _ (s p : SettingData) (t u : List Row) (lt : Lawful t) (lu : Lawful u) wh
       let class_ids = ids i r q er eq fr fq own_ids in
       λ k. record { id = same_ids k; kind = kind k; name = name k; parent = parent k; weight = weight k; class = class k; alg = alg k; class_ids = class_ids k }
 
-  nothing_told_equal : item_lines (told s t) (told p u) ≡ [] → (i : ItemId) → row_of t i ≡ row_of u i
+  nothing_told_equal : item_lines (plain_map s t) (plain_map p u) ≡ [] → (i : ItemId) → row_of t i ≡ row_of u i
   unfolding item_lines id_line
   nothing_told_equal e i = by_rows (row_of t i) (row_of u i) refl refl where
     f : ItemId → List ℕ

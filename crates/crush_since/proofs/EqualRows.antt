@@ -4,13 +4,13 @@ use Rattle.std.specs.Prelude.{None, Some, not, if◌then◌else◌}
 use Rattle.crush_units.specs.declared.id.ItemId.{ItemId}
 use Rattle.crush_units.specs.Id.{same_id}
 use Rattle.crush_units.proofs.Ids.{same_id_refl, same_id_tells}
-use Rattle.crush_table.specs.Columns.{without_row}
-use Rattle.crush_table.specs.Count.{one_if}
-use Rattle.crush_table.specs.Reordered.{IsReordered, nothing, keep, through}
-use Rattle.crush_table.specs.Table.{Row, row_of}
-use Rattle.crush_table.proofs.Found.{Distinct, times, times-cons, row_of-absent}
-use Rattle.crush_table.proofs.Moved.{last_row}
-use Rattle.crush_table.proofs.Reorder.{reordered_comm}
+use Rattle.crush_model.specs.Columns.{without_row}
+use Rattle.crush_model.specs.Count.{one_if}
+use Rattle.crush_model.specs.Reordered.{IsReordered, nothing, keep, through}
+use Rattle.crush_model.specs.Table.{Row, row_of}
+use Rattle.crush_model.proofs.Found.{Distinct, times, times-cons, row_of-absent}
+use Rattle.crush_model.proofs.Moved.{last_row}
+use Rattle.crush_model.proofs.Reorder.{reordered_comm}
 
 -- what is taken out is gone
 times-gone : (i : ItemId) (t : List Row) → times i (without_row i t) ≡ 0

@@ -3,7 +3,7 @@ use Rattle.std.proofs.Common.{◌≡◌, ℕ, false, List, ap, ◌∙◌, refl}
 use Rattle.std.specs.Prelude.{Option, None, Some, is_some}
 use Rattle.std.specs.Option.{option_map, option_map_or}
 use Rattle.crush_units.specs.declared.id.ItemId.{ItemId}
-use Rattle.crush_table.specs.Table.{Row, row_of, is_there}
+use Rattle.crush_model.specs.Table.{Row, row_of, is_there}
 use Rattle.crush_nodes.specs.declared.node.Node.{Node}
 use Rattle.crush_nodes.specs.declared.node.Node.TheVariants.{Device, Bucket}
 use Rattle.crush_since.specs.Changes.{stands_in}
@@ -11,7 +11,7 @@ use Rattle.crush_since.specs.Entries.{EntryData, row_entry, entry_of}
 use Rattle.crush_since.specs.Equal.{same_option}
 use Rattle.crush_since.specs.ItemData.{ItemData}
 use Rattle.crush_since.specs.Listing.{entry_data}
-use Rattle.crush_view.specs.SeenStep.{node_view}
+use Rattle.crush_print.specs.SeenStep.{node_view}
 use Rattle.crush_since.specs.declared.since.listing.Listed.{Listed}
 use Rattle.crush_since.proofs.EntryLaws.{entry_item}
 

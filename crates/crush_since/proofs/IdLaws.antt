@@ -7,9 +7,9 @@ use Rattle.std.proofs.lemmas.List.Concat.{flat_map-append}
 use Rattle.std.proofs.lemmas.List.Sums.{sum_by-append}
 use Rattle.crush_units.specs.declared.id.ItemId.{ItemId}
 use Rattle.crush_units.specs.declared.id.ItemId.TheVariants.{Device as DeviceItem, Bucket as BucketItem}
-use Rattle.crush_table.specs.Count.{one_if}
-use Rattle.crush_table.specs.Table.{Row, bucket_ids}
-use Rattle.crush_table.proofs.Reorder.{sum_by-map, sum_by-flat_map}
+use Rattle.crush_model.specs.Count.{one_if}
+use Rattle.crush_model.specs.Table.{Row, bucket_ids}
+use Rattle.crush_model.proofs.Reorder.{sum_by-map, sum_by-flat_map}
 use Rattle.crush_print.specs.MapText.{ascending, device_number}
 use Rattle.crush_print.proofs.Sorting.{times, ascending_same}
 use Rattle.crush_since.specs.Equal.{same_option}

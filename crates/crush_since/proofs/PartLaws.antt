@@ -6,11 +6,11 @@ use Rattle.std.proofs.lemmas.List.{length-append}
 use Rattle.std.proofs.lemmas.List.Concat.{flat_map-append}
 use Rattle.crush_units.specs.declared.id.ItemId.{ItemId}
 use Rattle.crush_units.specs.Weight.{weight_text}
-use Rattle.crush_table.specs.Table.{total}
+use Rattle.crush_model.specs.Table.{total}
 use Rattle.crush_since.specs.Emptied.{emptied_lines}
 use Rattle.crush_since.specs.ItemParts.{behind, line_text, line}
 use Rattle.crush_since.specs.Settings.{setting_lines}
-use Rattle.crush_since.specs.Since.{Told, all_ids, item_lines, totals_line, last_lines, since_text}
+use Rattle.crush_since.specs.Since.{PlainMap, all_ids, item_lines, totals_line, last_lines, since_text}
 use Rattle.crush_since.specs.Tallies.{tally_of, counts_line}
 use Rattle.crush_since.specs.declared.since.tally.Tally.{Tally}
 
@@ -57,7 +57,7 @@ totals_are_some : (a b : ℕ) → 0 < length (totals_line a b)
 unfolding totals_line
 totals_are_some a b = let last = length-append (codes "total " ++ weight_text a ++ codes " to " ++ weight_text b) (10 ∷ []) in omega (arith, last)
 
-pub last_lines_are_some : (old new : Told) (n : Tally) → 0 < length (last_lines old new n)
+pub last_lines_are_some : (old new : PlainMap) (n : Tally) → 0 < length (last_lines old new n)
 unfolding last_lines
 last_lines_are_some old new n =
     let settings = setting_lines old.setting new.setting in
@@ -65,7 +65,7 @@ last_lines_are_some old new n =
     let totals = totals_line (total old.table) (total new.table) in
     omega (arith, length-append (settings ++ rules ++ totals) (counts_line n), length-append (settings ++ rules) totals, totals_are_some (total old.table) (total new.table))
 
-pub since_text_is_some : (old new : Told) → 0 < length (since_text old new)
+pub since_text_is_some : (old new : PlainMap) → 0 < length (since_text old new)
 unfolding since_text
 since_text_is_some old new =
     let counts = tally_of old.table new.table (all_ids old.table new.table) in omega (arith, length-append (item_lines old new) (last_lines old new counts), last_lines_are_some old new counts)

@@ -4,7 +4,7 @@ use Rattle.std.specs.Prelude.{Option, None, Some, option_and_then}
 use Rattle.std.specs.Option.{option_map}
 use Rattle.crush_units.specs.declared.id.ItemId.{ItemId}
 use Rattle.crush_units.specs.declared.id.ItemId.TheVariants.{Bucket}
-use Rattle.crush_table.specs.Table.{Row, row_of, name_of}
+use Rattle.crush_model.specs.Table.{Row, row_of, name_of}
 use Rattle.crush_nodes.specs.Views.{ViewData, row_view, view_of}
 use Rattle.crush_since.specs.ItemData.{ItemData, row_item, item_of}
 

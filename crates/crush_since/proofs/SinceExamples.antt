@@ -3,23 +3,23 @@ use Rattle.std.proofs.Common.{◌≡◌, refl}
 use Rattle.std.specs.Prelude.{ℕ, List, [], ◌∷◌, Some, None, codes}
 use Rattle.crush_units.specs.declared.alg.Alg.TheVariants.{Straw}
 use Rattle.crush_edits.specs.Setting.{SettingData, take, emit}
-use Rattle.crush_view.proofs.Examples.{type}
+use Rattle.crush_print.proofs.Examples.{type}
 use Rattle.std.specs.Fmt.{digits}
-use Rattle.crush_table.specs.Items.{LeafData, Items, none, device, bucket}
-use Rattle.crush_table.specs.Forest.{rows_of}
-use Rattle.crush_table.specs.Table.{Row}
+use Rattle.crush_model.specs.Items.{LeafData, Items, none, device, bucket}
+use Rattle.crush_model.specs.Forest.{rows_of}
+use Rattle.crush_model.specs.Table.{Row}
 use Rattle.crush_print.specs.RuleLines.{bucket_name}
 use Rattle.crush_since.specs.Emptied.{emptied_lines, rule_takes, weighs_nothing}
 use Rattle.crush_since.specs.Settings.{tunables_line, kinds_line, rules_line, setting_lines}
-use Rattle.crush_since.specs.Since.{Told, told, id_line, all_ids, all_buckets, all_devices, item_lines, totals_line, last_lines, since_text}
+use Rattle.crush_since.specs.Since.{PlainMap, plain_map, id_line, all_ids, all_buckets, all_devices, item_lines, totals_line, last_lines, since_text}
 use Rattle.crush_since.specs.Tallies.{first_counts, last_counts, counts_line}
-use Rattle.crush_view.proofs.Examples.{leaf, header, setting, example}
+use Rattle.crush_print.proofs.Examples.{leaf, header, setting, example}
 
 abbrev of_roots : Items → List Row
 of_roots roots = rows_of (record { roots = roots; unplaced = none; root_capacity = 1; unplaced_capacity = 0 })
 
-abbrev of : List Row → Told
-of t = told setting t
+abbrev of : List Row → PlainMap
+of t = plain_map setting t
 
 -- osd.0 has gone from h1 to h2
 abbrev moved : List Row
@@ -95,14 +95,14 @@ of_rule osd taken tunable = record {
   rules = record { name = codes "data"; id = 0; kind = codes "replicated"; min_size = None; max_size = Some 3; steps = take taken None ∷ (emit ∷ []) } ∷ [];
 }
 
-since_each : since_text (told (of_rule (codes "osd") 1 (codes "chooseleaf_stable")) before) (told (of_rule (codes "device") 2 (codes "chooseleaf_vary_r")) after)
+since_each : since_text (plain_map (of_rule (codes "osd") 1 (codes "chooseleaf_stable")) before) (plain_map (of_rule (codes "device") 2 (codes "chooseleaf_vary_r")) after)
     ≡ codes "default (-1): weight 1.50000 to 1.00000\nh1 (-2): type host to rack; alg straw2 to straw; class ids\nh2 (-3): from default (-1) to (root); weight 0.50000 to 0.00000\nosd.0 (0): class (none) to ssd\nosd.2 (2): from h2 (-3) to (unplaced); weight 0.50000 to 0.00000; class hdd to (none)\ntunables differ\ntypes differ\nrules differ\ntotal 1.50000 to 1.00000\n0 made, 0 removed, 0 renamed, 2 moved, 3 of other weight, 2 of other class\n"
 unfolding since_text last_lines emptied_lines rule_takes weighs_nothing item_lines id_line all_ids all_buckets all_devices setting_lines tunables_line kinds_line rules_line totals_line counts_line first_counts last_counts digits
 since_each = refl
 
 -- types in another order are the same types
-since_renamed : since_text (told (record { kinds = type 0 (codes "osd") ∷ (type 11 (codes "root") ∷ []); tunables = []; rules = [] }) (of_roots (bucket (header 1 11 (codes "a")) 0 0 none none)))
-    (told (record { kinds = type 11 (codes "root") ∷ (type 0 (codes "osd") ∷ []); tunables = []; rules = [] }) (of_roots (bucket (header 1 11 (codes "b")) 0 0 none none)))
+since_renamed : since_text (plain_map (record { kinds = type 0 (codes "osd") ∷ (type 11 (codes "root") ∷ []); tunables = []; rules = [] }) (of_roots (bucket (header 1 11 (codes "a")) 0 0 none none)))
+    (plain_map (record { kinds = type 11 (codes "root") ∷ (type 0 (codes "osd") ∷ []); tunables = []; rules = [] }) (of_roots (bucket (header 1 11 (codes "b")) 0 0 none none)))
     ≡ codes "b (-1): was a\ntotal 0.00000 to 0.00000\n0 made, 0 removed, 1 renamed, 0 moved, 0 of other weight, 0 of other class\n"
 unfolding since_text last_lines emptied_lines rule_takes weighs_nothing item_lines id_line all_ids all_buckets all_devices setting_lines tunables_line kinds_line rules_line totals_line counts_line first_counts last_counts digits
 since_renamed = refl
@@ -119,8 +119,8 @@ abbrev of_class : List ℕ → LeafData
 of_class c = record { id = 0; name = codes "osd.0"; weight = 65536; class = Some c }
 
 since_emptied : since_text
-    (told taking (of_roots (bucket (header 1 11 (codes "default")) 65536 2 (bucket (header 2 1 (codes "h1")) 65536 1 (device (of_class (codes "hdd")) none) (bucket (header 3 1 (codes "h2")) 0 0 none none)) none)))
-    (told taking (of_roots (bucket (header 1 11 (codes "default")) 65536 2 (bucket (header 2 1 (codes "h1")) 0 1 none (bucket (header 3 1 (codes "h2")) 65536 1 (device (of_class (codes "ssd")) none) none)) none)))
+    (plain_map taking (of_roots (bucket (header 1 11 (codes "default")) 65536 2 (bucket (header 2 1 (codes "h1")) 65536 1 (device (of_class (codes "hdd")) none) (bucket (header 3 1 (codes "h2")) 0 0 none none)) none)))
+    (plain_map taking (of_roots (bucket (header 1 11 (codes "default")) 65536 2 (bucket (header 2 1 (codes "h1")) 0 1 none (bucket (header 3 1 (codes "h2")) 65536 1 (device (of_class (codes "ssd")) none) none)) none)))
     ≡ codes "h1 (-2): weight 1.00000 to 0.00000\nh2 (-3): weight 0.00000 to 1.00000\nosd.0 (0): from h1 (-2) to h2 (-3); class hdd to ssd\nrule data takes nothing: default~hdd weighs 0.00000\nrule data takes nothing: h1 weighs 0.00000\ntotal 1.00000 to 1.00000\n0 made, 0 removed, 0 renamed, 1 moved, 2 of other weight, 1 of other class\n"
 unfolding since_text last_lines emptied_lines rule_takes weighs_nothing bucket_name item_lines id_line all_ids all_buckets all_devices setting_lines tunables_line kinds_line rules_line totals_line counts_line first_counts last_counts digits
 since_emptied = refl

@@ -9,10 +9,10 @@ use Rattle.crush_units.specs.declared.alg.Alg.{Alg}
 use Rattle.crush_units.specs.declared.alg.Alg.TheVariants.{Straw, Straw2, List as ListAlg}
 use Rattle.crush_units.specs.declared.id.ItemId.{ItemId}
 use Rattle.crush_units.specs.Weight.{weight_text}
-use Rattle.crush_table.specs.Items.{ShadowData}
-use Rattle.crush_table.specs.Count.{one_if}
-use Rattle.crush_table.specs.Table.{Row, total}
-use Rattle.crush_table.proofs.Tested.{bytes_itself}
+use Rattle.crush_model.specs.Items.{ShadowData}
+use Rattle.crush_model.specs.Count.{one_if}
+use Rattle.crush_model.specs.Table.{Row, total}
+use Rattle.crush_model.proofs.Tested.{bytes_itself}
 use Rattle.crush_edits.specs.Setting.{TunableData, StepData, take, choose, set, emit, RuleData, SettingData, kind_name}
 use Rattle.crush_print.specs.RuleLines.{bucket_name}
 use Rattle.crush_since.specs.Emptied.{taken_weight, emptied_line, emptied_by, emptied_of, emptied_lines}
@@ -20,8 +20,8 @@ use Rattle.crush_since.specs.Equal.{same_option, same_text}
 use Rattle.crush_since.specs.ItemData.{ItemData, item_of, own_class_ids}
 use Rattle.crush_since.specs.ItemWords.{place_word, type_word, class_or_none, alg_word}
 use Rattle.crush_since.specs.ItemParts.{same_algs, same_class_id, part, change, changes, line, item_line}
-use Rattle.crush_since.specs.Settings.{same_tunable, kind_numbers, agree_on, same_kinds, same_bool, same_step, same_rule, told_if_not, tunables_line, kinds_line, rules_line, setting_lines}
-use Rattle.crush_since.specs.Since.{told, same_class_ids, id_line, all_ids, item_lines, totals_line, last_lines, since_text}
+use Rattle.crush_since.specs.Settings.{same_tunable, kind_numbers, agree_on, same_kinds, same_bool, same_step, same_rule, listed_if_not, tunables_line, kinds_line, rules_line, setting_lines}
+use Rattle.crush_since.specs.Since.{plain_map, same_class_ids, id_line, all_ids, item_lines, totals_line, last_lines, since_text}
 use Rattle.crush_since.specs.SinceLaws.{NothingSinceItself, nothing_counted}
 use Rattle.crush_since.specs.Tallies.{in_both, is_made, is_removed, is_renamed, is_moved, is_reweighed, is_reclassed, tally_of, counts_line}
 
@@ -66,13 +66,13 @@ pub nothing_of : {X Z : Type 0} (f : X → List Z) → ((x : X) → f x ≡ []) 
 nothing_of f each [] = refl
 nothing_of f each (x ∷ xs) = λ i. each x i ++ nothing_of f each xs i
 
-pub no_line_of : (s : SettingData) (t : List Row) (i : ItemId) → id_line (told s t) (told s t) i ≡ []
+pub no_line_of : (s : SettingData) (t : List Row) (i : ItemId) → id_line (plain_map s t) (plain_map s t) i ≡ []
 unfolding id_line
 no_line_of s t i = no_line s s i (item_of t i) (same_class_ids t t i) (pairs_itself same_class_id class_id_itself (own_class_ids t i))
 
-no_items : (s : SettingData) (t : List Row) → item_lines (told s t) (told s t) ≡ []
+no_items : (s : SettingData) (t : List Row) → item_lines (plain_map s t) (plain_map s t) ≡ []
 unfolding item_lines
-no_items s t = nothing_of (id_line (told s t) (told s t)) (no_line_of s t) (all_ids t t)
+no_items s t = nothing_of (id_line (plain_map s t) (plain_map s t)) (no_line_of s t) (all_ids t t)
 
 -- SETTINGS
 tunable_itself : (x : TunableData) → same_tunable x x ≡ true
@@ -102,8 +102,8 @@ rule_itself x = λ i.
 no_settings : (s : SettingData) → setting_lines s s ≡ []
 unfolding setting_lines tunables_line kinds_line rules_line
 no_settings s = λ i.
-    told_if_not (pairs_itself same_tunable tunable_itself s.tunables i) (codes "tunables differ\n") ++ told_if_not (kinds_itself s i) (codes "types differ\n")
-    ++ told_if_not (pairs_itself same_rule rule_itself s.rules i) (codes "rules differ\n")
+    listed_if_not (pairs_itself same_tunable tunable_itself s.tunables i) (codes "tunables differ\n") ++ listed_if_not (kinds_itself s i) (codes "types differ\n")
+    ++ listed_if_not (pairs_itself same_rule rule_itself s.rules i) (codes "rules differ\n")
 
 -- COUNTS
 none_meets : (p : ItemId → Bool) → ((i : ItemId) → p i ≡ false) → (ids : List ItemId) → count_by p ids ≡ 0
@@ -145,7 +145,7 @@ no_rules : (s : SettingData) (t : List Row) → emptied_lines t t s ≡ []
 unfolding emptied_lines
 no_rules s t = nothing_of (emptied_of t t) (λ r. nothing_of (emptied_by t t r.name) (no_step t r.name) r.steps) s.rules
 
-pub last_since_itself : (s : SettingData) (t : List Row) → last_lines (told s t) (told s t) (tally_of t t (all_ids t t)) ≡ totals_line (total t) (total t) ++ counts_line nothing_counted
+pub last_since_itself : (s : SettingData) (t : List Row) → last_lines (plain_map s t) (plain_map s t) (tally_of t t (all_ids t t)) ≡ totals_line (total t) (total t) ++ counts_line nothing_counted
 unfolding last_lines
 last_since_itself s t = λ i. no_settings s i ++ no_rules s t i ++ totals_line (total t) (total t) ++ counts_line (no_counts t (all_ids t t) i)
 

@@ -5,10 +5,10 @@ use Rattle.std.specs.List.Sorted.{IsPermutation}
 use Rattle.std.proofs.lemmas.List.Elements.{All-nil, All-cons}
 use Rattle.crush_units.specs.declared.id.ItemId.{ItemId}
 use Rattle.crush_units.specs.declared.id.ItemId.TheVariants.{Device as DeviceItem, Bucket as BucketItem}
-use Rattle.crush_table.specs.Items.{Items, none, device, bucket, size_of}
-use Rattle.crush_table.specs.Forest.{ForestData, join, IsSound}
-use Rattle.crush_table.specs.Stands.{Stands}
-use Rattle.crush_table.specs.Table.{kids}
+use Rattle.crush_model.specs.Items.{Items, none, device, bucket, size_of}
+use Rattle.crush_model.specs.Forest.{ForestData, join, IsSound}
+use Rattle.crush_model.specs.Stands.{Stands}
+use Rattle.crush_model.specs.Table.{kids}
 use Rattle.crush_nodes.specs.Seen.{items_of, leaf_data, node_id}
 use Rattle.crush_nodes.specs.declared.node.Node.{Node}
 use Rattle.crush_nodes.specs.declared.node.Node.TheVariants.{Device, Bucket}
@@ -18,15 +18,15 @@ use Rattle.crush_print.specs.ItemsText.{id_number}
 use Rattle.crush_print.specs.MapText.{ascending, root_numbers}
 use Rattle.crush_print.proofs.Told.{Told}
 use Rattle.crush_since.specs.ChangeItems.{stands_of}
-use Rattle.crush_since.specs.Changes.{ChangeData, change_at, is_told, left_from, stands_at, with_below}
-use Rattle.crush_since.specs.Since.{Told as Map}
-use Rattle.crush_view.specs.Tree.{unplaced_numbers}
-use Rattle.crush_view.proofs.WalkLaws.{roots_in_order, roots_told, few_roots, unplaced_in_order, unplaced_told, few_unplaced}
+use Rattle.crush_since.specs.Changes.{ChangeData, change_at, is_listed, left_from, stands_at, with_below}
+use Rattle.crush_since.specs.Since.{PlainMap as Map}
+use Rattle.crush_print.specs.Tree.{unplaced_numbers}
+use Rattle.crush_print.proofs.WalkLaws.{roots_in_order, roots_told, few_roots, unplaced_in_order, unplaced_told, few_unplaced}
 
 module _ (old new : Map) where
   -- an item with the rows below it
   abbrev own : ℕ → ItemId → List ChangeData → List ChangeData
-  own depth i below = with_below (is_told old new i) (change_at old.table new.table true depth i) below
+  own depth i below = with_below (is_listed old new i) (change_at old.table new.table true depth i) below
 
   abbrev left : ℕ → ℕ → List ChangeData
   left depth b = left_from old.table new.table depth (Some b) (kids old.table b)

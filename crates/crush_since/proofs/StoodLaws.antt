@@ -6,11 +6,11 @@ use Rattle.std.proofs.lemmas.List.Elements.{All-nil, All-cons}
 use Rattle.std.proofs.lemmas.List.Folds.{flat_map-map}
 use Rattle.crush_units.specs.declared.id.ItemId.{ItemId}
 use Rattle.crush_units.specs.declared.id.ItemId.TheVariants.{Device as DeviceItem, Bucket as BucketItem}
-use Rattle.crush_table.specs.Items.{Items, none, device, bucket, size_of}
-use Rattle.crush_table.specs.Forest.{ForestData, all_items, join, IsSound}
-use Rattle.crush_table.specs.Stands.{Stands}
-use Rattle.crush_table.specs.Table.{Row, kids, is_there}
-use Rattle.crush_table.proofs.Reorder.{reordered-length}
+use Rattle.crush_model.specs.Items.{Items, none, device, bucket, size_of}
+use Rattle.crush_model.specs.Forest.{ForestData, all_items, join, IsSound}
+use Rattle.crush_model.specs.Stands.{Stands}
+use Rattle.crush_model.specs.Table.{Row, kids, is_there}
+use Rattle.crush_model.proofs.Reorder.{reordered-length}
 use Rattle.crush_nodes.specs.Search.{kids_in}
 use Rattle.crush_nodes.specs.Seen.{items_of, leaf_data, node_id}
 use Rattle.crush_nodes.specs.declared.node.Node.{Node}
@@ -22,9 +22,9 @@ use Rattle.crush_print.specs.MapText.{ascending, root_numbers}
 use Rattle.crush_print.proofs.Told.{Told, stands_told, size_le_rows}
 use Rattle.crush_since.specs.ChangeItems.{left_of, stood_of}
 use Rattle.crush_since.specs.Changes.{ChangeData, change_at, left_at, left_from, stands_in, stood_at}
-use Rattle.crush_view.specs.Tree.{unplaced_numbers}
-use Rattle.crush_view.proofs.BelowLaws.{told_kids, kids_no_more, no_kids}
-use Rattle.crush_view.proofs.WalkLaws.{steps_by_number, roots_in_order, roots_told, few_roots, unplaced_in_order, unplaced_told, few_unplaced}
+use Rattle.crush_print.specs.Tree.{unplaced_numbers}
+use Rattle.crush_print.proofs.BelowLaws.{told_kids, kids_no_more, no_kids}
+use Rattle.crush_print.proofs.WalkLaws.{steps_by_number, roots_in_order, roots_told, few_roots, unplaced_in_order, unplaced_told, few_unplaced}
 
 module _ (t u : List Row) where
   abbrev stood : ℕ → ItemId → ChangeData

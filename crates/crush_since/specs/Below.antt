@@ -5,9 +5,9 @@ use Rattle.std.specs.List.Sorted.{IsNonDecreasingBy}
 use Rattle.std.specs.Option.{option_map_or}
 use Rattle.crush_units.specs.declared.id.ItemId.{ItemId}
 use Rattle.crush_units.specs.Id.{same_id}
-use Rattle.crush_table.specs.Count.{one_if}
-use Rattle.crush_table.specs.Items.{Items}
-use Rattle.crush_table.specs.Table.{Row, is_below}
+use Rattle.crush_model.specs.Count.{one_if}
+use Rattle.crush_model.specs.Items.{Items}
+use Rattle.crush_model.specs.Table.{Row, is_below}
 use Rattle.crush_since.specs.Entries.{EntryData, entries_of, id_key}
 
 -- how often an id is one of these

@@ -1,12 +1,12 @@
 -- The rows of what has changed, of items as plain data.
 use Rattle.std.specs.Prelude.{ℕ, ◌+◌, true, false, List, [], ◌∷◌, ◌++◌, Option, Some, if◌then◌else◌}
 use Rattle.crush_units.specs.declared.id.ItemId.TheVariants.{Device, Bucket}
-use Rattle.crush_table.specs.Items.{Items, none, device, bucket}
-use Rattle.crush_table.specs.Table.{Row, kids, is_there}
+use Rattle.crush_model.specs.Items.{Items, none, device, bucket}
+use Rattle.crush_model.specs.Table.{Row, kids, is_there}
 use Rattle.crush_nodes.specs.Seen.{items_of, node_id}
 use Rattle.crush_nodes.specs.declared.node.Node.{Node}
-use Rattle.crush_since.specs.Changes.{ChangeData, change_at, stands_in, left_from, is_told, with_below}
-use Rattle.crush_since.specs.Since.{Told}
+use Rattle.crush_since.specs.Changes.{ChangeData, change_at, stands_in, left_from, is_listed, with_below}
+use Rattle.crush_since.specs.Since.{PlainMap}
 
 -- items of the old map that stood here
 abbrev pub stood_of : List Row → List Row → ℕ → Items → List ChangeData
@@ -20,10 +20,10 @@ abbrev pub left_of : {A : _} → List Row → List Row → ℕ → Option ℕ �
 left_of t u depth place node = if stands_in u place (node_id node) then [] else stood_of t u depth (items_of (node ∷ []))
 
 -- items of the new map that stand here
-abbrev pub stands_of : Told → Told → ℕ → Items → List ChangeData
+abbrev pub stands_of : PlainMap → PlainMap → ℕ → Items → List ChangeData
 stands_of old new depth none = []
-stands_of old new depth (device d rest) = with_below (is_told old new (Device d.id)) (change_at old.table new.table true depth (Device d.id)) [] ++ stands_of old new depth rest
+stands_of old new depth (device d rest) = with_below (is_listed old new (Device d.id)) (change_at old.table new.table true depth (Device d.id)) [] ++ stands_of old new depth rest
 stands_of old new depth (bucket h w m k rest) =
-    with_below (is_told old new (Bucket h.id)) (change_at old.table new.table true depth (Bucket h.id))
+    with_below (is_listed old new (Bucket h.id)) (change_at old.table new.table true depth (Bucket h.id))
     (stands_of old new (depth + 1) k ++ left_from old.table new.table (depth + 1) (Some h.id) (kids old.table h.id))
     ++ stands_of old new depth rest

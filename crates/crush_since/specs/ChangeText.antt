@@ -10,9 +10,9 @@ use Rattle.crush_since.specs.Changes.{ChangeData, change_rows}
 use Rattle.crush_since.specs.Equal.{same_option}
 use Rattle.crush_since.specs.ItemData.{ItemData}
 use Rattle.crush_since.specs.ItemParts.{part, behind, name_part, type_part, class_part, alg_part, class_ids_part}
-use Rattle.crush_since.specs.Since.{Told, all_ids, last_lines}
+use Rattle.crush_since.specs.Since.{PlainMap, all_ids, last_lines}
 use Rattle.crush_since.specs.Tallies.{tally_of}
-use Rattle.crush_view.specs.TreeText.{at_right, at_left, widest, row_text, indent, kind_prefix}
+use Rattle.crush_print.specs.TreeText.{at_right, at_left, widest, row_text, indent, kind_prefix}
 use Rattle.crush_since.specs.declared.changes.widths.ChangeWidths.{ChangeWidths}
 
 -- WEIGHTS: what it weighed here, if it stood here; an item that stands here now stood here where its parent is the same
@@ -120,5 +120,5 @@ unfoldable pub rows_text : SettingData → SettingData → List ChangeData → L
 rows_text s p rows = heading (widths_of rows) ++ flat_map (change_line s p (widths_of rows)) rows
 
 -- CHANGES TEXT: the tree of what has changed, and what stands behind the items
-unfoldable pub changes_text : Told → Told → List ℕ
+unfoldable pub changes_text : PlainMap → PlainMap → List ℕ
 changes_text old new = rows_text old.setting new.setting (change_rows old new) ++ last_lines old new (tally_of old.table new.table (all_ids old.table new.table))

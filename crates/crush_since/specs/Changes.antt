@@ -3,12 +3,12 @@ use Rattle.std.specs.Prelude.{ℕ, zero, suc, ◌+◌, Bool, true, false, List, 
 use Rattle.std.specs.Option.{option_map_or}
 use Rattle.crush_units.specs.declared.id.ItemId.{ItemId}
 use Rattle.crush_units.specs.declared.id.ItemId.TheVariants.{Device, Bucket}
-use Rattle.crush_table.specs.Table.{Row, kids, is_there}
+use Rattle.crush_model.specs.Table.{Row, kids, is_there}
 use Rattle.crush_print.specs.MapText.{root_numbers}
 use Rattle.crush_since.specs.Equal.{same_option}
 use Rattle.crush_since.specs.ItemData.{ItemData, item_of}
-use Rattle.crush_since.specs.Since.{Told, same_class_ids, id_line}
-use Rattle.crush_view.specs.Tree.{unplaced_numbers}
+use Rattle.crush_since.specs.Since.{PlainMap, same_class_ids, id_line}
+use Rattle.crush_print.specs.Tree.{unplaced_numbers}
 
 -- a row: an item that stands here now, or stood here and does no longer, with how many buckets are above it, and what both maps
 -- say of its id
@@ -45,30 +45,30 @@ abbrev pub has_some : {X : Type 0} → List X → Bool
 has_some [] = false
 has_some (x ∷ xs) = true
 
-unfoldable pub is_told : Told → Told → ItemId → Bool
-is_told old new i = has_some (id_line old new i)
+unfoldable pub is_listed : PlainMap → PlainMap → ItemId → Bool
+is_listed old new i = has_some (id_line old new i)
 
 abbrev pub with_below : Bool → ChangeData → List ChangeData → List ChangeData
 with_below told row [] = if told then row ∷ [] else []
 with_below told row (x ∷ below) = row ∷ (x ∷ below)
 
 -- an item with what is below it, in order, and behind that what stood below it, n deep at most
-unfoldable pub stands_at : Told → Told → ℕ → ℕ → ItemId → List ChangeData
-stands_at old new n depth (Device d) = with_below (is_told old new (Device d)) (change_at old.table new.table true depth (Device d)) []
+unfoldable pub stands_at : PlainMap → PlainMap → ℕ → ℕ → ItemId → List ChangeData
+stands_at old new n depth (Device d) = with_below (is_listed old new (Device d)) (change_at old.table new.table true depth (Device d)) []
 stands_at old new zero depth (Bucket b) = []
 stands_at old new (suc n) depth (Bucket b) =
-    with_below (is_told old new (Bucket b)) (change_at old.table new.table true depth (Bucket b))
+    with_below (is_listed old new (Bucket b)) (change_at old.table new.table true depth (Bucket b))
     (flat_map (stands_at old new n (depth + 1)) (kids new.table b) ++ left_from old.table new.table (depth + 1) (Some b) (kids old.table b))
 
 -- CHANGE ROWS: the roots, from -1 downward, and behind them those that are none now; then the unplaced devices, by ascending number, and
 -- behind them those that are none now
-unfoldable pub root_rows : Told → Told → List ChangeData
+unfoldable pub root_rows : PlainMap → PlainMap → List ChangeData
 root_rows old new =
     flat_map (λ b. stands_at old new (length new.table) 0 (Bucket b)) (root_numbers new.table) ++ left_from old.table new.table 0 None (map Bucket (root_numbers old.table))
 
-unfoldable pub unplaced_rows : Told → Told → List ChangeData
+unfoldable pub unplaced_rows : PlainMap → PlainMap → List ChangeData
 unplaced_rows old new =
     flat_map (λ d. stands_at old new (length new.table) 0 (Device d)) (unplaced_numbers new.table) ++ left_from old.table new.table 0 None (map Device (unplaced_numbers old.table))
 
-unfoldable pub change_rows : Told → Told → List ChangeData
+unfoldable pub change_rows : PlainMap → PlainMap → List ChangeData
 change_rows old new = root_rows old new ++ unplaced_rows old new

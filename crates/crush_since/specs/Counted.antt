@@ -1,6 +1,6 @@
 -- One item more in the counts of what differs.
 use Rattle.std.specs.Prelude.{◌≡◌, List, Option}
-use Rattle.crush_table.specs.Table.{Row}
+use Rattle.crush_model.specs.Table.{Row}
 use Rattle.crush_units.specs.declared.id.ItemId.{ItemId}
 use Rattle.crush_since.specs.declared.since.listing.Listed.{Listed}
 use Rattle.crush_since.specs.declared.since.tally.Tally.{Tally}

@@ -2,8 +2,8 @@
 use Rattle.std.specs.Prelude.{ℕ, ◌==◌, Bool, not, ◌&&◌, List, [], ◌++◌, Option, None, Some, if◌then◌else◌, flat_map, codes, unwrap_or}
 use Rattle.crush_units.specs.declared.id.ItemId.{ItemId}
 use Rattle.crush_units.specs.declared.id.ItemId.TheVariants.{Bucket}
-use Rattle.crush_table.specs.Classes.{class_weight_of}
-use Rattle.crush_table.specs.Table.{Row, weight_of}
+use Rattle.crush_model.specs.Classes.{class_weight_of}
+use Rattle.crush_model.specs.Table.{Row, weight_of}
 use Rattle.crush_edits.specs.Setting.{StepData, take, choose, set, emit, RuleData, SettingData}
 use Rattle.crush_print.specs.RuleLines.{bucket_name}
 

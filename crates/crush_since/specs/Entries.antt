@@ -3,8 +3,8 @@ use Rattle.std.specs.Prelude.{ℕ, ◌+◌, ◌*◌, List, [], ◌∷◌, ◌++�
 use Rattle.std.specs.Option.{option_map}
 use Rattle.crush_units.specs.declared.id.ItemId.{ItemId}
 use Rattle.crush_units.specs.declared.id.ItemId.TheVariants.{Device, Bucket}
-use Rattle.crush_table.specs.Items.{LeafData, ShadowData, HeaderData, Items, none, device, bucket}
-use Rattle.crush_table.specs.Table.{Row, row_of}
+use Rattle.crush_model.specs.Items.{LeafData, ShadowData, HeaderData, Items, none, device, bucket}
+use Rattle.crush_model.specs.Table.{Row, row_of}
 use Rattle.crush_nodes.specs.Views.{device_view, bucket_view}
 use Rattle.crush_since.specs.ItemData.{ItemData, row_item, own_class_ids}
 

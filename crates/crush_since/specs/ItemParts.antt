@@ -4,7 +4,7 @@ use Rattle.crush_units.specs.declared.alg.Alg.{Alg}
 use Rattle.crush_units.specs.declared.id.ItemId.{ItemId}
 use Rattle.crush_units.specs.Alg.{same_alg}
 use Rattle.crush_units.specs.Weight.{weight_text}
-use Rattle.crush_table.specs.Items.{ShadowData}
+use Rattle.crush_model.specs.Items.{ShadowData}
 use Rattle.crush_nodes.specs.Views.{ViewData}
 use Rattle.crush_edits.specs.Setting.{SettingData}
 use Rattle.crush_since.specs.Equal.{same_option, same_text}
@@ -64,10 +64,10 @@ parts old new (Some a) None same = (codes "removed, was " ++ whole_word old a) �
 parts old new (Some a) (Some b) same = changes old new a b same
 
 -- the name after, or before of what is gone
-abbrev pub name_told : Option ItemData → Option ItemData → List ℕ
-name_told before (Some b) = b.view.name
-name_told None None = []
-name_told (Some a) None = a.view.name
+abbrev pub listed_name : Option ItemData → Option ItemData → List ℕ
+listed_name before (Some b) = b.view.name
+listed_name None None = []
+listed_name (Some a) None = a.view.name
 
 -- parts, each behind `; `
 abbrev pub behind : List (List ℕ) → List ℕ
@@ -82,4 +82,4 @@ line name i [] = []
 line name i (p ∷ rest) = line_text name i (p ++ behind rest)
 
 abbrev pub item_line : SettingData → SettingData → ItemId → Option ItemData → Option ItemData → Bool → List ℕ
-item_line old new i before after same = line (name_told before after) i (parts old new before after same)
+item_line old new i before after same = line (listed_name before after) i (parts old new before after same)

@@ -4,13 +4,13 @@ use Rattle.std.specs.List.{sum_by}
 use Rattle.std.specs.List.Sorted.{IsNonDecreasingBy}
 use Rattle.std.specs.Option.{option_map}
 use Rattle.crush_units.specs.declared.id.ItemId.{ItemId}
-use Rattle.crush_table.specs.Items.{ShadowData}
-use Rattle.crush_table.specs.Table.{Row}
+use Rattle.crush_model.specs.Items.{ShadowData}
+use Rattle.crush_model.specs.Table.{Row}
 use Rattle.crush_nodes.specs.Seen.{node_id}
 use Rattle.crush_nodes.specs.declared.node.Node.{Node}
 use Rattle.crush_nodes.specs.declared.node.Node.TheVariants.{Device, Bucket}
 use Rattle.crush_since.specs.Entries.{EntryData, entry_of, id_key}
-use Rattle.crush_view.specs.SeenStep.{node_view}
+use Rattle.crush_print.specs.SeenStep.{node_view}
 use Rattle.crush_since.specs.declared.since.listing.Listed.{Listed}
 
 abbrev pub node_class_ids : {A : _} → Node A → List ShadowData

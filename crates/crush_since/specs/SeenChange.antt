@@ -1,8 +1,8 @@
 -- How a row of the tree of changes is seen as plain data, and of which tables rows are.
 use Rattle.std.specs.Prelude.{List}
 use Rattle.std.specs.Option.{option_map}
-use Rattle.crush_table.specs.Stands.{Stands}
-use Rattle.crush_table.specs.Table.{Row}
+use Rattle.crush_model.specs.Stands.{Stands}
+use Rattle.crush_model.specs.Table.{Row}
 use Rattle.crush_since.specs.Changes.{ChangeData, change_at}
 use Rattle.crush_since.specs.Listing.{Lists}
 use Rattle.crush_since.specs.SeenItem.{seen_data}

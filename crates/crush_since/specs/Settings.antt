@@ -38,17 +38,17 @@ same_rule x y =
     bytes_eq x.name y.name && (x.id == y.id) && bytes_eq x.kind y.kind && same_option x.min_size y.min_size && same_option x.max_size y.max_size && pointwise same_step x.steps y.steps
 
 -- a line for each list that differs
-abbrev pub told_if_not : Bool → List ℕ → List ℕ
-told_if_not same text = if same then [] else text
+abbrev pub listed_if_not : Bool → List ℕ → List ℕ
+listed_if_not same text = if same then [] else text
 
 unfoldable pub tunables_line : SettingData → SettingData → List ℕ
-tunables_line a b = told_if_not (pointwise same_tunable a.tunables b.tunables) (codes "tunables differ\n")
+tunables_line a b = listed_if_not (pointwise same_tunable a.tunables b.tunables) (codes "tunables differ\n")
 
 unfoldable pub kinds_line : SettingData → SettingData → List ℕ
-kinds_line a b = told_if_not (same_kinds a b) (codes "types differ\n")
+kinds_line a b = listed_if_not (same_kinds a b) (codes "types differ\n")
 
 unfoldable pub rules_line : SettingData → SettingData → List ℕ
-rules_line a b = told_if_not (pointwise same_rule a.rules b.rules) (codes "rules differ\n")
+rules_line a b = listed_if_not (pointwise same_rule a.rules b.rules) (codes "rules differ\n")
 
 unfoldable pub setting_lines : SettingData → SettingData → List ℕ
 setting_lines a b = tunables_line a b ++ kinds_line a b ++ rules_line a b

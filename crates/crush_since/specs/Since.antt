@@ -4,7 +4,7 @@ use Rattle.std.specs.Cmp.Lexicographic.{pointwise}
 use Rattle.crush_units.specs.declared.id.ItemId.{ItemId}
 use Rattle.crush_units.specs.declared.id.ItemId.TheVariants.{Device, Bucket}
 use Rattle.crush_units.specs.Weight.{weight_text}
-use Rattle.crush_table.specs.Table.{Row, bucket_ids, total}
+use Rattle.crush_model.specs.Table.{Row, bucket_ids, total}
 use Rattle.crush_edits.specs.Setting.{SettingData}
 use Rattle.crush_print.specs.MapText.{ascending, device_number}
 use Rattle.crush_since.specs.Emptied.{emptied_lines}
@@ -16,18 +16,18 @@ use Rattle.crush_since.specs.Tallies.{tally_of, counts_line}
 use Rattle.crush_since.specs.declared.since.tally.Tally.{Tally}
 
 -- a map: its setting and its table
-pub record Told : Type 0 where
+pub record PlainMap : Type 0 where
   pub setting : SettingData
   pub table : List Row
 
-abbrev pub told : SettingData → List Row → Told
-told s t = record { setting = s; table = t }
+abbrev pub plain_map : SettingData → List Row → PlainMap
+plain_map s t = record { setting = s; table = t }
 
 -- the line of an id
 abbrev pub same_class_ids : List Row → List Row → ItemId → Bool
 same_class_ids t u i = pointwise same_class_id (own_class_ids t i) (own_class_ids u i)
 
-unfoldable pub id_line : Told → Told → ItemId → List ℕ
+unfoldable pub id_line : PlainMap → PlainMap → ItemId → List ℕ
 id_line old new i = item_line old.setting new.setting i (item_of old.table i) (item_of new.table i) (same_class_ids old.table new.table i)
 
 -- numbers that rise, each once
@@ -49,7 +49,7 @@ unfoldable pub all_ids : List Row → List Row → List ItemId
 all_ids t u = map Bucket (all_buckets t u) ++ map Device (all_devices t u)
 
 -- the lines of all ids
-unfoldable pub item_lines : Told → Told → List ℕ
+unfoldable pub item_lines : PlainMap → PlainMap → List ℕ
 item_lines old new = flat_map (id_line old new) (all_ids old.table new.table)
 
 -- what all placed devices weighed, and weigh
@@ -57,10 +57,10 @@ unfoldable pub totals_line : ℕ → ℕ → List ℕ
 totals_line before after = codes "total " ++ weight_text before ++ codes " to " ++ weight_text after ++ codes "\n"
 
 -- what stands behind the items: settings, rules that find nothing, totals and counts
-unfoldable pub last_lines : Told → Told → Tally → List ℕ
+unfoldable pub last_lines : PlainMap → PlainMap → Tally → List ℕ
 last_lines old new counts =
     setting_lines old.setting new.setting ++ emptied_lines old.table new.table new.setting ++ totals_line (total old.table) (total new.table) ++ counts_line counts
 
 -- SINCE TEXT: the items, and what stands behind them
-unfoldable pub since_text : Told → Told → List ℕ
+unfoldable pub since_text : PlainMap → PlainMap → List ℕ
 since_text old new = item_lines old new ++ last_lines old new (tally_of old.table new.table (all_ids old.table new.table))

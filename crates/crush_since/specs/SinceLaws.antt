@@ -2,10 +2,10 @@
 use Rattle.std.specs.Prelude.{◌≡◌, ◌↔◌, List, [], ◌++◌, codes}
 use Rattle.crush_units.specs.declared.id.ItemId.{ItemId}
 use Rattle.crush_edits.specs.Setting.{SettingData}
-use Rattle.crush_table.specs.Lawful.{Lawful}
-use Rattle.crush_table.specs.Table.{Row, row_of, total}
+use Rattle.crush_model.specs.Lawful.{Lawful}
+use Rattle.crush_model.specs.Table.{Row, row_of, total}
 use Rattle.crush_since.specs.ChangeText.{changes_text}
-use Rattle.crush_since.specs.Since.{told, item_lines, since_text, totals_line}
+use Rattle.crush_since.specs.Since.{plain_map, item_lines, since_text, totals_line}
 use Rattle.crush_since.specs.Tallies.{counts_line}
 use Rattle.crush_since.specs.declared.since.tally.Tally.{Tally}
 
@@ -14,13 +14,13 @@ abbrev pub nothing_counted : Tally
 nothing_counted = record { made = 0; removed = 0; renamed = 0; moved = 0; reweighed = 0; reclassed = 0 }
 
 abbrev pub NothingSinceItself : Type 0
-NothingSinceItself = (s : SettingData) (t : List Row) → since_text (told s t) (told s t) ≡ totals_line (total t) (total t) ++ counts_line nothing_counted
+NothingSinceItself = (s : SettingData) (t : List Row) → since_text (plain_map s t) (plain_map s t) ≡ totals_line (total t) (total t) ++ counts_line nothing_counted
 
 -- no item is told exactly where both tables have equal rows, in whatever order
 abbrev pub NoItemWhereRowsAreEqual : Type 0
-NoItemWhereRowsAreEqual = (s p : SettingData) (t u : List Row) → Lawful t → Lawful u → (item_lines (told s t) (told p u) ≡ []) ↔ ((i : ItemId) → row_of t i ≡ row_of u i)
+NoItemWhereRowsAreEqual = (s p : SettingData) (t u : List Row) → Lawful t → Lawful u → (item_lines (plain_map s t) (plain_map p u) ≡ []) ↔ ((i : ItemId) → row_of t i ≡ row_of u i)
 
 -- as a tree, a map since itself has no row: the headings and the two last lines alone
 abbrev pub NoRowSinceItself : Type 0
 NoRowSinceItself = (s : SettingData) (t : List Row) → Lawful t
-    → changes_text (told s t) (told s t) ≡ codes "ID  CLASS  WAS  WEIGHT  TYPE NAME\n" ++ (totals_line (total t) (total t) ++ counts_line nothing_counted)
+    → changes_text (plain_map s t) (plain_map s t) ≡ codes "ID  CLASS  WAS  WEIGHT  TYPE NAME\n" ++ (totals_line (total t) (total t) ++ counts_line nothing_counted)

@@ -2,8 +2,8 @@
 use Rattle.std.specs.Prelude.{ℕ, ◌+◌, ◌<◌, ◌^◌, ◌==◌, Bool, true, false, not, List, ◌++◌, Option, None, Some, codes, decimal, bytes_eq}
 use Rattle.std.specs.List.{count_by}
 use Rattle.crush_units.specs.declared.id.ItemId.{ItemId}
-use Rattle.crush_table.specs.Count.{one_if}
-use Rattle.crush_table.specs.Table.{Row}
+use Rattle.crush_model.specs.Count.{one_if}
+use Rattle.crush_model.specs.Table.{Row}
 use Rattle.crush_since.specs.Equal.{same_option, same_text}
 use Rattle.crush_since.specs.ItemData.{ItemData, item_of}
 use Rattle.crush_since.specs.declared.since.tally.Tally.{Tally}

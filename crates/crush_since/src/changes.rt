@@ -2,12 +2,12 @@
 
 ghost use Rattle.std.specs.Prelude.{◌≡◌, ◌++◌, List, OnOk, IfOk};
 ghost use Rattle.std.specs.Io.KnownBytes.{Keeps};
-ghost use Rattle.crush_bytes.specs.Writes.{Writes};
-ghost use Rattle.crush_table.specs.Stands.{Stands};
-ghost use Rattle.crush_table.specs.Table.{Row};
+ghost use Rattle.crush_units.specs.Writes.{Writes};
+ghost use Rattle.crush_model.specs.Stands.{Stands};
+ghost use Rattle.crush_model.specs.Table.{Row};
 ghost use Rattle.crush_since.specs.ChangeText.{changes_text};
 ghost use Rattle.crush_since.specs.SeenChange.{AreTables};
-ghost use Rattle.crush_since.specs.Since.{told};
+ghost use Rattle.crush_since.specs.Since.{plain_map};
 ghost use Rattle.crush_since.specs.SinceLaws.{NoRowSinceItself};
 
 mod left;
@@ -21,8 +21,8 @@ mod widths;
 use crate::since::counting::count_all;
 use crate::since::listing::listing_of;
 use crate::since::push_last;
-use crush_bytes::{WriteFault, put};
 use crush_map::CrushMap;
+use crush_units::{WriteFault, put};
 use lines::push_rows;
 use rows::{Both, rows_of};
 use std::alloc::{AllocError, Allocator, Global};
@@ -41,7 +41,7 @@ pub fn write_changes<A: Allocator, B: Allocator, W: Write>(
 ) -> Result<(), WriteFault>
     ensures writes { (t u : List Row) → Stands old.now.forest t → Stands new.now.forest u
         → Writes result (W.contents out.old) (W.contents out.new)
-        (changes_text (told old.now.setting t) (told new.now.setting u)) }
+        (changes_text (plain_map old.now.setting t) (plain_map new.now.setting u)) }
     ensures none { result ≡ Err WriteFault.OutOfMemory
         → Keeps (W.contents out.old) (W.contents out.new) }
 {
@@ -65,7 +65,7 @@ fn push_changes<A: Allocator, B: Allocator>(
 ) -> Result<(), AllocError>
     ensures { (t u : List Row) → Stands old.now.forest t → Stands new.now.forest u
         → OnOk result (out.new.items ≡ out.old.items
-        ++ changes_text (told old.now.setting t) (told new.now.setting u)) }
+        ++ changes_text (plain_map old.now.setting t) (plain_map new.now.setting u)) }
 {
     let both = both_of(alloc, old, new)?;
     let rows = rows_of(alloc, &both)?;

@@ -2,42 +2,40 @@
 
 ghost use Rattle.std.specs.Prelude.{◌≡◌, ◌++◌, List, IfOk, OnOk, flat_map};
 ghost use Rattle.std.specs.Io.KnownBytes.{Keeps};
-ghost use Rattle.crush_bytes.specs.Writes.{Writes};
+ghost use Rattle.crush_units.specs.Writes.{Writes};
 ghost use Rattle.std.specs.Option.{option_map};
-ghost use Rattle.crush_table.specs.Stands.{Stands};
-ghost use Rattle.crush_table.specs.Table.{Row};
+ghost use Rattle.crush_model.specs.Stands.{Stands};
+ghost use Rattle.crush_model.specs.Table.{Row};
 ghost use Rattle.crush_since.specs.Listing.{Lists};
-ghost use Rattle.crush_since.specs.Since.{told, all_ids, item_lines, last_lines, since_text, id_line};
+ghost use Rattle.crush_since.specs.Since.{plain_map, all_ids, item_lines, last_lines, since_text, id_line};
 ghost use Rattle.crush_since.specs.SinceLaws.{NothingSinceItself, NoItemWhereRowsAreEqual};
 ghost use Rattle.crush_since.specs.Tallies.{HasRoom, tally_of, tally_with};
 ghost use Rattle.crush_since.specs.ItemParts.{item_line};
 ghost use Rattle.crush_since.specs.SeenItem.{seen_data};
 ghost use Rattle.crush_since.specs.Counted.{IsCounted};
 
-pub(crate) mod asked;
 mod below;
 mod changed;
 pub(crate) mod columns;
 pub(crate) mod counting;
 mod emptied;
 mod ids;
+pub(crate) mod listed;
 pub(crate) mod listing;
 mod part;
 pub(crate) mod parts;
 pub(crate) mod seen;
 mod settings;
 mod tally;
-pub(crate) mod told;
+pub(crate) mod wanted;
 mod words;
 
-pub use asked::told_ids;
 pub use below::{all_below, is_among};
 pub use changed::{is_changed, is_part_changed};
 pub use columns::{same_algs, same_class, same_class_ids};
 pub use counting::count_changes;
-use crush_bytes::{WriteFault, put};
 use crush_map::CrushMap;
-use crush_units::ItemId;
+use crush_units::{ItemId, WriteFault, put};
 use emptied::push_emptied;
 use ids::ids_of_both;
 pub use listing::{Listed, Listing, listing_of};
@@ -53,6 +51,7 @@ pub use settings::{
 use std::alloc::{AllocError, Allocator, Global};
 use std::io::Write;
 pub use tally::{Tally, is_made, is_reclassed, is_reweighed};
+pub use wanted::listed_ids;
 pub use words::{
     alg_bytes, class_bytes, push_counts, push_totals, push_with_class, type_bytes, weight_of,
 };
@@ -69,7 +68,7 @@ pub fn write_since<A: Allocator, B: Allocator, W: Write>(
 ) -> Result<(), WriteFault>
     ensures writes { (t u : List Row) → Stands old.now.forest t → Stands new.now.forest u
         → Writes result (W.contents out.old) (W.contents out.new)
-        (since_text (told old.now.setting t) (told new.now.setting u)) }
+        (since_text (plain_map old.now.setting t) (plain_map new.now.setting u)) }
     ensures none { result ≡ Err WriteFault.OutOfMemory
         → Keeps (W.contents out.old) (W.contents out.new) }
 {
@@ -98,7 +97,7 @@ fn push_since<A: Allocator, B: Allocator>(
 ) -> Result<(), AllocError>
     ensures { (t u : List Row) → Stands old.now.forest t → Stands new.now.forest u
         → OnOk result (out.new.items ≡ out.old.items
-        ++ since_text (told old.now.setting t) (told new.now.setting u)) }
+        ++ since_text (plain_map old.now.setting t) (plain_map new.now.setting u)) }
 {
     let before = listing_of(alloc, old)?;
     let after = listing_of(alloc, new)?;
@@ -114,7 +113,7 @@ pub(crate) fn push_last<A: Allocator, B: Allocator>(
 ) -> Result<(), AllocError>
     ensures { (t u : List Row) → Stands old.now.forest t → Stands new.now.forest u
         → OnOk result (out.new.items ≡ out.old.items
-        ++ last_lines (told old.now.setting t) (told new.now.setting u) counts.now) }
+        ++ last_lines (plain_map old.now.setting t) (plain_map new.now.setting u) counts.now) }
 {
     push_settings(old.setting(), new.setting(), out)?;
     push_emptied(old, new, out)?;
@@ -132,7 +131,7 @@ fn push_all_items<A: Allocator, B: Allocator>(
 ) -> Result<Tally, AllocError>
     ensures lines { (t u : List Row) → Lists t old.now.items.items → Lists u new.now.items.items
         → OnOk result (out.new.items ≡ out.old.items
-        ++ item_lines (told old.now.setting.now t) (told new.now.setting.now u)) }
+        ++ item_lines (plain_map old.now.setting.now t) (plain_map new.now.setting.now u)) }
     ensures counts { IfOk result (λ tally. (t u : List Row) → Lists t old.now.items.items
         → Lists u new.now.items.items → tally ≡ tally_of t u (all_ids t u)) }
 {
@@ -148,7 +147,7 @@ fn push_items<A: Allocator, B: Allocator>(
 ) -> Result<Tally, AllocError>
     ensures lines { (t u : List Row) → Lists t old.now.items.items → Lists u new.now.items.items
         → OnOk result (out.new.items ≡ out.old.items
-        ++ flat_map (id_line (told old.now.setting.now t) (told new.now.setting.now u)) ids.now) }
+        ++ flat_map (id_line (plain_map old.now.setting.now t) (plain_map new.now.setting.now u)) ids.now) }
     ensures counts { IfOk result (λ tally. (t u : List Row) → Lists t old.now.items.items
         → Lists u new.now.items.items → tally ≡ tally_of t u ids.now) }
 {
@@ -170,7 +169,7 @@ fn push_item<A: Allocator, B: Allocator>(
     requires { HasRoom tally }
     ensures line { (t u : List Row) → Lists t old.now.items.items → Lists u new.now.items.items
         → OnOk result (out.new.items ≡ out.old.items
-        ++ id_line (told old.now.setting.now t) (told new.now.setting.now u) id.now) }
+        ++ id_line (plain_map old.now.setting.now t) (plain_map new.now.setting.now u) id.now) }
     ensures counts { IfOk result (IsCounted old.now.items.items new.now.items.items id.now tally) }
 {
     let before = old.find(*id);

@@ -2,7 +2,7 @@
 use Rattle.std.proofs.Common.{◌≡◌, ℕ, Bool, true, false, List, Option, Some, None, Ok, Err, refl, sym, ap, subst, ◌∙◌, inr}
 use Rattle.crush_builder.specs.Built.{Draft}
 use Rattle.crush_builder.specs.Building.{BuilderData}
-use Rattle.crush_bytes.specs.Words.{Text, first as first_word, stopped, ended, bad}
+use Rattle.crush_units.specs.Words.{Text, first as first_word, stopped, ended, bad}
 use Rattle.crush_text.specs.declared.fault.TextFaultKind.TheVariants.{BadWord}
 use Rattle.crush_text.specs.declared.fault.TextFault.{TextFault}
 use Rattle.crush_text.specs.declared.opening.Opening.{Opening}

@@ -3,7 +3,7 @@ use Rattle.std.proofs.Common.{◌≡◌, ℕ, ◌<◌, Bool, true, false, cond, 
 use Rattle.std.proofs.lemmas.List.{append-nil, append_assoc}
 use Rattle.std.specs.Prelude.{◌==◌}
 use Rattle.crush_builder.specs.Built.{Draft}
-use Rattle.crush_bytes.specs.Words.{Word, Stop, ended, bad, Text}
+use Rattle.crush_units.specs.Words.{Word, Stop, ended, bad, Text}
 use Rattle.crush_text.specs.declared.fault.TextFaultKind.{TextFaultKind}
 use Rattle.crush_text.specs.declared.fault.TextFaultKind.TheVariants.{BadWord, Ended, Unexpected, BadNumber, BadWeight, DuplicateId, DuplicateName, UnknownType, UnknownItem, SecondParent, OtherAlgorithm, LeftOut, UnknownBucketInRule, TooMany, SumTooLarge, OutOfMemory}
 use Rattle.crush_text.specs.declared.fault.TextFault.{TextFault}

@@ -2,7 +2,7 @@
 use Rattle.std.proofs.Common.{◌≡◌, ◌⊎◌, Bool, true, false, cond, List, [], ◌∷◌, Result, Ok, Err, refl, sym, ap, ◌∙◌, inl, inr}
 use Rattle.std.specs.Prelude.{drop}
 use Rattle.crush_builder.specs.Built.{Draft}
-use Rattle.crush_bytes.specs.Words.{Word, Stop, ended, bad, Text, begins_with_key}
+use Rattle.crush_units.specs.Words.{Word, Stop, ended, bad, Text, begins_with_key}
 use Rattle.crush_text.specs.declared.fault.TextFaultKind.{TextFaultKind}
 use Rattle.crush_text.specs.declared.fault.TextFaultKind.TheVariants.{Ended}
 use Rattle.crush_text.specs.declared.fault.TextFault.{TextFault}

@@ -3,7 +3,7 @@ use Rattle.std.proofs.Common.{◌≡◌, ◌⊎◌, ℕ, Bool, true, false, List
 use Rattle.std.specs.Prelude.{codes, if◌then◌else◌}
 use Rattle.crush_builder.specs.Built.{Draft, Pending, nothing, with_kind, with_tunable, with_device, with_class_id}
 use Rattle.crush_builder.specs.Building.{BuilderData, IsDraft}
-use Rattle.crush_bytes.specs.Words.{Word, Text, begins, is_brace_word}
+use Rattle.crush_units.specs.Words.{Word, Text, begins, is_brace_word}
 use Rattle.crush_units.specs.declared.limits.TheConstants.{LARGEST_TUNABLE}
 use Rattle.crush_text.specs.declared.fault.TextFaultKind.TheVariants.{Unexpected}
 use Rattle.crush_text.specs.declared.fault.TextFault.{TextFault}

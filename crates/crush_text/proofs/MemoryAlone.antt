@@ -3,7 +3,7 @@ use Rattle.std.proofs.Common.{◌≡◌, ℕ, Bool, List, true, false, [], ◌�
 use Rattle.std.specs.Prelude.{Some, is_some, if◌then◌else◌}
 use Rattle.crush_units.specs.declared.id.ItemId.{ItemId}
 use Rattle.crush_units.specs.declared.id.ItemId.TheVariants.{Device, Bucket}
-use Rattle.crush_table.specs.Table.{is_there}
+use Rattle.crush_model.specs.Table.{is_there}
 use Rattle.crush_builder.specs.Built.{Draft}
 use Rattle.crush_builder.specs.Building.{BuilderData, IsDraft, has_name, is_full_of_devices, is_open}
 use Rattle.crush_builder.specs.declared.fault.BuildFault.{BuildFault}

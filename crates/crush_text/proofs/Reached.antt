@@ -3,7 +3,7 @@ use Rattle.std.proofs.Common.{◌≡◌, ℕ, Bool, true, false, cond, List, [],
 use Rattle.std.specs.Prelude.{drop, not, if◌then◌else◌}
 use Rattle.crush_builder.specs.Built.{Draft}
 use Rattle.crush_builder.specs.Building.{BuilderData}
-use Rattle.crush_bytes.specs.Words.{Word, Stop, ended, bad, Text, begins, begins_with_key, past}
+use Rattle.crush_units.specs.Words.{Word, Stop, ended, bad, Text, begins, begins_with_key, past}
 use Rattle.crush_text.specs.declared.fault.TextFaultKind.{TextFaultKind}
 use Rattle.crush_text.specs.declared.fault.TextFaultKind.TheVariants.{Unexpected, OutOfMemory}
 use Rattle.crush_text.specs.declared.fault.TextFault.{TextFault}

@@ -6,7 +6,7 @@ use Rattle.crush_builder.specs.Building.{IsDraft}
 use Rattle.crush_builder.specs.Rules.{kept_rule}
 use Rattle.crush_edits.specs.declared.rule.Rule.{Rule}
 use Rattle.crush_edits.specs.Setting.{RuleData}
-use Rattle.crush_bytes.specs.Words.{Text}
+use Rattle.crush_units.specs.Words.{Text}
 use Rattle.crush_text.specs.declared.fault.TextFault.{TextFault}
 use Rattle.crush_text.specs.declared.fault.TextFaultKind.TheVariants.{OutOfMemory}
 use Rattle.crush_text.specs.declared.reader.MapReader.{MapReader}

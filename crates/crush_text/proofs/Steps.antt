@@ -13,7 +13,7 @@ use Rattle.crush_units.specs.declared.limits.TheConstants.{MOST_STEPS}
 use Rattle.crush_builder.specs.Building.{BuilderData, IsDraft}
 use Rattle.crush_builder.specs.Rules.{complete_bucket_named, taken_number, kept_step, kept_rule, has_rule_name, has_rule_id, step_fault, word_fault, steps_fault, or_later, IsRuleForm}
 use Rattle.crush_text.specs.Room.{IsHead}
-use Rattle.crush_bytes.specs.Words.{Text}
+use Rattle.crush_units.specs.Words.{Text}
 use Rattle.crush_text.specs.declared.fault.TextFault.{TextFault}
 use Rattle.crush_text.specs.Role.{StepWord, bucket_of_word, taken_bucket, key, any_word, id_or_alg, rule_name, rule_id_key, rule_id, step_or_end, step_word}
 use Rattle.crush_text.specs.Form.{numbered, ruled, at, Progress, Form, done, word}

@@ -12,14 +12,14 @@ use Rattle.crush_units.specs.declared.weight.WeightFault.{WeightFault}
 use Rattle.crush_units.specs.Alg.{alg_of_text}
 use Rattle.crush_units.specs.Weight.{weight_of_text}
 use Rattle.crush_units.specs.declared.limits.TheConstants.{HEAVIEST_DEVICE, MOST_STEPS}
-use Rattle.crush_table.specs.Table.{is_placed}
-use Rattle.crush_table.specs.Lawful.{is_too_heavy}
+use Rattle.crush_model.specs.Table.{is_placed}
+use Rattle.crush_model.specs.Lawful.{is_too_heavy}
 use Rattle.crush_edits.specs.Setting.{kind_number}
 use Rattle.crush_edits.specs.Fits.{is_reserved}
 use Rattle.crush_builder.specs.Built.{Draft, with_next_item}
 use Rattle.crush_builder.specs.Building.{item_named, is_bucket_kind, is_full_of_devices, is_full_of_buckets, is_full_of_kinds, is_full_of_tunables}
 use Rattle.crush_builder.specs.Rules.{complete_bucket_named, is_full_of_rules}
-use Rattle.crush_bytes.specs.Words.{is_brace_word}
+use Rattle.crush_units.specs.Words.{is_brace_word}
 use Rattle.crush_text.specs.declared.fault.TextFaultKind.{TextFaultKind}
 use Rattle.crush_text.specs.declared.fault.TextFaultKind.TheVariants.{BadWord, Ended, Unexpected, BadNumber, BadWeight, DuplicateId, DuplicateName, UnknownType, UnknownItem, SecondParent, OtherAlgorithm, LeftOut, UnknownBucketInRule, TooMany, SumTooLarge, OutOfMemory}
 use Rattle.crush_text.specs.Role.{Role, kind_of_word, units_or_none, key, number, opening, tunable_name, type_number, type_name, device_id, new_name, bucket_id, id_or_alg, id_class, algorithm, item_or_end, item, lone_item, weight, rule_name, rule_id_key, rule_id, step_or_end, step_word, taken_bucket, step_order, step_count, step_type}

@@ -2,7 +2,7 @@
 use Rattle.std.proofs.Common.{◌≡◌, ℕ, Bool, true, false, List, [], ◌∷◌, Result, Ok, Err, refl, sym, ap, subst, ◌∙◌, inl, inr}
 use Rattle.std.specs.Prelude.{not, ◌||◌, if◌then◌else◌, bytes_eq, codes}
 use Rattle.crush_builder.specs.Built.{empty_draft}
-use Rattle.crush_bytes.specs.Words.{Text, first as first_word, stopped, ended, bad}
+use Rattle.crush_units.specs.Words.{Text, first as first_word, stopped, ended, bad}
 use Rattle.crush_text.specs.declared.fault.TextFaultKind.{TextFaultKind}
 use Rattle.crush_text.specs.declared.fault.TextFaultKind.TheVariants.{BadWord, Unexpected, UnknownType, LeftOut, TooMany, OutOfMemory}
 use Rattle.crush_text.specs.declared.fault.TextFault.{TextFault}

@@ -4,13 +4,13 @@ use Rattle.std.specs.Prelude.{not, codes, is_some, Some, if◌then◌else◌}
 use Rattle.std.specs.Option.{ok_or}
 use Rattle.crush_units.specs.declared.id.ItemId.{ItemId}
 use Rattle.crush_units.specs.Weight.{weight_of_text}
-use Rattle.crush_table.specs.Table.{is_placed}
-use Rattle.crush_table.specs.Lawful.{is_too_heavy}
+use Rattle.crush_model.specs.Table.{is_placed}
+use Rattle.crush_model.specs.Lawful.{is_too_heavy}
 use Rattle.crush_builder.specs.Built.{Draft, with_next_item}
 use Rattle.crush_builder.specs.Building.{BuilderData, item_named}
 use Rattle.crush_builder.specs.declared.fault.BuildFault.{BuildFault}
 use Rattle.crush_builder.specs.declared.fault.BuildFault.TheVariants as build
-use Rattle.crush_bytes.specs.Words.{Word, Stop, ended, bad, Text, is_brace_word, begins, past}
+use Rattle.crush_units.specs.Words.{Word, Stop, ended, bad, Text, is_brace_word, begins, past}
 use Rattle.crush_text.specs.declared.fault.TextFaultKind.{TextFaultKind}
 use Rattle.crush_text.specs.declared.fault.TextFaultKind.TheVariants.{Unexpected, BadWeight, UnknownItem, SecondParent, SumTooLarge}
 use Rattle.crush_text.specs.declared.fault.TextFault.{TextFault}

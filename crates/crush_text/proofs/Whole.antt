@@ -1,14 +1,14 @@
 -- What is read of a whole text.
 use Rattle.std.proofs.Common.{◌≡◌, ℕ, List, Ok, sym, ap, subst, ◌∙◌, inl, inr, refl}
-use Rattle.crush_table.specs.Table.{Row}
+use Rattle.crush_model.specs.Table.{Row}
 use Rattle.crush_edits.specs.Setting.{SettingData}
 use Rattle.crush_builder.specs.Built.{Draft}
-use Rattle.crush_bytes.specs.Words.{Text, words}
+use Rattle.crush_units.specs.Words.{Text, words}
 use Rattle.crush_text.specs.declared.fault.TextFault.{TextFault}
 use Rattle.crush_text.specs.Flow.{outcome, Reaches}
 use Rattle.crush_text.specs.Document.{start, IsMapText}
 use Rattle.crush_text.specs.Flaw.{IsOutOfMemory, IsFlawOrOutOfMemory}
-use Rattle.crush_text.specs.InTime.{IsToldInTime}
+use Rattle.crush_text.specs.InTime.{IsFoundInTime}
 use Rattle.crush_text.specs.Reads.{Fails}
 use Rattle.crush_text.specs.ReadsStatements.{FailsText}
 use Rattle.crush_text.proofs.Laws.{document_of, outcome_of, flaw_of, right_up_to, no_flaw_of_memory}
@@ -34,7 +34,7 @@ module _ (bytes : List ℕ) (t : Text) (is : t ≡ words 0 bytes) where
   is_flaw f (inr h) = inr (flaw_of (words 0 bytes) f (same h))
 
   -- and out of memory is told in time
-  pub in_time : (f : TextFault) → FailsText f t → IsToldInTime bytes f
+  pub in_time : (f : TextFault) → FailsText f t → IsFoundInTime bytes f
   in_time f (inl (want, inl h)) k = inl (right_up_to (words 0 bytes) f.place (subst (λ (u : Text). Reaches f.place start u.words) is h))
   in_time f (inl (want, inr h)) k = inr (sym is ∙ h)
   in_time f (inr h) want = absurd (no_flaw_of_memory (words 0 bytes) f (flaw_of (words 0 bytes) f (same h)) want)

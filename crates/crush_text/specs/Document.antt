@@ -1,11 +1,11 @@
 -- Which words spell lines, which texts are documents, and what map a text is.
 use Rattle.std.specs.Prelude.{◌≡◌, ℕ, true, List, [], ◌∷◌, ◌++◌}
-use Rattle.crush_table.specs.Table.{Row}
+use Rattle.crush_model.specs.Table.{Row}
 use Rattle.crush_edits.specs.Setting.{SettingData}
 use Rattle.crush_edits.specs.Fits.{Fits}
-use Rattle.crush_table.specs.Lawful.{Lawful}
+use Rattle.crush_model.specs.Lawful.{Lawful}
 use Rattle.crush_builder.specs.Built.{Draft, empty_draft}
-use Rattle.crush_bytes.specs.Words.{Word, Text, ended, words}
+use Rattle.crush_units.specs.Words.{Word, Text, ended, words}
 use Rattle.crush_text.specs.Role.{value}
 use Rattle.crush_text.specs.Form.{first, at, Form, done, word, optional, ahead}
 use Rattle.crush_text.specs.Grammar.{next}

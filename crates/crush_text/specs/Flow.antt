@@ -1,7 +1,7 @@
 -- Word by word: what comes of each, and of them all.
 use Rattle.std.specs.Prelude.{◌≡◌, ◌⊎◌, ℕ, Bool, true, false, List, [], ◌∷◌, drop, Result, Ok, Err, if◌then◌else◌}
 use Rattle.crush_builder.specs.Built.{Draft}
-use Rattle.crush_bytes.specs.Words.{Word, Stop, ended, bad, Text, begins_with_key}
+use Rattle.crush_units.specs.Words.{Word, Stop, ended, bad, Text, begins_with_key}
 use Rattle.crush_text.specs.declared.fault.TextFaultKind.{TextFaultKind}
 use Rattle.crush_text.specs.declared.fault.TextFaultKind.TheVariants.{BadWord, Ended, Unexpected}
 use Rattle.crush_text.specs.declared.fault.TextFault.{TextFault}

@@ -1,6 +1,6 @@
 -- Where it is told that memory was refused.
 use Rattle.std.specs.Prelude.{◌≡◌, ◌⊎◌, ℕ, List, [], ◌∷◌, ◌++◌}
-use Rattle.crush_bytes.specs.Words.{Word, Text, words, stopped, ended}
+use Rattle.crush_units.specs.Words.{Word, Text, words, stopped, ended}
 use Rattle.crush_text.specs.declared.fault.TextFault.{TextFault}
 use Rattle.crush_text.specs.Flow.{State}
 use Rattle.crush_text.specs.Document.{Spell, start}
@@ -17,5 +17,5 @@ pub record IsRightUpTo (t : Text) (place : ℕ) : Type 0 where
   pub here : place ≡ last.place
 
 -- memory that was refused is told at such a word, so before any flaw; or at the end of a text without words
-abbrev pub IsToldInTime : List ℕ → TextFault → Type 0
-IsToldInTime bytes f = IsOutOfMemory f → IsRightUpTo (words 0 bytes) f.place ⊎ (words 0 bytes ≡ stopped (ended f.place))
+abbrev pub IsFoundInTime : List ℕ → TextFault → Type 0
+IsFoundInTime bytes f = IsOutOfMemory f → IsRightUpTo (words 0 bytes) f.place ⊎ (words 0 bytes ≡ stopped (ended f.place))

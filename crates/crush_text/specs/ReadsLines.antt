@@ -1,13 +1,13 @@
 -- What the functions that read lines promise.
 use Rattle.std.specs.Prelude.{◌≡◌, ◌⊎◌, ℕ, ◌<◌, ◌≤◌, List, Bool, true, false, Option, Some, Result, Ok, Err, IfOk, OnOk, length, if◌then◌else◌}
 use Rattle.crush_units.specs.declared.id.ItemId.{ItemId}
-use Rattle.crush_table.specs.Lawful.{is_too_heavy}
+use Rattle.crush_model.specs.Lawful.{is_too_heavy}
 use Rattle.crush_edits.specs.Setting.{kind_number}
 use Rattle.crush_builder.specs.Built.{Draft, Pending, nothing, with_next_item}
 use Rattle.crush_builder.specs.Building.{BuilderData, IsDraft, is_begun, is_numbered, is_filling, is_full_of_class_ids}
 use Rattle.crush_text.specs.declared.fault.TextFaultKind.{TextFaultKind}
 use Rattle.crush_text.specs.declared.fault.TextFault.{TextFault}
-use Rattle.crush_bytes.specs.Words.{Text}
+use Rattle.crush_units.specs.Words.{Text}
 use Rattle.crush_text.specs.declared.opening.Opening.{Opening}
 use Rattle.crush_text.specs.declared.reader.MapReader.{MapReader}
 use Rattle.crush_text.specs.declared.opening.Opening.TheVariants as openings

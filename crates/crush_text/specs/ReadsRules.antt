@@ -7,7 +7,7 @@ use Rattle.crush_builder.specs.Built.{Draft, add_rule}
 use Rattle.crush_builder.specs.Building.{BuilderData, IsDraft}
 use Rattle.crush_builder.specs.Rules.{IsStepForm, IsRuleForm, kept_rule, word_fault}
 use Rattle.crush_text.specs.declared.fault.TextFault.{TextFault}
-use Rattle.crush_bytes.specs.Words.{Text}
+use Rattle.crush_units.specs.Words.{Text}
 use Rattle.crush_text.specs.declared.reader.MapReader.{MapReader}
 use Rattle.crush_units.specs.declared.limits.TheConstants.{LARGEST_RULE_NUMBER}
 use Rattle.crush_text.specs.Form.{second, ruled, at, Form}

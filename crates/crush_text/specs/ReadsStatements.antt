@@ -4,7 +4,7 @@ use Rattle.crush_edits.specs.Setting.{kind_number}
 use Rattle.crush_builder.specs.Built.{Draft, empty_draft}
 use Rattle.crush_builder.specs.Building.{BuilderData, IsDraft}
 use Rattle.crush_text.specs.declared.fault.TextFault.{TextFault}
-use Rattle.crush_bytes.specs.Words.{Text, stopped, ended}
+use Rattle.crush_units.specs.Words.{Text, stopped, ended}
 use Rattle.crush_text.specs.declared.reader.MapReader.{MapReader}
 use Rattle.crush_text.specs.declared.reader.word.PlacedWord.{PlacedWord}
 use Rattle.crush_text.specs.declared.opening.Opening.{Opening}

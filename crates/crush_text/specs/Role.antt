@@ -14,7 +14,7 @@ use Rattle.crush_builder.specs.Building.{item_named}
 use Rattle.crush_builder.specs.Rules.{complete_bucket_named}
 use Rattle.crush_text.specs.declared.opening.Opening.{Opening}
 use Rattle.crush_text.specs.declared.opening.Opening.TheVariants as openings
-use Rattle.crush_bytes.specs.Numbers.{signed_value}
+use Rattle.crush_units.specs.Numbers.{signed_value}
 
 -- what a word is for. The Bool of `opening` says that a bucket or a rule stands before it, that of `item_or_end` that an item
 -- does; the number of `number` is the greatest one, that of `type_name` the type's, that of `step_or_end` says how many steps

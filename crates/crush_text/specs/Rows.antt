@@ -7,8 +7,8 @@ use Rattle.crush_units.specs.declared.id.ItemId.TheVariants.{Device, Bucket}
 use Rattle.crush_units.specs.declared.weight.WeightFault.{WeightFault}
 use Rattle.crush_units.specs.Alg.{alg_of_text}
 use Rattle.crush_units.specs.Weight.{weight_of_text}
-use Rattle.crush_table.specs.Table.{is_there, is_placed}
-use Rattle.crush_table.specs.Lawful.{is_too_heavy}
+use Rattle.crush_model.specs.Table.{is_there, is_placed}
+use Rattle.crush_model.specs.Lawful.{is_too_heavy}
 use Rattle.crush_edits.specs.Setting.{kind_number}
 use Rattle.crush_edits.specs.Fits.{is_reserved}
 use Rattle.crush_builder.specs.Built.{Draft, with_next_item}
@@ -18,7 +18,7 @@ use Rattle.crush_text.specs.declared.fault.TextFaultKind.{TextFaultKind}
 use Rattle.crush_text.specs.declared.fault.TextFaultKind.TheVariants.{Unexpected, BadNumber, BadWeight, DuplicateId, DuplicateName, UnknownType, UnknownItem, SecondParent, OtherAlgorithm, LeftOut, UnknownBucketInRule, TooMany, SumTooLarge}
 use Rattle.crush_units.specs.declared.limits.TheConstants.{LARGEST_RULE_NUMBER}
 use Rattle.crush_text.specs.Fault.{fault_number}
-use Rattle.crush_bytes.specs.Numbers.{is_number, is_negative, is_signed}
+use Rattle.crush_units.specs.Numbers.{is_number, is_negative, is_signed}
 use Rattle.crush_text.specs.Role.{Role, kind_of_word, key, number, opening, tunable_name, type_number, type_name, device_id, new_name, bucket_id, id_or_alg, id_class, algorithm, item_or_end, item, lone_item, weight, rule_name, rule_id_key, rule_id, step_or_end, step_word, taken_bucket, step_order, step_count, step_type}
 use Rattle.crush_units.specs.declared.limits.TheConstants.{HEAVIEST_DEVICE, LAST_DEVICE_ID, LAST_TYPE, MOST_STEPS}
 

@@ -7,8 +7,8 @@ use Rattle.crush_units.specs.declared.id.ItemId.TheVariants.{Device, Bucket}
 use Rattle.crush_units.specs.declared.weight.WeightFault.{WeightFault}
 use Rattle.crush_units.specs.Alg.{alg_of_text}
 use Rattle.crush_units.specs.Weight.{weight_of_text}
-use Rattle.crush_table.specs.Table.{is_there, is_placed}
-use Rattle.crush_table.specs.Lawful.{is_too_heavy}
+use Rattle.crush_model.specs.Table.{is_there, is_placed}
+use Rattle.crush_model.specs.Lawful.{is_too_heavy}
 use Rattle.crush_edits.specs.Setting.{kind_number}
 use Rattle.crush_edits.specs.Fits.{is_reserved}
 use Rattle.crush_builder.specs.Built.{Draft, with_next_item}
@@ -16,8 +16,8 @@ use Rattle.crush_builder.specs.Building.{has_name, has_bucket_id, has_class, ite
 use Rattle.crush_builder.specs.Rules.{complete_bucket_named, has_rule_name, has_rule_id, is_full_of_rules}
 use Rattle.crush_text.specs.declared.fault.TextFaultKind.{TextFaultKind}
 use Rattle.crush_text.specs.declared.fault.TextFaultKind.TheVariants.{Unexpected, BadNumber, BadWeight, DuplicateId, DuplicateName, UnknownType, UnknownItem, SecondParent, OtherAlgorithm, LeftOut, UnknownBucketInRule, TooMany, SumTooLarge}
-use Rattle.crush_bytes.specs.Numbers.{is_number, is_negative, is_signed}
-use Rattle.crush_bytes.specs.Words.{is_brace_word}
+use Rattle.crush_units.specs.Numbers.{is_number, is_negative, is_signed}
+use Rattle.crush_units.specs.Words.{is_brace_word}
 use Rattle.crush_units.specs.declared.limits.TheConstants.{LARGEST_RULE_NUMBER}
 use Rattle.crush_text.specs.Role.{Role, El, value, kind_of_word, item_of, units, key, any_word, number, opening, tunable_name, type_number, type_name, device_id, new_name, bucket_id, id_or_alg, id_class, algorithm, item_or_end, item, lone_item, weight, rule_name, rule_id_key, rule_id, step_or_end, step_word, taken_bucket, step_order, step_count, step_type}
 use Rattle.crush_units.specs.declared.limits.TheConstants.{HEAVIEST_DEVICE, LAST_DEVICE_ID, LAST_TYPE, MOST_STEPS}

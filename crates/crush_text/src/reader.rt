@@ -2,12 +2,12 @@
 
 ghost use Rattle.std.specs.Prelude.{◌≡◌, ℕ, List, IfOk, IfErr};
 ghost use Rattle.crush_edits.specs.Setting.{SettingData};
-ghost use Rattle.crush_table.specs.Table.{Row};
-ghost use Rattle.crush_table.specs.Stands.{Stands};
+ghost use Rattle.crush_model.specs.Table.{Row};
+ghost use Rattle.crush_model.specs.Stands.{Stands};
 ghost use Rattle.crush_map.specs.MapData.{MapStands};
 ghost use Rattle.crush_text.specs.Document.{IsMapText};
 ghost use Rattle.crush_text.specs.Flaw.{IsOutOfMemory, IsFlawOrOutOfMemory};
-ghost use Rattle.crush_text.specs.InTime.{IsToldInTime};
+ghost use Rattle.crush_text.specs.InTime.{IsFoundInTime};
 
 mod bucket;
 mod device;
@@ -24,8 +24,8 @@ mod word;
 use crate::fault::TextFault;
 use crate::reader::unbegun::unbegun;
 use crush_builder::MapBuilder;
-use crush_bytes::Reader;
 use crush_map::{CrushMap, Hashing};
+use crush_units::Reader;
 use std::alloc::{Allocator, Global};
 
 /// What is left to read, and the map of what stood before it. A method reads what it is called
@@ -51,7 +51,7 @@ pub fn read_map(alloc: Global, text: &[u8]) -> Result<(CrushMap<Global>, u32), T
     ensures only { (s : SettingData) (t : List Row) (n : ℕ) → IsMapText text.now s t n
         → IfErr result IsOutOfMemory }
     ensures flaw { IfErr result (IsFlawOrOutOfMemory text.now) }
-    ensures memory { IfErr result (IsToldInTime text.now) }
+    ensures memory { IfErr result (IsFoundInTime text.now) }
 {
     read_map_in(alloc, Hashing::plain(), alloc, text)
 }
@@ -72,7 +72,7 @@ pub fn read_map_in<A: Allocator + Clone>(
     ensures only { (s : SettingData) (t : List Row) (n : ℕ) → IsMapText text.now s t n
         → IfErr result IsOutOfMemory }
     ensures flaw { IfErr result (IsFlawOrOutOfMemory text.now) }
-    ensures memory { IfErr result (IsToldInTime text.now) }
+    ensures memory { IfErr result (IsFoundInTime text.now) }
 {
     let mut words = Reader::new(text);
     let Ok(builder) = MapBuilder::with_hashing(machine, hashing, alloc) else {

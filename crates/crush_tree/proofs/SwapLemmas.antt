@@ -1,3 +1,4 @@
+pub mod Back
 pub mod Rows
 pub mod Rooms
 pub mod Steps

@@ -1,7 +1,7 @@
 -- Memory that is given back.
 use Rattle.std.specs.Prelude.{◌≡◌, ◌≤◌}
-use Rattle.crush_table.specs.Forest.{ForestData}
-use Rattle.crush_table.specs.Items.{none}
+use Rattle.crush_model.specs.Forest.{ForestData}
+use Rattle.crush_model.specs.Items.{none}
 
 -- the forest old became new, which is the same but for the memory of the unplaced devices: there is no more than before, and none where there is no such device
 pub record IsShrunk (old new : ForestData) : Type 0 where

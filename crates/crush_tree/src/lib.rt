@@ -5,8 +5,8 @@
 
 mod forest;
 
-pub use crush_changes::subtree::Change;
-pub use crush_nodes::guide::{Found, Guide, Spot};
+pub use crush_nodes::guide::{Found, Guide, Position};
 pub use crush_nodes::search::counts_in;
 pub use crush_nodes::{Bucket, Counts, Header, Leaf, Node, Place, ShadowId, View};
+pub use crush_walks::subtree::SubtreeDelta;
 pub use forest::Forest;

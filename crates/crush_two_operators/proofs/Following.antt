@@ -6,16 +6,16 @@ use Rattle.std.proofs.lemmas.List.Elements.{All-nil, All-cons, All-head, All-res
 use Rattle.std.proofs.lemmas.Option.{slice_get_within, get_or_from_slice_get}
 use Rattle.std.proofs.Math.Seq.{drop-length}
 use mathlib.Core.List.{IsPrefix}
-use Rattle.crush_table.specs.Table.{Row}
+use Rattle.crush_model.specs.Table.{Row}
 use Rattle.crush_edits.specs.Setting.{SettingData}
 use Rattle.crush_edits.specs.declared.edit.Edit.{Edit}
 use Rattle.crush_edits.specs.Batch.{BatchAnswer, batch}
-use Rattle.crush_calls.specs.declared.call.Call.{Call}
-use Rattle.crush_calls.specs.declared.call.Reply.{Reply}
-use Rattle.crush_calls.specs.History.{EntryData, AnsweredData, Counted, untouched, later, changes, change_of, is_change, call_outcome, guarded_outcome, IsLegalBehind, IsLegal, of_operator}
-use Rattle.crush_calls.proofs.Histories.{changes-append}
+use Rattle.crush_history.specs.declared.call.Call.{Call}
+use Rattle.crush_history.specs.declared.call.Reply.{Reply}
+use Rattle.crush_history.specs.History.{EntryData, AnsweredData, Counted, untouched, later, changes, change_of, is_change, call_outcome, guarded_outcome, IsLegalBehind, IsLegal, of_operator}
+use Rattle.crush_history.proofs.Histories.{changes-append}
 use Rattle.crush_map.specs.MapData.{MapData}
-use Rattle.crush_table.specs.Forest.{rows_of}
+use Rattle.crush_model.specs.Forest.{rows_of}
 use Rattle.crush_editor.specs.History.{slip}
 use Rattle.crush_editor.specs.Seat.{SeatData, seat_data, slips_of, Answered, IsHistoryOfSeats}
 use Rattle.crush_two_operators.specs.Plan.{step, steps_from, changing, IsStep, IsFollowed, HasFollowed}

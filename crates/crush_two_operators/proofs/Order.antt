@@ -5,9 +5,9 @@ use Rattle.std.specs.Option.{option_to_list}
 use Rattle.std.specs.Result.{result_ok}
 use Rattle.std.proofs.lemmas.List.{length_push, get_or_past}
 use Rattle.std.proofs.lemmas.List.Elements.{All-nil, All-same}
-use Rattle.crush_calls.specs.declared.call.Call.{Call}
-use Rattle.crush_calls.specs.History.{EntryData, AnsweredData, of_operator}
-use Rattle.crush_calls.specs.Turns.{calls_of}
+use Rattle.crush_history.specs.declared.call.Call.{Call}
+use Rattle.crush_history.specs.History.{EntryData, AnsweredData, of_operator}
+use Rattle.crush_history.specs.Turns.{calls_of}
 use Rattle.crush_map.specs.MapData.{MapData}
 use Rattle.crush_editor.specs.Seat.{SeatData, seat_data, slips_of, InOrder, IsHistoryOfSeats}
 use Rattle.crush_two_operators.specs.Calls.{AreTheirs, HasMade}

@@ -1,8 +1,8 @@
 -- Which calls are in the history of two operators.
 use Rattle.std.specs.Prelude.{ℕ, zero, suc, ◌≡◌, ◌++◌, List, []}
-use Rattle.crush_calls.specs.declared.call.Call.{Call}
-use Rattle.crush_calls.specs.History.{EntryData, of_operator}
-use Rattle.crush_calls.specs.Turns.{calls_of}
+use Rattle.crush_history.specs.declared.call.Call.{Call}
+use Rattle.crush_history.specs.History.{EntryData, of_operator}
+use Rattle.crush_history.specs.Turns.{calls_of}
 use Rattle.crush_editor.specs.Seat.{SeatData}
 
 -- the calls of operator k of two

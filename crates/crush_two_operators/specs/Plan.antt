@@ -2,9 +2,9 @@
 use Rattle.std.specs.Prelude.{ℕ, ◌≡◌, ◌+◌, ◌≤◌, List, [], ◌∷◌, Some, length, map, filter}
 use Rattle.std.specs.List.{All, slice_get}
 use Rattle.crush_edits.specs.declared.edit.Edit.{Edit}
-use Rattle.crush_calls.specs.declared.call.Call.{Call}
-use Rattle.crush_calls.specs.declared.call.Call.TheVariants.{Guarded}
-use Rattle.crush_calls.specs.History.{EntryData, AnsweredData, is_change, changes}
+use Rattle.crush_history.specs.declared.call.Call.{Call}
+use Rattle.crush_history.specs.declared.call.Call.TheVariants.{Guarded}
+use Rattle.crush_history.specs.History.{EntryData, AnsweredData, is_change, changes}
 use Rattle.crush_editor.specs.Seat.{SeatData}
 
 -- the call that asks for the step of this number, only while there are so many changes

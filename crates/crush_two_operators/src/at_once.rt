@@ -6,9 +6,9 @@ ghost use Rattle.crush_two_operators.specs.Calls.{AreTheirs, HasMade};
 
 use crate::together::{Work, Worked, work_together};
 use anyhow::Context;
-use crush_calls::Call;
 use crush_editor::{Closed, Desk, Editor, Seat, Started};
 use crush_gauge::Reading;
+use crush_history::Call;
 use crush_map::CrushMap;
 use std::alloc::Global;
 use std::marker::Brand;

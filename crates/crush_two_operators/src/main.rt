@@ -8,10 +8,10 @@ ghost use Rattle.std.specs.Prelude.{◌<◌, ◌^◌, length};
 
 use anyhow::Context;
 use at_once::edit_at_once;
-use crush_calls::{Call, Entry, is_change, write_entry};
 use crush_editor::Closed;
 use crush_edits::{Edit, Location};
 use crush_gauge::Reading;
+use crush_history::{Call, Entry, is_change, write_entry};
 use crush_map::CrushMap;
 use crush_print::write_map;
 use crush_text::read_map;

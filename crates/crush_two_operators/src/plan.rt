@@ -2,15 +2,15 @@
 //! between.
 
 ghost use Rattle.std.specs.Prelude.{◌≡◌, ◌∷◌, [], IfOk, IfSome};
-ghost use Rattle.crush_calls.specs.declared.call.Call.TheVariants.{Guarded};
+ghost use Rattle.crush_history.specs.declared.call.Call.TheVariants.{Guarded};
 ghost use Rattle.crush_editor.specs.Book.{MakesAll};
 ghost use Rattle.crush_two_operators.specs.Plan.{HasFollowed, IsFollowed};
 
 use crate::together::{Work, Worked, work_together};
 use anyhow::Context;
-use crush_calls::{Call, Edits, Reply, is_change};
 use crush_editor::{Closed, Desk, Editor, Seat, Started};
 use crush_edits::Edit;
+use crush_history::{Call, Edits, Reply, is_change};
 use crush_map::CrushMap;
 use crush_units::limits::MOST_ENTRIES;
 use std::alloc::Global;

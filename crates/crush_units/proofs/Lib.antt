@@ -4,3 +4,7 @@ pub mod Names
 pub mod Parts
 pub mod Weights
 pub mod ReadBack
+pub mod Appending
+pub mod Forms
+pub mod Printed
+pub mod Split

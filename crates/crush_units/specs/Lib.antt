@@ -4,3 +4,7 @@ pub mod Name
 pub mod Text
 pub mod Weight
 pub mod Display
+pub mod Lexer
+pub mod Numbers
+pub mod Words
+pub mod Writes

@@ -1,8 +1,8 @@
 //! Edits the hierarchy of a CRUSH map by the scripts of its operators.
 #![tactic(auto)]
 
+use crush_input::{Words, report, report_options};
 use crush_options::{Options, OptionsFault, options};
-use crush_report::{Words, report, tell};
 use crush_run::{Ending, RunFault, Summary, SystemFiles, run_options};
 use std::fs;
 use std::fs::OpenOptions;
@@ -27,7 +27,7 @@ fn main(rt: HostRuntime) -> ExitCode {
             let words = Words::of(&options);
             report(words, &outcome, notes.as_slice(), &mut rt.stderr()).status
         }
-        Err(fault) => match tell(&fault, &mut rt.stdout(), &mut rt.stderr()) {
+        Err(fault) => match report_options(&fault, &mut rt.stdout(), &mut rt.stderr()) {
             0 if !is_stored(&rt) => {
                 let unwritten = Err(RunFault::Write);
                 report(Words::none(), &unwritten, b"", &mut rt.stderr()).status

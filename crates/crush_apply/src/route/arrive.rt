@@ -2,8 +2,8 @@
 
 ghost use Rattle.std.specs.Prelude.{◌≡◌, List, None, false, IfOk};
 ghost use Rattle.crush_units.specs.declared.id.ItemId.TheVariants.{Device};
-ghost use Rattle.crush_table.specs.Stands.{Stands};
-ghost use Rattle.crush_table.specs.Table.{Row, row_of, is_there};
+ghost use Rattle.crush_model.specs.Stands.{Stands};
+ghost use Rattle.crush_model.specs.Table.{Row, row_of, is_there};
 ghost use Rattle.crush_nodes.specs.Seen.{leaf_data};
 ghost use Rattle.crush_edits.specs.Answer.{on_some};
 ghost use Rattle.crush_edits.specs.Placing.{put_after, edited_device};
@@ -11,7 +11,7 @@ ghost use Rattle.crush_edits.specs.Put.{held};
 ghost use Rattle.crush_apply.specs.Answered.{AnswersAs, last_answer};
 ghost use Rattle.crush_apply.specs.Coming.{CanMove, CanArrive};
 
-use crate::route::Arrival;
+use crate::route::NewDevice;
 use crate::route::destination::Destination;
 use crate::route::put::{put_device, put_item, put_new};
 use crate::route::room::{
@@ -51,7 +51,7 @@ pub(crate) fn place_item<A: Allocator + Clone>(
 /// A device that is there keeps its class; a new one has none.
 pub(crate) fn place_device<A: Allocator + Clone>(
     hierarchy: &mut Hierarchy<A>,
-    arrival: &Arrival<'_>,
+    arrival: &NewDevice<'_>,
     to: &Destination,
 ) -> Result<Done, EditFault>
     requires can { (t : List Row) → Stands hierarchy.old t → CanArrive t arrival.now.device
@@ -82,7 +82,7 @@ pub(crate) fn place_device<A: Allocator + Clone>(
 
 fn place_new<A: Allocator + Clone>(
     hierarchy: &mut Hierarchy<A>,
-    arrival: &Arrival<'_>,
+    arrival: &NewDevice<'_>,
     to: &Destination,
 ) -> Result<Done, EditFault>
     requires can { (t : List Row) → Stands hierarchy.old t → CanArrive t arrival.now.device
@@ -113,7 +113,7 @@ fn place_new<A: Allocator + Clone>(
     })
 }
 
-fn new_leaf<A: Allocator + Clone>(alloc: &A, arrival: &Arrival<'_>) -> Result<Leaf<A>, AllocError>
+fn new_leaf<A: Allocator + Clone>(alloc: &A, arrival: &NewDevice<'_>) -> Result<Leaf<A>, AllocError>
     ensures { IfOk result (λ leaf. leaf_data leaf
         ≡ record { id = arrival.now.device; name = arrival.now.name.now; weight = arrival.now.weight; class = None }) }
 {

@@ -2,8 +2,8 @@
 
 ghost use Rattle.std.specs.Prelude.{◌≡◌, ◌<◌, ◌≤◌, ◌∷◌, [], length, IfOk, All};
 ghost use Rattle.crush_units.specs.declared.limits.TheConstants.{HEAVIEST_BUCKET};
-ghost use Rattle.crush_table.specs.Items.{none, bucket};
-ghost use Rattle.crush_table.specs.Stored.{weight_sum};
+ghost use Rattle.crush_model.specs.Items.{none, bucket};
+ghost use Rattle.crush_model.specs.Stored.{weight_sum};
 ghost use Rattle.crush_nodes.specs.Seen.{items_of, header_data};
 ghost use Rattle.crush_edits.specs.Put.{with_ids, new_header};
 ghost use Rattle.crush_edits.specs.Boxes.{boxes};

@@ -4,14 +4,14 @@ ghost use Rattle.std.specs.Prelude.{◌≡◌, ◌==◌, List, None, Some, IfOk,
 ghost use Rattle.std.specs.List.{list_any};
 ghost use Rattle.crush_units.specs.declared.id.ItemId.TheVariants.{Device, Bucket};
 ghost use Rattle.crush_units.specs.Id.{same_id};
-ghost use Rattle.crush_table.specs.Table.{Row, id_named, kind_of, name_of};
-ghost use Rattle.crush_table.specs.Stands.{Stands};
+ghost use Rattle.crush_model.specs.Table.{Row, id_named, kind_of, name_of};
+ghost use Rattle.crush_model.specs.Stands.{Stands};
 ghost use Rattle.crush_edits.specs.declared.location.Pair.{Pair};
 ghost use Rattle.crush_edits.specs.Answer.{first_refusal, meets};
 ghost use Rattle.crush_edits.specs.Located.{has_twice, is_type_zero, is_bad_location, has_no_kind, names_it, is_taken, location_tests, located_device_tests};
 ghost use Rattle.crush_apply.specs.Destination.{end_item_tests};
 
-use crate::route::Arrival;
+use crate::route::NewDevice;
 use crush_edits::{Location, Pair, Refusal, Setting};
 use crush_hierarchy::Hierarchy;
 use crush_units::{BucketId, DeviceId, ItemId, Name, TypeId};
@@ -39,7 +39,7 @@ pub(crate) fn check_location(setting: &Setting, at: &Location) -> Result<(), Ref
 pub(crate) fn check_device<A: Allocator>(
     hierarchy: &Hierarchy<A>,
     setting: &Setting,
-    arrival: &Arrival<'_>,
+    arrival: &NewDevice<'_>,
 ) -> Result<(), Refusal>
     ensures passes { OnOk result ((t : List Row) → Stands hierarchy.now t
         → first_refusal (located_device_tests setting.now t arrival.now.device arrival.now.name.now

@@ -3,11 +3,11 @@
 ghost use Rattle.std.specs.Prelude.{◌≡◌, ℕ, ◌≤◌, List, Some, None, false, not};
 ghost use Rattle.crush_units.specs.declared.id.ItemId.TheVariants.{Device};
 ghost use Rattle.crush_units.specs.declared.limits.TheConstants.{HEAVIEST_DEVICE};
-ghost use Rattle.crush_table.specs.Items.{LeafData};
-ghost use Rattle.crush_table.specs.ItemRows.{device_row};
-ghost use Rattle.crush_table.specs.Lawful.{has_too_many, is_too_heavy};
-ghost use Rattle.crush_table.specs.Stands.{Stands};
-ghost use Rattle.crush_table.specs.Table.{Row, row_of, is_there};
+ghost use Rattle.crush_model.specs.Items.{LeafData};
+ghost use Rattle.crush_model.specs.ItemRows.{device_row};
+ghost use Rattle.crush_model.specs.Lawful.{has_too_many, is_too_heavy};
+ghost use Rattle.crush_model.specs.Stands.{Stands};
+ghost use Rattle.crush_model.specs.Table.{Row, row_of, is_there};
 ghost use Rattle.crush_edits.specs.Put.{put};
 ghost use Rattle.crush_apply.specs.Coming.{CanMove};
 ghost use Rattle.crush_apply.specs.Destination.{Leads};

@@ -5,15 +5,15 @@ ghost use Rattle.arrayvec.specs.ArrayVec.{array_vec_len};
 ghost use Rattle.std.specs.Prelude.{nat_le};
 ghost use Rattle.std.specs.List.{position_or_len};
 ghost use Rattle.std.specs.Option.{option_map};
-ghost use Rattle.crush_table.specs.Table.{Row};
-ghost use Rattle.crush_table.specs.Stands.{Stands};
+ghost use Rattle.crush_model.specs.Table.{Row};
+ghost use Rattle.crush_model.specs.Stands.{Stands};
 ghost use Rattle.crush_edits.specs.Answer.{first_refusal};
 ghost use Rattle.crush_edits.specs.Located.{end_tests};
 ghost use Rattle.crush_edits.specs.Stops.{stops};
 ghost use Rattle.crush_apply.specs.declared.route.stops.Stop.{Stop};
 ghost use Rattle.crush_apply.specs.Stopped.{pair_name, stops_data, IsPairOf, put_stop};
 ghost use Rattle.crush_apply.specs.Destination.{EndsAt};
-ghost use Rattle.crush_apply.specs.Blamed.{end_name};
+ghost use Rattle.crush_apply.specs.Culprit.{end_name};
 
 use crate::route::refusals::check_end;
 use arrayvec::ArrayVec;

@@ -4,7 +4,7 @@ ghost use Rattle.std.specs.Prelude.{◌≡◌, ◌==◌, ◌↔◌, IsTrue, IfSo
 ghost use Rattle.std.specs.Option.{ok_or};
 ghost use Rattle.crush_builder.specs.declared.fault.BuildFault.TheVariants.{UnknownItem};
 ghost use Rattle.crush_units.specs.declared.id.ItemId.TheVariants.{Device, Bucket};
-ghost use Rattle.crush_table.specs.Table.{is_there, is_placed};
+ghost use Rattle.crush_model.specs.Table.{is_there, is_placed};
 ghost use Rattle.crush_edits.specs.Setting.{kind_number, has_tunable};
 ghost use Rattle.crush_builder.specs.Built.{Draft, nothing};
 ghost use Rattle.crush_builder.specs.Building.{IsDraft, is_begun, is_numbered, is_filling, is_open};

@@ -1,10 +1,10 @@
 //! What speaks against a call.
 
 ghost use Rattle.std.specs.Prelude.{◌≡◌, ◌∷◌, [], ℕ, true, false, not};
-ghost use Rattle.crush_table.specs.Forest.{all_items, rows_of};
-ghost use Rattle.crush_table.specs.Lawful.{is_too_heavy};
-ghost use Rattle.crush_table.specs.Stored.{weight_sum};
-ghost use Rattle.crush_table.specs.Table.{is_there, is_placed};
+ghost use Rattle.crush_model.specs.Forest.{all_items, rows_of};
+ghost use Rattle.crush_model.specs.Lawful.{is_too_heavy};
+ghost use Rattle.crush_model.specs.Stored.{weight_sum};
+ghost use Rattle.crush_model.specs.Table.{is_there, is_placed};
 ghost use Rattle.crush_nodes.specs.Ops.{part_of};
 ghost use Rattle.crush_map.specs.WrittenItems.{adjustment};
 ghost use Rattle.crush_builder.specs.Built.{Draft, filling, table_with_item};

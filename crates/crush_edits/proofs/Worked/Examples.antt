@@ -4,8 +4,8 @@ use Rattle.crush_units.specs.declared.id.ItemId.{ItemId}
 use Rattle.crush_units.specs.declared.id.ItemId.TheVariants.{Device, Bucket}
 use Rattle.crush_units.specs.declared.alg.Alg.TheVariants.{Straw2}
 use Rattle.crush_units.specs.declared.limits.TheConstants.{HEAVIEST_DEVICE}
-use Rattle.crush_table.specs.Table.{Row, is_bucket, kids, sum_below}
-use Rattle.crush_table.specs.ItemRows.{device_row, bucket_row}
+use Rattle.crush_model.specs.Table.{Row, is_bucket, kids, sum_below}
+use Rattle.crush_model.specs.ItemRows.{device_row, bucket_row}
 use Rattle.crush_edits.specs.declared.location.Pair.{Pair}
 use Rattle.crush_edits.specs.declared.refusal.Refusal.{Refusal}
 use Rattle.crush_edits.specs.declared.edit.Edit.{Edit}

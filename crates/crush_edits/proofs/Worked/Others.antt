@@ -4,8 +4,8 @@ use Rattle.std.specs.Prelude.{codes, None, Some}
 use Rattle.crush_units.specs.declared.id.ItemId.TheVariants.{Device, Bucket}
 use Rattle.crush_edits.specs.declared.refusal.Refusal.TheVariants.{NoSuchItem, NameTaken, NotEmpty, InUse, NotDirectory, AlreadyRenamed, SumTooLarge, ClassBound}
 use Rattle.crush_edits.specs.declared.edit.Edit.TheVariants.{Swap, Reweight, ReweightSubtree, Remove, Rename, SetClass, RemoveClass}
-use Rattle.crush_table.specs.Classes.{class_weight_of}
-use Rattle.crush_table.specs.Columns.{set_class}
+use Rattle.crush_model.specs.Classes.{class_weight_of}
+use Rattle.crush_model.specs.Columns.{set_class}
 use Rattle.crush_edits.specs.Answer.{done}
 use Rattle.crush_edits.specs.Edit.{edit}
 use Rattle.crush_edits.specs.Batch.{batch}

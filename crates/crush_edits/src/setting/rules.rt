@@ -1,7 +1,7 @@
 //! The rules of a setting.
 
 ghost use Rattle.std.specs.Prelude.{◌≡◌, ◌∷◌, [], ◌++◌, map, OnOk, OnErr, IfOk};
-ghost use Rattle.crush_table.specs.Table.{member};
+ghost use Rattle.crush_model.specs.Table.{member};
 ghost use Rattle.crush_edits.specs.RulesTold.{ComeAsTaken};
 ghost use Rattle.crush_edits.specs.Setting.{taken_by};
 ghost use Rattle.crush_edits.specs.SettingSeen.{rule_data};

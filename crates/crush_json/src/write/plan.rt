@@ -3,7 +3,7 @@
 ghost use Rattle.std.specs.Prelude.{◌≡◌, ◌++◌, Err, IfOk, IfSome, OnOk, flat_map, map as each};
 ghost use Rattle.std.specs.Io.KnownBytes.{Keeps};
 ghost use Rattle.std.specs.Option.{option_map};
-ghost use Rattle.crush_bytes.specs.Writes.{Writes};
+ghost use Rattle.crush_units.specs.Writes.{Writes};
 ghost use Rattle.json.specs.Json.{array};
 ghost use Rattle.json.specs.Tree.{json_tokens};
 ghost use Rattle.crush_json.specs.PlanDocument.{all_of, command, plan_document, plan_document_text};
@@ -14,8 +14,8 @@ use crate::document::Document;
 use crate::history::History;
 use crate::stays::push_stays;
 use crate::write::{bounded, line_of, open};
-use crush_bytes::{WriteFault, put};
 use crush_map::Edit;
+use crush_units::{WriteFault, put};
 use std::alloc::{AllocError, Global};
 use std::io::Write;
 

@@ -3,10 +3,10 @@
 ghost use Rattle.std.specs.Prelude.{◌≡◌, ◌++◌, List, Err, IfOk, IfSome, OnOk};
 ghost use Rattle.std.specs.Io.KnownBytes.{Keeps};
 ghost use Rattle.std.specs.Option.{option_map};
-ghost use Rattle.crush_bytes.specs.Writes.{Writes};
-ghost use Rattle.crush_table.specs.Stands.{Stands};
-ghost use Rattle.crush_table.specs.Table.{Row};
-ghost use Rattle.crush_since.specs.Since.{told};
+ghost use Rattle.crush_units.specs.Writes.{Writes};
+ghost use Rattle.crush_model.specs.Stands.{Stands};
+ghost use Rattle.crush_model.specs.Table.{Row};
+ghost use Rattle.crush_since.specs.Since.{plain_map};
 ghost use Rattle.crush_json.specs.Document.{document_text};
 ghost use Rattle.crush_json.specs.Seen.{IsHistory, history_data};
 ghost use Rattle.crush_json.specs.SinceDocument.{document_of_since, since_document};
@@ -16,9 +16,8 @@ use crate::document::Document;
 use crate::history::History;
 use crate::since::push_since;
 use crate::write::{line_of, open};
-use crush_bytes::{WriteFault, put};
 use crush_map::CrushMap;
-use crush_units::ItemId;
+use crush_units::{ItemId, WriteFault, put};
 use std::alloc::{AllocError, Allocator, Global};
 use std::io::Write;
 
@@ -26,7 +25,7 @@ use std::io::Write;
 const USUAL_CHANGES: usize = 4096;
 
 /// Writes `{"history":H,"since":S}` and a line feed, or without a history `{"since":S}`: what has
-/// changed from the old map to the new, an object for each item of `crush_since::told_ids` with
+/// changed from the old map to the new, an object for each item of `crush_since::listed_ids` with
 /// what it was and what it is; how many items differ in which way; whether rules, tunables and
 /// types differ; and what all placed devices weighed, and weigh. Under an item it has the items
 /// alone.
@@ -42,7 +41,7 @@ pub fn write_since_document<A: Allocator, B: Allocator, W: Write>(
     ensures writes { (t u : List Row) → Stands old.now.forest t → Stands new.now.forest u
         → Writes result (W.contents out.old) (W.contents out.new) (document_text
         (document_of_since (option_map history_data history.entry)
-        (since_document under (told old.now.setting t) (told new.now.setting u)))) }
+        (since_document under (plain_map old.now.setting t) (plain_map new.now.setting u)))) }
     ensures none { result ≡ Err WriteFault.OutOfMemory
         → Keeps (W.contents out.old) (W.contents out.new) }
 {
@@ -63,7 +62,7 @@ fn since_text<A: Allocator, B: Allocator>(
     ensures { IfOk result (λ text. (t u : List Row) → Stands old.now.forest t
         → Stands new.now.forest u → text.items
         ≡ document_text (document_of_since (option_map history_data history.entry)
-        (since_document under (told old.now.setting t) (told new.now.setting u)))) }
+        (since_document under (plain_map old.now.setting t) (plain_map new.now.setting u)))) }
 {
     let mut document = Document::new(alloc, USUAL_CHANGES)?;
     push_document(alloc, old, new, under, history, &mut document)?;
@@ -82,7 +81,7 @@ fn push_document<A: Allocator, B: Allocator>(
     ensures { (t u : List Row) → Stands old.now.forest t → Stands new.now.forest u
         → OnOk result (out.new ≡ out.old
         ++ tokens_of (document_of_since (option_map history_data history.entry)
-        (since_document under (told old.now.setting t) (told new.now.setting u)))) }
+        (since_document under (plain_map old.now.setting t) (plain_map new.now.setting u)))) }
 {
     open(alloc, history, "since", out)?;
     push_since(alloc, old, new, under, out)?;

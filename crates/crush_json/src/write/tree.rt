@@ -3,11 +3,11 @@
 ghost use Rattle.std.specs.Prelude.{◌≡◌, ◌++◌, List, Err, IfOk, IfSome, OnOk, map as each};
 ghost use Rattle.std.specs.Io.KnownBytes.{Keeps};
 ghost use Rattle.std.specs.Option.{option_map};
-ghost use Rattle.crush_bytes.specs.Writes.{Writes};
-ghost use Rattle.crush_table.specs.Stands.{Stands};
-ghost use Rattle.crush_table.specs.Table.{Row};
-ghost use Rattle.crush_view.specs.SeenStep.{step_data};
-ghost use Rattle.crush_view.specs.TreePart.{part_steps};
+ghost use Rattle.crush_units.specs.Writes.{Writes};
+ghost use Rattle.crush_model.specs.Stands.{Stands};
+ghost use Rattle.crush_model.specs.Table.{Row};
+ghost use Rattle.crush_print.specs.SeenStep.{step_data};
+ghost use Rattle.crush_print.specs.TreePart.{part_steps};
 ghost use Rattle.crush_json.specs.Document.{document_of_tree, document_text};
 ghost use Rattle.crush_json.specs.Seen.{IsHistory, history_data};
 ghost use Rattle.crush_json.specs.Tokens.{tokens_of};
@@ -17,9 +17,9 @@ use crate::document::Document;
 use crate::history::History;
 use crate::tree::push_tree;
 use crate::write::{bounded, line_of, open};
-use crush_bytes::{WriteFault, put};
 use crush_map::CrushMap;
-use crush_view::{Part, Step, walk_part};
+use crush_print::{Part, Step, walk_part};
+use crush_units::{WriteFault, put};
 use std::alloc::{AllocError, Allocator, Global};
 use std::io::Write;
 

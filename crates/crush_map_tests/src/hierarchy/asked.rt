@@ -5,8 +5,8 @@
 ghost use Rattle.std.specs.Option.{option_map};
 ghost use Rattle.std.specs.Prelude.{◌≡◌};
 ghost use Rattle.crush_units.specs.Id.{is_device_id};
-ghost use Rattle.crush_table.specs.Forest.{rows_of};
-ghost use Rattle.crush_table.specs.Table.{is_there, is_placed};
+ghost use Rattle.crush_model.specs.Forest.{rows_of};
+ghost use Rattle.crush_model.specs.Table.{is_there, is_placed};
 ghost use Rattle.crush_nodes.specs.Guides.{place_in, place_under};
 
 use super::asked_changes::{attach_asks, changes_ask};
@@ -14,7 +14,7 @@ use super::asked_weights::weights_ask;
 use super::calls::example;
 use super::items::{bucket, bucket_item, device, device_item};
 use crush_hierarchy::Hierarchy;
-use crush_tree::{Forest, Guide, Place, Spot};
+use crush_tree::{Forest, Guide, Place, Position};
 use crush_units::{BucketId, DeviceId, ItemId, Weight};
 use std::alloc::Global;
 use std::cell::Cell;
@@ -28,14 +28,14 @@ pub(super) struct Asked<'f> {
 }
 
 impl Guide for Asked<'_> {
-    ghost use Rattle.crush_table.specs.Forest.{rows_of};
+    ghost use Rattle.crush_model.specs.Forest.{rows_of};
     ghost use Rattle.crush_nodes.specs.Guides.{place_in};
 
     ghost place_of = { λ guide i. place_in (rows_of guide.forest.now) i };
 
-    fn spot(&self, id: ItemId) -> Option<Spot> {
+    fn position(&self, id: ItemId) -> Option<Position> {
         self.times.set(self.times.get().saturating_add(1));
-        spot_in(self.forest, &id)
+        position_in(self.forest, &id)
     }
 }
 
@@ -74,15 +74,15 @@ fn place_under(id: &ItemId, parent: Option<BucketId>) -> Place
     }
 }
 
-fn spot_in(forest: &Forest<Global>, id: &ItemId) -> Option<Spot>
-    ensures { option_map (λ spot. spot.place) result ≡ place_in (rows_of forest.now) id.now }
+fn position_in(forest: &Forest<Global>, id: &ItemId) -> Option<Position>
+    ensures { option_map (λ position. position.place) result ≡ place_in (rows_of forest.now) id.now }
 {
     forest.recall_invariant();
     if !has_item(forest, id) {
         return None;
     }
     let place = place_under(id, forest.parent(*id));
-    Some(Spot { place, near: 0 })
+    Some(Position { place, hint: 0 })
 }
 
 fn finds(guide: &Asked<'_>, id: &ItemId) -> bool {

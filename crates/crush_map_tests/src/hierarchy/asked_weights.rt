@@ -1,7 +1,7 @@
 //! How often the calls that read, test and set a weight by a guide use the guide.
 
 ghost use Rattle.std.specs.Prelude.{◌≡◌};
-ghost use Rattle.crush_table.specs.Forest.{rows_of};
+ghost use Rattle.crush_model.specs.Forest.{rows_of};
 
 use super::asked::{Asked, has_item, is_held};
 use super::asked_changes::copy_of;

@@ -3,9 +3,9 @@
 ghost use Rattle.std.specs.Prelude.{◌≡◌, false};
 ghost use Rattle.crush_units.specs.Name.{IsName};
 ghost use Rattle.crush_units.specs.declared.id.ItemId.TheVariants.{Bucket as BucketItem};
-ghost use Rattle.crush_table.specs.Columns.{is_part};
-ghost use Rattle.crush_table.specs.Forest.{rows_of};
-ghost use Rattle.crush_table.specs.Table.{are_nested, is_there, is_named, is_placed};
+ghost use Rattle.crush_model.specs.Columns.{is_part};
+ghost use Rattle.crush_model.specs.Forest.{rows_of};
+ghost use Rattle.crush_model.specs.Table.{are_nested, is_there, is_named, is_placed};
 
 use crush_hierarchy::Hierarchy;
 use crush_tree::Place;

@@ -4,11 +4,11 @@ ghost use Rattle.std.specs.Prelude.{◌≡◌, ◌++◌, ◌∷◌, [], true, So
 ghost use Rattle.crush_units.specs.Name.{IsName};
 ghost use Rattle.crush_units.specs.declared.alg.Alg.TheVariants.{Straw2};
 ghost use Rattle.crush_units.specs.declared.id.ItemId.TheVariants.{Bucket as BucketItem};
-ghost use Rattle.crush_table.specs.Forest.{rows_of};
-ghost use Rattle.crush_table.specs.ItemRows.{rows};
-ghost use Rattle.crush_table.specs.Items.{bucket as bucket_with, device as device_with, none};
-ghost use Rattle.crush_table.specs.Lawful.{Lawful};
-ghost use Rattle.crush_table.specs.Table.{is_there};
+ghost use Rattle.crush_model.specs.Forest.{rows_of};
+ghost use Rattle.crush_model.specs.ItemRows.{rows};
+ghost use Rattle.crush_model.specs.Items.{bucket as bucket_with, device as device_with, none};
+ghost use Rattle.crush_model.specs.Lawful.{Lawful};
+ghost use Rattle.crush_model.specs.Table.{is_there};
 ghost use Rattle.crush_tree.specs.Seen.{items_of};
 
 use super::asks::{has_item, has_name};

@@ -2,10 +2,10 @@
 
 ghost use Rattle.std.specs.Prelude.{◌≡◌, Some, IfSome};
 ghost use Rattle.crush_units.specs.declared.id.ItemId.TheVariants.{Bucket as BucketItem};
-ghost use Rattle.crush_index.specs.NamesTold.{id_told};
+ghost use Rattle.crush_index.specs.NamesAnswers.{id_answer};
 
 use crush_index::{Hashing, Index};
-use crush_nodes::guide::{Guide, Spot};
+use crush_nodes::guide::{Guide, Position};
 use crush_nodes::node::{Header, Node, ShadowId};
 use crush_nodes::place::Place;
 use crush_units::{Alg, BucketId, DeviceId, ItemId, Name, TypeId, Weight};
@@ -57,12 +57,12 @@ fn leaf(rt: &impl Abort, alloc: Global) -> Node<Global> {
     )
 }
 
-fn tells(index: &Index, rt: &impl Abort, host: Option<Spot>, leaf: Option<Spot>) -> bool {
+fn tells(index: &Index, rt: &impl Abort, host: Option<Position>, leaf: Option<Position>) -> bool {
     let id = bucket(rt, 2);
     let is_there = host.is_some();
     index.id_of(b"h1").is_some() == is_there
-        && index.places().spot(ItemId::Bucket(id)) == host
-        && index.places().spot(device(rt, 0)) == leaf
+        && index.places().position(ItemId::Bucket(id)) == host
+        && index.places().position(device(rt, 0)) == leaf
         && index.is_used(id) == is_there
         && index.is_used(bucket(rt, 3)) == is_there
         && !index.is_used(bucket(rt, 1))
@@ -74,13 +74,13 @@ fn items_come_and_go(rt: HostRuntime) {
     let mut index = Index::new(rt.alloc(), Hashing::plain());
     let first = host(&rt, rt.alloc());
     let second = leaf(&rt, rt.alloc());
-    let root = Some(Spot {
+    let root = Some(Position {
         place: Place::Root,
-        near: 0,
+        hint: 0,
     });
-    let below = Some(Spot {
+    let below = Some(Position {
         place: Place::Bucket(bucket(&rt, 2)),
-        near: 0,
+        hint: 0,
     });
     assert!(rt; tells(&index, &rt, None, None));
     index
@@ -104,13 +104,13 @@ fn a_copy_goes_its_own_way(rt: HostRuntime) {
     let mut index = Index::new(rt.alloc(), Hashing::plain());
     let first = host(&rt, rt.alloc());
     let second = leaf(&rt, rt.alloc());
-    let root = Some(Spot {
+    let root = Some(Position {
         place: Place::Root,
-        near: 0,
+        hint: 0,
     });
-    let below = Some(Spot {
+    let below = Some(Position {
         place: Place::Bucket(bucket(&rt, 2)),
-        near: 0,
+        hint: 0,
     });
     index
         .insert_node(Place::Root, 0, &first)
@@ -140,9 +140,9 @@ fn a_hint_leaves_the_place(rt: HostRuntime) {
         .expect(&rt, "memory");
     index.hint(ItemId::Bucket(bucket(&rt, 2)), 3);
     index.hint(device(&rt, 0), 3);
-    let root = Some(Spot {
+    let root = Some(Position {
         place: Place::Root,
-        near: 3,
+        hint: 3,
     });
     assert!(rt; tells(&index, &rt, root, None));
     drop(first);
@@ -178,7 +178,7 @@ fn other(rt: &impl Abort, alloc: Global) -> Node<Global> {
 }
 
 fn named(index: &Index, name: &[u8]) -> Option<BucketId>
-    ensures { IfSome result (λ b. id_told index.now.names name.now ≡ Some (BucketItem b)) }
+    ensures { IfSome result (λ b. id_answer index.now.names name.now ≡ Some (BucketItem b)) }
 {
     match index.id_of(name)? {
         ItemId::Bucket(bucket) => Some(bucket),
@@ -215,14 +215,14 @@ fn buckets_are_exchanged(rt: HostRuntime) {
     index
         .insert_node(Place::Bucket(h1), 0, &items[0])
         .expect(&rt, "memory");
-    let moved = Some(Spot {
+    let moved = Some(Position {
         place: Place::Bucket(h2),
-        near: 0,
+        hint: 0,
     });
     exchange_hosts(&mut index);
     assert!(rt; index.id_of(b"h1") == Some(ItemId::Bucket(h2)));
     assert!(rt; index.id_of(b"h2") == Some(ItemId::Bucket(h1)));
-    assert!(rt; index.places().spot(device(&rt, 0)) == moved);
+    assert!(rt; index.places().position(device(&rt, 0)) == moved);
     drop(items);
     drop(roots);
     drop(index);

@@ -2,22 +2,22 @@
 
 use super::items::{bucket, bucket_item, device_item, empty, inside, leaf};
 use crush_index::{Hashing, Index};
-use crush_nodes::guide::{Found, Guide, Spot};
+use crush_nodes::guide::{Found, Guide, Position};
 use crush_nodes::node::Node;
 use crush_nodes::place::Place;
 use crush_units::{BucketId, ItemId};
 use std::alloc::{AllocGlobal, Global};
 use std::process::Abort;
 
-fn below(rt: &impl Abort, distance: u32, near: u32) -> Option<Spot> {
-    Some(Spot {
+fn below(rt: &impl Abort, distance: u32, hint: u32) -> Option<Position> {
+    Some(Position {
         place: inside(rt, distance),
-        near,
+        hint,
     })
 }
 
-fn add(rt: &impl Abort, index: &mut Index, place: Place, near: u32, node: Node<Global>) {
-    index.insert_node(place, near, &node).expect(rt, "memory");
+fn add(rt: &impl Abort, index: &mut Index, place: Place, hint: u32, node: Node<Global>) {
+    index.insert_node(place, hint, &node).expect(rt, "memory");
     drop(node);
 }
 
@@ -28,8 +28,8 @@ fn add_four(rt: &(impl Abort + AllocGlobal), index: &mut Index) {
     add(rt, index, inside(rt, 2), 1, leaf(rt, 2, "osd.2", 1));
 }
 
-fn stands(index: &Index, id: ItemId, spot: Option<Spot>) -> bool {
-    index.places().spot(id) == spot
+fn stands(index: &Index, id: ItemId, position: Option<Position>) -> bool {
+    index.places().position(id) == position
 }
 
 #[test]
@@ -46,12 +46,12 @@ fn places_come_and_go(rt: HostRuntime) {
 }
 
 fn finds(index: &Index, id: &ItemId, slot: u32, found: &Found) -> bool {
-    index.places().spot_from(*id, slot) == *found
+    index.places().position_from(*id, slot) == *found
 }
 
-fn leads(index: &Index, id: ItemId, spot: Option<Spot>, slot: u32) -> bool {
+fn leads(index: &Index, id: ItemId, position: Option<Position>, slot: u32) -> bool {
     let id = &id;
-    let found = Found { spot, slot };
+    let found = Found { position, slot };
     finds(index, id, 0, &found) && finds(index, id, 1, &found) && finds(index, id, u32::MAX, &found)
 }
 
@@ -67,18 +67,18 @@ fn a_slot_is_never_trusted(rt: HostRuntime) {
     assert!(rt; leads_there);
 }
 
-fn put(index: &mut Index, id: &ItemId, bucket: &BucketId, near: u32) -> bool {
-    if index.places().spot(*id).is_none() {
+fn put(index: &mut Index, id: &ItemId, bucket: &BucketId, hint: u32) -> bool {
+    if index.places().position(*id).is_none() {
         return false;
     }
-    if index.places().spot(ItemId::Bucket(*bucket)).is_none() {
+    if index.places().position(ItemId::Bucket(*bucket)).is_none() {
         return false;
     }
     index.put(
         *id,
-        Spot {
+        Position {
             place: Place::Bucket(*bucket),
-            near,
+            hint,
         },
     );
     true

@@ -2,8 +2,8 @@
 
 ghost use Rattle.std.specs.Prelude.{◌≡◌, ◌<◌, true, Some, IfSome, IsTrue};
 ghost use Rattle.crush_units.specs.declared.id.ItemId.TheVariants.{Bucket as BucketItem};
-ghost use Rattle.crush_table.specs.Forest.{rows_of};
-ghost use Rattle.crush_table.specs.Table.{id_named, is_there};
+ghost use Rattle.crush_model.specs.Forest.{rows_of};
+ghost use Rattle.crush_model.specs.Table.{id_named, is_there};
 ghost use Rattle.crush_nodes.specs.Room.{room};
 ghost use Rattle.crush_nodes.specs.declared.place.Place.TheVariants.{Bucket as AtBucket};
 
@@ -130,6 +130,6 @@ pub(super) fn exchange(hierarchy: &mut Hierarchy<Global>, first: &[u8], second: 
     if !hierarchy.fits_swap(a, b) {
         return false;
     }
-    hierarchy.swap(a, b, first, second);
+    hierarchy.swap(a, b);
     true
 }

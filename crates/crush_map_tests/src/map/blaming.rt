@@ -42,14 +42,14 @@ const ROWS: &[Row] = &[
     (Asked::Remove("h1"), Refusal::NotEmpty, "h1"),
 ];
 
-fn is_blamed(map: &mut CrushMap<Global>, edit: &Edit, refusal: Refusal, name: &str) -> bool {
+fn is_culprit(map: &mut CrushMap<Global>, edit: &Edit, refusal: Refusal, name: &str) -> bool {
     map.apply(edit) == Err(EditFault::Refused(refusal))
-        && map.blamed(edit, refusal).as_str() == name
+        && map.culprit(edit, refusal).as_str() == name
 }
 
-fn assert_blamed(rt: &impl Abort, alloc: Global, map: &mut CrushMap<Global>, row: &Row) {
+fn assert_culprit(rt: &impl Abort, alloc: Global, map: &mut CrushMap<Global>, row: &Row) {
     let edit = edit(rt, alloc, row.0);
-    let is_right = is_blamed(map, &edit, row.1, row.2);
+    let is_right = is_culprit(map, &edit, row.1, row.2);
     drop(edit);
     assert!(rt; is_right, "{}", row.2);
 }
@@ -58,7 +58,7 @@ fn assert_blamed(rt: &impl Abort, alloc: Global, map: &mut CrushMap<Global>, row
 fn names_that_refusals_are_about(rt: HostRuntime) {
     let mut map = whole_example_map(&rt, rt.alloc());
     for row in ROWS {
-        assert_blamed(&rt, rt.alloc(), &mut map, row);
+        assert_culprit(&rt, rt.alloc(), &mut map, row);
     }
     drop(map);
 }

@@ -3,10 +3,10 @@
 ghost use Rattle.std.specs.Prelude.{◌≡◌, false};
 ghost use Rattle.crush_units.specs.Name.{IsName};
 ghost use Rattle.crush_units.specs.declared.id.ItemId.TheVariants.{Bucket as BucketItem};
-ghost use Rattle.crush_table.specs.Columns.{is_part};
-ghost use Rattle.crush_table.specs.Table.{are_nested};
-ghost use Rattle.crush_table.specs.Forest.{rows_of};
-ghost use Rattle.crush_table.specs.Table.{is_there, is_named, is_placed};
+ghost use Rattle.crush_model.specs.Columns.{is_part};
+ghost use Rattle.crush_model.specs.Table.{are_nested};
+ghost use Rattle.crush_model.specs.Forest.{rows_of};
+ghost use Rattle.crush_model.specs.Table.{is_there, is_named, is_placed};
 
 use crush_tree::{Forest, Place};
 use crush_units::{BucketId, DeviceId, ItemId, Name, Weight};

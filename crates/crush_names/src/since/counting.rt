@@ -3,12 +3,12 @@
 ghost use Rattle.std.specs.Prelude.{◌≡◌, ◌+◌, ◌<◌, ◌≤◌, ◌^◌, ℕ, List, Option, Some, IfOk, is_some, not};
 ghost use Rattle.std.specs.List.{count_by};
 ghost use Rattle.std.specs.Option.{option_map};
-ghost use Rattle.crush_table.specs.Count.{one_if};
-ghost use Rattle.crush_table.specs.Stands.{Stands};
-ghost use Rattle.crush_table.specs.Table.{Row};
+ghost use Rattle.crush_model.specs.Count.{one_if};
+ghost use Rattle.crush_model.specs.Stands.{Stands};
+ghost use Rattle.crush_model.specs.Table.{Row};
 ghost use Rattle.crush_since.specs.SeenItem.{seen_data};
 ghost use Rattle.crush_since.specs.Tallies.{HasRoom, is_made, is_reclassed, is_reweighed};
-ghost use Rattle.crush_view.specs.SeenStep.{step_data};
+ghost use Rattle.crush_print.specs.SeenStep.{step_data};
 ghost use Rattle.crush_names.specs.Counted.{is_gone_by_name, is_moved_by_name, new_tally, tally_by_name, tally_plus};
 ghost use Rattle.crush_names.specs.Sides.{IsSide};
 
@@ -16,8 +16,8 @@ use crate::named::{Devices, counterpart, has_counterpart};
 use crate::sides::Side;
 use crate::staying::columns::same_place;
 use crush_map::CrushMap;
+use crush_print::{Step, walk};
 use crush_since::{Seen, Tally, is_made, is_reclassed, is_reweighed};
-use crush_view::{Step, walk};
 use std::alloc::{AllocError, Allocator, Global};
 
 /// None is renamed, as names match the items.

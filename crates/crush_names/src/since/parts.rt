@@ -11,9 +11,9 @@ use crate::staying::columns::{
     push_alg, push_class, push_place, push_type, push_wanted_word, push_weight,
 };
 use crate::staying::push_line;
-use crush_bytes::put_all;
 use crush_map::Setting;
 use crush_since::{Seen, push_with_class, weight_of};
+use crush_units::put_all;
 use std::alloc::{AllocError, Global};
 
 pub(crate) fn push_changed_pair(

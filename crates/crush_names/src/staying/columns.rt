@@ -6,12 +6,11 @@ ghost use Rattle.crush_since.specs.ItemParts.{behind};
 ghost use Rattle.crush_since.specs.SeenItem.{seen_data};
 ghost use Rattle.crush_names.specs.Stays.{are_near, both, both_algs, both_classes, both_places, both_types, both_weights, item_type, lacking, place_in, place_word, same_place, same_type, same_weight, wanted_word, weight_part};
 
-use crush_bytes::put_all;
 use crush_map::Setting;
 use crush_since::{
     Seen, alg_bytes, class_bytes, push_part, same_algs, same_class, type_bytes, weight_of,
 };
-use crush_units::{BucketId, ItemId, Weight};
+use crush_units::{BucketId, ItemId, Weight, put_all};
 use std::alloc::{AllocError, Global};
 
 fn place_in<'a>(id: ItemId, parent: Option<BucketId>, holder: Option<&'a str>) -> &'a [u8]

@@ -3,9 +3,9 @@
 ghost use Rattle.std.specs.Prelude.{◌≡◌, ◌++◌, List, OnOk, map as each};
 ghost use Rattle.std.specs.Cmp.Lexicographic.{pointwise};
 ghost use Rattle.crush_edits.specs.SettingSeen.{rule_data, step_data};
-ghost use Rattle.crush_table.specs.Stands.{Stands};
-ghost use Rattle.crush_table.specs.Table.{Row};
-ghost use Rattle.crush_since.specs.Since.{told};
+ghost use Rattle.crush_model.specs.Stands.{Stands};
+ghost use Rattle.crush_model.specs.Table.{Row};
+ghost use Rattle.crush_since.specs.Since.{plain_map};
 ghost use Rattle.crush_names.specs.NamedRules.{named_rule, named_rules_line, named_step, same_bucket};
 
 use crush_map::{CrushMap, KeptRule, KeptStep};
@@ -21,7 +21,7 @@ pub(super) fn push_rules<A: Allocator, B: Allocator>(
 ) -> Result<(), AllocError>
     ensures { (t u : List Row) → Stands map.now.forest t → Stands wanted.now.forest u
         → OnOk result (lines.new.items ≡ lines.old.items
-        ++ named_rules_line (told map.now.setting t) (told wanted.now.setting u)) }
+        ++ named_rules_line (plain_map map.now.setting t) (plain_map wanted.now.setting u)) }
 {
     let same = same_rules(map, wanted, map.setting().rules(), wanted.setting().rules());
     tell_unless(same, b"rules differ\n", lines)

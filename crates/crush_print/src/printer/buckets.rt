@@ -1,8 +1,8 @@
 //! The buckets of a printed map.
 
 ghost use Rattle.std.specs.Prelude.{◌≡◌, List, ◌++◌, OnOk, flat_map};
-ghost use Rattle.crush_table.specs.Stands.{Stands};
-ghost use Rattle.crush_table.specs.Table.{Row};
+ghost use Rattle.crush_model.specs.Stands.{Stands};
+ghost use Rattle.crush_model.specs.Table.{Row};
 ghost use Rattle.crush_print.specs.ItemsText.{own_text};
 ghost use Rattle.crush_print.specs.MapText.{bucket_section};
 

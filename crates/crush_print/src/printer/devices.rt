@@ -1,9 +1,9 @@
 //! The devices of a printed map.
 
 ghost use Rattle.std.specs.Prelude.{◌≡◌, List, ◌++◌, None, OnOk, flat_map};
-ghost use Rattle.crush_table.specs.ItemRows.{device_row};
-ghost use Rattle.crush_table.specs.Stands.{Stands};
-ghost use Rattle.crush_table.specs.Table.{Row};
+ghost use Rattle.crush_model.specs.ItemRows.{device_row};
+ghost use Rattle.crush_model.specs.Stands.{Stands};
+ghost use Rattle.crush_model.specs.Table.{Row};
 ghost use Rattle.crush_nodes.specs.Seen.{leaf_data};
 ghost use Rattle.crush_print.specs.Lines.{device_line};
 ghost use Rattle.crush_print.specs.MapText.{device_section};

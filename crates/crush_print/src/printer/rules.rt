@@ -1,8 +1,8 @@
 //! The rules of a printed map.
 
 ghost use Rattle.std.specs.Prelude.{◌≡◌, ◌++◌, List, OnOk, flat_map, map};
-ghost use Rattle.crush_table.specs.Stands.{Stands};
-ghost use Rattle.crush_table.specs.Table.{Row};
+ghost use Rattle.crush_model.specs.Stands.{Stands};
+ghost use Rattle.crush_model.specs.Table.{Row};
 ghost use Rattle.crush_edits.specs.SettingSeen.{rule_data, step_data};
 ghost use Rattle.crush_print.specs.MapText.{rule_section};
 ghost use Rattle.crush_print.specs.RuleLines.{bucket_name, choice_text, choose_line, rule_head, rule_lines, set_line, size_line, step_line, take_line};

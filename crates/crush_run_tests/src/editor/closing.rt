@@ -5,8 +5,8 @@ ghost use Rattle.crush_run_tests.specs.Seats.{AreAll};
 
 use super::{opened, started_with, submit_by};
 use crate::maps::PLAIN;
-use crush_calls::{Entry, Script, write_entry};
 use crush_editor::{Closed, Desk, Editor, Seat, Started};
+use crush_history::{Entry, Script, write_entry};
 use crush_map::Hashing;
 use crush_print::write_map;
 use crush_script::{Job, read_job};

@@ -4,9 +4,9 @@ ghost use Rattle.std.specs.Prelude.{◌≡◌};
 ghost use Rattle.crush_run_tests.specs.Seats.{AreAll};
 
 use super::{opened, reading_by, reads, started, submit_by};
-use crush_calls::{Call, Reply};
 use crush_editor::{Book, Desk, Editor, MapGauge, Seat, Started, SubmitFault};
 use crush_edits::{Edit, Refusal};
+use crush_history::{Call, Reply};
 use crush_units::Name;
 use crush_units::limits::MOST_ENTRIES;
 use std::alloc::Global;

@@ -3,9 +3,9 @@
 ghost use Rattle.std.specs.Prelude.{◌≡◌};
 
 use super::{opened, reads, started, weigh_two, weight_two};
-use crush_calls::{Call, Edits, Reply};
 use crush_editor::{Desk, Editor, Seat, Started};
 use crush_edits::Dones;
+use crush_history::{Call, Edits, Reply};
 use std::marker::Brand;
 use std::process::Abort;
 use std::sync::Wait;

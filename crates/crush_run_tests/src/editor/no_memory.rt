@@ -6,9 +6,9 @@ ghost use Rattle.crush_run_tests.specs.Seats.{AreAll};
 
 use super::{opened, read_map, reads, started, submit_by, weigh_two, weight_two};
 use crate::maps::PLAIN;
-use crush_calls::{Call, Reply, write_entry};
 use crush_editor::{Desk, Editor, Seat, Started};
 use crush_edits::Setting;
+use crush_history::{Call, Reply, write_entry};
 use crush_map::{CrushMap, Done};
 use std::alloc::Global;
 use std::marker::Brand;

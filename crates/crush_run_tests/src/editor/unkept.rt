@@ -4,15 +4,15 @@ ghost use Rattle.std.specs.Prelude.{◌≡◌};
 
 use super::weight_two;
 use crate::maps::PLAIN;
-use crush_calls::Call;
-use crush_editor::{Closed, Desk, Editor, Started, Unkept};
+use crush_editor::{Closed, Desk, Editor, Started, WithoutSnapshot};
+use crush_history::Call;
 use crush_text::read_map;
 use std::alloc::Global;
 use std::marker::Brand;
 use std::process::Abort;
 use std::sync::Wait;
 
-fn started_unkept(rt: &(impl Abort + AllocGlobal)) -> Started<Global, Unkept>
+fn started_unkept(rt: &(impl Abort + AllocGlobal)) -> Started<Global, WithoutSnapshot>
     ensures { result.parts ≡ 1 }
 {
     let (map, _) = read_map(rt.alloc(), PLAIN).expect(rt, "no map");
@@ -25,8 +25,8 @@ fn started_unkept(rt: &(impl Abort + AllocGlobal)) -> Started<Global, Unkept>
     }
 }
 
-fn is_closed(closed: &Closed<Global, Unkept>, weight: u64) -> bool {
-    closed.opening == Unkept && closed.history.len() == 1 && closed.map.total() == weight
+fn is_closed(closed: &Closed<Global, WithoutSnapshot>, weight: u64) -> bool {
+    closed.opening == WithoutSnapshot && closed.history.len() == 1 && closed.map.total() == weight
 }
 
 #[test]
@@ -43,13 +43,16 @@ fn an_editor_without_an_opening(rt: HostRuntime) {
     one_operator::<Brand>(&rt, started_unkept(&rt));
 }
 
-fn one_operator<N: Desk>(rt: &(impl Abort + AllocGlobal + Wait), started: Started<Global, Unkept>)
+fn one_operator<N: Desk>(
+    rt: &(impl Abort + AllocGlobal + Wait),
+    started: Started<Global, WithoutSnapshot>,
+)
     requires gauge { started.table ≡ N.gauge }
     requires opening { started.opening ≡ N.opening }
     requires name { started.name ≡ N.name }
     requires parts { (started.parts ≡ N.parts) × (started.parts ≡ 1) }
 {
-    match Editor::<N, Unkept>::open_unkept(started, rt.alloc()) {
+    match Editor::<N, WithoutSnapshot>::open_unkept(started, rt.alloc()) {
         Ok((editor, mut seats)) => {
             let mut seat = seats.pop().expect(rt, "no seat");
             let call = Call::One(weight_two(rt, b"osd.0"));

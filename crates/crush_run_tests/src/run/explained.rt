@@ -4,9 +4,9 @@ use super::scripts::ends_with;
 use super::strict::{End, ends_so, refused_two};
 use super::{joined, summary};
 use crate::maps::PLAIN;
+use crush_input::{Words, report};
 use crush_options::Mode;
-use crush_report::{Words, report};
-use crush_run::{Asked, OtherFault, OtherMap, RunFault, Summary};
+use crush_run::{OtherFault, OtherMap, Output, RunFault, Summary};
 use crush_script::JobFault;
 use crush_text::{TextFault, TextFaultKind};
 
@@ -49,8 +49,8 @@ fn refused_commands_are_told_with_reasons(rt: HostRuntime) {
     };
     let refused = refused_two(STRICT_REASONS);
     assert!(rt;
-        ends_so(&rt, EXPLAIN, Asked::Map, job.as_slice(), &done)
-            && ends_so(&rt, STRICTLY, Asked::Map, job.as_slice(), &refused)
+        ends_so(&rt, EXPLAIN, Output::Map, job.as_slice(), &done)
+            && ends_so(&rt, STRICTLY, Output::Map, job.as_slice(), &refused)
     );
 }
 
@@ -83,8 +83,8 @@ fn faults_of_a_job_are_told_with_their_places(rt: HostRuntime) {
     let text = no_job(JobFault::Text(UNKNOWN), PLACE);
     let line = no_job(JobFault::NoSuchCommand(43), LINE);
     assert!(rt;
-        ends_so(&rt, EXPLAIN, Asked::Map, FLAWED, &text)
-            && ends_so(&rt, EXPLAIN, Asked::Map, job.as_slice(), &line)
+        ends_so(&rt, EXPLAIN, Output::Map, FLAWED, &text)
+            && ends_so(&rt, EXPLAIN, Output::Map, job.as_slice(), &line)
     );
 }
 

@@ -1,6 +1,6 @@
 //! Readers and writers that fail, and readers of blanks alone, some without an end.
 
-use super::{MODE, REWEIGHED, is_told, joined, run_map, summary};
+use super::{MODE, REWEIGHED, is_listed, joined, run_map, summary};
 use crate::maps::PLAIN;
 use crush_run::{NoGate, RunFault};
 use crush_script::JobFault;
@@ -120,7 +120,7 @@ fn stops_at(
     let outcome = run_map(rt, &NoGate, MODE, &mut reader, &mut out);
     outcome == Err(RunFault::Read)
         && out.is_empty()
-        && is_told(rt, &outcome, b"crushedit: read fault\n", 3)
+        && is_listed(rt, &outcome, b"crushedit: read fault\n", 3)
 }
 
 #[test]
@@ -153,7 +153,7 @@ fn leaves_a_prefix(
     outcome == Err(RunFault::Write)
         && writer.taken.len() == room
         && whole.starts_with(writer.taken.as_slice())
-        && is_told(rt, &outcome, b"crushedit: write fault\n", 3)
+        && is_listed(rt, &outcome, b"crushedit: write fault\n", 3)
 }
 
 #[test]
@@ -183,7 +183,7 @@ fn is_too_long(
     outcome == Err(RunFault::Job(JobFault::TooLong))
         && reader.left == usize::MAX - LONGEST_JOB - 1
         && out.is_empty()
-        && is_told(rt, &outcome, b"crushedit: TooLong\n", 1)
+        && is_listed(rt, &outcome, b"crushedit: TooLong\n", 1)
 }
 
 #[test]

@@ -3,7 +3,7 @@
 use super::scripts::{ends_so, ends_with};
 use super::{joined, summary};
 use crate::maps::PLAIN;
-use crush_report::{Words, report};
+use crush_input::{Words, report};
 use crush_run::{RunFault, Summary};
 
 #[test]
@@ -140,9 +140,9 @@ fn what_has_changed_by_names_is_told_of_a_part(rt: HostRuntime) {
         "j",
     ];
     let done = Ok(summary(0, 2, 2));
-    let is_told = ends_so(&rt, &words, files, done, CHANGED);
+    let is_listed = ends_so(&rt, &words, files, done, CHANGED);
     drop(job);
-    assert!(rt; is_told);
+    assert!(rt; is_listed);
 }
 
 #[test]

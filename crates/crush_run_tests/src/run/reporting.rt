@@ -1,11 +1,11 @@
 //! What standard error gets, and standard output where help is wanted.
 
-use crate::run::is_told;
-use crush_bytes::WriteFault;
+use crate::run::is_listed;
+use crush_input::{Words, report, report_options};
 use crush_options::OptionsFault;
-use crush_report::{Words, report, tell};
 use crush_run::{RunFault, Summary};
 use crush_script::JobFault;
+use crush_units::WriteFault;
 use std::alloc::AllocError;
 use std::io::{self, ErrorKind, Write};
 use std::process::Abort;
@@ -20,20 +20,20 @@ fn reports_what_no_run_here_comes_to(rt: HostRuntime) {
     let of_job = Err(RunFault::Job(JobFault::OutOfMemory));
     let calls = Err(RunFault::Job(JobFault::TooManyCalls(65_579)));
     assert!(rt;
-        is_told(
+        is_listed(
             &rt,
             &Err(RunFault::Memory),
             b"crushedit: out of memory\n",
             4
-        ) && is_told(&rt, &of_job, b"crushedit: out of memory\n", 4)
-            && is_told(&rt, &calls, b"crushedit: line 65579: TooManyCalls\n", 1)
+        ) && is_listed(&rt, &of_job, b"crushedit: out of memory\n", 4)
+            && is_listed(&rt, &calls, b"crushedit: line 65579: TooManyCalls\n", 1)
             && is_one_fault()
     );
 }
 
 #[test]
 fn tells_of_a_thread_that_was_not_started(rt: HostRuntime) {
-    assert!(rt; is_told(&rt, &Err(RunFault::Thread), b"crushedit: no thread\n", 4));
+    assert!(rt; is_listed(&rt, &Err(RunFault::Thread), b"crushedit: no thread\n", 4));
 }
 
 fn differing(adjusted: u32) -> Summary {
@@ -49,9 +49,9 @@ fn differing(adjusted: u32) -> Summary {
 fn tells_of_made_buckets_and_where_there_is_something_to_tell(rt: HostRuntime) {
     let made = Err(RunFault::Made(3));
     assert!(rt;
-        is_told(&rt, &made, b"crushedit: made 3\n", 5)
-            && is_told(&rt, &Ok(differing(0)), b"", 6)
-            && is_told(&rt, &Ok(differing(7)), b"crushedit: adjusted 7\n", 6)
+        is_listed(&rt, &made, b"crushedit: made 3\n", 5)
+            && is_listed(&rt, &Ok(differing(0)), b"", 6)
+            && is_listed(&rt, &Ok(differing(7)), b"crushedit: adjusted 7\n", 6)
     );
 }
 
@@ -90,7 +90,7 @@ fn is_ended(
 ) -> bool {
     let mut out = Vec::new(rt.alloc());
     let mut err = Vec::new(rt.alloc());
-    tell(fault, &mut out, &mut err) == status
+    report_options(fault, &mut out, &mut err) == status
         && out.as_slice() == output.as_bytes()
         && err.as_slice() == error.as_bytes()
 }
@@ -113,7 +113,7 @@ fn command_lines_without_a_run_are_told_whole(rt: HostRuntime) {
     let are_ended = is_ended(&rt, &help, HELP, "", 0)
         && is_ended(&rt, &refused, "", REFUSAL, 2)
         && is_ended(&rt, &memory, "", "crushedit: out of memory\n", 4)
-        && tell(&refused, &mut Closed, &mut Closed) == 2;
+        && report_options(&refused, &mut Closed, &mut Closed) == 2;
     drop(help);
     drop(refused);
     assert!(rt; are_ended);
@@ -121,7 +121,7 @@ fn command_lines_without_a_run_are_told_whole(rt: HostRuntime) {
 
 fn is_write_fault<W: Write>(rt: &impl AllocGlobal, fault: &OptionsFault, out: &mut W) -> bool {
     let mut err = Vec::new(rt.alloc());
-    tell(fault, out, &mut err) == 3 && err.as_slice() == WRITE_FAULT
+    report_options(fault, out, &mut err) == 3 && err.as_slice() == WRITE_FAULT
 }
 
 #[test]

@@ -1,6 +1,6 @@
 //! Scripts in files of their own, which stand behind the job.
 
-use super::{REWEIGHED, is_told, joined, summary};
+use super::{REWEIGHED, is_listed, joined, summary};
 use crate::maps::PLAIN;
 use crush_options::options;
 use crush_run::{Opens, RunFault, Summary, run_options};
@@ -100,7 +100,7 @@ fn a_script_that_cannot_be_opened_is_a_read_fault(rt: HostRuntime) {
     assert!(rt;
         ends_so(&rt, &["m", "-s", "x"], files, outcome, b"")
             && ends_so(&rt, &["x"], files, outcome, b"")
-            && is_told(&rt, &outcome, b"crushedit: read fault\n", 3)
+            && is_listed(&rt, &outcome, b"crushedit: read fault\n", 3)
     );
 }
 

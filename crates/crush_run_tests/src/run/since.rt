@@ -1,7 +1,7 @@
 //! What has changed since another map, and commands that lead to one.
 
 use super::scripts::ends_so;
-use super::{is_told, joined, summary};
+use super::{is_listed, joined, summary};
 use crate::maps::PLAIN;
 use crush_run::{OtherFault, OtherMap, RunFault, Summary};
 use crush_script::JobFault;
@@ -48,8 +48,8 @@ fn the_other_map_is_refused_behind_the_job(rt: HostRuntime) {
         ends_so(&rt, &["--since", "x", "m"], files, flaw, b"")
             && ends_so(&rt, &["--since", "none", "m"], files, read, b"")
             && ends_so(&rt, &["--since", "none", "x"], files, job, b"")
-            && is_told(&rt, &flaw, b"crushedit: since: byte 12: UnknownType\n", 1)
-            && is_told(&rt, &read, b"crushedit: since: read fault\n", 3)
+            && is_listed(&rt, &flaw, b"crushedit: since: byte 12: UnknownType\n", 1)
+            && is_listed(&rt, &read, b"crushedit: since: read fault\n", 3)
     );
 }
 
@@ -85,10 +85,10 @@ fn the_wanted_map_is_refused_behind_the_job(rt: HostRuntime) {
         ends_so(&rt, &["--to", "x", "m"], files, flaw, b"")
             && ends_so(&rt, &["--to", "none", "m"], files, read, b"")
             && ends_so(&rt, &["--to", "none", "x"], files, job, b"")
-            && is_told(&rt, &flaw, b"crushedit: to: byte 12: UnknownType\n", 1)
-            && is_told(&rt, &read, b"crushedit: to: read fault\n", 3)
-            && is_told(&rt, &long, b"crushedit: to: TooLong\n", 1)
-            && is_told(
+            && is_listed(&rt, &flaw, b"crushedit: to: byte 12: UnknownType\n", 1)
+            && is_listed(&rt, &read, b"crushedit: to: read fault\n", 3)
+            && is_listed(&rt, &long, b"crushedit: to: TooLong\n", 1)
+            && is_listed(
                 &rt,
                 &Err(RunFault::Differs(7)),
                 b"crushedit: differs 7\n",
@@ -105,9 +105,9 @@ fn what_has_changed_below_a_host_is_told_alone(rt: HostRuntime) {
     let files: &[(&str, &[u8])] = &[("m", PLAIN), ("j", job.as_slice())];
     let words = ["--since", "m", "--under", "h1", "--no-history", "j"];
     let told = b"h1 (-2): weight 2.00000 to 1.00000\nosd.0 (0): from h1 (-2) to h2 (-3)\n";
-    let is_told = ends_so(&rt, &words, files, Ok(summary(0, 1, 1)), told);
+    let is_listed = ends_so(&rt, &words, files, Ok(summary(0, 1, 1)), told);
     drop(job);
-    assert!(rt; is_told);
+    assert!(rt; is_listed);
 }
 
 const MOVED_NAMES: &[u8] =
@@ -118,9 +118,9 @@ fn a_moved_device_is_told_by_its_name(rt: HostRuntime) {
     let job = joined(&rt, PLAIN, MOVING);
     let files: &[(&str, &[u8])] = &[("m", PLAIN), ("j", job.as_slice())];
     let words = ["--since", "m", "--by-name", "--no-history", "j"];
-    let is_told = ends_so(&rt, &words, files, Ok(summary(0, 1, 1)), MOVED_NAMES);
+    let is_listed = ends_so(&rt, &words, files, Ok(summary(0, 1, 1)), MOVED_NAMES);
     drop(job);
-    assert!(rt; is_told);
+    assert!(rt; is_listed);
 }
 
 const MOVED_BELOW: &[u8] =
@@ -186,8 +186,8 @@ fn the_status_tells_of_a_part(rt: HostRuntime) {
         "j",
     ];
     let told = b"h2 (-3): weight 0.50000 to 0.25000\nosd.2 (2): weight 0.50000 to 0.25000\n";
-    let is_told = ends_so(&rt, &other, files, Ok(changed_once(false)), b"")
+    let is_listed = ends_so(&rt, &other, files, Ok(changed_once(false)), b"")
         && ends_so(&rt, &here, files, Ok(changed_once(true)), told);
     drop(job);
-    assert!(rt; is_told);
+    assert!(rt; is_listed);
 }

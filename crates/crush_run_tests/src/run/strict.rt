@@ -2,9 +2,9 @@
 
 use super::{MODE, joined, summary};
 use crate::maps::PLAIN;
+use crush_input::{Words, report};
 use crush_options::{Mode, Part};
-use crush_report::{Words, report};
-use crush_run::{Asked, NoGate, Request, RunFault, Summary, run_job};
+use crush_run::{NoGate, Output, Request, RunFault, Summary, run_job};
 use std::random::RandomSource;
 use std::sync::Wait;
 use std::thread::Threads;
@@ -30,13 +30,13 @@ pub(super) struct End<'a> {
 pub(super) fn ends_so(
     rt: &(impl AllocGlobal + RandomSource + Threads + Wait + Sync),
     mode: Mode,
-    asked: Asked,
+    output: Output,
     job: &[u8],
     end: &End<'_>,
 ) -> bool {
     let mut out = Vec::new(rt.alloc());
     let mut err = Vec::new(rt.alloc());
-    let request = Request { mode, asked };
+    let request = Request { mode, output };
     let ending = run_job(rt, &NoGate, &request, &mut &*job, &mut out);
     drop(request);
     let words = Words {
@@ -88,7 +88,7 @@ fn a_strict_run_tells_all_that_is_refused(rt: HostRuntime) {
     };
     let end = refused_two(TWO_LINES);
     assert!(rt;
-        ends_so(&rt, STRICT, Asked::Map, job.as_slice(), &end)
+        ends_so(&rt, STRICT, Output::Map, job.as_slice(), &end)
             && ends_so(&rt, alone, whole_tree(), job.as_slice(), &end)
     );
 }
@@ -104,7 +104,7 @@ const BATCH_LINES: &[u8] =
 fn refused_batches_are_refused_entries(rt: HostRuntime) {
     let job = joined(&rt, PLAIN, BATCHES);
     let end = refused_two(BATCH_LINES);
-    assert!(rt; ends_so(&rt, STRICT, Asked::Map, job.as_slice(), &end));
+    assert!(rt; ends_so(&rt, STRICT, Output::Map, job.as_slice(), &end));
 }
 
 const MAKING_NONE: Mode = Mode {
@@ -133,8 +133,8 @@ fn a_run_that_makes_no_buckets_tells_those_that_are_made(rt: HostRuntime) {
         status: 5,
     };
     assert!(rt;
-        ends_so(&rt, MAKING_NONE, Asked::Map, job.as_slice(), &end)
-            && ends_so(&rt, MAKING_NONE, Asked::AsCeph, job.as_slice(), &end)
+        ends_so(&rt, MAKING_NONE, Output::Map, job.as_slice(), &end)
+            && ends_so(&rt, MAKING_NONE, Output::AsCeph, job.as_slice(), &end)
     );
 }
 
@@ -156,13 +156,13 @@ fn the_status_tells_of_a_map_that_is_another(rt: HostRuntime) {
         status: 6,
     };
     assert!(rt;
-        ends_so(&rt, MAKING_NONE, Asked::Map, job.as_slice(), &end)
-            && ends_so(&rt, MAKING_NONE, Asked::Map, PLAIN, &unchanged(0, PLAIN))
+        ends_so(&rt, MAKING_NONE, Output::Map, job.as_slice(), &end)
+            && ends_so(&rt, MAKING_NONE, Output::Map, PLAIN, &unchanged(0, PLAIN))
     );
 }
 
-fn whole_tree() -> Asked {
-    Asked::Tree(Part {
+fn whole_tree() -> Output {
+    Output::Tree(Part {
         under: None,
         down_to: None,
     })

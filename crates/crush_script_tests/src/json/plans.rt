@@ -1,6 +1,6 @@
 //! Plans, as the commands that a monitor takes.
 
-use crush_calls::Call;
+use crush_history::Call;
 use crush_json::write_plan_document;
 use crush_map::{Edit, Hashing};
 use crush_script::{Job, read_job};

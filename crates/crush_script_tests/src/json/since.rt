@@ -2,7 +2,7 @@
 
 use super::maps::STRAY_MAP;
 use crate::maps::EXAMPLE_MAP;
-use crush_calls::{Call, make_call};
+use crush_history::{Call, make_call};
 use crush_json::write_since_document;
 use crush_map::{CrushMap, Hashing};
 use crush_script::read_job;

@@ -3,9 +3,9 @@
 use super::maps::STRAY_MAP;
 use crate::maps::EXAMPLE_MAP;
 use crush_json::write_tree_document;
+use crush_print::Part;
 use crush_text::read_map;
 use crush_units::{BucketId, ItemId, TypeId};
-use crush_view::Part;
 use std::process::Abort;
 
 const EXAMPLE_TREE: &[u8] = b"\

@@ -1,8 +1,8 @@
 //! Jobs, and runs of their scripts in turn.
 
 use crate::script::{PLAIN_EXAMPLE_MAP, is_no_job, job_of, joined};
-use crush_calls::{Call, Script, make_call, write_entry};
 use crush_edits::Edit;
+use crush_history::{Call, Script, make_call, write_entry};
 use crush_map::CrushMap;
 use crush_script::{Job, JobFault, line_feeds, map_part};
 use std::alloc::Global;

@@ -1,7 +1,7 @@
 //! Lines of a history that no job here has, of copies of calls.
 
-use crush_calls::{Call, Edits, Reply, write_entry};
 use crush_edits::{Done, Dones, Edit, Refusal};
+use crush_history::{Call, Edits, Reply, write_entry};
 use crush_units::{Name, Weight};
 use std::process::Abort;
 

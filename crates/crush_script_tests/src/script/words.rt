@@ -1,8 +1,8 @@
 //! Words of a text, and numbers as such.
 
 use crate::script::{LONGEST, TOO_LONG, joined};
-use crush_bytes::number::number_up_to;
-use crush_bytes::{Reader, Token};
+use crush_units::number::number_up_to;
+use crush_units::{Reader, Token};
 use std::process::Abort;
 
 fn is_word(reader: &mut Reader<'_>, at: usize, word: &[u8]) -> bool {

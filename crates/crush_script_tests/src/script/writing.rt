@@ -1,6 +1,6 @@
 //! Writers that take little, and that fail.
 
-use crush_bytes::{WriteFault, put, put_all};
+use crush_units::{WriteFault, put, put_all};
 use std::io::{self, Error, ErrorKind, Write};
 
 /// Takes seven bytes at a call. After `room` bytes it fails once, or takes none, then it takes all:

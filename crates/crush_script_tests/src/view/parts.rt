@@ -3,7 +3,7 @@
 use super::EXAMPLE_MAP;
 use crate::maps::map_of;
 use crush_map::CrushMap;
-use crush_view::{Part, walk_part, write_tree_part};
+use crush_print::{Part, walk_part, write_tree_part};
 use std::alloc::Global;
 use std::process::Abort;
 

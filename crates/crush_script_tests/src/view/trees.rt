@@ -3,8 +3,8 @@
 use super::EXAMPLE_MAP;
 use crate::maps::map_of;
 use crush_map::CrushMap;
+use crush_print::{walk, walk_below, write_tree};
 use crush_units::{BucketId, ItemId};
-use crush_view::{walk, walk_below, write_tree};
 use std::alloc::Global;
 use std::process::Abort;
 

@@ -1,8 +1,8 @@
 //! The rows of items that stood here in the old map and do no longer.
 
 ghost use Rattle.std.specs.Prelude.{◌≡◌, ◌+◌, ◌<◌, ◌^◌, List, [], ◌∷◌, ◌++◌, None, Some, OnOk, All, flat_map, map as each};
-ghost use Rattle.crush_table.specs.Items.{size_of};
-ghost use Rattle.crush_table.specs.Table.{Row, is_there, kids};
+ghost use Rattle.crush_model.specs.Items.{size_of};
+ghost use Rattle.crush_model.specs.Table.{Row, is_there, kids};
 ghost use Rattle.crush_nodes.specs.Seen.{items_of};
 ghost use Rattle.crush_units.specs.declared.id.ItemId.TheVariants.{Bucket as BucketItem, Device as DeviceItem};
 ghost use Rattle.crush_print.specs.MapText.{root_numbers};
@@ -10,7 +10,7 @@ ghost use Rattle.crush_since.specs.ChangeItems.{left_of, stood_of};
 ghost use Rattle.crush_since.specs.Changes.{left_from, stands_in};
 ghost use Rattle.crush_since.specs.Listing.{Lists};
 ghost use Rattle.crush_since.specs.SeenChange.{AreTables, place_change};
-ghost use Rattle.crush_view.specs.Tree.{unplaced_numbers};
+ghost use Rattle.crush_print.specs.Tree.{unplaced_numbers};
 
 use crate::changes::rows::{Both, Place};
 use crate::since::columns::same_parent;

@@ -2,11 +2,11 @@
 
 ghost use Rattle.std.specs.Prelude.{◌≡◌, ◌++◌, List, IfOk, OnOk, flat_map, map as each};
 ghost use Rattle.std.specs.Option.{option_map};
-ghost use Rattle.crush_table.specs.Table.{Row};
+ghost use Rattle.crush_model.specs.Table.{Row};
 ghost use Rattle.crush_since.specs.ChangeText.{change_line, heading, kind_and_name, name_column, name_word, rows_text, side_by_side, weight_or_dash as dashed, weights_column};
 ghost use Rattle.crush_since.specs.SeenChange.{AreTables, change_data, place_change};
 ghost use Rattle.crush_since.specs.SeenItem.{seen_data};
-ghost use Rattle.crush_view.specs.TreeText.{at_left, at_right};
+ghost use Rattle.crush_print.specs.TreeText.{at_left, at_right};
 
 use crate::changes::notes::push_brackets;
 use crate::changes::rows::{Both, Place};
@@ -15,10 +15,10 @@ use crate::changes::weights::{class_bytes, weighed, weighs, weight_or_dash};
 use crate::changes::widths::{ChangeWidths, widths_of};
 use crate::since::seen::Seen;
 use crush_map::Setting;
+use crush_print::columns::{push_left, push_right};
+use crush_print::id_column;
+use crush_print::words::{push_all, push_indent, push_kind, push_row};
 use crush_units::{ItemId, Weight};
-use crush_view::columns::{push_left, push_right};
-use crush_view::id_column;
-use crush_view::words::{push_all, push_indent, push_kind, push_row};
 use std::alloc::{AllocError, Allocator, Global};
 
 #[tactic(auto, unfolding(crate::specs::ChangeText::rows_text))]

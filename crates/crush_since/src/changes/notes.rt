@@ -14,8 +14,8 @@ use crate::since::parts::{
 };
 use crate::since::seen::Seen;
 use crush_map::Setting;
+use crush_print::words::{bytes_of, push_all};
 use crush_units::ItemId;
-use crush_view::words::{bytes_of, push_all};
 use std::alloc::{AllocError, Global};
 
 pub(super) fn push_brackets(

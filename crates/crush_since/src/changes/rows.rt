@@ -1,17 +1,17 @@
 //! The rows of the tree of what has changed.
 
 ghost use Rattle.std.specs.Prelude.{◌≡◌, ◌+◌, ◌-◌, ◌<◌, ◌^◌, List, [], ◌∷◌, ◌++◌, true, OnOk, IfOk, All, length, flat_map, map as each};
-ghost use Rattle.crush_table.specs.Items.{size_of};
-ghost use Rattle.crush_table.specs.Table.{Row};
+ghost use Rattle.crush_model.specs.Items.{size_of};
+ghost use Rattle.crush_model.specs.Table.{Row};
 ghost use Rattle.crush_nodes.specs.Seen.{items_of};
 ghost use Rattle.crush_since.specs.ChangeItems.{stands_of};
-ghost use Rattle.crush_since.specs.Changes.{ChangeData, change_at, change_rows, is_told as is_told_of, root_rows, unplaced_rows, with_below};
+ghost use Rattle.crush_since.specs.Changes.{ChangeData, change_at, change_rows, is_listed as is_listed_of, root_rows, unplaced_rows, with_below};
 ghost use Rattle.crush_since.specs.SeenChange.{AreTables, place_change};
-ghost use Rattle.crush_since.specs.Since.{told};
+ghost use Rattle.crush_since.specs.Since.{plain_map};
 
 use crate::changes::left::{push_left, push_left_roots, push_left_unplaced};
+use crate::since::listed::is_listed_of;
 use crate::since::listing::Listing;
-use crate::since::told::is_told_of;
 use crush_map::CrushMap;
 use crush_print::nodes_in_order;
 use crush_tree::{Bucket, Node};
@@ -44,7 +44,7 @@ pub(crate) fn rows_of<A: Allocator, B: Allocator>(
 ) -> Result<Vec<Place>, AllocError>
     ensures { IfOk result (λ rows. (t u : List Row) → AreTables t u both.now
         → each (place_change t u) rows.items
-        ≡ change_rows (told both.now.old.now.setting t) (told both.now.new.now.setting u)) }
+        ≡ change_rows (plain_map both.now.old.now.setting t) (plain_map both.now.new.now.setting u)) }
 {
     let mut rows = Vec::new(alloc);
     push_roots(alloc, both, &mut rows)?;
@@ -59,7 +59,7 @@ fn push_roots<A: Allocator, B: Allocator>(
 ) -> Result<(), AllocError>
     ensures { (t u : List Row) → AreTables t u both.now
         → OnOk result (each (place_change t u) rows.new.items ≡ each (place_change t u) rows.old.items
-        ++ root_rows (told both.now.old.now.setting t) (told both.now.new.now.setting u)) }
+        ++ root_rows (plain_map both.now.old.now.setting t) (plain_map both.now.new.now.setting u)) }
 {
     let forest = both.new.forest();
     forest.recall_invariant();
@@ -75,7 +75,7 @@ fn push_unplaced<A: Allocator, B: Allocator>(
 ) -> Result<(), AllocError>
     ensures { (t u : List Row) → AreTables t u both.now
         → OnOk result (each (place_change t u) rows.new.items ≡ each (place_change t u) rows.old.items
-        ++ unplaced_rows (told both.now.old.now.setting t) (told both.now.new.now.setting u)) }
+        ++ unplaced_rows (plain_map both.now.old.now.setting t) (plain_map both.now.new.now.setting u)) }
 {
     let forest = both.new.forest();
     forest.recall_invariant();
@@ -92,8 +92,8 @@ fn push_tops<A: Allocator, B: Allocator>(
     requires { All (λ r. size_of (items_of (r.now ∷ [])) < 2 ^ 31) nodes.now }
     ensures { (t u : List Row) → AreTables t u both.now
         → OnOk result (each (place_change t u) rows.new.items ≡ each (place_change t u) rows.old.items
-        ++ flat_map (λ r. stands_of (told both.now.old.now.setting t)
-        (told both.now.new.now.setting u) 0 (items_of (r.now ∷ []))) nodes.now) }
+        ++ flat_map (λ r. stands_of (plain_map both.now.old.now.setting t)
+        (plain_map both.now.new.now.setting u) 0 (items_of (r.now ∷ []))) nodes.now) }
 {
     for node in nodes {
         push_standing(both, *node, 0, rows)?;
@@ -111,14 +111,14 @@ fn push_standing<B: Allocator, A: Allocator>(
     requires { depth + size_of (items_of (node.now ∷ [])) < 2 ^ 31 }
     ensures { (t u : List Row) → AreTables t u both.now
         → OnOk result (each (place_change t u) rows.new.items ≡ each (place_change t u) rows.old.items
-        ++ stands_of (told both.now.old.now.setting t) (told both.now.new.now.setting u) depth
+        ++ stands_of (plain_map both.now.old.now.setting t) (plain_map both.now.new.now.setting u) depth
         (items_of (node.now ∷ []))) }
 {
     let at = rows.len();
-    let is_told = push_told(both, &node.id(), depth, rows)?;
+    let is_listed = push_told(both, &node.id(), depth, rows)?;
     match node {
         Node::Device(_) => {
-            settle(at, is_told, rows);
+            settle(at, is_listed, rows);
             Ok(())
         }
         Node::Bucket(bucket) => {
@@ -128,7 +128,7 @@ fn push_standing<B: Allocator, A: Allocator>(
                 push_standing(both, item, depth + 1, rows)?;
             }
             push_left(both, bucket.header.id, depth + 1, rows)?;
-            settle(at, is_told, rows);
+            settle(at, is_listed, rows);
             Ok(())
         }
     }
@@ -145,26 +145,26 @@ fn push_told<A: Allocator, B: Allocator>(
         (each (place_change t u) rows.new.items ≡ each (place_change t u) rows.old.items
         ++ change_at t u true depth id.now ∷ []) }
     ensures told { IfOk result (λ answer. (t u : List Row) → AreTables t u both.now → answer
-        ≡ is_told_of (told both.now.old.now.setting t) (told both.now.new.now.setting u)
+        ≡ is_listed_of (plain_map both.now.old.now.setting t) (plain_map both.now.new.now.setting u)
         id.now) }
 {
-    let is_told = is_told_of(&both.before, &both.after, id);
+    let is_listed = is_listed_of(&both.before, &both.after, id);
     let row = Place {
         id: *id,
         depth,
         stands: true,
     };
     rows.push(row)?;
-    Ok(is_told)
+    Ok(is_listed)
 }
 
 /// Takes the row back where there is nothing to say of its item and no row is behind it.
-fn settle(at: usize, is_told: bool, rows: &mut Vec<Place>)
+fn settle(at: usize, is_listed: bool, rows: &mut Vec<Place>)
     ensures { (t u : List Row) (before below : List ChangeData) (row : ChangeData)
         → length before ≡ at → each (place_change t u) rows.old.items ≡ before ++ row ∷ below
-        → each (place_change t u) rows.new.items ≡ before ++ with_below is_told row below }
+        → each (place_change t u) rows.new.items ≡ before ++ with_below is_listed row below }
 {
-    if !is_told && rows.len().saturating_sub(at) == 1 {
+    if !is_listed && rows.len().saturating_sub(at) == 1 {
         rows.truncate(at);
     }
 }

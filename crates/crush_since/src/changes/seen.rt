@@ -1,7 +1,7 @@
 //! What both maps say of the item of a row.
 
 ghost use Rattle.std.specs.Prelude.{◌≡◌, List};
-ghost use Rattle.crush_table.specs.Table.{Row};
+ghost use Rattle.crush_model.specs.Table.{Row};
 ghost use Rattle.crush_since.specs.SeenChange.{AreTables, change_data, place_change};
 
 use crate::changes::rows::{Both, Place};

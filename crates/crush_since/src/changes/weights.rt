@@ -9,8 +9,8 @@ ghost use Rattle.crush_since.specs.SeenItem.{seen_data};
 use crate::changes::seen::Change;
 use crate::since::columns::same_parent;
 use crate::since::seen::Seen;
+use crush_print::words::{bytes_of, push_all, push_weight};
 use crush_units::Weight;
-use crush_view::words::{bytes_of, push_all, push_weight};
 use std::alloc::{AllocError, Global};
 
 /// In the map in which the item stands here.

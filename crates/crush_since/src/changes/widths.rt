@@ -1,15 +1,15 @@
 //! How wide the columns are.
 
 ghost use Rattle.std.specs.Prelude.{◌≡◌, List, IfOk, length, max, map as each};
-ghost use Rattle.crush_table.specs.Table.{Row};
+ghost use Rattle.crush_model.specs.Table.{Row};
 ghost use Rattle.crush_since.specs.ChangeText.{weight_or_dash as dashed, widths_of};
 ghost use Rattle.crush_since.specs.SeenChange.{AreTables, place_change};
 
 use crate::changes::rows::{Both, Place};
 use crate::changes::seen::change_at;
 use crate::changes::weights::{class_bytes, weighed, weighs, weight_or_dash};
+use crush_print::{wider, wider_id};
 use crush_units::Weight;
-use crush_view::{wider, wider_id};
 use std::alloc::{AllocError, Allocator, Global};
 
 #[derive(Clone, Copy, Debug)]

@@ -2,9 +2,9 @@
 
 ghost use Rattle.std.specs.Prelude.{◌≡◌, ℕ, [], List, IfOk, None, map as each};
 ghost use Rattle.crush_nodes.specs.Search.{kids_in};
-ghost use Rattle.crush_table.specs.Forest.{all_items};
-ghost use Rattle.crush_table.specs.Stands.{Stands};
-ghost use Rattle.crush_table.specs.Table.{Row, is_below};
+ghost use Rattle.crush_model.specs.Forest.{all_items};
+ghost use Rattle.crush_model.specs.Stands.{Stands};
+ghost use Rattle.crush_model.specs.Table.{Row, is_below};
 ghost use Rattle.crush_since.specs.Below.{AreBelow, below_entries};
 ghost use Rattle.crush_since.specs.Listing.{entry_data, listed_id};
 

@@ -1,15 +1,15 @@
 //! Whether anything has changed from one map to another.
 
 ghost use Rattle.std.specs.Prelude.{◌≡◌, List, IfOk};
-ghost use Rattle.crush_table.specs.Stands.{Stands};
-ghost use Rattle.crush_table.specs.Table.{Row};
+ghost use Rattle.crush_model.specs.Stands.{Stands};
+ghost use Rattle.crush_model.specs.Table.{Row};
 ghost use Rattle.crush_since.specs.Changes.{has_some};
 ghost use Rattle.crush_since.specs.Settings.{setting_lines};
-ghost use Rattle.crush_since.specs.Since.{told};
+ghost use Rattle.crush_since.specs.Since.{plain_map};
 ghost use Rattle.crush_since.specs.SincePart.{is_changed, is_part_changed};
 
-use crate::since::asked::told_ids;
 use crate::since::settings::{same_kinds, same_rules, same_tunables};
+use crate::since::wanted::listed_ids;
 use crush_map::{CrushMap, Setting};
 use crush_units::ItemId;
 use std::alloc::{AllocError, Allocator, Global};
@@ -22,12 +22,12 @@ pub fn is_changed<A: Allocator, B: Allocator>(
 ) -> Result<bool, AllocError>
     ensures { IfOk result (λ changed. (t u : List Row) → Stands old.now.forest t
         → Stands new.now.forest u
-        → changed ≡ is_changed (told old.now.setting t) (told new.now.setting u)) }
+        → changed ≡ is_changed (plain_map old.now.setting t) (plain_map new.now.setting u)) }
 {
-    if is_setting_told(old.setting(), new.setting()) {
+    if is_setting_listed(old.setting(), new.setting()) {
         return Ok(true);
     }
-    let ids = told_ids(alloc, old, new, None)?;
+    let ids = listed_ids(alloc, old, new, None)?;
     Ok(has_some(ids.as_slice()))
 }
 
@@ -40,9 +40,9 @@ pub fn is_part_changed<A: Allocator, B: Allocator>(
 ) -> Result<bool, AllocError>
     ensures { IfOk result (λ changed. (t u : List Row) → Stands old.now.forest t
         → Stands new.now.forest u
-        → changed ≡ is_part_changed under (told old.now.setting t) (told new.now.setting u)) }
+        → changed ≡ is_part_changed under (plain_map old.now.setting t) (plain_map new.now.setting u)) }
 {
-    let ids = told_ids(alloc, old, new, Some(under))?;
+    let ids = listed_ids(alloc, old, new, Some(under))?;
     Ok(has_some(ids.as_slice()))
 }
 
@@ -52,7 +52,7 @@ fn has_some(ids: &[ItemId]) -> bool
     !ids.is_empty()
 }
 
-fn is_setting_told(old: &Setting, new: &Setting) -> bool
+fn is_setting_listed(old: &Setting, new: &Setting) -> bool
     ensures { result ≡ has_some (setting_lines old.now new.now) }
 {
     if !same_tunables(old, new) {

@@ -1,8 +1,8 @@
 //! Items of two maps that differ, counted.
 
 ghost use Rattle.std.specs.Prelude.{◌≡◌, List, IfOk};
-ghost use Rattle.crush_table.specs.Stands.{Stands};
-ghost use Rattle.crush_table.specs.Table.{Row};
+ghost use Rattle.crush_model.specs.Stands.{Stands};
+ghost use Rattle.crush_model.specs.Table.{Row};
 ghost use Rattle.crush_since.specs.Counted.{IsCounted};
 ghost use Rattle.crush_since.specs.Listing.{Lists};
 ghost use Rattle.crush_since.specs.Since.{all_ids};

@@ -4,13 +4,13 @@ ghost use Rattle.std.specs.Prelude.{◌≡◌, ◌++◌, List, OnOk, flat_map, o
 ghost use Rattle.std.specs.Option.{option_map};
 ghost use Rattle.crush_edits.specs.SettingSeen.{rule_data, step_data};
 ghost use Rattle.crush_print.specs.RuleLines.{bucket_name};
-ghost use Rattle.crush_table.specs.Stands.{Stands};
-ghost use Rattle.crush_table.specs.Table.{Row, id_named};
+ghost use Rattle.crush_model.specs.Stands.{Stands};
+ghost use Rattle.crush_model.specs.Table.{Row, id_named};
 ghost use Rattle.crush_since.specs.Emptied.{weight_as, taken_weight, taken_word, rule_takes, weighs_nothing, is_emptied, emptied_line, emptied_by, emptied_of, emptied_lines};
 
 use crush_map::{CrushMap, KeptRule, KeptStep};
+use crush_print::words::{bytes_of, push_all};
 use crush_units::{BucketId, ItemId, Name, Weight};
-use crush_view::words::{bytes_of, push_all};
 use std::alloc::{AllocError, Allocator, Global};
 
 /// A line for each step of the new map's rules whose bucket, or its devices of a class, weighed

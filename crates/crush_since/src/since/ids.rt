@@ -1,14 +1,14 @@
 //! The ids of two maps, each once.
 
-ghost use Rattle.std.specs.Prelude.{◌≡◌, ◌++◌, List, OnOk, IfOk, flat_map, map as each};
-ghost use Rattle.crush_print.specs.MapText.{ascending, device_number};
-ghost use Rattle.crush_table.specs.Table.{Row, bucket_ids};
+ghost use Rattle.std.specs.Prelude.{◌≡◌, ◌++◌, List, OnOk, IfOk, map as each};
+ghost use Rattle.crush_model.specs.Table.{Row};
 ghost use Rattle.crush_since.specs.Listing.{Lists, listed_id};
 ghost use Rattle.crush_since.specs.Since.{all_ids, once};
 ghost use Rattle.crush_since.specs.SincePart.{each_once};
 
 use crate::since::columns::same_number;
 use crate::since::listing::{Listed, Listing};
+use crush_print::{sorted_buckets, sorted_devices};
 use crush_units::{BucketId, DeviceId, ItemId};
 use std::alloc::{AllocError, Allocator, Global};
 
@@ -31,8 +31,8 @@ pub(crate) fn ids_of_both<A: Allocator, B: Allocator>(
 pub(crate) fn each_once(alloc: Global, found: &[ItemId]) -> Result<Vec<ItemId>, AllocError>
     ensures { IfOk result (λ ids. ids.items ≡ each_once found.now) }
 {
-    let buckets = buckets_among(alloc, found)?;
-    let devices = devices_among(alloc, found)?;
+    let buckets = sorted_buckets(alloc, found)?;
+    let devices = sorted_devices(alloc, found)?;
     let mut ids = Vec::new(alloc);
     push_buckets(buckets.as_slice(), &mut ids)?;
     push_devices(devices.as_slice(), &mut ids)?;
@@ -49,46 +49,6 @@ pub(crate) fn push_ids<A: Allocator>(
         found.push(item.node.id())?;
     }
     Ok(())
-}
-
-fn buckets_among(alloc: Global, ids: &[ItemId]) -> Result<Vec<BucketId>, AllocError>
-    ensures { IfOk result (λ buckets. buckets.items ≡ ascending (flat_map bucket_ids ids.now)) }
-{
-    let mut buckets = only_buckets(alloc, ids)?;
-    buckets.sort_unstable_by_key(|bucket| bucket.distance());
-    Ok(buckets)
-}
-
-fn only_buckets(alloc: Global, ids: &[ItemId]) -> Result<Vec<BucketId>, AllocError>
-    ensures { IfOk result (λ buckets. buckets.items ≡ flat_map bucket_ids ids.now) }
-{
-    let mut buckets = Vec::new(alloc);
-    for id in ids {
-        if let ItemId::Bucket(bucket) = id {
-            buckets.push(*bucket)?;
-        }
-    }
-    Ok(buckets)
-}
-
-fn devices_among(alloc: Global, ids: &[ItemId]) -> Result<Vec<DeviceId>, AllocError>
-    ensures { IfOk result (λ devices. devices.items ≡ ascending (flat_map device_number ids.now)) }
-{
-    let mut devices = only_devices(alloc, ids)?;
-    devices.sort_unstable_by_key(|device| device.number());
-    Ok(devices)
-}
-
-fn only_devices(alloc: Global, ids: &[ItemId]) -> Result<Vec<DeviceId>, AllocError>
-    ensures { IfOk result (λ devices. devices.items ≡ flat_map device_number ids.now) }
-{
-    let mut devices = Vec::new(alloc);
-    for id in ids {
-        if let ItemId::Device(device) = id {
-            devices.push(*device)?;
-        }
-    }
-    Ok(devices)
 }
 
 /// Equal ones stand side by side.

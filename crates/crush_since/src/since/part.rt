@@ -1,18 +1,18 @@
 //! What has changed below an item.
 
 ghost use Rattle.std.specs.Prelude.{◌≡◌, List, IfOk, None, Some, map as each};
-ghost use Rattle.crush_table.specs.Stands.{Stands};
-ghost use Rattle.crush_table.specs.Table.{Row};
-ghost use Rattle.crush_view.specs.SeenStep.{step_data};
-ghost use Rattle.crush_since.specs.Since.{told};
+ghost use Rattle.crush_model.specs.Stands.{Stands};
+ghost use Rattle.crush_model.specs.Table.{Row};
+ghost use Rattle.crush_print.specs.SeenStep.{step_data};
+ghost use Rattle.crush_since.specs.Since.{plain_map};
 ghost use Rattle.crush_since.specs.SincePart.{ids_below, part_ids, since_part_text, step_ids};
 
 use crate::since::ids::each_once;
 use crate::since::listing::listing_of;
 use crate::since::push_items;
 use crush_map::CrushMap;
+use crush_print::{Part, Step, walk_part};
 use crush_units::ItemId;
-use crush_view::{Part, Step, walk_part};
 use std::alloc::{AllocError, Allocator, Global};
 
 /// What has changed from the old map to the new of the items that stand below this one or stood
@@ -27,7 +27,7 @@ pub fn since_part_text<A: Allocator, B: Allocator>(
 ) -> Result<Vec<u8>, AllocError>
     ensures { IfOk result (λ text. (t u : List Row) → Stands old.now.forest t
         → Stands new.now.forest u → text.items
-        ≡ since_part_text under (told old.now.setting t) (told new.now.setting u)) }
+        ≡ since_part_text under (plain_map old.now.setting t) (plain_map new.now.setting u)) }
 {
     let before = listing_of(alloc, old)?;
     let after = listing_of(alloc, new)?;

@@ -4,7 +4,7 @@ ghost use Rattle.std.specs.Prelude.{◌≡◌, ◌≤◌, ◌++◌, OnOk, length
 ghost use Rattle.std.specs.Option.{option_map};
 ghost use Rattle.crush_since.specs.SeenItem.{seen_data};
 ghost use Rattle.crush_nodes.specs.SeenView.{view_data};
-ghost use Rattle.crush_since.specs.ItemParts.{behind, part, change, name_part, type_part, place_part, weight_part, class_part, alg_part, class_ids_part, changes, line_text, name_told, parts as all_parts, item_line};
+ghost use Rattle.crush_since.specs.ItemParts.{behind, part, change, name_part, type_part, place_part, weight_part, class_part, alg_part, class_ids_part, changes, line_text, listed_name, parts as all_parts, item_line};
 
 use crate::since::columns::{same_algs, same_class, same_parent};
 use crate::since::seen::Seen;
@@ -12,9 +12,9 @@ use crate::since::words::{
     alg_bytes, class_bytes, place_of, push_item_word, push_whole, type_bytes, weight_of,
 };
 use crush_map::Setting;
+use crush_print::words::push_all;
 use crush_tree::View;
 use crush_units::ItemId;
-use crush_view::words::push_all;
 use std::alloc::{AllocError, Global};
 
 /// What two maps say of an id.
@@ -45,7 +45,7 @@ pub(crate) fn push_line(
         return Ok(());
     }
     push_text(
-        name_told(&item.before, &item.after),
+        listed_name(&item.before, &item.after),
         id,
         after_mark(told),
         out,
@@ -69,9 +69,9 @@ fn push_text(name: &[u8], id: ItemId, text: &[u8], out: &mut Vec<u8>) -> Result<
 }
 
 /// The name after, or before of what is gone.
-fn name_told<'a>(before: &'a Option<Seen<'_>>, after: &'a Option<Seen<'_>>) -> &'a [u8]
+fn listed_name<'a>(before: &'a Option<Seen<'_>>, after: &'a Option<Seen<'_>>) -> &'a [u8]
     ensures { result.now
-        ≡ name_told (option_map seen_data before.now) (option_map seen_data after.now) }
+        ≡ listed_name (option_map seen_data before.now) (option_map seen_data after.now) }
 {
     match after {
         Some(after) => after.view.name.as_bytes(),

@@ -3,8 +3,8 @@
 ghost use Rattle.std.specs.Prelude.{◌≡◌, List, option_and_then};
 ghost use Rattle.std.specs.Option.{option_map};
 ghost use Rattle.crush_nodes.specs.SeenView.{view_data};
-ghost use Rattle.crush_table.specs.Stands.{Stands};
-ghost use Rattle.crush_table.specs.Table.{Row, name_of};
+ghost use Rattle.crush_model.specs.Stands.{Stands};
+ghost use Rattle.crush_model.specs.Table.{Row, name_of};
 ghost use Rattle.crush_units.specs.declared.id.ItemId.TheVariants.{Bucket};
 ghost use Rattle.crush_since.specs.ItemData.{item_of};
 ghost use Rattle.crush_since.specs.SeenItem.{seen_data};

@@ -3,10 +3,10 @@
 ghost use Rattle.std.specs.Prelude.{◌≡◌, ◌++◌, OnOk, map as each};
 ghost use Rattle.std.specs.Cmp.Lexicographic.{pointwise};
 ghost use Rattle.crush_edits.specs.SettingSeen.{rule_data, step_data};
-ghost use Rattle.crush_since.specs.Settings.{same_tunable, same_kinds, same_step, same_rule, told_if_not, tunables_line, kinds_line, rules_line, setting_lines};
+ghost use Rattle.crush_since.specs.Settings.{same_tunable, same_kinds, same_step, same_rule, listed_if_not, tunables_line, kinds_line, rules_line, setting_lines};
 
 use crush_map::{KeptRule, KeptStep, Setting};
-use crush_view::words::push_all;
+use crush_print::words::push_all;
 use std::alloc::AllocError;
 
 #[tactic(auto, unfolding(crate::specs::Settings::setting_lines))]
@@ -48,7 +48,7 @@ fn push_rules(old: &Setting, new: &Setting, out: &mut Vec<u8>) -> Result<(), All
 
 /// A line, unless both are the same.
 pub fn tell_unless(same: bool, text: &[u8], out: &mut Vec<u8>) -> Result<(), AllocError>
-    ensures { OnOk result (out.new.items ≡ out.old.items ++ told_if_not same text.now) }
+    ensures { OnOk result (out.new.items ≡ out.old.items ++ listed_if_not same text.now) }
 {
     if same {
         return Ok(());

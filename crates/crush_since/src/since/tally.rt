@@ -2,7 +2,7 @@
 
 ghost use Rattle.std.specs.Prelude.{◌≡◌, ◌+◌, ◌<◌, ◌^◌};
 ghost use Rattle.std.specs.Option.{option_map};
-ghost use Rattle.crush_table.specs.Count.{one_if};
+ghost use Rattle.crush_model.specs.Count.{one_if};
 ghost use Rattle.crush_since.specs.SeenItem.{seen_data};
 ghost use Rattle.crush_since.specs.Tallies.{HasRoom, no_tally, tally_with, is_made, is_renamed, is_moved, is_reweighed, is_reclassed};
 

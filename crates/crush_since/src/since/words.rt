@@ -11,8 +11,8 @@ ghost use Rattle.crush_since.specs.Tallies.{counted, first_counts, last_counts, 
 use crate::since::seen::Seen;
 use crate::since::tally::Tally;
 use crush_map::Setting;
+use crush_print::words::{bytes_of, push_all, push_id, push_weight};
 use crush_units::{Alg, BucketId, ItemId, TypeId, Weight};
-use crush_view::words::{bytes_of, push_all, push_id, push_weight};
 use itoa::Buffer;
 use std::alloc::{AllocError, Global};
 

@@ -3,7 +3,7 @@
 ghost use Rattle.std.specs.Prelude.{◌≡◌, false, IfOk, Some, None, drop, if◌then◌else◌};
 ghost use Rattle.std.specs.Str.Parse.{digits_value};
 ghost use Rattle.crush_builder.specs.Building.{is_begun, is_numbered};
-ghost use Rattle.crush_bytes.specs.Numbers.{is_negative};
+ghost use Rattle.crush_units.specs.Numbers.{is_negative};
 ghost use Rattle.crush_text.specs.Role.{bucket_id, id_or_alg, id_class, algorithm, kind_of_word};
 ghost use Rattle.crush_text.specs.Form.{second, begun, numbered, filling, at};
 ghost use Rattle.crush_text.specs.Grammar.{bucket_line, id_line, class_id_line, alg_line, line_forms};
@@ -15,10 +15,9 @@ use crate::fault::{TextFault, TextFaultKind};
 use crate::reader::MapReader;
 use crate::reader::roles::{read_key, read_number, read_word};
 use crate::reader::word::{PlacedWord, next_word, out_of_memory_at};
-use crush_bytes::Reader;
-use crush_bytes::number::number_up_to;
 use crush_units::limits::FARTHEST_BUCKET_ID;
-use crush_units::{Alg, BucketId};
+use crush_units::number::number_up_to;
+use crush_units::{Alg, BucketId, Reader};
 use std::alloc::Allocator;
 
 impl<'a, A: Allocator + Clone> MapReader<'a, A> {

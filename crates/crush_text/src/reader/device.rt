@@ -11,9 +11,9 @@ use crate::opening::Opening;
 use crate::reader::MapReader;
 use crate::reader::roles::read_word;
 use crate::reader::word::memory_at;
-use crush_bytes::number::number_up_to;
 use crush_units::DeviceId;
 use crush_units::limits::LAST_DEVICE_ID;
+use crush_units::number::number_up_to;
 use std::alloc::Allocator;
 
 impl<'a, A: Allocator + Clone> MapReader<'a, A> {

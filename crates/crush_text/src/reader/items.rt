@@ -18,8 +18,7 @@ use crate::fault::{TextFault, TextFaultKind};
 use crate::reader::MapReader;
 use crate::reader::word::{PlacedWord, next_word, out_of_memory_at};
 use crush_builder::{BuildFault, MapBuilder};
-use crush_bytes::Reader;
-use crush_units::{ItemId, Weight};
+use crush_units::{ItemId, Reader, Weight};
 use std::alloc::Allocator;
 
 impl<'a, A: Allocator + Clone> MapReader<'a, A> {

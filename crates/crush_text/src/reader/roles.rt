@@ -6,8 +6,8 @@ ghost use Rattle.crush_text.specs.ReadsWords.{FindsWord, ReadsWord, ReadsValue, 
 use crate::fault::{TextFault, TextFaultKind};
 use crate::reader::MapReader;
 use crate::reader::word::{PlacedWord, next_word};
-use crush_bytes::Reader;
-use crush_bytes::number::number_up_to;
+use crush_units::Reader;
+use crush_units::number::number_up_to;
 use std::alloc::Allocator;
 
 #[tactic(auto, unfolding(crate::specs::Reads::word_at))]

@@ -22,10 +22,10 @@ use crate::opening::Opening;
 use crate::reader::MapReader;
 use crate::reader::roles::{read_key, read_number, read_word};
 use crate::reader::word::{PlacedWord, next_word, out_of_memory_at};
-use crush_bytes::Reader;
-use crush_bytes::number::number_up_to;
 use crush_map::{Rule, Step};
+use crush_units::Reader;
 use crush_units::limits::{LARGEST_RULE_NUMBER, MOST_STEPS};
+use crush_units::number::number_up_to;
 use std::alloc::{Allocator, Global};
 
 impl<'a, A: Allocator> MapReader<'a, A> {

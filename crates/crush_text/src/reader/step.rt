@@ -5,7 +5,7 @@ ghost use Rattle.std.specs.List.{starts_with};
 ghost use Rattle.crush_edits.specs.Setting.{RuleData};
 ghost use Rattle.crush_builder.specs.Built.{Draft};
 ghost use Rattle.crush_builder.specs.Rules.{IsStepForm, word_fault};
-ghost use Rattle.crush_bytes.specs.Numbers.{is_signed, signed_value};
+ghost use Rattle.crush_units.specs.Numbers.{is_signed, signed_value};
 ghost use Rattle.crush_text.specs.Role.{step_word, taken_bucket, step_order, step_count, step_type};
 ghost use Rattle.crush_text.specs.Form.{word};
 ghost use Rattle.crush_text.specs.Grammar.{step_behind, take_step, choose_step, set_step};
@@ -17,11 +17,10 @@ use crate::fault::{TextFault, TextFaultKind};
 use crate::reader::MapReader;
 use crate::reader::roles::{read_key, read_number, read_word};
 use crate::reader::word::{PlacedWord, next_word};
-use crush_bytes::Reader;
-use crush_bytes::number::number_up_to;
 use crush_map::Step;
-use crush_units::Name;
 use crush_units::limits::{FARTHEST_COUNT, LARGEST_COUNT, LARGEST_RULE_NUMBER};
+use crush_units::number::number_up_to;
+use crush_units::{Name, Reader};
 use std::alloc::{Allocator, Global};
 
 #[derive(Clone, Copy)]

@@ -11,10 +11,10 @@ use crate::opening::Opening;
 use crate::reader::MapReader;
 use crate::reader::roles::read_word;
 use crate::reader::word::{PlacedWord, next_word, out_of_memory_at};
-use crush_bytes::number::number_up_to;
 use crush_map::is_reserved;
 use crush_units::TypeId;
 use crush_units::limits::LAST_TYPE;
+use crush_units::number::number_up_to;
 use std::alloc::Allocator;
 
 impl<'a, A: Allocator> MapReader<'a, A> {

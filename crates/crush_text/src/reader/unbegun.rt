@@ -6,7 +6,7 @@ ghost use Rattle.crush_text.specs.ReadsStatements.{FailsText, FailsFirst, opens_
 use crate::fault::{TextFault, TextFaultKind};
 use crate::reader::statement::{comes_first, is_out_of_place};
 use crate::reader::word::{PlacedWord, memory_at};
-use crush_bytes::{Reader, Token};
+use crush_units::{Reader, Token};
 
 /// The fault of the first word, or out of memory there or at the end of the text.
 pub(crate) fn unbegun(reader: &mut Reader<'_>) -> TextFault

@@ -2,14 +2,13 @@
 
 ghost use Rattle.std.specs.Prelude.{◌≡◌, IfOk, IfErr, bytes_eq};
 ghost use Rattle.crush_units.specs.Name.{IsName};
-ghost use Rattle.crush_bytes.specs.Words.{is_brace_word};
+ghost use Rattle.crush_units.specs.Words.{is_brace_word};
 ghost use Rattle.crush_text.specs.declared.fault.TextFaultKind.TheVariants.{OutOfMemory};
 ghost use Rattle.crush_text.specs.ReadsWords.{TakesWord};
 
 use crate::fault::{TextFault, TextFaultKind};
 use crush_builder::BuildFault;
-use crush_bytes::{Reader, Token};
-use crush_units::Name;
+use crush_units::{Name, Reader, Token};
 use std::alloc::Global;
 
 #[derive(Clone, Copy)]

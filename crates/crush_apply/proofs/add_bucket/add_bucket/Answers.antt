@@ -1,12 +1,12 @@
 use Rattle.std.proofs.Common.{rules, List, [], ◌∷◌, ◌++◌, sym, subst, refl}
 use Rattle.std.specs.Prelude.{None}
-use Rattle.crush_table.specs.Items.{Items}
-use Rattle.crush_table.specs.ItemRows.{rows, bucket_row}
-use Rattle.crush_table.specs.Table.{Row}
-use Rattle.crush_table.specs.Lawful.{Lawful}
-use Rattle.crush_table.specs.Forest.{rows_of}
-use Rattle.crush_table.specs.Stands.{Stands}
-use Rattle.crush_table.proofs.Stands.{stands_for_rows}
+use Rattle.crush_model.specs.Items.{Items}
+use Rattle.crush_model.specs.ItemRows.{rows, bucket_row}
+use Rattle.crush_model.specs.Table.{Row}
+use Rattle.crush_model.specs.Lawful.{Lawful}
+use Rattle.crush_model.specs.Forest.{rows_of}
+use Rattle.crush_model.specs.Stands.{Stands}
+use Rattle.crush_model.proofs.Stands.{stands_for_rows}
 use Rattle.crush_edits.specs.declared.edit.Edit.TheVariants.{AddBucket}
 use Rattle.crush_edits.specs.Put.{new_header}
 use Rattle.crush_apply.proofs.Answered.{when_changed, when_refused, when_lacking}

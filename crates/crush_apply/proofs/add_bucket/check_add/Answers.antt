@@ -1,7 +1,7 @@
 use Rattle.std.proofs.Common.{ap, sym, subst, ◌≤◌, ◌∙◌}
 use Rattle.std.specs.Prelude.{is_some}
 use Rattle.crush_units.specs.declared.limits.TheConstants.{MOST_BUCKETS}
-use Rattle.crush_table.specs.Table.{is_named}
+use Rattle.crush_model.specs.Table.{is_named}
 use Rattle.crush_edits.specs.Setting.{kind_number}
 use Rattle.crush_edits.proofs.Others.{full_has_no_room}
 use Rattle.crush_apply.proofs.Singles.{not_zero}

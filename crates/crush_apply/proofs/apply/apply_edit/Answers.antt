@@ -1,7 +1,7 @@
 use Rattle.std.proofs.Common.{sym, ◌∙◌}
 use Rattle.crush_apply.proofs.Answered.{when_is}
 use Rattle.crush_apply.proofs.StillFits.{fits_answered}
-use Rattle.crush_apply.proofs.TakenBack.{lacks_alone}
+use Rattle.crush_apply.proofs.RolledBack.{lacks_alone}
 use Rattle.crush_apply.proofs.apply.apply_edit.Goals as goal
 
 pub returns-clause-done : goal.returns-clause-done
@@ -25,4 +25,4 @@ returns-clause-still g c = (when_is _ _ _ _ _ c.done_alone.ensures c.make.ensure
 pub returns-clause-fits : goal.returns-clause-fits
 returns-clause-fits g c =
     let told = when_is _ _ _ _ _ c.done_alone.ensures c.make.ensures.made in
-    fits_answered c.args.setting.now c.args.hierarchy.now c.make.new.hierarchy c.args.asked.now c.done_alone.result c.recall_invariant.ensures c.recall_forms.ensures c.requires.fits told.done told.unchanged
+    fits_answered c.args.setting.now c.args.hierarchy.now c.make.new.hierarchy c.args.requested.now c.done_alone.result c.recall_invariant.ensures c.recall_forms.ensures c.requires.fits told.done told.unchanged

@@ -12,5 +12,8 @@ pub returns-in_err-dones-clause-refused : goal.returns-in_err-dones-clause-refus
 returns-in_err-dones-clause-refused g c = λ index r told t st.
     c.in_err-dones.ensures.refused index r (passed_fault _ _ c.from_residual.result c.from_residual.ensures.1 told) t (c.in-Ok.ensures.stands t st)
 
+pub returns-in_err-dones-clause-unchanged : goal.returns-in_err-dones-clause-unchanged
+returns-in_err-dones-clause-unchanged g c = anyway c.from_residual.result refl
+
 pub returns-in_err-dones-clause-as_before : goal.returns-in_err-dones-clause-as_before
 returns-in_err-dones-clause-as_before g c = same_before c.from_residual.result c.args.hierarchy.now c.args.hierarchy.now (anyway c.from_residual.result refl)

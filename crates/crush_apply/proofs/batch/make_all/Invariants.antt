@@ -1,17 +1,17 @@
 use Rattle.std.specs.Prelude.{◌≡◌, ◌<◌, ◌≤◌, true, drop, length, vec_len, vec_capacity}
-use Rattle.crush_table.specs.Forest.{rows_of}
+use Rattle.crush_model.specs.Forest.{rows_of}
 use Rattle.crush_edits.specs.Fits.{Fits}
 use Rattle.crush_apply.specs.Batched.{IsBegun, AreDone}
-use Rattle.crush_apply.specs.Noted.{CanBeNoted}
+use Rattle.crush_apply.specs.UndoLog.{CanBeLogged}
 use Rattle.crush_apply.proofs.Batching.{IsNotedSoFar}
 use Rattle.crush_apply.proofs.batch.make_all.Given as goal
 
-abbrev pub invariant-loop-asked : goal.invariant-loop-asked
-invariant-loop-asked g l = record {
-  begun : IsBegun l.setting l.edits l.fn.hierarchy (drop l.asked-index l.edits) l.dones l.hierarchy;
+abbrev pub invariant-loop-requested : goal.invariant-loop-requested
+invariant-loop-requested g l = record {
+  begun : IsBegun l.setting l.edits l.fn.hierarchy (drop l.requested-index l.edits) l.dones l.hierarchy;
   fits : Fits l.setting (rows_of l.hierarchy);
-  counts : AreDone l.asked-index l.dones;
-  noted : CanBeNoted l.edits (vec_capacity l.fn.log) → IsNotedSoFar l.edits l.fn.hierarchy l.asked-index l.hierarchy l.log.items;
-  len : vec_len l.log ≤ l.asked-index;
+  counts : AreDone l.requested-index l.dones;
+  logged : CanBeLogged l.edits (vec_capacity l.fn.log) → IsNotedSoFar l.edits l.fn.hierarchy l.requested-index l.hierarchy l.log.items;
+  len : vec_len l.log ≤ l.requested-index;
   capacity : vec_capacity l.log ≡ vec_capacity l.fn.log;
 }

@@ -1,9 +1,9 @@
 use Rattle.std.proofs.Common.{◌≡◌, ℕ, List, false, ap, sym, refl, ◌∙◌}
 use Rattle.std.specs.Prelude.{Option, Some, None, is_some}
 use Rattle.crush_units.specs.declared.id.ItemId.TheVariants.{Device}
-use Rattle.crush_table.specs.Columns.{set_class}
-use Rattle.crush_table.specs.Forest.{rows_of}
-use Rattle.crush_table.proofs.Stands.{stands_for_rows}
+use Rattle.crush_model.specs.Columns.{set_class}
+use Rattle.crush_model.specs.Forest.{rows_of}
+use Rattle.crush_model.proofs.Stands.{stands_for_rows}
 use Rattle.crush_edits.specs.declared.edit.Edit.TheVariants.{RemoveClass}
 use Rattle.crush_edits.specs.Answer.{done}
 use Rattle.crush_apply.specs.Alone.{HasClass}
@@ -11,7 +11,7 @@ use Rattle.crush_apply.proofs.Answered.{when_done}
 use Rattle.crush_apply.proofs.Classed.{remove_class_done}
 use Rattle.crush_apply.proofs.Found.{there_by_name}
 use Rattle.crush_apply.proofs.Refused.{no_want}
-use Rattle.crush_apply.proofs.TakenBack.{class_given, when_unnoted}
+use Rattle.crush_apply.proofs.RolledBack.{class_given, when_unnoted}
 use Rattle.crush_apply.proofs.Weights.{refused_edit}
 use Rattle.crush_apply.proofs.classes.remove_class.Goals as goal
 
@@ -37,7 +37,7 @@ returns-clause-answers g c = λ s. record {
       let d = c.in_ok-device.device in
       let has : HasClass t c.args.name.now c.set_class-old.result d = record { named = c.in_ok-device.ensures.can t st; class = sym (c.set_class-old.ensures.old t st) } in
       (set_class (Device d) None t, remove_class_done s t c.args.name.now d st.lawful _ has ∙ ap (λ b. done b 0 (set_class (Device d) None t)) (sym c.is_some.ensures), c.set_class-old.ensures.stands t st));
-  noted = class_given _ _ c.in_ok-device.device None c.set_class-old.result c.recall_invariant.ensures
+  logged = class_given _ _ c.in_ok-device.device None c.set_class-old.result c.recall_invariant.ensures
       (there_by_name (rows_of c.args.hierarchy.now) c.args.name.now (Device c.in_ok-device.device) (c.in_ok-device.ensures.can (rows_of c.args.hierarchy.now) (stands_for_rows c.args.hierarchy.now c.recall_invariant.ensures)))
       c.set_class-old.ensures;
 }

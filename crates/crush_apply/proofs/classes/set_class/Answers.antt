@@ -1,17 +1,17 @@
 use Rattle.std.proofs.Common.{◌≡◌, ℕ, true, List, subst, refl}
 use Rattle.std.specs.Prelude.{Some, None}
 use Rattle.crush_units.specs.declared.id.ItemId.TheVariants.{Device}
-use Rattle.crush_table.specs.Columns.{set_class}
-use Rattle.crush_table.specs.Forest.{ForestData, rows_of, IsSound}
-use Rattle.crush_table.specs.Stands.{Stands}
-use Rattle.crush_table.specs.Table.{Row, is_there}
-use Rattle.crush_table.proofs.Stands.{stands_for_rows}
+use Rattle.crush_model.specs.Columns.{set_class}
+use Rattle.crush_model.specs.Forest.{ForestData, rows_of, IsSound}
+use Rattle.crush_model.specs.Stands.{Stands}
+use Rattle.crush_model.specs.Table.{Row, is_there}
+use Rattle.crush_model.proofs.Stands.{stands_for_rows}
 use Rattle.crush_edits.specs.declared.edit.Edit.TheVariants.{SetClass}
 use Rattle.crush_apply.specs.Alone.{HasClass, GetsClass}
 use Rattle.crush_apply.proofs.Answered.{when_changed, when_still}
 use Rattle.crush_apply.proofs.Classed.{set_class_done, set_class_still}
 use Rattle.crush_apply.proofs.Found.{there_by_name}
-use Rattle.crush_apply.proofs.TakenBack.{class_given, when_short, when_unnoted}
+use Rattle.crush_apply.proofs.RolledBack.{class_given, when_short, when_unnoted}
 use Rattle.crush_apply.proofs.Weights.{refused_edit}
 use Rattle.crush_apply.proofs.classes.set_class.Goals as goal
 
@@ -28,7 +28,7 @@ returns-in_default g c = λ s. record {
   answers = when_still _ _ _ (λ t st.
       let has = subst (GetsClass t c.args.name.now c.args.class.now) c.in_default.is (c.in_ok-device.ensures.can t st) in
       (t, set_class_still s t c.args.name.now has.0 st.lawful c.args.class.now has.1, st));
-  noted = refl;
+  logged = refl;
 }
 
 pub returns-in_err-clone : goal.returns-in_err-clone
@@ -55,7 +55,7 @@ returns g c = λ s. record {
         set_class_done s t c.args.name.now d st.lawful c.args.class.now has,
         subst (λ k. Stands c.set_class-old.new.self (set_class (Device d) (Some k) t)) c.in_ok-copy.ensures (c.set_class-old.ensures.stands t st),
       ));
-  noted = class_given _ _ c.in-Some.device _ c.set_class-old.result c.recall_invariant.ensures
+  logged = class_given _ _ c.in-Some.device _ c.set_class-old.result c.recall_invariant.ensures
       (there_to_get c.args.hierarchy.now c.args.name.now c.args.class.now c.in-Some.device c.recall_invariant.ensures (λ t st. subst (GetsClass t c.args.name.now c.args.class.now) c.in-Some.is (c.in_ok-device.ensures.can t st)))
       c.set_class-old.ensures;
 }

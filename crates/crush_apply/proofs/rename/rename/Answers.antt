@@ -1,11 +1,11 @@
 use Rattle.std.proofs.Common.{List, sym, subst, refl}
 use Rattle.crush_units.specs.declared.id.ItemId.TheVariants.{Bucket}
-use Rattle.crush_table.specs.Table.{Row}
-use Rattle.crush_table.specs.Columns.{set_name}
-use Rattle.crush_table.specs.Lawful.{Lawful}
-use Rattle.crush_table.specs.Forest.{rows_of}
-use Rattle.crush_table.specs.Stands.{Stands}
-use Rattle.crush_table.proofs.Stands.{stands_for_rows}
+use Rattle.crush_model.specs.Table.{Row}
+use Rattle.crush_model.specs.Columns.{set_name}
+use Rattle.crush_model.specs.Lawful.{Lawful}
+use Rattle.crush_model.specs.Forest.{rows_of}
+use Rattle.crush_model.specs.Stands.{Stands}
+use Rattle.crush_model.proofs.Stands.{stands_for_rows}
 use Rattle.crush_edits.specs.declared.edit.Edit.TheVariants.{Rename}
 use Rattle.crush_apply.proofs.Answered.{when_changed, when_refused, when_lacking}
 use Rattle.crush_apply.proofs.Found.{there_by_name}

@@ -1,8 +1,8 @@
 use Rattle.std.proofs.Common.{true, refl}
 use Rattle.crush_units.specs.declared.id.ItemId.TheVariants.{Bucket}
-use Rattle.crush_table.specs.Columns.{set_subtree}
-use Rattle.crush_table.specs.Forest.{rows_of}
-use Rattle.crush_table.proofs.Stands.{stands_for_rows}
+use Rattle.crush_model.specs.Columns.{set_subtree}
+use Rattle.crush_model.specs.Forest.{rows_of}
+use Rattle.crush_model.proofs.Stands.{stands_for_rows}
 use Rattle.crush_edits.specs.declared.edit.Edit.TheVariants.{ReweightSubtree}
 use Rattle.crush_edits.specs.declared.refusal.Refusal.TheVariants.{SumTooLarge}
 use Rattle.crush_apply.proofs.Answered.{when_done, when_refused}

@@ -1,8 +1,8 @@
 use Rattle.std.proofs.Common.{List, sym, ◌∙◌}
 use Rattle.crush_units.specs.declared.id.ItemId.TheVariants.{Bucket}
-use Rattle.crush_table.specs.Table.{Row}
-use Rattle.crush_table.specs.Forest.{rows_of}
-use Rattle.crush_table.proofs.Stands.{stands_for_rows}
+use Rattle.crush_model.specs.Table.{Row}
+use Rattle.crush_model.specs.Forest.{rows_of}
+use Rattle.crush_model.proofs.Stands.{stands_for_rows}
 use Rattle.crush_apply.proofs.Found.{found_there}
 use Rattle.crush_apply.proofs.Names.{not_nested}
 use Rattle.crush_apply.proofs.swap.check_swap.Goals as goal

@@ -1,10 +1,10 @@
 use Rattle.std.proofs.Common.{sym, ◌∙◌, ap, false, []}
 use Rattle.std.specs.Prelude.{◌||◌, if◌then◌else◌, unwrap_or}
 use Rattle.crush_units.specs.declared.id.ItemId.TheVariants.{Bucket}
-use Rattle.crush_table.specs.Columns.{set_name, exchange_names}
-use Rattle.crush_table.specs.Table.{member, name_of}
-use Rattle.crush_table.proofs.Same.{used-same}
-use Rattle.crush_table.proofs.UsedColumn.{used-last, used-without_row, used-set_weights, used-set_name, used-exchange_parents}
+use Rattle.crush_model.specs.Columns.{set_name, exchange_names}
+use Rattle.crush_model.specs.Table.{member, name_of}
+use Rattle.crush_model.proofs.Same.{used-same}
+use Rattle.crush_model.proofs.UsedColumn.{used-last, used-without_row, used-set_weights, used-set_name, used-exchange_parents}
 use Rattle.crush_index.specs.UsedLaw.{uses}
 use Rattle.crush_index.proofs.law.used_ids_follow_the_table.Goals as goal
 
@@ -24,8 +24,8 @@ returns-clause-swap c used t a b known k =
     known k ∙ sym (used-exchange_parents a b (exchange_names a b t) k ∙ used-set_name (Bucket a) second (set_name (Bucket b) first t) k ∙ used-set_name (Bucket b) first t k)
 
 pub returns-clause-row : goal.returns-clause-row
-returns-clause-row c old new t r known told k = told k ∙ ap (λ b. b || member k (uses r)) (known k) ∙ sym (used-last t r k)
+returns-clause-row c old new t r known answers k = answers k ∙ ap (λ b. b || member k (uses r)) (known k) ∙ sym (used-last t r k)
 
 pub returns-clause-without : goal.returns-clause-without
-returns-clause-without c old new t i r l known e told k =
-    told k ∙ ap (λ b. if member k (uses r) then false else b) (known k) ∙ sym (used-without_row i t r k l e)
+returns-clause-without c old new t i r l known e answers k =
+    answers k ∙ ap (λ b. if member k (uses r) then false else b) (known k) ∙ sym (used-without_row i t r k l e)

@@ -1,7 +1,7 @@
 use Rattle.std.proofs.Common.{Some, refl}
 use Rattle.std.proofs.lemmas.Result.{err_from_is_err_and}
 use Rattle.crush_input.specs.Input.{job_bytes}
-use Rattle.crush_input.proofs.Asking.{no_job_as_asked, part_as_asked}
+use Rattle.crush_input.proofs.Outputs.{no_job_as_wanted, part_as_wanted}
 use Rattle.crush_input.proofs.Joins.{come_from, input_of_joined}
 use Rattle.crush_input.proofs.Outcomes.{err_as, err_both}
 use Rattle.crush_input.proofs.Noted.{noted_of_all}
@@ -34,7 +34,7 @@ returns-clause-noted g c =
     let content = g.F.Opens.content c.args.files.now in
     let all = job_bytes content c.args.options.now (g.R.Read.remaining c.args.input.now) in
     let from = come_from _ _ _ all _ _ c.first_name.ensures refl c.in_ok-bytes.ensures.job in
-    err_both _ _ _ c.job_of.result (λ s h told. no_job_as_asked content c.args.options.now (g.R.Read.remaining c.args.input.now) (Some _) s.fault _ h (noted_of_all _ _ _ all _ s.fault _ from h told)) c.job_of.ensures.fault c.job_of.ensures.noted
+    err_both _ _ _ c.job_of.result (λ s h told. no_job_as_wanted content c.args.options.now (g.R.Read.remaining c.args.input.now) (Some _) s.fault _ h (noted_of_all _ _ _ all _ s.fault _ from h told)) c.job_of.ensures.fault c.job_of.ensures.noted
 
 -- a fault of reading is one, and what is noted of it is noted of a file
 pub returns-in_err-bytes-clause-fault : goal.returns-in_err-bytes-clause-fault
@@ -46,4 +46,4 @@ returns-in_err-bytes-clause-fault g c =
 pub returns-in_err-bytes-clause-noted : goal.returns-in_err-bytes-clause-noted
 returns-in_err-bytes-clause-noted g c =
     let p = err_from_is_err_and c.from_residual.result c.from_residual.ensures.1 in
-    rw (p.1, p.2) (part_as_asked (g.F.Opens.content c.args.files.now) c.args.options.now (g.R.Read.remaining c.args.input.now) _ _ c.in_err-bytes.ensures.fault c.in_err-bytes.ensures.noted)
+    rw (p.1, p.2) (part_as_wanted (g.F.Opens.content c.args.files.now) c.args.options.now (g.R.Read.remaining c.args.input.now) _ _ c.in_err-bytes.ensures.fault c.in_err-bytes.ensures.noted)

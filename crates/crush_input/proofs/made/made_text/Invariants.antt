@@ -1,6 +1,6 @@
 use Rattle.std.proofs.Common.{◌≡◌, take}
-use Rattle.crush_calls.specs.Script.{scripts_data}
-use Rattle.crush_calls.specs.HistoryText.{names_of}
+use Rattle.crush_history.specs.Script.{scripts_data}
+use Rattle.crush_history.specs.HistoryText.{names_of}
 use Rattle.crush_input.specs.Made.{made_text}
 use Rattle.crush_input.proofs.made.made_text.Given as goal
 

@@ -1,7 +1,7 @@
 use Rattle.std.proofs.Common.{ℕ, List, subst, sym}
 use Rattle.std.specs.Prelude.{IfSome}
 use Rattle.crush_input.specs.Input.{IsInput}
-use Rattle.crush_input.proofs.Asking.{map_fault_of_all, map_noted_of_all, map_of_all}
+use Rattle.crush_input.proofs.Outputs.{map_fault_of_all, map_noted_of_all, map_of_all}
 use Rattle.crush_input.proofs.Outcomes.{err_as, err_both}
 use Rattle.crush_input.proofs.other.read_other.Goals as goal
 

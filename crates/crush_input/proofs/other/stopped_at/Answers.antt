@@ -1,5 +1,5 @@
 use Rattle.std.proofs.Common.{refl, sym, ◌∙◌}
-use Rattle.crush_input.proofs.Asking.{flaw_noted, flaw_where}
+use Rattle.crush_input.proofs.Outputs.{flaw_noted, flaw_where}
 use Rattle.crush_input.proofs.other.stopped_at.Goals as goal
 
 pub returns-in-Ok-clause-fault : goal.returns-in-Ok-clause-fault

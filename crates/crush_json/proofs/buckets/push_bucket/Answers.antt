@@ -1,5 +1,5 @@
 use Rattle.crush_units.specs.declared.id.ItemId.TheVariants.{Bucket}
-use Rattle.crush_table.specs.Table.{kids}
+use Rattle.crush_model.specs.Table.{kids}
 use Rattle.crush_nodes.specs.Views.{ViewData}
 use Rattle.crush_print.specs.MapText.{kind_text}
 use Rattle.crush_json.specs.MapDocument.{bucket_document, item_documents}

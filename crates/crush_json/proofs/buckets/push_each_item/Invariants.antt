@@ -1,7 +1,7 @@
 use Rattle.std.proofs.Common.{◌≡◌, ◌++◌, List, take, map}
 use Rattle.crush_nodes.specs.Seen.{node_id}
-use Rattle.crush_table.specs.Stands.{Stands}
-use Rattle.crush_table.specs.Table.{Row}
+use Rattle.crush_model.specs.Stands.{Stands}
+use Rattle.crush_model.specs.Table.{Row}
 use Rattle.crush_json.specs.MapDocument.{item_documents}
 use Rattle.crush_json.specs.Tokens.{tokens_of_all}
 use Rattle.crush_json.proofs.buckets.push_each_item.Given as goal

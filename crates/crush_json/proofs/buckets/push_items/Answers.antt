@@ -1,5 +1,5 @@
 use Rattle.std.proofs.Common.{◌++◌, ap, ◌∙◌}
-use Rattle.crush_table.specs.Table.{kids}
+use Rattle.crush_model.specs.Table.{kids}
 use Rattle.crush_json.specs.MapDocument.{item_documents}
 use Rattle.crush_json.specs.Tokens.{tokens_of_all}
 use Rattle.crush_json.proofs.Listed.{array_done}

@@ -4,7 +4,7 @@ use Rattle.crush_json.specs.Tokens.{member_tokens, tokens_of}
 use Rattle.crush_json.specs.Values.{natural, whole, list}
 use Rattle.crush_nodes.specs.SeenView.{view_data}
 use Rattle.crush_print.specs.MapText.{kind_text}
-use Rattle.crush_table.specs.Table.{kids}
+use Rattle.crush_model.specs.Table.{kids}
 use Rattle.crush_units.specs.Id.{item_number}
 use Rattle.json.specs.Token.{Token, begin_object, end_object}
 use Rattle.json.specs.Token.{key}

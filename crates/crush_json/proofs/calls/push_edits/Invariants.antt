@@ -1,5 +1,5 @@
 use Rattle.std.proofs.Common.{◌≡◌, ◌++◌, string_bytes, take}
-use Rattle.crush_calls.specs.HistoryText.{edits_text}
+use Rattle.crush_history.specs.HistoryText.{edits_text}
 use Rattle.crush_json.proofs.calls.push_edits.Given as goal
 
 abbrev pub invariant-loop-edit : goal.invariant-loop-edit

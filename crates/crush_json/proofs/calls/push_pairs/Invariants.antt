@@ -1,5 +1,5 @@
 use Rattle.std.proofs.Common.{◌≡◌, ◌++◌, string_bytes, take}
-use Rattle.crush_calls.specs.HistoryText.{pairs_text}
+use Rattle.crush_history.specs.HistoryText.{pairs_text}
 use Rattle.crush_json.proofs.calls.push_pairs.Given as goal
 
 abbrev pub invariant-loop-pair : goal.invariant-loop-pair

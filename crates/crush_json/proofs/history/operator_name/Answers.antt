@@ -1,5 +1,5 @@
 use Rattle.std.proofs.Common.{◌∙◌}
-use Rattle.crush_calls.proofs.EntryLines.{operator_name-at}
+use Rattle.crush_history.proofs.EntryLines.{operator_name-at}
 use Rattle.crush_json.proofs.history.operator_name.Goals as goal
 
 pub returns : goal.returns

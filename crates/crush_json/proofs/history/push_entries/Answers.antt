@@ -1,7 +1,7 @@
 use Rattle.std.proofs.Common.{ℕ, ◌+◌, List, ◌++◌, ap, sym, ◌∙◌, append-nil, take}
 use Rattle.json.specs.Token.{Token}
-use Rattle.crush_calls.specs.HistoryText.{names_of}
-use Rattle.crush_calls.specs.Script.{scripts_data}
+use Rattle.crush_history.specs.HistoryText.{names_of}
+use Rattle.crush_history.specs.Script.{scripts_data}
 use Rattle.crush_json.specs.HistoryDocument.{entry_document, entry_documents}
 use Rattle.crush_json.specs.Tokens.{tokens_of, tokens_of_all}
 use Rattle.crush_json.proofs.EntryLaws.{entries-more, no_entries}

@@ -1,6 +1,6 @@
 use Rattle.std.proofs.Common.{◌≡◌, ◌++◌, take}
-use Rattle.crush_calls.specs.HistoryText.{names_of}
-use Rattle.crush_calls.specs.Script.{scripts_data}
+use Rattle.crush_history.specs.HistoryText.{names_of}
+use Rattle.crush_history.specs.Script.{scripts_data}
 use Rattle.crush_json.specs.HistoryDocument.{entry_documents}
 use Rattle.crush_json.specs.Tokens.{tokens_of_all}
 use Rattle.crush_json.proofs.history.push_entries.Given as goal

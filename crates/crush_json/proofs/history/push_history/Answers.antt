@@ -1,5 +1,5 @@
-use Rattle.crush_calls.specs.HistoryText.{names_of}
-use Rattle.crush_calls.specs.Script.{scripts_data}
+use Rattle.crush_history.specs.HistoryText.{names_of}
+use Rattle.crush_history.specs.Script.{scripts_data}
 use Rattle.crush_json.specs.HistoryDocument.{entry_documents, history_document}
 use Rattle.crush_json.proofs.Listed.{array_done}
 use Rattle.crush_json.proofs.history.push_history.Goals as goal

@@ -12,9 +12,9 @@ use Rattle.crush_json.proofs.history.push_refusal.Goals as goal
 pub returns : goal.returns
 returns c =
     let r = c.push_last.result in
-    let call : List Token = member_tokens (codes "call") (string c.args.told.now.call.now) in
+    let call : List Token = member_tokens (codes "call") (string c.args.reported.now.call.now) in
     let errno : List Token = member_tokens (codes "errno") (natural c.error.result) in
-    let rest : List Token = last_tokens c.args.told.now.number c.args.told.now.operator.now (Some c.name.result.now) c.args.told.now.reply.now in
-    as_told r c.args.out.now c.push_last.new.out (call ++ (errno ++ rest)) (member_tokens (codes "call") (string c.args.told.now.call.now) ++ member_tokens (codes "errno") (natural (refusal_error c.args.refusal)) ++ last_tokens c.args.told.now.number c.args.told.now.operator.now (Some (refusal_name c.args.refusal)) c.args.told.now.reply.now)
+    let rest : List Token = last_tokens c.args.reported.now.number c.args.reported.now.operator.now (Some c.name.result.now) c.args.reported.now.reply.now in
+    as_told r c.args.out.now c.push_last.new.out (call ++ (errno ++ rest)) (member_tokens (codes "call") (string c.args.reported.now.call.now) ++ member_tokens (codes "errno") (natural (refusal_error c.args.refusal)) ++ last_tokens c.args.reported.now.number c.args.reported.now.operator.now (Some (refusal_name c.args.refusal)) c.args.reported.now.reply.now)
     (then r c.args.out.now c.text.new.self c.push_last.new.out call (errno ++ rest) c.in_ok-text.ensures (then r c.text.new.self c.natural.new.self c.push_last.new.out errno rest c.in_ok-natural.ensures c.push_last.ensures))
-    (λ i. member_tokens (codes "call") (string c.args.told.now.call.now) ++ (member_tokens (codes "errno") (natural (c.error.ensures i)) ++ last_tokens c.args.told.now.number c.args.told.now.operator.now (Some (c.name.ensures i)) c.args.told.now.reply.now))
+    (λ i. member_tokens (codes "call") (string c.args.reported.now.call.now) ++ (member_tokens (codes "errno") (natural (c.error.ensures i)) ++ last_tokens c.args.reported.now.number c.args.reported.now.operator.now (Some (c.name.ensures i)) c.args.reported.now.reply.now))

@@ -14,8 +14,8 @@ pub returns : goal.returns
 returns c =
     let r = c.end_object.result in
     let opens : List Token = begin_object ∷ [] in
-    let told : List Token = member_tokens (codes "call") (string c.args.told.now.call.now) ++ member_tokens (codes "errno") (natural (refusal_error c.args.refusal)) ++ last_tokens c.args.told.now.number c.args.told.now.operator.now (Some (refusal_name c.args.refusal)) c.args.told.now.reply.now in
+    let told : List Token = member_tokens (codes "call") (string c.args.reported.now.call.now) ++ member_tokens (codes "errno") (natural (refusal_error c.args.refusal)) ++ last_tokens c.args.reported.now.number c.args.reported.now.operator.now (Some (refusal_name c.args.refusal)) c.args.reported.now.reply.now in
     let closes : List Token = end_object ∷ [] in
-    as_told r c.args.out.now c.end_object.new.self (opens ++ (told ++ closes)) (tokens_of (object (refused_members c.args.told.now.number c.args.told.now.operator.now c.args.told.now.call.now c.args.refusal c.args.told.now.reply.now)))
+    as_told r c.args.out.now c.end_object.new.self (opens ++ (told ++ closes)) (tokens_of (object (refused_members c.args.reported.now.number c.args.reported.now.operator.now c.args.reported.now.call.now c.args.refusal c.args.reported.now.reply.now)))
     (then r c.args.out.now c.begin_object.new.self c.end_object.new.self opens (told ++ closes) c.in_ok-begin_object.ensures (then r c.begin_object.new.self c.push_refusal.new.out c.end_object.new.self told closes c.in_ok-push_refusal.ensures c.end_object.ensures))
     refl

@@ -1,6 +1,6 @@
 use Rattle.std.proofs.Common.{◌≡◌, ◌∙◌, List, [], ◌∷◌, ◌++◌, arith, ap}
 use Rattle.crush_units.specs.declared.id.ItemId.{ItemId}
-use Rattle.crush_table.specs.Items.{BucketData, size_of}
+use Rattle.crush_model.specs.Items.{BucketData, size_of}
 use Rattle.crush_nodes.specs.Seen.{items_of, node_id}
 use Rattle.crush_nodes.proofs.Ends.{all_taken}
 use Rattle.crush_print.proofs.ItemLines.{item_no_larger}

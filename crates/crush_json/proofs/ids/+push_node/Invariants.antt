@@ -1,5 +1,5 @@
 use Rattle.std.proofs.Common.{◌≡◌, [], ◌∷◌, ◌++◌, take}
-use Rattle.crush_table.specs.Items.{size_of}
+use Rattle.crush_model.specs.Items.{size_of}
 use Rattle.crush_nodes.specs.Seen.{items_of, node_id}
 use Rattle.crush_json.specs.Ids.{ids_among}
 use Rattle.crush_json.proofs.ids.+push_node.Given as goal

@@ -1,7 +1,7 @@
 use Rattle.std.proofs.Common.{ap, ◌∙◌}
 use Rattle.std.specs.Prelude.{flat_map}
 use Rattle.crush_print.specs.MapText.{ascending, device_number}
-use Rattle.crush_table.specs.Table.{bucket_ids}
+use Rattle.crush_model.specs.Table.{bucket_ids}
 use Rattle.crush_json.proofs.IdLaws.{buckets_in_order, devices_in_order}
 use Rattle.crush_json.proofs.ids.ids_in_order.Goals as goal
 

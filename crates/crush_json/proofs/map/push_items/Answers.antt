@@ -2,7 +2,7 @@ use Rattle.crush_json.proofs.Chains.{then, as_told}
 use Rattle.crush_json.specs.MapDocument.{bucket_documents, device_documents}
 use Rattle.crush_json.specs.Tokens.{member_tokens, tokens_of}
 use Rattle.crush_json.specs.Values.{list}
-use Rattle.crush_table.specs.Stands.{Stands}
+use Rattle.crush_model.specs.Stands.{Stands}
 use Rattle.json.specs.Token.{Token, key}
 use Rattle.std.proofs.Common.{List, [], ◌∷◌, ◌++◌, refl, sym, subst, ◌∙◌}
 use Rattle.std.specs.Prelude.{codes}

@@ -1,7 +1,7 @@
 use Rattle.std.proofs.Common.{◌≡◌, ◌++◌, List, take}
 use Rattle.std.specs.Prelude.{flat_map}
-use Rattle.crush_table.specs.Stands.{Stands}
-use Rattle.crush_table.specs.Table.{Row}
+use Rattle.crush_model.specs.Stands.{Stands}
+use Rattle.crush_model.specs.Table.{Row}
 use Rattle.crush_json.specs.RuleDocument.{rules_at}
 use Rattle.crush_json.specs.Tokens.{tokens_of_all}
 use Rattle.crush_json.proofs.rules.push_each.Given as goal

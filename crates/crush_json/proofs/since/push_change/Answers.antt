@@ -5,7 +5,7 @@ use Rattle.crush_json.specs.SinceTokens.{seen_tokens_if}
 use Rattle.crush_json.specs.Tokens.{member_tokens, tokens_of}
 use Rattle.crush_json.specs.Values.{whole}
 use Rattle.crush_since.specs.ItemData.{item_of}
-use Rattle.crush_since.specs.Since.{Told, told}
+use Rattle.crush_since.specs.Since.{PlainMap, plain_map}
 use Rattle.crush_units.specs.Id.{item_number}
 use Rattle.json.specs.Token.{Token, begin_object, end_object}
 use Rattle.std.proofs.Common.{List, [], ◌++◌, ◌∷◌, ◌∙◌}
@@ -15,8 +15,8 @@ use Rattle.crush_json.proofs.since.push_change.Goals as goal
 pub returns : goal.returns
 returns g c = λ t u was is.
     let r = c.end_object.result in
-    let old : Told = told c.args.old.now.setting t in
-    let new : Told = told c.args.new.now.setting u in
+    let old : PlainMap = plain_map c.args.old.now.setting t in
+    let new : PlainMap = plain_map c.args.new.now.setting u in
     let i = c.args.id.now in
     let opens : List Token = begin_object ∷ [] in
     let number : List Token = member_tokens (codes "id") (whole (item_number i)) in

@@ -2,7 +2,7 @@ use Rattle.crush_json.proofs.Chains.{as_told, then}
 use Rattle.crush_json.specs.SinceDocument.{change_at, change_documents}
 use Rattle.crush_json.specs.Tokens.{member_tokens, tokens_of}
 use Rattle.crush_json.specs.Values.{list}
-use Rattle.crush_since.specs.Since.{Told, told}
+use Rattle.crush_since.specs.Since.{PlainMap, plain_map}
 use Rattle.crush_units.specs.declared.id.ItemId.{ItemId}
 use Rattle.json.specs.Token.{Token, key}
 use Rattle.std.proofs.Common.{List, [], ap, map, ◌++◌, ◌∷◌, ◌∙◌}
@@ -13,8 +13,8 @@ pub returns : goal.returns
 unfolding change_documents
 returns g c = λ t u was is.
     let r = c.push_list.result in
-    let old : Told = told c.args.old.now.setting t in
-    let new : Told = told c.args.new.now.setting u in
+    let old : PlainMap = plain_map c.args.old.now.setting t in
+    let new : PlainMap = plain_map c.args.new.now.setting u in
     let name : List Token = key (codes "items") ∷ [] in
     let items : List Token = tokens_of (list (map (change_at old new) c.as_slice.result.now)) in
     as_told r c.args.out.now c.push_list.new.out (name ++ items) (member_tokens (codes "items") (list (change_documents c.args.under old new)))

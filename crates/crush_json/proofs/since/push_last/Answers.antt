@@ -3,7 +3,7 @@ use Rattle.crush_json.specs.SinceDocument.{differ, totals_document}
 use Rattle.crush_json.specs.SinceTokens.{last_since_tokens}
 use Rattle.crush_json.specs.Tokens.{member_tokens}
 use Rattle.crush_since.specs.Settings.{same_kinds, same_rule, same_tunable}
-use Rattle.crush_since.specs.Since.{Told, told}
+use Rattle.crush_since.specs.Since.{PlainMap, plain_map}
 use Rattle.json.specs.Token.{Token}
 use Rattle.std.proofs.Common.{List, ◌≡◌, ◌++◌, ◌∙◌}
 use Rattle.std.specs.Cmp.Lexicographic.{pointwise}
@@ -13,8 +13,8 @@ use Rattle.crush_json.proofs.since.push_last.Goals as goal
 pub returns : goal.returns
 returns g c = λ t u was is.
     let r = c.truth-3.result in
-    let old : Told = told c.args.old.now.setting t in
-    let new : Told = told c.args.new.now.setting u in
+    let old : PlainMap = plain_map c.args.old.now.setting t in
+    let new : PlainMap = plain_map c.args.new.now.setting u in
     let rules-are : c.have_same_rules.result ≡ pointwise same_rule old.setting.rules new.setting.rules = c.have_same_rules.ensures ∙ (λ j. pointwise same_rule (c.setting-before.ensures j).rules (c.setting-after.ensures j).rules) in
     let tunables-are : c.same_tunables.result ≡ pointwise same_tunable old.setting.tunables new.setting.tunables = c.same_tunables.ensures ∙ (λ j. pointwise same_tunable (c.setting-before.ensures j).tunables (c.setting-after.ensures j).tunables) in
     let kinds-are : c.same_kinds.result ≡ same_kinds old.setting new.setting = c.same_kinds.ensures ∙ (λ j. same_kinds (c.setting-before.ensures j) (c.setting-after.ensures j)) in

@@ -2,7 +2,7 @@ use Rattle.crush_json.proofs.Chains.{as_told, then}
 use Rattle.crush_json.specs.SinceDocument.{change_documents, since_document}
 use Rattle.crush_json.specs.Tokens.{member_tokens, tokens_of}
 use Rattle.crush_json.specs.Values.{list}
-use Rattle.crush_since.specs.Since.{Told, told}
+use Rattle.crush_since.specs.Since.{PlainMap, plain_map}
 use Rattle.json.specs.Token.{Token, begin_object, end_object}
 use Rattle.std.proofs.Common.{List, [], Some, refl, ◌++◌, ◌∷◌}
 use Rattle.std.specs.Prelude.{codes}
@@ -12,8 +12,8 @@ pub returns : goal.returns
 unfolding since_document
 returns g c = λ t u before after.
     let r = c.end_object.result in
-    let old : Told = told c.args.old.now.setting t in
-    let new : Told = told c.args.new.now.setting u in
+    let old : PlainMap = plain_map c.args.old.now.setting t in
+    let new : PlainMap = plain_map c.args.new.now.setting u in
     let opens : List Token = begin_object ∷ [] in
     let items : List Token = member_tokens (codes "items") (list (change_documents (Some c.args.under) old new)) in
     let closes : List Token = end_object ∷ [] in

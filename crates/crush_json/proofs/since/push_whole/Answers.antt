@@ -4,7 +4,7 @@ use Rattle.crush_json.specs.SinceDocument.{change_documents, counts_document, si
 use Rattle.crush_json.specs.SinceTokens.{last_since_tokens}
 use Rattle.crush_json.specs.Tokens.{member_tokens, tokens_of}
 use Rattle.crush_json.specs.Values.{list}
-use Rattle.crush_since.specs.Since.{Told, all_ids, told}
+use Rattle.crush_since.specs.Since.{PlainMap, all_ids, plain_map}
 use Rattle.crush_since.specs.Tallies.{tally_of}
 use Rattle.json.specs.Token.{Token, begin_object, end_object}
 use Rattle.std.proofs.Common.{List, [], None, ap, ◌++◌, ◌∷◌, ◌∙◌}
@@ -14,8 +14,8 @@ use Rattle.crush_json.proofs.since.push_whole.Goals as goal
 pub returns : goal.returns
 returns g c = λ t u before after.
     let r = c.end_object.result in
-    let old : Told = told c.args.old.now.setting t in
-    let new : Told = told c.args.new.now.setting u in
+    let old : PlainMap = plain_map c.args.old.now.setting t in
+    let new : PlainMap = plain_map c.args.new.now.setting u in
     let opens : List Token = begin_object ∷ [] in
     let counts : List Token = member_tokens (codes "counts") (counts_document (tally_of t u (all_ids t u))) in
     let items : List Token = member_tokens (codes "items") (list (change_documents None old new)) in

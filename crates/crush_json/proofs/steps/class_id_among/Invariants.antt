@@ -1,6 +1,6 @@
 use Rattle.std.proofs.Common.{◌≡◌, None, take, map}
 use Rattle.std.specs.Prelude.{find, bytes_eq}
-use Rattle.crush_table.specs.Items.{ShadowData}
+use Rattle.crush_model.specs.Items.{ShadowData}
 use Rattle.crush_nodes.specs.Seen.{shadow_data}
 use Rattle.crush_json.proofs.steps.class_id_among.Given as goal
 

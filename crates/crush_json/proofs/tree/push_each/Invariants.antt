@@ -1,8 +1,8 @@
 use Rattle.crush_json.specs.Tokens.{tokens_of_all}
 use Rattle.crush_json.specs.TreeDocument.{node_if}
-use Rattle.crush_table.specs.Stands.{Stands}
-use Rattle.crush_table.specs.Table.{Row}
-use Rattle.crush_view.specs.SeenStep.{step_data}
+use Rattle.crush_model.specs.Stands.{Stands}
+use Rattle.crush_model.specs.Table.{Row}
+use Rattle.crush_print.specs.SeenStep.{step_data}
 use Rattle.std.proofs.Common.{List, take, ◌++◌, ◌≡◌}
 use Rattle.std.specs.Prelude.{flat_map}
 use Rattle.crush_json.proofs.tree.push_each.Given as goal

@@ -1,6 +1,6 @@
 use Rattle.crush_json.proofs.Listed.{array_done, flattened_seen}
 use Rattle.crush_json.specs.TreeDocument.{node_documents, node_if}
-use Rattle.crush_view.specs.SeenStep.{step_data}
+use Rattle.crush_print.specs.SeenStep.{step_data}
 use Rattle.json.specs.Token.{Token}
 use Rattle.std.proofs.Common.{List, ap, map, ◌++◌, ◌∙◌}
 use Rattle.crush_json.proofs.tree.push_nodes.Goals as goal

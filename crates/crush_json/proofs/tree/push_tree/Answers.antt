@@ -2,7 +2,7 @@ use Rattle.crush_json.proofs.Chains.{as_told, then}
 use Rattle.crush_json.specs.Tokens.{tokens_of}
 use Rattle.crush_json.specs.TreeDocument.{node_documents, tree_document}
 use Rattle.crush_json.specs.Values.{list}
-use Rattle.crush_view.specs.SeenStep.{step_data}
+use Rattle.crush_print.specs.SeenStep.{step_data}
 use Rattle.json.specs.Token.{Token, begin_object, end_object, key}
 use Rattle.std.proofs.Common.{List, [], map, refl, ◌++◌, ◌∷◌}
 use Rattle.std.specs.Prelude.{codes, false, true}

@@ -1,4 +1,4 @@
-use Rattle.crush_bytes.proofs.Appending.{nothing_is_less}
+use Rattle.crush_units.proofs.Appending.{nothing_is_less}
 use Rattle.crush_json.proofs.Written.{some_text}
 use Rattle.crush_json.proofs.write.write_map_document.Goals as goal
 

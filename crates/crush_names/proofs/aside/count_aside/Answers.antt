@@ -1,8 +1,8 @@
 use Rattle.std.proofs.Common.{ap, sym, ◌∙◌, cond}
 use Rattle.std.specs.List.{count_by}
 use Rattle.std.specs.Option.{option_map}
-use Rattle.crush_table.proofs.Reorder.{sum_by-map}
-use Rattle.crush_view.specs.SeenStep.{step_data}
+use Rattle.crush_model.proofs.Reorder.{sum_by-map}
+use Rattle.crush_print.specs.SeenStep.{step_data}
 use Rattle.crush_names.specs.Aside.{is_aside, other_id, other_class_ids}
 use Rattle.crush_names.proofs.aside.count_aside.Goals as goal
 

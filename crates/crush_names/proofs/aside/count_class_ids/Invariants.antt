@@ -1,8 +1,8 @@
 use Rattle.std.proofs.Common.{◌≡◌, ℕ, ◌≤◌, List, take}
 use Rattle.std.specs.List.{count_by}
 use Rattle.std.specs.Prelude.{Option}
-use Rattle.crush_table.specs.Table.{Row}
-use Rattle.crush_view.specs.SeenStep.{step_data}
+use Rattle.crush_model.specs.Table.{Row}
+use Rattle.crush_print.specs.SeenStep.{step_data}
 use Rattle.crush_names.specs.Aside.{is_aside, other_class_ids}
 use Rattle.crush_names.specs.Sides.{IsSide}
 use Rattle.crush_names.proofs.aside.count_class_ids.Given as goal

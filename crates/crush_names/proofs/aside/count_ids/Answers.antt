@@ -1,8 +1,8 @@
 use Rattle.std.proofs.Common.{◌+◌, ◌∙◌, ap, sym, arith}
 use Rattle.std.specs.List.{count_by}
 use Rattle.std.proofs.lemmas.List.{take_all}
-use Rattle.crush_table.specs.Count.{one_if}
-use Rattle.crush_view.specs.SeenStep.{step_data}
+use Rattle.crush_model.specs.Count.{one_if}
+use Rattle.crush_print.specs.SeenStep.{step_data}
 use Rattle.crush_since.proofs.TallyLaws.{count_more}
 use Rattle.crush_names.specs.Aside.{is_aside, other_id}
 use Rattle.crush_names.proofs.aside.count_ids.Goals as goal

@@ -1,5 +1,5 @@
 use Rattle.std.proofs.Common.{ap, sym, ◌∙◌}
-use Rattle.crush_view.specs.SeenStep.{node_view, step_data}
+use Rattle.crush_print.specs.SeenStep.{node_view, step_data}
 use Rattle.crush_since.specs.ItemData.{ItemData}
 use Rattle.crush_names.specs.Aside.{has_other_id}
 use Rattle.crush_names.specs.Named.{counterpart}

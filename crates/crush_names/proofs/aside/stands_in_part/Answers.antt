@@ -2,7 +2,7 @@ use Rattle.std.proofs.Common.{◌≡◌, ap, ◌∙◌}
 use Rattle.std.specs.Prelude.{◌||◌}
 use Rattle.std.specs.Option.{option_map}
 use Rattle.crush_since.specs.SeenItem.{seen_data}
-use Rattle.crush_view.specs.SeenStep.{step_data}
+use Rattle.crush_print.specs.SeenStep.{step_data}
 use Rattle.crush_names.specs.declared.named.Devices.TheVariants.{ById}
 use Rattle.crush_names.specs.Named.{counterpart, is_in}
 use Rattle.crush_names.specs.Pairs.{is_found_in, step_item}

@@ -2,8 +2,8 @@ use Rattle.std.proofs.Common.{◌≡◌, ◌++◌, sym, ap, append-nil, ◌∙�
 use Rattle.std.specs.Prelude.{None, Some, flat_map, if◌then◌else◌}
 use Rattle.std.proofs.lemmas.List.{take_all}
 use Rattle.crush_since.specs.SeenItem.{seen_data}
-use Rattle.crush_view.specs.SeenStep.{step_data}
-use Rattle.crush_view.proofs.WalkLaws.{one_more, more_steps}
+use Rattle.crush_print.specs.SeenStep.{step_data}
+use Rattle.crush_print.proofs.WalkLaws.{one_more, more_steps}
 use Rattle.crush_names.specs.Pairs.{is_gone, old_pair, step_item}
 use Rattle.crush_names.specs.PairLines.{pair_line}
 use Rattle.crush_names.proofs.PairLaws.{line_if}
@@ -18,7 +18,7 @@ loop-step-preserved g c = λ n t u a b.
     let by = c.args.maps.now.devices in
     let x = step_item t (step_data c.step-item.result) in
     let here : seen_data c.step_seen-before.result ≡ x = c.step_seen-before.ensures n t a in
-    let told = c.is_gone-is_told.ensures n t u a b ∙ ap (is_gone by n t u) here in
+    let told = c.is_gone-is_listed.ensures n t u a b ∙ ap (is_gone by n t u) here in
     one_more _ _ _ _ _ _ (c.loop-step.invariant n t u a b)
     (c.in_ok-push_if.ensures ∙ (λ i. c.loop-step.lines.items ++ (if told i then line (record { before = Some (here i); after = None }) else []))
     ∙ ap (λ l. c.loop-step.lines.items ++ l) (sym (line_if line (is_gone by n t u x) (record { before = Some x; after = None }))))

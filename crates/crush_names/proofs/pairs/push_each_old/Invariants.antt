@@ -1,7 +1,7 @@
 use Rattle.std.proofs.Common.{◌≡◌, ℕ, ◌++◌, List, take}
 use Rattle.std.specs.Prelude.{Option, flat_map}
-use Rattle.crush_table.specs.Table.{Row}
-use Rattle.crush_view.specs.SeenStep.{step_data}
+use Rattle.crush_model.specs.Table.{Row}
+use Rattle.crush_print.specs.SeenStep.{step_data}
 use Rattle.crush_names.specs.Pairs.{old_pair, step_item}
 use Rattle.crush_names.specs.PairLines.{pair_line}
 use Rattle.crush_names.specs.Sides.{IsSide}

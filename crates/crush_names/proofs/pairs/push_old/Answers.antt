@@ -2,8 +2,8 @@ use Rattle.std.proofs.Common.{◌++◌, List, ℕ, ap, sym, ◌∙◌}
 use Rattle.std.specs.Prelude.{flat_map}
 use Rattle.std.proofs.lemmas.List.Folds.{flat_map-map}
 use Rattle.std.proofs.lemmas.Result.{on_ok_weaker}
-use Rattle.crush_view.specs.SeenStep.{step_data}
-use Rattle.crush_view.specs.Tree.{StepData, tree_rows}
+use Rattle.crush_print.specs.SeenStep.{step_data}
+use Rattle.crush_print.specs.Tree.{StepData, tree_rows}
 use Rattle.crush_names.specs.PairLines.{pair_line}
 use Rattle.crush_names.specs.Pairs.{old_pair, old_pairs, step_item}
 use Rattle.crush_names.proofs.TreeLaws.{flat_twice}

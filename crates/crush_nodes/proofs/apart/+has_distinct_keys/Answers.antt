@@ -1,7 +1,7 @@
 use Rattle.std.proofs.Common.{◌≡◌, ◌+◌, ◌∷◌, [], true, drop, ap, sym, ◌∙◌, arith}
 use Rattle.std.specs.Prelude.{◌&&◌, not}
 use Rattle.std.proofs.lemmas.List.{take_rest}
-use Rattle.crush_table.specs.Items.{BucketData}
+use Rattle.crush_model.specs.Items.{BucketData}
 use Rattle.crush_nodes.specs.Apart.{bucket_has_distinct_keys, shares_a_key, have_distinct_keys}
 use Rattle.crush_nodes.specs.Seen.{items_of}
 use Rattle.crush_nodes.proofs.ApartLaws.{alone_told}

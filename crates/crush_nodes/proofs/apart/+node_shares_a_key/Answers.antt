@@ -1,6 +1,6 @@
 use Rattle.std.proofs.Common.{◌≡◌, ◌+◌, ◌∷◌, [], true, false, drop, ap, sym, ◌∙◌, arith}
 use Rattle.std.specs.Prelude.{◌||◌}
-use Rattle.crush_table.specs.Items.{BucketData}
+use Rattle.crush_model.specs.Items.{BucketData}
 use Rattle.crush_nodes.specs.Seen.{items_of}
 use Rattle.crush_nodes.specs.Apart.{header_shares_a_key, shares_a_key}
 use Rattle.crush_nodes.proofs.NodeLaws.{item_smaller, shares_a_key-at}

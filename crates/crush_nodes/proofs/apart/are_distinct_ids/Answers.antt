@@ -2,7 +2,7 @@ use Rattle.std.proofs.Common.{ℕ, ◌+◌, Bool, ◌==◌, drop, ap, sym, ◌�
 use Rattle.std.specs.Prelude.{◌&&◌, not}
 use Rattle.std.specs.List.{list_any}
 use Rattle.std.proofs.lemmas.List.{take_rest}
-use Rattle.crush_table.specs.Tested.{are_apart}
+use Rattle.crush_model.specs.Tested.{are_apart}
 use Rattle.crush_nodes.specs.Seen.{shadow_numbers}
 use Rattle.crush_nodes.proofs.ApartSteps.{numbers_at, numbers_end}
 use Rattle.crush_nodes.proofs.apart.are_distinct_ids.Goals as goal

@@ -1,5 +1,5 @@
 use Rattle.std.proofs.Common.{◌≡◌, ◌==◌, drop}
-use Rattle.crush_table.specs.Tested.{are_apart}
+use Rattle.crush_model.specs.Tested.{are_apart}
 use Rattle.crush_nodes.specs.Seen.{shadow_numbers}
 use Rattle.crush_nodes.proofs.apart.are_distinct_ids.Given as goal
 

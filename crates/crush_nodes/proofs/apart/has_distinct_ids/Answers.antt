@@ -1,7 +1,7 @@
 use Rattle.std.proofs.Common.{◌≡◌, ◌==◌, true, false, ap, ◌∙◌}
 use Rattle.std.specs.Prelude.{◌&&◌, not}
 use Rattle.std.specs.List.{list_any}
-use Rattle.crush_table.specs.Tested.{are_apart}
+use Rattle.crush_model.specs.Tested.{are_apart}
 use Rattle.crush_nodes.specs.Seen.{shadow_numbers}
 use Rattle.crush_nodes.proofs.ApartSteps.{any_number}
 use Rattle.crush_nodes.proofs.apart.has_distinct_ids.Goals as goal

@@ -1,5 +1,5 @@
 use Rattle.std.proofs.Common.{◌≡◌, ◌+◌, ◌∷◌, [], ap, ◌∙◌, arith}
-use Rattle.crush_table.specs.Items.{BucketData}
+use Rattle.crush_model.specs.Items.{BucketData}
 use Rattle.crush_nodes.specs.Classed.{class_sum_in}
 use Rattle.crush_nodes.specs.Seen.{items_of}
 use Rattle.crush_nodes.proofs.ClassedLaws.{class_sum_in-at}

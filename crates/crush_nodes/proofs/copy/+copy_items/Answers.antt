@@ -1,6 +1,6 @@
 use Rattle.std.proofs.Common.{◌≡◌, ◌+◌, ◌∷◌, [], ap, sym, subst, refl, ◌∙◌, arith}
 use Rattle.std.specs.Prelude.{vec_len, vec_capacity}
-use Rattle.crush_table.specs.Items.{BucketData, size_of, none, device, bucket}
+use Rattle.crush_model.specs.Items.{BucketData, size_of, none, device, bucket}
 use Rattle.crush_nodes.specs.Copies.{IsPushed}
 use Rattle.crush_nodes.specs.Ops.{without_capacity}
 use Rattle.crush_nodes.specs.Seen.{leaf_data, items_of}

@@ -1,6 +1,6 @@
 use Rattle.std.proofs.Common.{◌≡◌, ℕ, length, take}
 use Rattle.std.specs.Prelude.{vec_len, vec_capacity}
-use Rattle.crush_table.specs.Items.{size_of}
+use Rattle.crush_model.specs.Items.{size_of}
 use Rattle.crush_nodes.specs.Ops.{without_capacity}
 use Rattle.crush_nodes.specs.Room.{bucket_room}
 use Rattle.crush_nodes.specs.Seen.{items_of}

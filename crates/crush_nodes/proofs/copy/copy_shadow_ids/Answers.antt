@@ -1,5 +1,5 @@
 use Rattle.std.proofs.Common.{◌≡◌, arith, map, ap, ◌∙◌}
-use Rattle.crush_table.specs.Items.{ShadowData}
+use Rattle.crush_model.specs.Items.{ShadowData}
 use Rattle.crush_nodes.specs.Seen.{shadow_data}
 use Rattle.crush_nodes.proofs.CopyLaws.{map-copied}
 use Rattle.std.proofs.lemmas.List.{take_all}

@@ -1,6 +1,6 @@
 use Rattle.std.proofs.Common.{◌∙◌, ap}
 use Rattle.std.specs.Prelude.{vec_capacity}
-use Rattle.crush_table.specs.Items.{BucketData, bucket, none}
+use Rattle.crush_model.specs.Items.{BucketData, bucket, none}
 use Rattle.crush_nodes.specs.Seen.{items_of}
 use Rattle.crush_nodes.proofs.copy.push_bucket.Goals as goal
 

@@ -1,5 +1,5 @@
 use Rattle.std.proofs.Common.{ap}
-use Rattle.crush_table.specs.Items.{device, none}
+use Rattle.crush_model.specs.Items.{device, none}
 use Rattle.crush_nodes.proofs.copy.push_leaf.Goals as goal
 
 pub returns-clause-pushed : goal.returns-clause-pushed

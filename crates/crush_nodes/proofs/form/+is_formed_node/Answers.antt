@@ -1,6 +1,6 @@
 use Rattle.std.proofs.Common.{◌≡◌, ◌+◌, ◌∷◌, [], true, false, drop, ap, sym, ◌∙◌, arith}
 use Rattle.std.specs.Prelude.{◌&&◌}
-use Rattle.crush_table.specs.Items.{BucketData}
+use Rattle.crush_model.specs.Items.{BucketData}
 use Rattle.crush_nodes.specs.Attachable.{is_formed, are_formed}
 use Rattle.crush_nodes.specs.Seen.{items_of}
 use Rattle.crush_nodes.proofs.FormLaws.{typed_more}

@@ -1,5 +1,5 @@
 use Rattle.std.proofs.Common.{◌≡◌, ◌∷◌, [], take, drop}
-use Rattle.crush_table.specs.Items.{size_of}
+use Rattle.crush_model.specs.Items.{size_of}
 use Rattle.crush_nodes.specs.Attachable.{are_formed, AreTyped}
 use Rattle.crush_nodes.specs.Seen.{items_of}
 use Rattle.crush_nodes.proofs.form.+is_formed_node.Given as goal

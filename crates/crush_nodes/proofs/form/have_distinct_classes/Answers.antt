@@ -2,7 +2,7 @@ use Rattle.std.proofs.Common.{ℕ, ◌+◌, List, Bool, drop, ap, sym, ◌∙◌
 use Rattle.std.specs.Prelude.{◌&&◌, not, bytes_eq}
 use Rattle.std.specs.List.{list_any}
 use Rattle.std.proofs.lemmas.List.{take_rest}
-use Rattle.crush_table.specs.Tested.{are_apart}
+use Rattle.crush_model.specs.Tested.{are_apart}
 use Rattle.crush_nodes.specs.Attachable.{shadow_classes}
 use Rattle.crush_nodes.proofs.ApartSteps.{classes_at, classes_end}
 use Rattle.crush_nodes.proofs.form.have_distinct_classes.Goals as goal

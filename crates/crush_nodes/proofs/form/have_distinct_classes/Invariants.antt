@@ -1,6 +1,6 @@
 use Rattle.std.proofs.Common.{◌≡◌, drop}
 use Rattle.std.specs.Prelude.{bytes_eq}
-use Rattle.crush_table.specs.Tested.{are_apart}
+use Rattle.crush_model.specs.Tested.{are_apart}
 use Rattle.crush_nodes.specs.Attachable.{shadow_classes}
 use Rattle.crush_nodes.proofs.form.have_distinct_classes.Given as goal
 

@@ -4,9 +4,9 @@ use Rattle.std.specs.Prelude.{◌&&◌, All, bytes_eq, nat_lt, nat_le}
 use Rattle.std.proofs.lemmas.Bool.Decides.{nat_tests}
 use Rattle.std.proofs.lemmas.List.{length-map}
 use Rattle.crush_units.specs.declared.limits.TheConstants.{MOST_CLASS_IDS}
-use Rattle.crush_table.specs.Items.{ShadowData, HeaderData}
-use Rattle.crush_table.specs.Lawful.{IsShadowId}
-use Rattle.crush_table.specs.Tested.{are_apart}
+use Rattle.crush_model.specs.Items.{ShadowData, HeaderData}
+use Rattle.crush_model.specs.Lawful.{IsShadowId}
+use Rattle.crush_model.specs.Tested.{are_apart}
 use Rattle.crush_nodes.specs.Attachable.{is_formed, shadow_classes}
 use Rattle.crush_nodes.specs.Seen.{shadow_data, header_data}
 use Rattle.crush_nodes.proofs.form.is_formed.Goals as goal

@@ -1,6 +1,6 @@
 use Rattle.std.proofs.Common.{take}
 use Rattle.std.specs.Prelude.{All, map}
-use Rattle.crush_table.specs.Lawful.{IsShadowId}
+use Rattle.crush_model.specs.Lawful.{IsShadowId}
 use Rattle.crush_nodes.specs.Seen.{shadow_data}
 use Rattle.crush_nodes.proofs.form.recall_shadow_ids.Given as goal
 

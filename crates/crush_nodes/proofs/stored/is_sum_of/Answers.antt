@@ -1,8 +1,8 @@
 use Rattle.std.proofs.Common.{◌≡◌, ℕ, ◌∷◌, [], ◌+◌, ◌<◌, false, take, drop, arith, ap, ◌∙◌}
 use Rattle.std.specs.Prelude.{◌==◌}
 use Rattle.std.proofs.lemmas.Bool.Decides.{eqb_tells}
-use Rattle.crush_table.specs.Forest.{join}
-use Rattle.crush_table.specs.Stored.{weight_sum}
+use Rattle.crush_model.specs.Forest.{join}
+use Rattle.crush_model.specs.Stored.{weight_sum}
 use Rattle.crush_nodes.specs.Seen.{items_of}
 use Rattle.crush_nodes.proofs.Joins.{weight_sum-join}
 use Rattle.crush_nodes.proofs.Steps.{items_of-taken, items_of-split}

@@ -1,5 +1,5 @@
 use Rattle.std.proofs.Common.{◌≡◌, ◌+◌, take}
-use Rattle.crush_table.specs.Stored.{weight_sum}
+use Rattle.crush_model.specs.Stored.{weight_sum}
 use Rattle.crush_nodes.specs.Seen.{items_of}
 use Rattle.crush_nodes.proofs.stored.is_sum_of.Given as goal
 

@@ -1,6 +1,6 @@
 use Rattle.std.specs.Prelude.{◌≡◌, ◌++◌, None, flat_map, map, codes}
 use Rattle.std.proofs.Common.{ap, ◌∙◌}
-use Rattle.crush_table.specs.ItemRows.{bucket_row}
+use Rattle.crush_model.specs.ItemRows.{bucket_row}
 use Rattle.crush_nodes.specs.Seen.{header_data, shadow_data, items_of}
 use Rattle.crush_print.specs.ItemsText.{item_lines}
 use Rattle.crush_print.specs.Lines.{bucket_head, bucket_choice, bucket_lines, class_id_line}

@@ -1,6 +1,6 @@
 use Rattle.std.proofs.Common.{◌≡◌, [], ◌∷◌, ◌++◌, List, arith, ap, ◌∙◌, map}
 use Rattle.std.proofs.lemmas.List.{map_push}
-use Rattle.crush_table.specs.Items.{BucketData, size_of}
+use Rattle.crush_model.specs.Items.{BucketData, size_of}
 use Rattle.crush_nodes.specs.Seen.{items_of}
 use Rattle.crush_nodes.proofs.Ends.{all_taken}
 use Rattle.crush_print.specs.ItemsText.{buckets_among}

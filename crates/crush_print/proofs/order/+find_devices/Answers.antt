@@ -1,6 +1,6 @@
 use Rattle.std.proofs.Common.{◌≡◌, arith, ap, ◌∙◌, map}
 use Rattle.std.proofs.lemmas.List.{map_push}
-use Rattle.crush_table.specs.Items.{BucketData, size_of}
+use Rattle.crush_model.specs.Items.{BucketData, size_of}
 use Rattle.crush_nodes.specs.Seen.{items_of, leaf_data}
 use Rattle.crush_nodes.proofs.Steps.{kids_smaller}
 use Rattle.crush_print.proofs.ItemLines.{found_device, found_below}

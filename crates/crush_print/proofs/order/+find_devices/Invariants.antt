@@ -1,5 +1,5 @@
 use Rattle.std.proofs.Common.{◌≡◌, ◌++◌, take, map}
-use Rattle.crush_table.specs.Items.{size_of}
+use Rattle.crush_model.specs.Items.{size_of}
 use Rattle.crush_nodes.specs.Seen.{leaf_data, items_of}
 use Rattle.crush_print.specs.ItemsText.{leaves}
 use Rattle.crush_print.proofs.order.+find_devices.Given as goal

@@ -1,6 +1,6 @@
 use Rattle.std.proofs.Common.{ap, ◌∙◌, map, subst, sym}
 use Rattle.std.proofs.lemmas.Result.{IfOk-weaker}
-use Rattle.crush_table.specs.Stands.{Stands}
+use Rattle.crush_model.specs.Stands.{Stands}
 use Rattle.crush_print.proofs.order.buckets.Goals as goal
 
 pub returns : goal.returns

@@ -1,7 +1,7 @@
 use Rattle.std.proofs.Common.{ap, ◌∙◌, map, subst, sym}
 use Rattle.std.proofs.lemmas.Result.{IfOk-weaker}
 use Rattle.crush_nodes.specs.Seen.{leaf_data}
-use Rattle.crush_table.specs.Stands.{Stands}
+use Rattle.crush_model.specs.Stands.{Stands}
 use Rattle.crush_print.proofs.order.devices.Goals as goal
 
 pub returns : goal.returns

@@ -1,6 +1,6 @@
 use Rattle.std.proofs.Common.{◌≡◌, ◌++◌, sym, subst}
 use Rattle.std.specs.Prelude.{codes, OnOk}
-use Rattle.crush_table.specs.Stands.{Stands}
+use Rattle.crush_model.specs.Stands.{Stands}
 use Rattle.crush_print.specs.MapText.{tunable_section, device_section, kind_section, bucket_section, rule_section, map_text}
 use Rattle.crush_print.proofs.InOrder.{map_done}
 use Rattle.crush_print.proofs.printer.push_map.Goals as goal

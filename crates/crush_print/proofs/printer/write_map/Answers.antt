@@ -1,4 +1,4 @@
-use Rattle.crush_bytes.proofs.Appending.{nothing_is_less}
+use Rattle.crush_units.proofs.Appending.{nothing_is_less}
 use Rattle.crush_print.proofs.SameText.{map_text_is_some}
 use Rattle.crush_print.proofs.printer.write_map.Goals as goal
 

@@ -1,8 +1,8 @@
 use Rattle.std.proofs.Common.{map, nat_lt, subst, sym, take, ◌∙◌, arith}
 use Rattle.std.proofs.lemmas.List.{take_all}
-use Rattle.crush_calls.specs.HistoryText.{names_of}
-use Rattle.crush_calls.specs.Script.{scripts_data}
-use Rattle.crush_calls.proofs.RefusedLines.{no_refusals, refusals-take}
+use Rattle.crush_history.specs.HistoryText.{names_of}
+use Rattle.crush_history.specs.Script.{scripts_data}
+use Rattle.crush_history.proofs.RefusedLines.{no_refusals, refusals-take}
 use Rattle.crush_reasons.specs.Explained.{AreExplained}
 use Rattle.crush_reasons.specs.EditsLeft.{head_in, lines_left}
 use Rattle.crush_reasons.specs.declared.near.TheConstants.{MOST_LOOKS}

@@ -1,7 +1,7 @@
 use Rattle.std.proofs.Common.{◌≡◌, ◌≤◌, map, take}
-use Rattle.crush_calls.specs.HistoryText.{names_of}
-use Rattle.crush_calls.specs.Refused.{refusals}
-use Rattle.crush_calls.specs.Script.{scripts_data}
+use Rattle.crush_history.specs.HistoryText.{names_of}
+use Rattle.crush_history.specs.Refused.{refusals}
+use Rattle.crush_history.specs.Script.{scripts_data}
 use Rattle.crush_reasons.specs.Explained.{AreExplained}
 use Rattle.crush_reasons.specs.EditsLeft.{AreLeft, head_in, lines_left}
 use Rattle.crush_reasons.proofs.explained.push_entries.Given as goal

@@ -1,6 +1,6 @@
 use Rattle.std.proofs.Common.{◌++◌, ap, codes, drop, take, ◌∙◌}
 use Rattle.std.proofs.lemmas.Result.{on_ok_weaker}
-use Rattle.crush_bytes.specs.Words.{words}
+use Rattle.crush_units.specs.Words.{words}
 use Rattle.crush_reasons.specs.Flaws.{begins_at, open_text, two_of}
 use Rattle.crush_reasons.specs.Place.{last_line, origin_data, own_line}
 use Rattle.crush_reasons.proofs.Lines.{three_pushed}

@@ -1,5 +1,5 @@
 use Rattle.std.proofs.Common.{◌≡◌, drop, map}
-use Rattle.crush_view.specs.SeenStep.{step_data}
+use Rattle.crush_print.specs.SeenStep.{step_data}
 use Rattle.crush_reasons.specs.Near.{first_near}
 use Rattle.crush_reasons.proofs.near.first_near.Given as goal
 

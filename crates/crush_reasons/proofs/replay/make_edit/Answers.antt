@@ -1,9 +1,9 @@
 -- A refused edit leaves the table, and the map is as before.
 use Rattle.std.proofs.Common.{ap, sym, subst, Err}
-use Rattle.crush_table.specs.Stands.{Stands}
+use Rattle.crush_model.specs.Stands.{Stands}
 use Rattle.crush_edits.specs.Answer.{Answer}
 use Rattle.crush_map.specs.MapData.{MapData}
-use Rattle.crush_calls.specs.History.{edit_outcome}
+use Rattle.crush_history.specs.History.{edit_outcome}
 use Rattle.crush_reasons.proofs.replay.make_edit.Goals as goal
 
 pub returns-in-Err-Refused-clause-stands : goal.returns-in-Err-Refused-clause-stands

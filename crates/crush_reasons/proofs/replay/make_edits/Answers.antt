@@ -1,6 +1,6 @@
 use Rattle.std.proofs.Common.{◌∙◌, ap, refl, subst, sym}
 use Rattle.std.proofs.lemmas.List.{take_all}
-use Rattle.crush_table.specs.Stands.{Stands}
+use Rattle.crush_model.specs.Stands.{Stands}
 use Rattle.crush_reasons.specs.Replay.{table_after_edits}
 use Rattle.crush_reasons.proofs.Replays.{made-more, none-made}
 use Rattle.crush_reasons.proofs.replay.make_edits.Goals as goal

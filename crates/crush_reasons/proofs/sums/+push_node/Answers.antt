@@ -1,13 +1,13 @@
 use Rattle.std.proofs.Common.{◌≡◌, ◌∙◌, List, [], ◌∷◌, ◌++◌, arith, ap, sym}
 use Rattle.std.proofs.lemmas.Result.{on_ok_weaker}
-use Rattle.crush_table.specs.Items.{BucketData, size_of}
+use Rattle.crush_model.specs.Items.{BucketData, size_of}
 use Rattle.crush_nodes.specs.Seen.{items_of}
 use Rattle.crush_nodes.proofs.Ends.{all_taken}
 use Rattle.crush_print.proofs.ItemLines.{item_no_larger}
 use Rattle.crush_reasons.specs.Sums.{sums_of}
 use Rattle.crush_reasons.specs.declared.sums.Sum.{Sum}
 use Rattle.crush_reasons.proofs.SumLaws.{bucket_summed, sums-more}
-use Rattle.crush_view.proofs.WalkLaws.{one_more}
+use Rattle.crush_print.proofs.WalkLaws.{one_more}
 use Rattle.crush_reasons.proofs.sums.+push_node.Goals as goal
 
 pub push_node-requires : goal.push_node-requires

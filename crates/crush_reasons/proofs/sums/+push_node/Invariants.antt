@@ -1,5 +1,5 @@
 use Rattle.std.proofs.Common.{◌≡◌, [], ◌∷◌, ◌++◌, take}
-use Rattle.crush_table.specs.Items.{size_of}
+use Rattle.crush_model.specs.Items.{size_of}
 use Rattle.crush_nodes.specs.Seen.{items_of}
 use Rattle.crush_reasons.specs.Sums.{sums_of}
 use Rattle.crush_reasons.proofs.sums.+push_node.Given as goal

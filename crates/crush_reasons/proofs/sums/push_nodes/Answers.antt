@@ -1,5 +1,5 @@
 use Rattle.crush_reasons.proofs.SumLaws.{sums-more}
-use Rattle.crush_view.proofs.WalkLaws.{one_more}
+use Rattle.crush_print.proofs.WalkLaws.{one_more}
 use Rattle.crush_reasons.proofs.sums.push_nodes.Goals as goal
 
 pub loop-node-preserved : goal.loop-node-preserved

@@ -1,7 +1,7 @@
 use Rattle.std.proofs.Common.{◌++◌, List, rules, ap, ◌∙◌}
 use Rattle.std.proofs.lemmas.List.Sorted.{IsNonDecreasingBy-from_sort_by_key}
 use Rattle.crush_nodes.specs.Seen.{items_of}
-use Rattle.crush_table.specs.Forest.{ForestData, all_items}
+use Rattle.crush_model.specs.Forest.{ForestData, all_items}
 use Rattle.crush_reasons.specs.Sums.{sums_of}
 use Rattle.crush_reasons.specs.declared.sums.Sum.{Sum}
 use Rattle.crush_reasons.proofs.SumLaws.{roots_summed, sorted_sums}

@@ -1,5 +1,5 @@
 use Rattle.std.proofs.Common.{◌≡◌, length}
-use Rattle.crush_bytes.specs.Words.{words}
+use Rattle.crush_units.specs.Words.{words}
 use Rattle.crush_reasons.specs.Wanted.{further, nothing_yet}
 use Rattle.crush_reasons.proofs.wanted.go_through.Given as goal
 

@@ -1,6 +1,6 @@
 use Rattle.std.proofs.Common.{Bool, List, ap, ◌∙◌}
 use Rattle.std.specs.List.{list_any}
-use Rattle.crush_table.specs.Table.{member}
+use Rattle.crush_model.specs.Table.{member}
 use Rattle.crush_edits.specs.Setting.{StepData, bucket_taken}
 use Rattle.crush_edits.specs.SettingSeen.{step_data}
 use Rattle.crush_edits.specs.declared.setting.KeptStep.{KeptStep}

@@ -1,6 +1,6 @@
 use Rattle.std.proofs.Common.{◌∙◌, [], ap, arith}
 use Rattle.crush_editor.specs.Seat.{SeatData, seat_data}
-use Rattle.crush_calls.specs.Turns.{calls_of}
+use Rattle.crush_history.specs.Turns.{calls_of}
 use Rattle.crush_run.proofs.Lists.{element_at}
 use Rattle.crush_run.proofs.Carry.{carries}
 use Rattle.crush_run.proofs.at_once.operate.Goals as goal

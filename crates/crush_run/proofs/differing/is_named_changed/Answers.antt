@@ -1,7 +1,7 @@
 use Rattle.std.proofs.Common.{subst}
 use Rattle.std.proofs.lemmas.Result.{IfOk-weaker}
-use Rattle.crush_table.specs.Forest.{rows_of, IsSound}
-use Rattle.crush_table.proofs.Stands.{stands_for_rows}
+use Rattle.crush_model.specs.Forest.{rows_of, IsSound}
+use Rattle.crush_model.proofs.Stands.{stands_for_rows}
 use Rattle.crush_run.proofs.differing.is_named_changed.Goals as goal
 
 -- the other map stands for its rows

@@ -2,10 +2,10 @@ use Rattle.std.proofs.Common.{length, take, ap, sym, subst, ◌∙◌, arith, ru
 use Rattle.std.proofs.lemmas.List.{take_all}
 use Rattle.std.proofs.lemmas.Result.{err_from_is_err_and}
 use Rattle.crush_map.specs.MapData.{MapStands}
-use Rattle.crush_calls.specs.Script.{scripts_data}
-use Rattle.crush_calls.specs.History.{table_after, turns}
-use Rattle.crush_calls.proofs.InTurn.{script_run, table_run, no_script, no_script_table}
-use Rattle.crush_calls.proofs.EntryLines.{none_yet}
+use Rattle.crush_history.specs.Script.{scripts_data}
+use Rattle.crush_history.specs.History.{table_after, turns}
+use Rattle.crush_history.proofs.InTurn.{script_run, table_run, no_script, no_script_table}
+use Rattle.crush_history.proofs.EntryLines.{none_yet}
 use Rattle.crush_run.proofs.Lists.{dropped}
 use Rattle.crush_run.proofs.in_turn.run_in_turn.Goals as goal
 

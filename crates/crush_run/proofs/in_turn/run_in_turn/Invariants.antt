@@ -1,11 +1,11 @@
 use Rattle.std.proofs.Common.{◌≡◌, ◌+◌, List, drop, take, length}
 use Rattle.std.specs.Vec.Iter.{into_iter_items, into_iter_len}
-use Rattle.crush_table.specs.Table.{Row}
+use Rattle.crush_model.specs.Table.{Row}
 use Rattle.crush_edits.specs.Setting.{SettingData}
 use Rattle.crush_map.specs.MapData.{MapStands}
-use Rattle.crush_calls.specs.Script.{scripts_data}
-use Rattle.crush_calls.specs.History.{table_after, turns}
-use Rattle.crush_calls.specs.Entries.{AreOf}
+use Rattle.crush_history.specs.Script.{scripts_data}
+use Rattle.crush_history.specs.History.{table_after, turns}
+use Rattle.crush_history.specs.Entries.{AreOf}
 use Rattle.crush_run.proofs.in_turn.run_in_turn.Given as goal
 
 abbrev pub invariant-loop-script : goal.invariant-loop-script

@@ -1,6 +1,6 @@
 use Rattle.std.proofs.Common.{◌≡◌, length, take}
-use Rattle.crush_calls.specs.HistoryText.{names_of}
-use Rattle.crush_calls.specs.Script.{scripts_data}
+use Rattle.crush_history.specs.HistoryText.{names_of}
+use Rattle.crush_history.specs.Script.{scripts_data}
 use Rattle.crush_run.proofs.run.headings.Given as goal
 
 abbrev pub invariant-loop-script : goal.invariant-loop-script

@@ -15,7 +15,7 @@ pub returns-in-Ok-clause-output : goal.returns-in-Ok-clause-output
 returns-in-Ok-clause-output g c = λ job is.
     let read = c.in-Ok.ensures.only job is in
     let text = read.text ∙ ap (λ (o : ℕ → OriginData). text_of c.args.request.now.mode.explain o c.args.bytes.items job.table) c.none.ensures in
-    subst (λ (w : TextData). Ends c.args.request.now.mode c.args.request.now.asked job w c.run_read.result.outcome (g.W.Write.contents c.args.writer.now) (g.W.Write.contents c.run_read.new.writer) c.run_read.result.notes.items) text (c.run_read.ensures.ends job read.stands)
+    subst (λ (w : TextData). Ends c.args.request.now.mode c.args.request.now.output job w c.run_read.result.outcome (g.W.Write.contents c.args.writer.now) (g.W.Write.contents c.run_read.new.writer) c.run_read.result.notes.items) text (c.run_read.ensures.ends job read.stands)
 
 pub returns-in-Ok-clause-noted : goal.returns-in-Ok-clause-noted
 returns-in-Ok-clause-noted g c = c.run_read.ensures.noted no_origin (Some c.args.bytes.items)
@@ -26,11 +26,11 @@ returns-in-Ok-clause-fault g c = run_fault_of_job c.args.request.now.mode c.run_
 -- where there is no job, nothing was written, and the fault is one of the bytes
 pub returns-in-Err-clause-output : goal.returns-in-Err-clause-output
 returns-in-Err-clause-output g c = λ job is.
-    ended_early c.args.request.now.mode c.args.request.now.asked job _ _ _ _ _ c.of_stopped.ensures.outcome (early_of_no_job (Some c.args.bytes.items) _ c.in-Err.ensures.fault)
+    ended_early c.args.request.now.mode c.args.request.now.output job _ _ _ _ _ c.of_aborted.ensures.outcome (early_of_no_job (Some c.args.bytes.items) _ c.in-Err.ensures.fault)
 
 pub returns-in-Err-clause-noted : goal.returns-in-Err-clause-noted
 returns-in-Err-clause-noted g c =
-    rw (c.of_stopped.ensures.outcome, c.of_stopped.ensures.notes) (subst (λ (o : ℕ → OriginData). IsFaultNoted c.args.request.now.mode.explain o (Some c.args.bytes.items) c.in-Err.stopped.fault c.in-Err.stopped.notes.items) c.none.ensures c.in-Err.ensures.noted)
+    rw (c.of_aborted.ensures.outcome, c.of_aborted.ensures.notes) (subst (λ (o : ℕ → OriginData). IsFaultNoted c.args.request.now.mode.explain o (Some c.args.bytes.items) c.in-Err.aborted.fault c.in-Err.aborted.notes.items) c.none.ensures c.in-Err.ensures.noted)
 
 pub returns-in-Err-clause-fault : goal.returns-in-Err-clause-fault
-returns-in-Err-clause-fault g c = rw c.of_stopped.ensures.outcome (run_fault_of_no_job c.args.request.now.mode _ (Some c.args.bytes.items) c.in-Err.ensures.fault)
+returns-in-Err-clause-fault g c = rw c.of_aborted.ensures.outcome (run_fault_of_no_job c.args.request.now.mode _ (Some c.args.bytes.items) c.in-Err.ensures.fault)

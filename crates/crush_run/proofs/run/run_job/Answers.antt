@@ -12,7 +12,7 @@ returns-in-Ok-clause-job g c = has_job_where_done c.run_bytes.result.outcome _ _
 pub returns-in-Ok-clause-output : goal.returns-in-Ok-clause-output
 returns-in-Ok-clause-output g c = λ xs job all is.
     let read = known_of_take _ _ c.in-Ok.ensures.bytes in
-    weighed_of_all c.args.request.now.mode c.args.request.now.asked job no_origin _ xs c.run_bytes.result.outcome _ _ _ (same_of_job _ _ xs job read all is) (c.run_bytes.ensures.output job (job_of_all _ _ xs job read all is))
+    weighed_of_all c.args.request.now.mode c.args.request.now.output job no_origin _ xs c.run_bytes.result.outcome _ _ _ (same_of_job _ _ xs job read all is) (c.run_bytes.ensures.output job (job_of_all _ _ xs job read all is))
 
 pub returns-in-Ok-clause-noted : goal.returns-in-Ok-clause-noted
 returns-in-Ok-clause-noted g c = ending_of_all c.args.request.now.mode no_origin _ _ c.run_bytes.result.outcome _ (known_of_take _ _ c.in-Ok.ensures.bytes) c.run_bytes.ensures.fault c.run_bytes.ensures.noted
@@ -27,7 +27,7 @@ returns-in-Ok-clause-taken g c = (c.in-Ok.bytes.items, c.in-Ok.ensures.few, c.in
 -- a fault of the reader comes before there is a job
 pub returns-in-Err-clause-output : goal.returns-in-Err-clause-output
 returns-in-Err-clause-output g c = λ bytes job all is.
-    ended_early c.args.request.now.mode c.args.request.now.asked job _ _ _ _ _ c.quietly.ensures.outcome (early_of_input _ c.in-Err.ensures.fault)
+    ended_early c.args.request.now.mode c.args.request.now.output job _ _ _ _ _ c.quietly.ensures.outcome (early_of_input _ c.in-Err.ensures.fault)
 
 pub returns-in-Err-clause-noted : goal.returns-in-Err-clause-noted
 returns-in-Err-clause-noted g c = input_noted _ no_origin _ _ _ _ c.quietly.ensures.outcome c.in-Err.ensures.fault c.quietly.ensures.quiet

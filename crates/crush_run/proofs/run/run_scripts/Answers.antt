@@ -1,4 +1,4 @@
-use Rattle.crush_calls.specs.Script.{scripts_data}
+use Rattle.crush_history.specs.Script.{scripts_data}
 use Rattle.crush_run.proofs.Runs.{at_once_runs, entries_of_scripts, in_turn_runs}
 use Rattle.crush_input.proofs.Outcomes.{when_both, when_ok}
 use Rattle.crush_run.proofs.run.run_scripts.Goals as goal

@@ -1,6 +1,6 @@
 use Rattle.std.proofs.Common.{subst}
-use Rattle.crush_table.specs.Forest.{rows_of, IsSound}
-use Rattle.crush_table.proofs.Stands.{stands_for_rows}
+use Rattle.crush_model.specs.Forest.{rows_of, IsSound}
+use Rattle.crush_model.proofs.Stands.{stands_for_rows}
 use Rattle.crush_run.proofs.Written.{put_of_writes}
 use Rattle.crush_run.proofs.text.write_by_id.Goals as goal
 

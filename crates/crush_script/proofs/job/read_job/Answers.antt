@@ -1,20 +1,20 @@
 use Rattle.std.proofs.Common.{◌≡◌, ℕ, ◌+◌, ◌≤◌, List, [], Result, Ok, Err, length, is_ok, true≢false, inl, inr, refl, sym, ap, subst, ◌∙◌, arith}
 use Rattle.std.proofs.lemmas.List.{length-map}
 use Rattle.std.proofs.lemmas.Result.{err_from_is_err_and}
-use Rattle.crush_bytes.specs.Words.{words}
+use Rattle.crush_units.specs.Words.{words}
 use Rattle.crush_text.specs.declared.fault.TextFault.{TextFault}
 use Rattle.crush_text.specs.Document.{IsMapText}
 use Rattle.crush_text.specs.Flaw.{IsFlawOrOutOfMemory, IsOutOfMemory}
-use Rattle.crush_text.specs.InTime.{IsToldInTime}
+use Rattle.crush_text.specs.InTime.{IsFoundInTime}
 use Rattle.crush_text.proofs.Laws.{no_flaw_of_memory}
 use Rattle.crush_script.specs.Fault.{is_out_of_memory, lacks_memory}
 use Rattle.crush_script.specs.MapPart.{IsTextFault}
 use Rattle.crush_script.specs.Lines.{lines, line_feeds, map_part, section_part, section_line}
-use Rattle.crush_calls.specs.Script.{ScriptData, script_data, scripts_data}
+use Rattle.crush_history.specs.Script.{ScriptData, script_data, scripts_data}
 use Rattle.crush_script.specs.Sections.{SectionsData, no_sections, sections_data, sections_of, with_lines}
 use Rattle.crush_script.specs.Job.{JobData, IsJobFault}
 use Rattle.crush_script.specs.Steps.{FailsAs}
-use Rattle.crush_table.specs.Table.{Row}
+use Rattle.crush_model.specs.Table.{Row}
 use Rattle.crush_edits.specs.Setting.{SettingData}
 use Rattle.crush_units.specs.declared.limits.TheConstants.{LONGEST_JOB}
 use Rattle.crush_script.specs.declared.fault.JobFault.{JobFault}
@@ -100,7 +100,7 @@ returns-clause-operators c =
     omega (arith, few, length-map c.in_ok-sections.sections.scripts.items script_data)
 
 -- a text that isn't read has a flaw, and so is that of no map, or memory was refused in time
-text_fault : (text : List ℕ) (fault : TextFault) → IsFlawOrOutOfMemory text fault → IsToldInTime text fault → ((s : SettingData) (t : List Row) (n : ℕ) → IsMapText text s t n → IsOutOfMemory fault) → IsTextFault text fault
+text_fault : (text : List ℕ) (fault : TextFault) → IsFlawOrOutOfMemory text fault → IsFoundInTime text fault → ((s : SettingData) (t : List Row) (n : ℕ) → IsMapText text s t n → IsOutOfMemory fault) → IsTextFault text fault
 text_fault text fault (inl want) told only = inr (record { memory = want; told = told })
 text_fault text fault (inr flaw) told only = inl (record { flaw = flaw; none = λ s t n map. no_flaw_of_memory (words 0 text) fault flaw (only s t n map) })
 

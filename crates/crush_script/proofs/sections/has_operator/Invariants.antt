@@ -1,5 +1,5 @@
 use Rattle.std.proofs.Common.{◌≡◌, drop}
-use Rattle.crush_calls.specs.Script.{scripts_data}
+use Rattle.crush_history.specs.Script.{scripts_data}
 use Rattle.crush_script.specs.Sections.{has_operator}
 use Rattle.crush_script.proofs.sections.has_operator.Given as goal
 

@@ -1,5 +1,5 @@
 use Rattle.std.proofs.Common.{length}
-use Rattle.crush_calls.proofs.EntryLines.{none_yet, one_more}
+use Rattle.crush_history.proofs.EntryLines.{none_yet, one_more}
 use Rattle.crush_script_tests.proofs.histories.entries_of.Goals as goal
 
 pub loop-call-init : goal.loop-call-init

@@ -1,5 +1,5 @@
 use Rattle.std.proofs.Common.{length}
-use Rattle.crush_calls.specs.Entries.{AreOf}
+use Rattle.crush_history.specs.Entries.{AreOf}
 use Rattle.crush_script_tests.proofs.histories.entries_of.Given as goal
 
 abbrev pub invariant-loop-call : goal.invariant-loop-call

@@ -1,5 +1,5 @@
 use Rattle.std.proofs.Common.{◌∙◌, ◌++◌}
-use Rattle.crush_table.specs.Table.{total}
+use Rattle.crush_model.specs.Table.{total}
 use Rattle.crush_since.specs.Emptied.{emptied_lines}
 use Rattle.crush_since.specs.Settings.{setting_lines}
 use Rattle.crush_since.specs.Since.{totals_line, last_lines}

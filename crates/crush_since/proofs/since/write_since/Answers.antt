@@ -1,14 +1,14 @@
 use Rattle.std.proofs.Common.{◌∙◌, ◌++◌, List, ℕ, ap, sym}
-use Rattle.crush_bytes.proofs.Appending.{nothing_is_less}
-use Rattle.crush_since.specs.Since.{told, since_text}
+use Rattle.crush_units.proofs.Appending.{nothing_is_less}
+use Rattle.crush_since.specs.Since.{plain_map, since_text}
 use Rattle.crush_since.proofs.PartLaws.{since_text_is_some}
 use Rattle.crush_since.proofs.since.write_since.Goals as goal
 
 pub returns-in-Ok-clause-writes : goal.returns-in-Ok-clause-writes
 returns-in-Ok-clause-writes g c = λ t u a b.
-    let text = since_text (told c.args.old.now.setting t) (told c.args.new.now.setting u) in
+    let text = since_text (plain_map c.args.old.now.setting t) (plain_map c.args.new.now.setting u) in
     rw (sym (c.as_slice.ensures.value ∙ c.in-Ok.ensures t u a b ∙ ap (λ (l : List ℕ). l ++ text) c.new-text.ensures.items)) c.put.ensures.writes
 
 -- out of memory, nothing is written
 pub returns-clause-writes : goal.returns-clause-writes
-returns-clause-writes g c = λ t u a b. nothing_is_less _ _ (since_text_is_some (told c.args.old.now.setting t) (told c.args.new.now.setting u))
+returns-clause-writes g c = λ t u a b. nothing_is_less _ _ (since_text_is_some (plain_map c.args.old.now.setting t) (plain_map c.args.new.now.setting u))

@@ -1,7 +1,7 @@
 -- What comes of all statements is what the text says.
 use Rattle.std.proofs.Common.{ℕ, ◌∙◌, sym, subst}
 use Rattle.std.proofs.lemmas.Result.{err_from_is_err_and}
-use Rattle.crush_table.specs.Stands.{Stands}
+use Rattle.crush_model.specs.Stands.{Stands}
 use Rattle.crush_edits.specs.Setting.{SettingData}
 use Rattle.crush_builder.specs.Built.{empty_draft}
 use Rattle.crush_text.specs.Document.{IsMapText}

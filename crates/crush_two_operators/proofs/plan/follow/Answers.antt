@@ -1,7 +1,7 @@
 use Rattle.std.proofs.Common.{◌≡◌, ◌∙◌, length, slice_get, Some, refl, sym, arith}
 use Rattle.std.proofs.lemmas.Option.{slice_get_read}
 use Rattle.std.proofs.lemmas.List.Elements.{All-same}
-use Rattle.crush_calls.specs.History.{AnsweredData}
+use Rattle.crush_history.specs.History.{AnsweredData}
 use Rattle.crush_two_operators.specs.Plan.{IsStep}
 use Rattle.crush_two_operators.proofs.Order.{of_ok}
 use Rattle.crush_two_operators.proofs.Following.{asked_more}

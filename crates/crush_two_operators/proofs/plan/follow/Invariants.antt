@@ -1,6 +1,6 @@
 use Rattle.std.proofs.Common.{◌≡◌}
 use Rattle.std.specs.List.{All}
-use Rattle.crush_calls.specs.History.{AnsweredData}
+use Rattle.crush_history.specs.History.{AnsweredData}
 use Rattle.crush_two_operators.specs.Plan.{IsStep}
 use Rattle.crush_two_operators.proofs.plan.follow.Given as goal
 

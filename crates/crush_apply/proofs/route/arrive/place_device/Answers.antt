@@ -1,10 +1,10 @@
 use Rattle.std.proofs.Common.{true, false, ap, sym, ◌∙◌, refl}
 use Rattle.std.specs.Prelude.{not}
 use Rattle.crush_units.specs.declared.id.ItemId.TheVariants.{Device}
-use Rattle.crush_table.specs.Forest.{rows_of}
-use Rattle.crush_table.specs.Table.{row_of}
-use Rattle.crush_table.proofs.Moved.{row_id}
-use Rattle.crush_table.proofs.Stands.{stands_for_rows}
+use Rattle.crush_model.specs.Forest.{rows_of}
+use Rattle.crush_model.specs.Table.{row_of}
+use Rattle.crush_model.proofs.Moved.{row_id}
+use Rattle.crush_model.proofs.Stands.{stands_for_rows}
 use Rattle.crush_edits.specs.Answer.{done}
 use Rattle.crush_edits.specs.Put.{put}
 use Rattle.crush_edits.specs.declared.refusal.Refusal.TheVariants.{NoRoom, SumTooLarge}

@@ -1,6 +1,6 @@
 use Rattle.std.proofs.Common.{true, ap, sym, ◌∙◌, refl}
-use Rattle.crush_table.specs.Table.{row_of}
-use Rattle.crush_table.proofs.Moved.{row_id}
+use Rattle.crush_model.specs.Table.{row_of}
+use Rattle.crush_model.proofs.Moved.{row_id}
 use Rattle.crush_edits.specs.Answer.{done}
 use Rattle.crush_edits.specs.Put.{put}
 use Rattle.crush_edits.specs.declared.refusal.Refusal.TheVariants.{NoRoom, SumTooLarge}

@@ -1,9 +1,9 @@
 use Rattle.std.proofs.Common.{true, ap, sym, subst, ◌∙◌, refl}
 use Rattle.std.specs.Prelude.{None}
-use Rattle.crush_table.specs.Forest.{rows_of}
-use Rattle.crush_table.specs.ItemRows.{device_row}
-use Rattle.crush_table.specs.Stands.{Stands}
-use Rattle.crush_table.proofs.Stands.{stands_for_rows}
+use Rattle.crush_model.specs.Forest.{rows_of}
+use Rattle.crush_model.specs.ItemRows.{device_row}
+use Rattle.crush_model.specs.Stands.{Stands}
+use Rattle.crush_model.proofs.Stands.{stands_for_rows}
 use Rattle.crush_edits.specs.Answer.{done}
 use Rattle.crush_edits.specs.Put.{put}
 use Rattle.crush_edits.specs.declared.refusal.Refusal.TheVariants.{NoRoom, SumTooLarge}

@@ -3,7 +3,7 @@ use Rattle.crush_nodes.specs.Seen.{items_of}
 use Rattle.crush_edits.specs.New.{IsStop}
 use Rattle.crush_edits.specs.Put.{with_ids, new_header}
 use Rattle.crush_apply.specs.Stopped.{stop_data, stops_data}
-use Rattle.crush_table.specs.Items.{none, bucket}
+use Rattle.crush_model.specs.Items.{none, bucket}
 use Rattle.crush_apply.proofs.Buckets.{new_of, stop_at, one_more, weigh_item}
 use Rattle.crush_apply.proofs.route.new_buckets.in_new_buckets.Goals as goal
 

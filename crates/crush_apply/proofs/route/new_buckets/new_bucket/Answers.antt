@@ -1,6 +1,6 @@
 use Rattle.std.proofs.Common.{◌≡◌, ℕ, ◌<◌, length, List, [], ◌∷◌, arith, ap, sym, subst, ◌∙◌}
 use Rattle.std.specs.Prelude.{IfOk}
-use Rattle.crush_table.specs.Items.{none, bucket}
+use Rattle.crush_model.specs.Items.{none, bucket}
 use Rattle.crush_nodes.specs.Seen.{items_of}
 use Rattle.crush_edits.specs.Put.{new_header}
 use Rattle.crush_edits.specs.declared.location.Pair.{Pair}

@@ -4,7 +4,7 @@ use Rattle.std.proofs.lemmas.List.{take_rest}
 use Rattle.crush_nodes.specs.Seen.{items_of}
 use Rattle.crush_edits.specs.New.{IsStop}
 use Rattle.crush_edits.specs.Put.{new_header}
-use Rattle.crush_table.specs.Items.{none, bucket}
+use Rattle.crush_model.specs.Items.{none, bucket}
 use Rattle.crush_apply.specs.Stopped.{stop_data, stops_data}
 use Rattle.crush_apply.proofs.Buckets.{new_of, stop_at, with_lowest, later_forms}
 use Rattle.crush_apply.proofs.Destinations.{of_ok}

@@ -1,14 +1,14 @@
 use Rattle.std.proofs.Common.{◌≡◌, ◌<◌, ◌≤◌, true, false, ◌∷◌, [], ◌++◌, length, ap, sym, subst, ◌∙◌, arith, get_or}
 use Rattle.std.specs.Prelude.{None, Some}
 use Rattle.std.proofs.lemmas.List.{length-take-le}
-use Rattle.crush_table.specs.Forest.{rows_of}
-use Rattle.crush_table.specs.ItemRows.{rows}
-use Rattle.crush_table.specs.Items.{none}
-use Rattle.crush_table.specs.Lawful.{Lawful}
-use Rattle.crush_table.specs.Stands.{Stands}
-use Rattle.crush_table.specs.Stored.{StoresSums}
-use Rattle.crush_table.specs.Table.{free_ids, used_ids, member}
-use Rattle.crush_table.proofs.Stands.{stands_for_rows}
+use Rattle.crush_model.specs.Forest.{rows_of}
+use Rattle.crush_model.specs.ItemRows.{rows}
+use Rattle.crush_model.specs.Items.{none}
+use Rattle.crush_model.specs.Lawful.{Lawful}
+use Rattle.crush_model.specs.Stands.{Stands}
+use Rattle.crush_model.specs.Stored.{StoresSums}
+use Rattle.crush_model.specs.Table.{free_ids, used_ids, member}
+use Rattle.crush_model.proofs.Stands.{stands_for_rows}
 use Rattle.crush_nodes.specs.Ops.{FitsPlace, is_place}
 use Rattle.crush_nodes.specs.Room.{bucket_room, parent_at, same_place}
 use Rattle.crush_nodes.specs.Seen.{items_of}

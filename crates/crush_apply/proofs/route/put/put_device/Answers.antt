@@ -1,15 +1,15 @@
 use Rattle.std.proofs.Common.{rules, ◌++◌, List, refl, sym, subst}
 use Rattle.std.specs.Prelude.{Some, None}
 use Rattle.crush_units.specs.declared.id.ItemId.TheVariants.{Device, Bucket}
-use Rattle.crush_table.specs.Columns.{table_without, part}
-use Rattle.crush_table.specs.Forest.{rows_of, all_items}
-use Rattle.crush_table.specs.Items.{LeafData, Items, none, device}
-use Rattle.crush_table.specs.ItemRows.{rows}
-use Rattle.crush_table.specs.Lawful.{Lawful}
-use Rattle.crush_table.specs.Same.{Same}
-use Rattle.crush_table.specs.Stands.{Stands}
-use Rattle.crush_table.specs.Table.{Row}
-use Rattle.crush_table.proofs.Stands.{stands_for_rows, same_stands}
+use Rattle.crush_model.specs.Columns.{table_without, part}
+use Rattle.crush_model.specs.Forest.{rows_of, all_items}
+use Rattle.crush_model.specs.Items.{LeafData, Items, none, device}
+use Rattle.crush_model.specs.ItemRows.{rows}
+use Rattle.crush_model.specs.Lawful.{Lawful}
+use Rattle.crush_model.specs.Same.{Same}
+use Rattle.crush_model.specs.Stands.{Stands}
+use Rattle.crush_model.specs.Table.{Row}
+use Rattle.crush_model.proofs.Stands.{stands_for_rows, same_stands}
 use Rattle.crush_hierarchy.specs.Given.{with_first_weight}
 use Rattle.crush_nodes.specs.Ops.{part_of}
 use Rattle.crush_edits.specs.LawRoute.{rows_made}

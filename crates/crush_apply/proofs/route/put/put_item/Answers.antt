@@ -1,12 +1,12 @@
 use Rattle.std.proofs.Common.{rules, ◌++◌, List}
 use Rattle.std.specs.Prelude.{Some}
 use Rattle.crush_units.specs.declared.id.ItemId.TheVariants.{Bucket}
-use Rattle.crush_table.specs.Columns.{table_without}
-use Rattle.crush_table.specs.Forest.{rows_of, all_items}
-use Rattle.crush_table.specs.ItemRows.{rows}
-use Rattle.crush_table.specs.Stands.{Stands}
-use Rattle.crush_table.specs.Table.{Row}
-use Rattle.crush_table.proofs.Stands.{stands_for_rows, same_stands}
+use Rattle.crush_model.specs.Columns.{table_without}
+use Rattle.crush_model.specs.Forest.{rows_of, all_items}
+use Rattle.crush_model.specs.ItemRows.{rows}
+use Rattle.crush_model.specs.Stands.{Stands}
+use Rattle.crush_model.specs.Table.{Row}
+use Rattle.crush_model.proofs.Stands.{stands_for_rows, same_stands}
 use Rattle.crush_nodes.specs.Ops.{part_of}
 use Rattle.crush_edits.specs.LawRoute.{rows_made}
 use Rattle.crush_edits.specs.Put.{put}

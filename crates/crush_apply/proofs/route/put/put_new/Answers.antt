@@ -1,14 +1,14 @@
 use Rattle.std.proofs.Common.{◌≡◌, ◌≤◌, ◌++◌, [], ◌∷◌, List, length, true, ap, sym, subst, ◌∙◌}
 use Rattle.std.proofs.lemmas.List.{length-take-le}
 use Rattle.std.specs.Prelude.{None}
-use Rattle.crush_table.specs.Forest.{rows_of}
-use Rattle.crush_table.specs.Items.{Items, none, device}
-use Rattle.crush_table.specs.ItemRows.{rows, device_row}
-use Rattle.crush_table.specs.Lawful.{Lawful}
-use Rattle.crush_table.specs.Stands.{Stands}
-use Rattle.crush_table.specs.Stored.{StoresSums}
-use Rattle.crush_table.specs.Table.{Row, free_ids}
-use Rattle.crush_table.proofs.Stands.{stands_for_rows, same_stands}
+use Rattle.crush_model.specs.Forest.{rows_of}
+use Rattle.crush_model.specs.Items.{Items, none, device}
+use Rattle.crush_model.specs.ItemRows.{rows, device_row}
+use Rattle.crush_model.specs.Lawful.{Lawful}
+use Rattle.crush_model.specs.Stands.{Stands}
+use Rattle.crush_model.specs.Stored.{StoresSums}
+use Rattle.crush_model.specs.Table.{Row, free_ids}
+use Rattle.crush_model.proofs.Stands.{stands_for_rows, same_stands}
 use Rattle.crush_nodes.specs.Ops.{FitsPlace, is_place}
 use Rattle.crush_nodes.specs.Room.{parent_at}
 use Rattle.crush_nodes.specs.Seen.{items_of, leaf_data}

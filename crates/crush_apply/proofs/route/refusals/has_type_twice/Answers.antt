@@ -8,11 +8,11 @@ use Rattle.crush_apply.proofs.route.refusals.has_type_twice.Goals as goal
 pub returns-then-names_type : goal.returns-then-names_type
 returns-then-names_type c =
     let p = c.index-pairs-k.result in
-    let asked : c.names_type.result ≡ list_any (λ (q : Pair). bytes_eq q.kind p.kind) (drop (c.loop-k.k + 1) c.args.pairs.now) = c.names_type.ensures ∙ ap (list_any (λ (q : Pair). bytes_eq q.kind p.kind)) (later_pairs c.args.pairs.now (c.loop-k.k + 1)) in
-    sym (c.loop-k.invariant ∙ twice_here (λ (q : Pair). q.kind) c.args.pairs.now c.loop-k.k p c.names_type.result c.loop-k-test.true c.index-pairs-k.is asked c.if-names_type.true)
+    let requested : c.names_type.result ≡ list_any (λ (q : Pair). bytes_eq q.kind p.kind) (drop (c.loop-k.k + 1) c.args.pairs.now) = c.names_type.ensures ∙ ap (list_any (λ (q : Pair). bytes_eq q.kind p.kind)) (later_pairs c.args.pairs.now (c.loop-k.k + 1)) in
+    sym (c.loop-k.invariant ∙ twice_here (λ (q : Pair). q.kind) c.args.pairs.now c.loop-k.k p c.names_type.result c.loop-k-test.true c.index-pairs-k.is requested c.if-names_type.true)
 
 pub loop-k-preserved : goal.loop-k-preserved
 loop-k-preserved c =
     let p = c.index-pairs-k.result in
-    let asked : c.names_type.result ≡ list_any (λ (q : Pair). bytes_eq q.kind p.kind) (drop (c.loop-k.k + 1) c.args.pairs.now) = c.names_type.ensures ∙ ap (list_any (λ (q : Pair). bytes_eq q.kind p.kind)) (later_pairs c.args.pairs.now (c.loop-k.k + 1)) in
-    c.loop-k.invariant ∙ twice_later (λ (q : Pair). q.kind) c.args.pairs.now c.loop-k.k p c.names_type.result c.loop-k-test.true c.index-pairs-k.is asked c.if-names_type.false
+    let requested : c.names_type.result ≡ list_any (λ (q : Pair). bytes_eq q.kind p.kind) (drop (c.loop-k.k + 1) c.args.pairs.now) = c.names_type.ensures ∙ ap (list_any (λ (q : Pair). bytes_eq q.kind p.kind)) (later_pairs c.args.pairs.now (c.loop-k.k + 1)) in
+    c.loop-k.invariant ∙ twice_later (λ (q : Pair). q.kind) c.args.pairs.now c.loop-k.k p c.names_type.result c.loop-k-test.true c.index-pairs-k.is requested c.if-names_type.false

@@ -1,14 +1,14 @@
 use Rattle.std.proofs.Common.{◌≡◌, ◌++◌, true, sym, subst}
 use Rattle.std.specs.Prelude.{None, not}
 use Rattle.crush_units.specs.declared.id.ItemId.TheVariants.{Device}
-use Rattle.crush_table.specs.Columns.{table_without, part}
-use Rattle.crush_table.specs.Forest.{all_items, rows_of}
-use Rattle.crush_table.specs.Items.{Items, device, none}
-use Rattle.crush_table.specs.ItemRows.{rows}
-use Rattle.crush_table.specs.Lawful.{is_too_heavy}
-use Rattle.crush_table.specs.Same.{Same}
-use Rattle.crush_table.specs.Stored.{weight_sum}
-use Rattle.crush_table.proofs.Stands.{stands_for_rows}
+use Rattle.crush_model.specs.Columns.{table_without, part}
+use Rattle.crush_model.specs.Forest.{all_items, rows_of}
+use Rattle.crush_model.specs.Items.{Items, device, none}
+use Rattle.crush_model.specs.ItemRows.{rows}
+use Rattle.crush_model.specs.Lawful.{is_too_heavy}
+use Rattle.crush_model.specs.Same.{Same}
+use Rattle.crush_model.specs.Stored.{weight_sum}
+use Rattle.crush_model.proofs.Stands.{stands_for_rows}
 use Rattle.crush_nodes.specs.Ops.{part_of, is_place, CanCome}
 use Rattle.crush_nodes.specs.Room.{parent_at}
 use Rattle.crush_edits.proofs.Edits.{device_apart}

@@ -1,13 +1,13 @@
 use Rattle.std.proofs.Common.{◌≡◌, ◌++◌, true, false, refl, sym, subst}
 use Rattle.std.specs.Prelude.{IfSome, not}
 use Rattle.crush_units.specs.declared.id.ItemId.TheVariants.{Bucket}
-use Rattle.crush_table.specs.Columns.{is_part, table_without}
-use Rattle.crush_table.specs.Forest.{all_items, rows_of}
-use Rattle.crush_table.specs.Items.{Items}
-use Rattle.crush_table.specs.ItemRows.{rows}
-use Rattle.crush_table.specs.Lawful.{is_too_heavy}
-use Rattle.crush_table.specs.Stored.{weight_sum}
-use Rattle.crush_table.proofs.Stands.{stands_for_rows}
+use Rattle.crush_model.specs.Columns.{is_part, table_without}
+use Rattle.crush_model.specs.Forest.{all_items, rows_of}
+use Rattle.crush_model.specs.Items.{Items}
+use Rattle.crush_model.specs.ItemRows.{rows}
+use Rattle.crush_model.specs.Lawful.{is_too_heavy}
+use Rattle.crush_model.specs.Stored.{weight_sum}
+use Rattle.crush_model.proofs.Stands.{stands_for_rows}
 use Rattle.crush_nodes.specs.Ops.{part_of, is_place, CanCome}
 use Rattle.crush_nodes.specs.Room.{parent_at}
 use Rattle.crush_apply.proofs.Fitting.{receiver_apart, item_told}

@@ -1,11 +1,11 @@
 use Rattle.std.proofs.Common.{◌≡◌, ◌++◌, true, sym, subst}
 use Rattle.std.specs.Prelude.{not}
-use Rattle.crush_table.specs.Forest.{rows_of}
-use Rattle.crush_table.specs.Items.{Items}
-use Rattle.crush_table.specs.ItemRows.{rows}
-use Rattle.crush_table.specs.Lawful.{is_too_heavy}
-use Rattle.crush_table.specs.Stored.{weight_sum}
-use Rattle.crush_table.proofs.Stands.{stands_for_rows}
+use Rattle.crush_model.specs.Forest.{rows_of}
+use Rattle.crush_model.specs.Items.{Items}
+use Rattle.crush_model.specs.ItemRows.{rows}
+use Rattle.crush_model.specs.Lawful.{is_too_heavy}
+use Rattle.crush_model.specs.Stored.{weight_sum}
+use Rattle.crush_model.proofs.Stands.{stands_for_rows}
 use Rattle.crush_nodes.specs.Ops.{is_place, CanCome}
 use Rattle.crush_nodes.specs.Room.{parent_at}
 use Rattle.crush_apply.proofs.Fitting.{new_told}

@@ -1,6 +1,6 @@
 use Rattle.std.proofs.Common.{◌≡◌, ◌<◌, true, false, length, sym, subst, ap, ◌∙◌}
 use Rattle.std.specs.Prelude.{Some}
-use Rattle.crush_table.specs.Table.{is_named}
+use Rattle.crush_model.specs.Table.{is_named}
 use Rattle.crush_apply.specs.declared.route.stops.Stop.{Stop}
 use Rattle.crush_apply.specs.Stopped.{pair_name}
 use Rattle.crush_apply.proofs.Ends.{found}

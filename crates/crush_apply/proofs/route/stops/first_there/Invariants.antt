@@ -1,7 +1,7 @@
 use Rattle.std.proofs.Common.{◌≡◌, List, drop}
-use Rattle.crush_table.specs.Stands.{Stands}
-use Rattle.crush_table.specs.Table.{Row}
-use Rattle.crush_apply.specs.Blamed.{end_name}
+use Rattle.crush_model.specs.Stands.{Stands}
+use Rattle.crush_model.specs.Table.{Row}
+use Rattle.crush_apply.specs.Culprit.{end_name}
 use Rattle.crush_apply.specs.Stopped.{stops_data}
 use Rattle.crush_apply.proofs.route.stops.first_there.Given as goal
 

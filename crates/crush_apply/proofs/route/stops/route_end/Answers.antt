@@ -1,7 +1,7 @@
 use Rattle.std.proofs.Common.{◌≡◌, ◌<◌, false, List, length, sym, subst, ap, ◌∙◌, arith}
 use Rattle.std.specs.Prelude.{Some, is_some}
-use Rattle.crush_table.specs.Table.{Row, is_named, id_named}
-use Rattle.crush_table.specs.Stands.{Stands}
+use Rattle.crush_model.specs.Table.{Row, is_named, id_named}
+use Rattle.crush_model.specs.Stands.{Stands}
 use Rattle.crush_edits.specs.Answer.{first_refusal}
 use Rattle.crush_edits.specs.Located.{end_tests}
 use Rattle.crush_apply.specs.declared.route.stops.Stop.{Stop}

@@ -1,6 +1,6 @@
 use Rattle.std.proofs.Common.{List}
-use Rattle.crush_table.specs.Table.{Row}
-use Rattle.crush_table.specs.Stands.{Stands}
+use Rattle.crush_model.specs.Table.{Row}
+use Rattle.crush_model.specs.Stands.{Stands}
 use Rattle.crush_apply.proofs.Ends.{Left}
 use Rattle.crush_apply.proofs.route.stops.route_end.Given as goal
 

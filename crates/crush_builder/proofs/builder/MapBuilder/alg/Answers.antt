@@ -1,10 +1,10 @@
 use Rattle.std.proofs.Common.{rules, refl, ◌≡◌, ◌++◌, subst, sym, ap, ◌∙◌}
 use Rattle.std.specs.Prelude.{None}
-use Rattle.crush_table.specs.Items.{Items, bucket, none}
-use Rattle.crush_table.specs.Lawful.{Lawful}
-use Rattle.crush_table.specs.Forest.{rows_of}
-use Rattle.crush_table.specs.ItemRows.{rows}
-use Rattle.crush_table.specs.Stands.{Stands}
+use Rattle.crush_model.specs.Items.{Items, bucket, none}
+use Rattle.crush_model.specs.Lawful.{Lawful}
+use Rattle.crush_model.specs.Forest.{rows_of}
+use Rattle.crush_model.specs.ItemRows.{rows}
+use Rattle.crush_model.specs.Stands.{Stands}
 use Rattle.crush_builder.specs.Pending.{pending_data, listed}
 use Rattle.crush_builder.specs.Built.{Pending, numbered, filling, with_alg}
 use Rattle.crush_builder.specs.Building.{BuilderData, IsDraft, IsPending, own_draft}

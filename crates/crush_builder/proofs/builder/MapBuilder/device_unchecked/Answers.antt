@@ -4,15 +4,15 @@ use Rattle.std.proofs.Common.{rules, refl, ◌≡◌, ℕ, List, [], ◌∷◌, 
 use Rattle.std.specs.Prelude.{Option, Some, None, IfSome}
 use Rattle.crush_units.specs.Name.{IsName}
 use Rattle.crush_units.specs.declared.id.ItemId.TheVariants.{Device}
-use Rattle.crush_table.specs.Table.{is_there}
+use Rattle.crush_model.specs.Table.{is_there}
 use Rattle.crush_builder.specs.declared.fault.BuildFault.TheVariants.{DuplicateId, DuplicateName, TooMany}
 use Rattle.crush_builder.specs.Faults.{device_fault}
 use Rattle.crush_builder.proofs.Faults.{none_of_three}
-use Rattle.crush_table.specs.Items.{Items, device, none}
-use Rattle.crush_table.specs.Lawful.{Lawful}
-use Rattle.crush_table.specs.ItemRows.{rows}
-use Rattle.crush_table.specs.Stands.{Stands}
-use Rattle.crush_table.proofs.Weighs.{or_left}
+use Rattle.crush_model.specs.Items.{Items, device, none}
+use Rattle.crush_model.specs.Lawful.{Lawful}
+use Rattle.crush_model.specs.ItemRows.{rows}
+use Rattle.crush_model.specs.Stands.{Stands}
+use Rattle.crush_model.proofs.Weighs.{or_left}
 use Rattle.crush_nodes.specs.Seen.{items_of}
 use Rattle.crush_builder.specs.Pending.{pending_data}
 use Rattle.crush_builder.specs.Built.{Draft, with_device}

@@ -1,11 +1,11 @@
 use Rattle.std.proofs.Common.{rules, ◌≡◌, true, false, subst, sym, ap, ◌∙◌}
-use Rattle.crush_table.specs.Table.{is_there}
+use Rattle.crush_model.specs.Table.{is_there}
 use Rattle.crush_units.specs.declared.id.ItemId.{ItemId}
-use Rattle.crush_table.specs.Forest.{all_items, rows_of, IsSound}
+use Rattle.crush_model.specs.Forest.{all_items, rows_of, IsSound}
 use Rattle.crush_builder.specs.Built.{Draft}
 use Rattle.crush_builder.specs.Faults.{is_closed}
 use Rattle.crush_builder.proofs.Faults.{closed_there, closed_shut}
-use Rattle.crush_table.specs.Stored.{weight_sum}
+use Rattle.crush_model.specs.Stored.{weight_sum}
 use Rattle.crush_nodes.specs.Ops.{part_of}
 use Rattle.crush_builder.specs.Pending.{pending_data, with_first_weight}
 use Rattle.crush_builder.specs.Building.{BuilderData, BuilderFits, IsDraft, own_draft, is_open}

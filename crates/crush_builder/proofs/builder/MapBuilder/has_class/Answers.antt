@@ -1,7 +1,7 @@
 use Rattle.std.proofs.Common.{ap, ◌∙◌}
 use Rattle.std.specs.Prelude.{bytes_eq}
 use Rattle.std.specs.List.{list_any}
-use Rattle.crush_table.specs.Items.{ShadowData}
+use Rattle.crush_model.specs.Items.{ShadowData}
 use Rattle.crush_nodes.specs.Seen.{shadow_data}
 use Rattle.crush_builder.specs.Building.{pending_class_ids}
 use Rattle.crush_builder.proofs.RowSteps.{any_seen}

@@ -1,7 +1,7 @@
 use Rattle.std.proofs.Common.{ap, sym, ◌∙◌}
 use Rattle.std.specs.Prelude.{map, ◌||◌}
-use Rattle.crush_table.specs.Items.{ShadowData}
-use Rattle.crush_table.specs.Table.{member}
+use Rattle.crush_model.specs.Items.{ShadowData}
+use Rattle.crush_model.specs.Table.{member}
 use Rattle.crush_nodes.specs.Seen.{shadow_data}
 use Rattle.crush_builder.specs.Pending.{pending_data, listed}
 use Rattle.crush_builder.specs.Built.{Pending}

@@ -1,6 +1,6 @@
 use Rattle.std.proofs.Common.{◌≤◌, ap, sym, subst, ◌∙◌}
-use Rattle.crush_table.specs.Forest.{ForestData, rows_of}
-use Rattle.crush_table.specs.Stands.{Stands}
+use Rattle.crush_model.specs.Forest.{ForestData, rows_of}
+use Rattle.crush_model.specs.Stands.{Stands}
 use Rattle.crush_edits.specs.Fits.{Fits}
 use Rattle.crush_builder.specs.Building.{BuilderData, IsPending, held_buckets}
 use Rattle.crush_builder.specs.Pending.{pending_data}

@@ -1,13 +1,13 @@
 -- The item as it stands in the forest, by what `ItemTaken` says of it.
 use Rattle.std.proofs.Common.{rules, ◌≡◌, ℕ, ◌+◌, ◌++◌, true, List, subst, sym, ap, arith}
 use Rattle.std.specs.Prelude.{Some}
-use Rattle.crush_table.specs.Items.{Items}
-use Rattle.crush_table.specs.Table.{Row, is_there}
-use Rattle.crush_table.specs.Columns.{table_without}
-use Rattle.crush_table.specs.Lawful.{Lawful}
-use Rattle.crush_table.specs.Forest.{ForestData, rows_of, all_items}
-use Rattle.crush_table.specs.ItemRows.{rows}
-use Rattle.crush_table.specs.Stands.{Stands}
+use Rattle.crush_model.specs.Items.{Items}
+use Rattle.crush_model.specs.Table.{Row, is_there}
+use Rattle.crush_model.specs.Columns.{table_without}
+use Rattle.crush_model.specs.Lawful.{Lawful}
+use Rattle.crush_model.specs.Forest.{ForestData, rows_of, all_items}
+use Rattle.crush_model.specs.ItemRows.{rows}
+use Rattle.crush_model.specs.Stands.{Stands}
 use Rattle.crush_units.specs.declared.id.ItemId.TheVariants.{Bucket}
 use Rattle.crush_nodes.specs.Ops.{part_of}
 use Rattle.crush_builder.specs.Pending.{pending_data, with_first_weight}

@@ -1,9 +1,9 @@
 use Rattle.std.proofs.Common.{◌≡◌, ℕ, true, subst, sym, ap, ◌∙◌}
 use Rattle.std.specs.Prelude.{Some, if◌then◌else◌}
-use Rattle.crush_table.specs.Table.{is_there, is_device_id}
-use Rattle.crush_table.specs.Forest.{ForestData, all_items, rows_of}
-use Rattle.crush_table.specs.Stored.{weight_sum}
-use Rattle.crush_table.proofs.Stands.{stands_for_rows}
+use Rattle.crush_model.specs.Table.{is_there, is_device_id}
+use Rattle.crush_model.specs.Forest.{ForestData, all_items, rows_of}
+use Rattle.crush_model.specs.Stored.{weight_sum}
+use Rattle.crush_model.proofs.Stands.{stands_for_rows}
 use Rattle.crush_nodes.specs.Ops.{part_of}
 use Rattle.crush_builder.specs.Pending.{with_first_weight}
 use Rattle.crush_builder.specs.Building.{BuilderData}

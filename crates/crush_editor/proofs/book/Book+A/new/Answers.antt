@@ -1,6 +1,6 @@
 use Rattle.std.proofs.Common.{refl, subst, rules}
 use Rattle.std.specs.Prelude.{Some}
-use Rattle.crush_table.specs.Forest.{IsSound}
+use Rattle.crush_model.specs.Forest.{IsSound}
 use Rattle.crush_editor.proofs.Commits.{copied, kept_new, parted_stands}
 use Rattle.crush_editor.proofs.book.Book+A.new.Goals as goal
 

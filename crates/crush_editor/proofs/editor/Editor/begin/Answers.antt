@@ -1,7 +1,7 @@
 use Rattle.std.proofs.Common.{◌≡◌, ◌∙◌, ℕ, [], sym, refl, arith, vec_len, slice_index_or}
 use Rattle.std.proofs.lemmas.List.Elements.{All-rest, All-head, All-same}
 use borrow.Author.Count.{below_more}
-use Rattle.crush_calls.specs.History.{EntryData}
+use Rattle.crush_history.specs.History.{EntryData}
 use Rattle.crush_map.specs.MapData.{MapData}
 use Rattle.crush_gauge.specs.Held.{Held, held}
 use Rattle.crush_editor.specs.Seat.{seat_data, seen_of, reads}

@@ -1,5 +1,5 @@
 use Rattle.std.proofs.Common.{◌≡◌, ◌∙◌, ◌+◌, ℕ, List, IfSome, length, ap, sym, refl, subst, arith, rules}
-use Rattle.crush_calls.specs.History.{EntryData, of_operator}
+use Rattle.crush_history.specs.History.{EntryData, of_operator}
 use Rattle.crush_map.specs.MapData.{MapData}
 use Rattle.crush_editor.specs.History.{IsLegalFrom}
 use Rattle.crush_editor.specs.Book.{MakesAll, StandsAfter}
@@ -19,12 +19,12 @@ loop-seat-preserved g c =
     let s = c.seat.inside in
     let h = c.loop-seat.book.history in
     let x = c.in-Some.seat in
-    let begins : IsPrefix x.seen h = rw (← c.seat.view_is) (subst (λ (x : List EntryData). IsPrefix x h) (ap (λ x. seen_of x.view) c.into_note.ensures) c.meet.ensures.begins) in
-    let stands : IsSubsequence x.slips (of_operator x.operator h) = rw (← c.seat.view_is) (stands_later s.operator s.slips.items _ h c.seat.invariant.4.stands (subst (λ (x : List EntryData). IsPrefix x h) (ap (λ x. seen_of x.view) c.into_note.ensures) c.meet.ensures.begins)) in
+    let begins : IsPrefix x.seen h = rw (← c.seat.view_is) (subst (λ (x : List EntryData). IsPrefix x h) (ap (λ x. seen_of x.view) c.into_note.ensures) c.absorb.ensures.begins) in
+    let stands : IsSubsequence x.slips (of_operator x.operator h) = rw (← c.seat.view_is) (stands_later s.operator s.slips.items _ h c.seat.invariant.4.stands (subst (λ (x : List EntryData). IsPrefix x h) (ap (λ x. seen_of x.view) c.into_note.ensures) c.absorb.ensures.begins)) in
     let more : c.merge.new.self.amount ≡ c.loop-seat.all.amount + told x = c.merge.ensures.amount ∙ ap (λ (k : ℕ). c.loop-seat.all.amount + k) (c.seat.invariant.3 ∙ ap told c.seat.view_is) in
     let next : c.merge.new.self.parts ≡ c.loop-seat.all.parts + 1 = c.merge.ensures.parts ∙ ap (λ (k : ℕ). c.loop-seat.all.parts + k) c.seat.invariant.2 in (
-      c.meet.ensures.book ∙ i.0,
-      rw c.meet.ensures.book (took-more c.args.seats.items h _ _ _ _ _ _ _ _ x c.requires.order i.1 c.in-Some.ensures.steps.0 c.in-Some.ensures.steps.1 next more stands begins),
+      c.absorb.ensures.book ∙ i.0,
+      rw c.absorb.ensures.book (took-more c.args.seats.items h _ _ _ _ _ _ _ _ x c.requires.order i.1 c.in-Some.ensures.steps.0 c.in-Some.ensures.steps.1 next more stands begins),
     )
 
 pub returns-clause-opening : goal.returns-clause-opening

@@ -9,9 +9,9 @@ returns-in-Some-clause-some c =
     let used = c.args.self.now in
     let place = c.loop-place.place in
     let within : place < length used.words.items = omega (arith, c.loop-place-test.true, c.len-place-end.ensures) in
-    let near : place < 1089 = omega (arith, within, used.few) in
+    let hint : place < 1089 = omega (arith, within, used.few) in
     let word : c.index.result.now ≡ get_or used.words.items place 0 = c.index.ensures ∙ get_or_default used.words.items place c.index.result.now 0 within in
-    found_free used c.args.least place near c.loop-place.invariant c.first_bit-from.result c.in-Some.bit (place * 64 + c.in-Some.bit) refl
+    found_free used c.args.least place hint c.loop-place.invariant c.first_bit-from.result c.in-Some.bit (place * 64 + c.in-Some.bit) refl
     c.in-Some.ensures.within c.first_bit-from.ensures.each c.first_bit-from.ensures.least c.in-Some.ensures.least
     (subst (λ w. bit_at w c.in-Some.bit ≡ 0) word c.in-Some.ensures.clear)
     (subst (λ w. (i : ℕ) → c.first_bit-from.result ≤ i → i < c.in-Some.bit → bit_at w i ≡ 1) word c.in-Some.ensures.first)
@@ -21,9 +21,9 @@ loop-place-preserved c =
     let used = c.args.self.now in
     let place = c.loop-place.place in
     let within : place < length used.words.items = omega (arith, c.loop-place-test.true, c.len-place-end.ensures) in
-    let near : place < 1089 = omega (arith, within, used.few) in
+    let hint : place < 1089 = omega (arith, within, used.few) in
     let word : c.index.result.now ≡ get_or used.words.items place 0 = c.index.ensures ∙ get_or_default used.words.items place c.index.result.now 0 within in
-    searched_word used c.args.least place near c.loop-place.invariant c.first_bit-from.result c.first_bit-from.ensures.each
+    searched_word used c.args.least place hint c.loop-place.invariant c.first_bit-from.result c.first_bit-from.ensures.each
     (subst (λ w. (i : ℕ) → c.first_bit-from.result ≤ i → i < 64 → bit_at w i ≡ 1) word c.in_default.ensures.none)
 
 pub loop-id-init : goal.loop-id-init

@@ -1,4 +1,4 @@
-use Rattle.crush_bytes.proofs.Appending.{nothing_is_less}
+use Rattle.crush_units.proofs.Appending.{nothing_is_less}
 use Rattle.crush_json.proofs.PlanLaws.{some_plan_text}
 use Rattle.crush_json.proofs.write.plan.write_plan_document.Goals as goal
 

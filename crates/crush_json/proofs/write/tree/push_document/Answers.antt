@@ -2,7 +2,7 @@ use Rattle.crush_json.proofs.DocumentLaws.{document_done}
 use Rattle.crush_json.specs.Document.{document_of_tree}
 use Rattle.crush_json.specs.Seen.{history_data}
 use Rattle.crush_json.specs.TreeDocument.{tree_document}
-use Rattle.crush_view.specs.SeenStep.{step_data}
+use Rattle.crush_print.specs.SeenStep.{step_data}
 use Rattle.std.proofs.Common.{map}
 use Rattle.std.specs.Option.{option_map}
 use Rattle.std.specs.Prelude.{codes}

@@ -1,8 +1,8 @@
 use Rattle.std.proofs.Common.{◌≡◌, List, ap, sym, subst, ◌∙◌}
 use Rattle.std.specs.Prelude.{IfOk, OnErr}
-use Rattle.crush_table.specs.Table.{Row}
-use Rattle.crush_table.specs.Forest.{ForestData}
-use Rattle.crush_table.specs.Stands.{Stands}
+use Rattle.crush_model.specs.Table.{Row}
+use Rattle.crush_model.specs.Forest.{ForestData}
+use Rattle.crush_model.specs.Stands.{Stands}
 use Rattle.crush_edits.specs.Batch.{batch}
 use Rattle.crush_apply.specs.AsBefore.{IsAsBefore}
 use Rattle.crush_apply.specs.Batched.{IsBatchDone}

@@ -1,6 +1,6 @@
 use Rattle.std.proofs.Common.{rules}
-use Rattle.crush_table.specs.Forest.{rows_of}
-use Rattle.crush_table.proofs.Stands.{stands_for_rows}
+use Rattle.crush_model.specs.Forest.{rows_of}
+use Rattle.crush_model.proofs.Stands.{stands_for_rows}
 use Rattle.crush_map_tests.proofs.hierarchy.asked.can_receive.Goals as goal
 
 pub fits_attach_by-requires : goal.fits_attach_by-requires

@@ -1,10 +1,10 @@
 use Rattle.std.proofs.Common.{rules, sym, subst, ◌++◌, ◌∙◌, ◌∷◌, [], List}
 use Rattle.std.specs.Prelude.{Some}
-use Rattle.crush_table.specs.Forest.{rows_of}
-use Rattle.crush_table.specs.ItemRows.{rows}
-use Rattle.crush_table.specs.Items.{Items}
-use Rattle.crush_table.specs.Lawful.{Lawful}
-use Rattle.crush_table.specs.Table.{Row}
+use Rattle.crush_model.specs.Forest.{rows_of}
+use Rattle.crush_model.specs.ItemRows.{rows}
+use Rattle.crush_model.specs.Items.{Items}
+use Rattle.crush_model.specs.Lawful.{Lawful}
+use Rattle.crush_model.specs.Table.{Row}
 use Rattle.crush_nodes.specs.Seen.{items_of}
 use Rattle.crush_map_tests.proofs.hierarchy.asked_changes.attaches.Goals as goal
 

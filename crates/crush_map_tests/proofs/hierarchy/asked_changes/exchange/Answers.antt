@@ -1,9 +1,9 @@
 use Rattle.std.proofs.Common.{rules, sym}
 use Rattle.crush_units.specs.declared.id.ItemId.TheVariants.{Bucket}
-use Rattle.crush_table.specs.Forest.{rows_of}
-use Rattle.crush_table.specs.Table.{row_of}
-use Rattle.crush_table.proofs.Stands.{stands_for_rows}
-use Rattle.crush_table.proofs.Swapped.{Lawful-swap}
+use Rattle.crush_model.specs.Forest.{rows_of}
+use Rattle.crush_model.specs.Table.{row_of}
+use Rattle.crush_model.proofs.Stands.{stands_for_rows}
+use Rattle.crush_model.proofs.Swapped.{Lawful-swap}
 use Rattle.crush_map_tests.proofs.Passed.{found, passed}
 use Rattle.crush_map_tests.proofs.hierarchy.asked_changes.exchange.Goals as goal
 

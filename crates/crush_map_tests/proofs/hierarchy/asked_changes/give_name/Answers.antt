@@ -1,7 +1,7 @@
 use Rattle.std.proofs.Common.{rules, sym}
-use Rattle.crush_table.specs.Forest.{rows_of}
-use Rattle.crush_table.specs.Table.{row_of}
-use Rattle.crush_table.proofs.Renamed.{Lawful-set_name}
+use Rattle.crush_model.specs.Forest.{rows_of}
+use Rattle.crush_model.specs.Table.{row_of}
+use Rattle.crush_model.proofs.Renamed.{Lawful-set_name}
 use Rattle.crush_map_tests.proofs.Passed.{found}
 use Rattle.crush_map_tests.proofs.hierarchy.asked_changes.give_name.Goals as goal
 

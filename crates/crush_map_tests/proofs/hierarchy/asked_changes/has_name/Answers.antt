@@ -1,8 +1,8 @@
 use Rattle.std.proofs.Common.{ap, ◌∙◌}
 use Rattle.std.specs.Prelude.{is_some}
-use Rattle.crush_table.specs.Forest.{rows_of}
-use Rattle.crush_table.specs.Table.{is_named}
-use Rattle.crush_table.proofs.Stands.{stands_for_rows}
+use Rattle.crush_model.specs.Forest.{rows_of}
+use Rattle.crush_model.specs.Table.{is_named}
+use Rattle.crush_model.proofs.Stands.{stands_for_rows}
 use Rattle.crush_map_tests.proofs.hierarchy.asked_changes.has_name.Goals as goal
 
 pub returns-clause-named : goal.returns-clause-named

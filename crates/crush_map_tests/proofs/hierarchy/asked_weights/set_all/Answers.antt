@@ -1,7 +1,7 @@
 use Rattle.std.proofs.Common.{rules}
-use Rattle.crush_table.specs.Forest.{rows_of}
-use Rattle.crush_table.proofs.Columns.{Lawful-set_subtree}
-use Rattle.crush_table.proofs.Stands.{stands_for_rows}
+use Rattle.crush_model.specs.Forest.{rows_of}
+use Rattle.crush_model.proofs.Columns.{Lawful-set_subtree}
+use Rattle.crush_model.proofs.Stands.{stands_for_rows}
 use Rattle.crush_map_tests.proofs.Passed.{passed}
 use Rattle.crush_map_tests.proofs.hierarchy.asked_weights.set_all.Goals as goal
 

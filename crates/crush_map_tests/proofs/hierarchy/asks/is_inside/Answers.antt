@@ -1,9 +1,9 @@
 use Rattle.std.proofs.Common.{ap, ◌∙◌}
 use Rattle.std.specs.Prelude.{◌||◌}
 use Rattle.crush_units.specs.declared.id.ItemId.TheVariants.{Bucket}
-use Rattle.crush_table.specs.Forest.{rows_of}
-use Rattle.crush_table.specs.Table.{is_below}
-use Rattle.crush_table.proofs.Stands.{stands_for_rows}
+use Rattle.crush_model.specs.Forest.{rows_of}
+use Rattle.crush_model.specs.Table.{is_below}
+use Rattle.crush_model.proofs.Stands.{stands_for_rows}
 use Rattle.crush_map_tests.proofs.Passed.{same_bucket}
 use Rattle.crush_map_tests.proofs.hierarchy.asks.is_inside.Goals as goal
 

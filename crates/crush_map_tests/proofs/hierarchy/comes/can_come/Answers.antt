@@ -1,6 +1,6 @@
 use Rattle.std.proofs.Common.{sym, arith}
-use Rattle.crush_table.specs.Forest.{rows_of}
-use Rattle.crush_table.proofs.Stands.{stands_for_rows}
+use Rattle.crush_model.specs.Forest.{rows_of}
+use Rattle.crush_model.proofs.Stands.{stands_for_rows}
 use Rattle.crush_map_tests.proofs.Coming.{device_lawful}
 use Rattle.crush_map_tests.proofs.hierarchy.comes.can_come.Goals as goal
 

@@ -1,9 +1,9 @@
 use Rattle.std.proofs.Common.{rules, sym, subst, ◌++◌}
 use Rattle.std.specs.Prelude.{Some}
-use Rattle.crush_table.specs.Forest.{rows_of}
-use Rattle.crush_table.specs.ItemRows.{rows}
-use Rattle.crush_table.specs.Items.{Items}
-use Rattle.crush_table.specs.Lawful.{Lawful}
+use Rattle.crush_model.specs.Forest.{rows_of}
+use Rattle.crush_model.specs.ItemRows.{rows}
+use Rattle.crush_model.specs.Items.{Items}
+use Rattle.crush_model.specs.Lawful.{Lawful}
 use Rattle.crush_map_tests.proofs.hierarchy.comes.put_placed.Goals as goal
 
 pub add-requires : goal.add-requires

@@ -1,10 +1,10 @@
 use Rattle.std.proofs.Common.{rules, refl, sym, subst, ◌++◌, ◌∙◌, arith}
 use Rattle.std.specs.Prelude.{None}
-use Rattle.crush_table.specs.Forest.{rows_of}
-use Rattle.crush_table.specs.ItemRows.{rows}
-use Rattle.crush_table.specs.Items.{Items, device, none}
-use Rattle.crush_table.specs.Lawful.{Lawful}
-use Rattle.crush_table.proofs.Stands.{stands_for_rows}
+use Rattle.crush_model.specs.Forest.{rows_of}
+use Rattle.crush_model.specs.ItemRows.{rows}
+use Rattle.crush_model.specs.Items.{Items, device, none}
+use Rattle.crush_model.specs.Lawful.{Lawful}
+use Rattle.crush_model.proofs.Stands.{stands_for_rows}
 use Rattle.crush_map_tests.proofs.Coming.{unplaced_lawful}
 use Rattle.crush_map_tests.proofs.hierarchy.comes.put_unplaced.Goals as goal
 

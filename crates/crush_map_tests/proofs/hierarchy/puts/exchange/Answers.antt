@@ -1,17 +1,14 @@
 use Rattle.std.proofs.Common.{rules, sym}
 use Rattle.crush_units.specs.declared.id.ItemId.TheVariants.{Bucket}
-use Rattle.crush_table.specs.Forest.{rows_of}
-use Rattle.crush_table.specs.Table.{row_of}
-use Rattle.crush_table.proofs.Stands.{stands_for_rows}
-use Rattle.crush_table.proofs.Swapped.{Lawful-swap}
+use Rattle.crush_model.specs.Forest.{rows_of}
+use Rattle.crush_model.specs.Table.{row_of}
+use Rattle.crush_model.proofs.Stands.{stands_for_rows}
+use Rattle.crush_model.proofs.Swapped.{Lawful-swap}
 use Rattle.crush_map_tests.proofs.Passed.{found, passed}
 use Rattle.crush_map_tests.proofs.hierarchy.puts.exchange.Goals as goal
 
-pub swap-requires-clause-named : goal.swap-requires-clause-named
-swap-requires-clause-named c = record { first = c.in-Some.ensures; second = c.in-Some-named.ensures }
-
-pub swap-requires-clause-can : goal.swap-requires-clause-can
-swap-requires-clause-can c = record {
+pub swap-requires : goal.swap-requires
+swap-requires c = record {
   there_a = search rules;
   there_b = search rules;
   apart = search rules;

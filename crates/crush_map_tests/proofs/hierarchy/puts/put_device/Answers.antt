@@ -1,6 +1,6 @@
 use Rattle.std.proofs.Common.{rules, sym}
-use Rattle.crush_table.specs.Forest.{rows_of, all_items}
-use Rattle.crush_table.proofs.Stands.{stands_for_rows}
+use Rattle.crush_model.specs.Forest.{rows_of, all_items}
+use Rattle.crush_model.proofs.Stands.{stands_for_rows}
 use Rattle.crush_map_tests.proofs.Moving.{left_there, put_lawful}
 use Rattle.crush_map_tests.proofs.hierarchy.puts.put_device.Goals as goal
 

@@ -1,7 +1,7 @@
 use Rattle.std.proofs.Common.{ap, ◌∙◌}
 use Rattle.std.specs.Prelude.{not, is_some}
 use Rattle.crush_nodes.specs.Views.{ViewData}
-use Rattle.crush_view.specs.SeenStep.{step_data}
+use Rattle.crush_print.specs.SeenStep.{step_data}
 use Rattle.crush_since.specs.ItemData.{with_holder}
 use Rattle.crush_names.specs.declared.named.Devices.TheVariants.{ByName}
 use Rattle.crush_names.specs.Named.{counterpart}

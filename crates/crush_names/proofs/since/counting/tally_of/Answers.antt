@@ -1,11 +1,11 @@
 use Rattle.std.proofs.Common.{◌≡◌, Bool, List, ap, sym, map, ◌∙◌, cond}
 use Rattle.std.specs.List.{count_by}
 use Rattle.std.specs.Prelude.{None}
-use Rattle.crush_table.proofs.Reorder.{sum_by-map}
+use Rattle.crush_model.proofs.Reorder.{sum_by-map}
 use Rattle.crush_since.specs.Tallies.{is_made, is_reweighed, is_reclassed}
 use Rattle.crush_since.specs.declared.since.tally.Tally.{Tally}
-use Rattle.crush_view.specs.SeenStep.{step_data}
-use Rattle.crush_view.specs.Tree.{StepData}
+use Rattle.crush_print.specs.SeenStep.{step_data}
+use Rattle.crush_print.specs.Tree.{StepData}
 use Rattle.crush_names.specs.Counted.{both_meet, is_gone_by_name, is_moved_by_name, new_tally}
 use Rattle.crush_names.proofs.since.counting.tally_of.Goals as goal
 

@@ -1,7 +1,7 @@
 use Rattle.std.proofs.Common.{◌≡◌, true, take, List}
 use Rattle.crush_edits.specs.SettingSeen.{step_data}
-use Rattle.crush_table.specs.Stands.{Stands}
-use Rattle.crush_table.specs.Table.{Row}
+use Rattle.crush_model.specs.Stands.{Stands}
+use Rattle.crush_model.specs.Table.{Row}
 use Rattle.crush_since.proofs.PairLaws.{same_seen}
 use Rattle.crush_names.specs.NamedRules.{named_step}
 use Rattle.crush_names.proofs.staying.rules.same_steps.Given as goal

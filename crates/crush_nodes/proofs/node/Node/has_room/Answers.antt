@@ -1,6 +1,6 @@
 use Rattle.std.proofs.Common.{◌≡◌, ℕ, ◌-◌, ◌∷◌, [], ap, sym, ◌∙◌, arith}
 use Rattle.std.specs.Prelude.{nat_lt, vec_capacity}
-use Rattle.crush_table.specs.Items.{BucketData}
+use Rattle.crush_model.specs.Items.{BucketData}
 use Rattle.crush_nodes.specs.Held.{first_room}
 use Rattle.crush_nodes.specs.Room.{count}
 use Rattle.crush_nodes.specs.Seen.{items_of}

@@ -1,11 +1,11 @@
 use Rattle.std.proofs.Common.{◌≡◌, ◌+◌, ◌∷◌, [], ◌++◌, ◌-◌, ◌<◌, arith, ap, sym, ◌∙◌, subst, refl}
 use Rattle.std.specs.Prelude.{vec_capacity}
-use Rattle.crush_table.specs.Items.{BucketData, none, bucket}
-use Rattle.crush_table.specs.Forest.{join}
-use Rattle.crush_table.specs.ItemRows.{rows}
-use Rattle.crush_table.specs.Stored.{weight_sum, StoresSums}
+use Rattle.crush_model.specs.Items.{BucketData, none, bucket}
+use Rattle.crush_model.specs.Forest.{join}
+use Rattle.crush_model.specs.ItemRows.{rows}
+use Rattle.crush_model.specs.Stored.{weight_sum, StoresSums}
 use Rattle.crush_nodes.specs.Held.{first_room, first_bucket, is_own_place, bucket_with}
-use Rattle.crush_table.specs.Count.{one_if}
+use Rattle.crush_model.specs.Count.{one_if}
 use Rattle.crush_nodes.specs.Room.{count, room_in}
 use Rattle.crush_nodes.specs.Seen.{items_of}
 use Rattle.crush_nodes.specs.declared.node.Node.{Node}

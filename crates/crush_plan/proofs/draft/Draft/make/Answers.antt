@@ -1,6 +1,6 @@
 use Rattle.std.proofs.Common.{ap, refl, sym, subst, ◌∙◌}
 use Rattle.std.proofs.lemmas.Result.{on_ok_weaker}
-use Rattle.crush_table.specs.Stands.{Stands}
+use Rattle.crush_model.specs.Stands.{Stands}
 use Rattle.crush_map.specs.MapData.{MapData}
 use Rattle.crush_plan.proofs.Going.{gave, with_map}
 use Rattle.crush_plan.proofs.draft.Draft.make.Goals as goal

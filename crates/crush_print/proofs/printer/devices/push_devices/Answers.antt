@@ -1,6 +1,6 @@
 use Rattle.std.proofs.Common.{ap, ◌∙◌}
 use Rattle.std.specs.Prelude.{None, codes, flat_map}
-use Rattle.crush_table.specs.ItemRows.{device_row}
+use Rattle.crush_model.specs.ItemRows.{device_row}
 use Rattle.crush_nodes.specs.Seen.{leaf_data}
 use Rattle.crush_print.specs.Lines.{device_line}
 use Rattle.crush_print.specs.MapText.{device_lines, device_section}

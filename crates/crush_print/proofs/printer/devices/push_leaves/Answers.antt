@@ -1,5 +1,5 @@
 use Rattle.std.specs.Prelude.{None}
-use Rattle.crush_table.specs.ItemRows.{device_row}
+use Rattle.crush_model.specs.ItemRows.{device_row}
 use Rattle.crush_nodes.specs.Seen.{leaf_data}
 use Rattle.crush_print.specs.Lines.{device_line}
 use Rattle.crush_print.proofs.ItemLines.{one_more, prints_more}

@@ -1,5 +1,5 @@
 use Rattle.std.proofs.Common.{◌≡◌, ◌++◌, List, length}
-use Rattle.crush_table.specs.Table.{Row}
+use Rattle.crush_model.specs.Table.{Row}
 use Rattle.crush_reasons.specs.Sums.{IsSummed}
 use Rattle.crush_reasons.specs.Written.{lines_left}
 use Rattle.crush_reasons.proofs.written.Scan.push_left.Given as goal

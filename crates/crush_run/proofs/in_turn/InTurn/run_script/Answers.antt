@@ -1,9 +1,9 @@
 use Rattle.std.proofs.Common.{◌≡◌, ◌++◌, take, subst, ◌∙◌, refl, arith, rules}
 use Rattle.std.proofs.lemmas.List.{take_all}
 use Rattle.crush_map.specs.MapData.{MapStands}
-use Rattle.crush_calls.specs.History.{behind, counted_after, turn}
-use Rattle.crush_calls.proofs.InTurn.{call_made, table_made, no_call, no_table}
-use Rattle.crush_calls.proofs.EntryLines.{one_more}
+use Rattle.crush_history.specs.History.{behind, counted_after, turn}
+use Rattle.crush_history.proofs.InTurn.{call_made, table_made, no_call, no_table}
+use Rattle.crush_history.proofs.EntryLines.{one_more}
 use Rattle.crush_run.proofs.Lists.{dropped}
 use Rattle.crush_run.proofs.in_turn.InTurn.run_script.Goals as goal
 

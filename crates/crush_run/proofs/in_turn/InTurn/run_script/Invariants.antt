@@ -1,10 +1,10 @@
 use Rattle.std.proofs.Common.{◌≡◌, ◌<◌, ◌+◌, ℕ, List, drop, length, take, ◌++◌}
 use Rattle.std.specs.Vec.Iter.{into_iter_items, into_iter_len}
-use Rattle.crush_table.specs.Table.{Row}
+use Rattle.crush_model.specs.Table.{Row}
 use Rattle.crush_edits.specs.Setting.{SettingData}
 use Rattle.crush_map.specs.MapData.{MapStands}
-use Rattle.crush_calls.specs.History.{behind, counted_after, turn}
-use Rattle.crush_calls.specs.Entries.{AreOf}
+use Rattle.crush_history.specs.History.{behind, counted_after, turn}
+use Rattle.crush_history.specs.Entries.{AreOf}
 use Rattle.crush_run.proofs.in_turn.InTurn.run_script.Given as goal
 
 abbrev pub invariant-loop-call : goal.invariant-loop-call

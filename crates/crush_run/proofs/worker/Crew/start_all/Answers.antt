@@ -1,6 +1,6 @@
 use Rattle.std.proofs.Common.{◌≡◌, ◌∙◌, ℕ, ◌<◌, ◌+◌, [], length, vec_len, ap, arith, slice_index_or}
 use Rattle.crush_editor.specs.Seat.{SeatData, seat_data}
-use Rattle.crush_calls.specs.declared.script.Script.{Script}
+use Rattle.crush_history.specs.declared.script.Script.{Script}
 use Rattle.crush_run.specs.declared.worker.Task.{Task}
 use Rattle.crush_run.specs.declared.worker.Finished.{Finished}
 use Rattle.std.specs.declared.thread.PromisedHandle.{PromisedHandle}

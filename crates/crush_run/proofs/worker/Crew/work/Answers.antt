@@ -1,7 +1,7 @@
 use Rattle.std.proofs.Common.{◌++◌, [], ◌∷◌, ap, sym, arith, take, ◌∙◌}
 use Rattle.std.proofs.lemmas.List.{map_push, take_all, take_more}
-use Rattle.crush_calls.specs.History.{AnsweredData}
-use Rattle.crush_calls.specs.Turns.{calls_of}
+use Rattle.crush_history.specs.History.{AnsweredData}
+use Rattle.crush_history.specs.Turns.{calls_of}
 use Rattle.crush_run.proofs.Lists.{dropped}
 use Rattle.crush_run.proofs.worker.Crew.work.Goals as goal
 

@@ -1,6 +1,6 @@
 use Rattle.std.proofs.Common.{◌≡◌, ◌+◌, drop, length, take}
 use Rattle.std.specs.Vec.Iter.{into_iter_items, into_iter_len}
-use Rattle.crush_calls.specs.Turns.{calls_of}
+use Rattle.crush_history.specs.Turns.{calls_of}
 use Rattle.crush_run.proofs.worker.Crew.work.Given as goal
 
 abbrev pub invariant-loop-call : goal.invariant-loop-call

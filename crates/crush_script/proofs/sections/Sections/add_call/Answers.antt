@@ -1,5 +1,5 @@
 use Rattle.std.proofs.Common.{◌≡◌, ◌+◌, ◌-◌, List, Ok, length, ap, arith}
-use Rattle.crush_calls.specs.Script.{ScriptData}
+use Rattle.crush_history.specs.Script.{ScriptData}
 use Rattle.crush_script.specs.Sections.{SectionsData}
 use Rattle.crush_script.proofs.Calls.{call_in_last-set}
 use Rattle.crush_script.proofs.sections.Sections.add_call.Goals as goal

@@ -1,7 +1,7 @@
 use Rattle.std.proofs.Common.{◌≡◌, ◌∙◌, ◌+◌, false, List, [], ◌∷◌, ◌++◌, arith, ap, sym, map}
 use Rattle.std.proofs.lemmas.List.{map_push}
-use Rattle.crush_table.specs.Items.{BucketData, size_of}
-use Rattle.crush_table.specs.Table.{is_there}
+use Rattle.crush_model.specs.Items.{BucketData, size_of}
+use Rattle.crush_model.specs.Table.{is_there}
 use Rattle.crush_units.specs.declared.id.ItemId.TheVariants.{Bucket as BucketItem}
 use Rattle.crush_nodes.specs.Seen.{items_of, node_id}
 use Rattle.crush_nodes.proofs.Ends.{all_taken}
@@ -10,7 +10,7 @@ use Rattle.crush_since.specs.ChangeItems.{stood_of}
 use Rattle.crush_since.specs.Changes.{ChangeData, change_at}
 use Rattle.crush_since.specs.SeenChange.{place_change}
 use Rattle.crush_since.proofs.StoodLaws.{stood-more, bucket_gone}
-use Rattle.crush_view.proofs.WalkLaws.{one_more_below}
+use Rattle.crush_print.proofs.WalkLaws.{one_more_below}
 use Rattle.crush_since.proofs.changes.left.+push_stood.Goals as goal
 
 pub loop-item-init : goal.loop-item-init

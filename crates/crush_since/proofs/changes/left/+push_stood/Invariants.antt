@@ -1,6 +1,6 @@
 use Rattle.std.proofs.Common.{◌≡◌, [], ◌∷◌, ◌++◌, ◌+◌, false, List, take, map}
-use Rattle.crush_table.specs.Items.{size_of}
-use Rattle.crush_table.specs.Table.{Row}
+use Rattle.crush_model.specs.Items.{size_of}
+use Rattle.crush_model.specs.Table.{Row}
 use Rattle.crush_nodes.specs.Seen.{items_of, node_id}
 use Rattle.crush_since.specs.ChangeItems.{stood_of}
 use Rattle.crush_since.specs.Changes.{change_at}

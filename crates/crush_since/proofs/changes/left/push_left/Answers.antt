@@ -1,9 +1,9 @@
 use Rattle.std.proofs.Common.{◌≡◌, ◌++◌, ◌∙◌, List, ap, sym, subst, map, arith, append-nil}
 use Rattle.std.specs.Prelude.{OnOk}
-use Rattle.crush_table.specs.Forest.{IsSound}
+use Rattle.crush_model.specs.Forest.{IsSound}
 use Rattle.crush_since.specs.Changes.{ChangeData}
 use Rattle.crush_since.specs.SeenChange.{place_change}
-use Rattle.crush_view.proofs.BelowLaws.{few_below}
+use Rattle.crush_print.proofs.BelowLaws.{few_below}
 use Rattle.crush_since.proofs.StoodLaws.{left_below, nothing_left}
 use Rattle.crush_since.proofs.changes.left.push_left.Goals as goal
 

@@ -4,7 +4,7 @@ use Rattle.std.proofs.Common.{arith, ap, map, ◌∙◌, ◌++◌}
 use Rattle.std.specs.Prelude.{Some, flat_map}
 use Rattle.crush_print.proofs.ItemLines.{item_no_larger}
 use Rattle.crush_since.specs.ChangeItems.{left_of}
-use Rattle.crush_view.proofs.WalkLaws.{one_more, more_steps}
+use Rattle.crush_print.proofs.WalkLaws.{one_more, more_steps}
 use Rattle.crush_since.proofs.changes.left.push_left_items.Goals as goal
 
 pub push_if_left-requires : goal.push_if_left-requires

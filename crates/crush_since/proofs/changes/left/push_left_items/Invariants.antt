@@ -1,6 +1,6 @@
 use Rattle.std.proofs.Common.{◌≡◌, ◌++◌, List, take, map}
 use Rattle.std.specs.Prelude.{Some, flat_map}
-use Rattle.crush_table.specs.Table.{Row}
+use Rattle.crush_model.specs.Table.{Row}
 use Rattle.crush_since.specs.ChangeItems.{left_of}
 use Rattle.crush_since.specs.SeenChange.{AreTables, place_change}
 use Rattle.crush_since.proofs.changes.left.push_left_items.Given as goal

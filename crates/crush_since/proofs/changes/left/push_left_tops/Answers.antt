@@ -3,7 +3,7 @@ use Rattle.std.proofs.lemmas.List.{take_all}
 use Rattle.crush_since.specs.SeenChange.{place_change}
 use Rattle.std.specs.Prelude.{None, flat_map}
 use Rattle.crush_since.specs.ChangeItems.{left_of}
-use Rattle.crush_view.proofs.WalkLaws.{one_more, more_steps}
+use Rattle.crush_print.proofs.WalkLaws.{one_more, more_steps}
 use Rattle.crush_since.proofs.changes.left.push_left_tops.Goals as goal
 
 pub loop-node-preserved : goal.loop-node-preserved

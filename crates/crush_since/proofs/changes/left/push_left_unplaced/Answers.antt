@@ -1,12 +1,12 @@
 use Rattle.std.proofs.Common.{◌≡◌, ◌<◌, ◌^◌, [], ◌∷◌, ◌++◌, ◌∙◌, ap, sym, subst, map, arith, inr}
 use Rattle.std.specs.Prelude.{All, None, OnOk, flat_map}
-use Rattle.crush_table.specs.Items.{size_of}
-use Rattle.crush_table.specs.Stands.{Stands}
+use Rattle.crush_model.specs.Items.{size_of}
+use Rattle.crush_model.specs.Stands.{Stands}
 use Rattle.crush_nodes.specs.Seen.{items_of}
 use Rattle.crush_since.specs.ChangeItems.{left_of}
 use Rattle.crush_since.specs.SeenChange.{place_change}
 use Rattle.crush_since.proofs.StoodLaws.{left_unplaced}
-use Rattle.crush_view.proofs.WalkLaws.{few_buckets, small_refs}
+use Rattle.crush_print.proofs.WalkLaws.{few_buckets, small_refs}
 use Rattle.crush_since.proofs.changes.left.push_left_unplaced.Goals as goal
 
 pub push_left_tops-requires : goal.push_left_tops-requires

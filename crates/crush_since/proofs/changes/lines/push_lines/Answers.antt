@@ -3,7 +3,7 @@ use Rattle.std.proofs.lemmas.List.{take_all}
 use Rattle.std.specs.Prelude.{flat_map}
 use Rattle.crush_since.specs.ChangeText.{change_line}
 use Rattle.crush_since.specs.SeenChange.{place_change}
-use Rattle.crush_view.proofs.WalkLaws.{one_more, more_steps}
+use Rattle.crush_print.proofs.WalkLaws.{one_more, more_steps}
 use Rattle.crush_since.proofs.changes.lines.push_lines.Goals as goal
 
 pub loop-row-preserved : goal.loop-row-preserved

@@ -1,6 +1,6 @@
 use Rattle.std.proofs.Common.{◌≡◌, ◌++◌, List, take}
 use Rattle.std.specs.Prelude.{flat_map}
-use Rattle.crush_table.specs.Table.{Row}
+use Rattle.crush_model.specs.Table.{Row}
 use Rattle.crush_since.specs.ChangeText.{change_line}
 use Rattle.crush_since.specs.SeenChange.{AreTables, place_change}
 use Rattle.crush_since.proofs.changes.lines.push_lines.Given as goal

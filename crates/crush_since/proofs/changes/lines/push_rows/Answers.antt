@@ -3,7 +3,7 @@ use Rattle.std.specs.Prelude.{OnOk, flat_map}
 use Rattle.crush_print.proofs.InOrder.{section_pushed}
 use Rattle.crush_since.specs.ChangeText.{change_line, heading, rows_text}
 use Rattle.crush_since.specs.SeenChange.{place_change}
-use Rattle.crush_view.proofs.WalkLaws.{flat-map}
+use Rattle.crush_print.proofs.WalkLaws.{flat-map}
 use Rattle.crush_since.proofs.changes.lines.push_rows.Goals as goal
 
 pub returns : goal.returns

@@ -7,4 +7,4 @@ pub returns-clause-row : goal.returns-clause-row
 returns-clause-row g c = λ t u tables. ap (map (place_change t u)) c.in_ok-push.ensures.items ∙ map_push (place_change t u) c.args.rows.now.items _
 
 pub returns-clause-told : goal.returns-clause-told
-returns-clause-told g c = λ t u tables. c.is_told_of-is_told.ensures c.args.both.now.old.now.setting c.args.both.now.new.now.setting t u tables.before tables.after
+returns-clause-told g c = λ t u tables. c.is_listed_of-is_listed.ensures c.args.both.now.old.now.setting c.args.both.now.new.now.setting t u tables.before tables.after

@@ -1,15 +1,15 @@
 use Rattle.std.proofs.Common.{◌<◌, ◌^◌, [], ◌∷◌, ◌∙◌, ap, sym, subst, map, inr}
 use Rattle.std.specs.Prelude.{All, flat_map}
-use Rattle.crush_table.specs.Items.{size_of}
-use Rattle.crush_table.specs.Stands.{Stands}
+use Rattle.crush_model.specs.Items.{size_of}
+use Rattle.crush_model.specs.Stands.{Stands}
 use Rattle.crush_nodes.specs.Seen.{items_of}
 use Rattle.crush_since.specs.ChangeItems.{stands_of}
 use Rattle.crush_since.specs.Changes.{unplaced_rows}
 use Rattle.crush_since.specs.SeenChange.{place_change}
-use Rattle.crush_since.specs.Since.{told}
+use Rattle.crush_since.specs.Since.{plain_map}
 use Rattle.crush_since.proofs.ChangeTextLaws.{both_pushed}
 use Rattle.crush_since.proofs.StandsLaws.{unplaced_stand}
-use Rattle.crush_view.proofs.WalkLaws.{few_buckets, small_refs}
+use Rattle.crush_print.proofs.WalkLaws.{few_buckets, small_refs}
 use Rattle.crush_since.proofs.changes.rows.push_unplaced.Goals as goal
 
 pub push_tops-requires : goal.push_tops-requires
@@ -20,8 +20,8 @@ push_tops-requires g c =
 pub returns : goal.returns
 unfolding unplaced_rows
 returns g c = λ t u tables.
-    let old = told c.args.both.now.old.now.setting t in
-    let new = told c.args.both.now.new.now.setting u in
+    let old = plain_map c.args.both.now.old.now.setting t in
+    let new = plain_map c.args.both.now.new.now.setting u in
     let f = c.forest-forest.result.now in
     let here = subst (λ x. Stands x u) (sym c.forest-forest.ensures) tables.new in
     both_pushed c.push_left_unplaced.result (map (place_change t u) c.args.rows.now.items) (map (place_change t u) c.push_tops.new.rows.items) (map (place_change t u) c.push_left_unplaced.new.rows.items) _ _ _ (c.in_ok-push_tops.ensures t u tables)

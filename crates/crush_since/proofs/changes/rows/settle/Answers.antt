@@ -5,5 +5,5 @@ use Rattle.crush_since.proofs.changes.rows.settle.Goals as goal
 
 pub returns-then-saturating_sub-eq1 : goal.returns-then-saturating_sub-eq1
 returns-then-saturating_sub-eq1 c = λ t u before below row long are.
-    settled (place_change t u) c.args.rows.now.items c.truncate.new.self.items c.args.at c.args.is_told before below row c.if-not-is_told.true
+    settled (place_change t u) c.args.rows.now.items c.truncate.new.self.items c.args.at c.args.is_listed before below row c.if-not-is_listed.true
     (omega (arith, c.saturating_sub.ensures, c.len.ensures, c.if-saturating_sub-eq1.true)) c.truncate.ensures.items long are

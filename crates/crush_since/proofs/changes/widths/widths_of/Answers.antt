@@ -2,7 +2,7 @@ use Rattle.std.proofs.Common.{◌∙◌, ap, length, refl}
 use Rattle.std.specs.Prelude.{ℕ, List, max}
 use Rattle.crush_since.specs.ChangeText.{id_word, class_word, was_word, weight_word, weight_or_dash}
 use Rattle.crush_since.specs.SeenChange.{place_change}
-use Rattle.crush_view.proofs.WalkLaws.{widest-taken}
+use Rattle.crush_print.proofs.WalkLaws.{widest-taken}
 use Rattle.crush_since.proofs.changes.widths.widths_of.Goals as goal
 
 pub loop-row-init : goal.loop-row-init

@@ -1,8 +1,8 @@
 use Rattle.std.proofs.Common.{◌≡◌, List, take, map}
-use Rattle.crush_table.specs.Table.{Row}
+use Rattle.crush_model.specs.Table.{Row}
 use Rattle.crush_since.specs.ChangeText.{id_word, class_word, was_word, weight_word}
 use Rattle.crush_since.specs.SeenChange.{AreTables, place_change}
-use Rattle.crush_view.specs.TreeText.{widest}
+use Rattle.crush_print.specs.TreeText.{widest}
 use Rattle.crush_since.proofs.changes.widths.widths_of.Given as goal
 
 abbrev pub invariant-loop-row : goal.invariant-loop-row

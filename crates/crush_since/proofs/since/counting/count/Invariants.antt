@@ -1,5 +1,5 @@
 use Rattle.std.proofs.Common.{◌≡◌, List, take}
-use Rattle.crush_table.specs.Table.{Row}
+use Rattle.crush_model.specs.Table.{Row}
 use Rattle.crush_since.specs.Listing.{Lists}
 use Rattle.crush_since.specs.Tallies.{tally_of}
 use Rattle.crush_since.proofs.TallyLaws.{AtMost}

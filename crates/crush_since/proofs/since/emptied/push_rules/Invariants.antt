@@ -1,7 +1,7 @@
 use Rattle.std.proofs.Common.{◌≡◌, ◌++◌, List, take, map}
 use Rattle.std.specs.Prelude.{flat_map}
-use Rattle.crush_table.specs.Stands.{Stands}
-use Rattle.crush_table.specs.Table.{Row}
+use Rattle.crush_model.specs.Stands.{Stands}
+use Rattle.crush_model.specs.Table.{Row}
 use Rattle.crush_edits.specs.SettingSeen.{rule_data}
 use Rattle.crush_since.specs.Emptied.{emptied_of}
 use Rattle.crush_since.proofs.since.emptied.push_rules.Given as goal

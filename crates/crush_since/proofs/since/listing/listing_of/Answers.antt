@@ -1,7 +1,7 @@
 use Rattle.std.proofs.Common.{rules, ap, ◌∙◌}
 use Rattle.std.proofs.lemmas.List.Sorted.{IsNonDecreasingBy-from_sort_by_key}
 use Rattle.std.specs.Prelude.{None}
-use Rattle.crush_table.specs.Forest.{all_items}
+use Rattle.crush_model.specs.Forest.{all_items}
 use Rattle.crush_since.specs.Entries.{entries_of, id_key}
 use Rattle.crush_since.specs.Listing.{listed_id}
 use Rattle.crush_since.proofs.EntryLaws.{sorted_lists}

@@ -1,7 +1,7 @@
 use Rattle.std.proofs.Common.{◌∙◌, ap, map}
 use Rattle.std.proofs.lemmas.Result.{IfOk-weaker}
-use Rattle.crush_view.specs.SeenStep.{step_data}
-use Rattle.crush_view.specs.TreePart.{cut, part_steps, steps_under}
+use Rattle.crush_print.specs.SeenStep.{step_data}
+use Rattle.crush_print.specs.TreePart.{cut, part_steps, steps_under}
 use Rattle.crush_since.specs.SincePart.{step_ids}
 use Rattle.crush_since.proofs.since.part.ids_below.Goals as goal
 

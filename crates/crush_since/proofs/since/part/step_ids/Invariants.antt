@@ -1,5 +1,5 @@
 use Rattle.std.proofs.Common.{◌≡◌, map, take}
-use Rattle.crush_view.specs.SeenStep.{step_data}
+use Rattle.crush_print.specs.SeenStep.{step_data}
 use Rattle.crush_since.specs.SincePart.{step_ids}
 use Rattle.crush_since.proofs.since.part.step_ids.Given as goal
 

@@ -1,7 +1,7 @@
 -- The algorithm's line word by word, with a hash and without.
 use Rattle.std.proofs.Common.{rules, Bool, sym, ap, ◌∙◌}
 use Rattle.std.specs.Prelude.{if◌then◌else◌}
-use Rattle.crush_bytes.specs.Words.{past}
+use Rattle.crush_units.specs.Words.{past}
 use Rattle.std.proofs.lemmas.Result.{err_from_is_err_and}
 use Rattle.crush_builder.specs.Built.{with_alg}
 use Rattle.crush_text.proofs.LineByLine.{fails_so}

@@ -1,7 +1,7 @@
 -- A device's line word by word, of which nothing speaks against the device.
 use Rattle.std.proofs.Common.{rules, Bool, None, refl, sym, ap, ◌∙◌}
 use Rattle.std.specs.Prelude.{if◌then◌else◌}
-use Rattle.crush_bytes.specs.Words.{past}
+use Rattle.crush_units.specs.Words.{past}
 use Rattle.std.proofs.lemmas.Result.{err_from_is_err_and}
 use Rattle.crush_builder.specs.Built.{with_device}
 use Rattle.crush_builder.specs.Building.{IsDraft}

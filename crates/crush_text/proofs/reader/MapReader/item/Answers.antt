@@ -1,7 +1,7 @@
 -- An item with a weight, and one without.
 use Rattle.std.proofs.Common.{rules, ◌∙◌, Bool, sym, ap}
 use Rattle.std.specs.Prelude.{if◌then◌else◌}
-use Rattle.crush_bytes.specs.Words.{past}
+use Rattle.crush_units.specs.Words.{past}
 use Rattle.std.proofs.lemmas.Result.{err_from_is_err_and}
 use Rattle.crush_text.proofs.MemoryAlone.{light_unwritten}
 use Rattle.crush_text.proofs.Weighed.{item_err, item_fault, weighed_reads, lone_reads}

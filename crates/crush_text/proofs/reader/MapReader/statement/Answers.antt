@@ -8,7 +8,7 @@ use Rattle.crush_text.specs.declared.reader.MapReader.{MapReader}
 use Rattle.crush_text.specs.declared.opening.Opening.{Opening}
 use Rattle.crush_text.specs.declared.opening.Opening.TheVariants as openings
 use Rattle.crush_text.specs.declared.fault.TextFault.{TextFault}
-use Rattle.crush_bytes.specs.Words.{Text}
+use Rattle.crush_units.specs.Words.{Text}
 use Rattle.crush_text.specs.Role.{kind_of_word}
 use Rattle.crush_text.specs.Form.{first, second, at}
 use Rattle.crush_text.specs.Flow.{between, arrive}

@@ -1,7 +1,7 @@
 -- The bucket that a step takes, and its class, word by word.
 use Rattle.std.proofs.Common.{rules, Bool, None, sym, ap, ◌∙◌, inl}
 use Rattle.std.specs.Prelude.{if◌then◌else◌}
-use Rattle.crush_bytes.specs.Words.{past}
+use Rattle.crush_units.specs.Words.{past}
 use Rattle.std.proofs.lemmas.Result.{err_from_is_err_and}
 use Rattle.crush_edits.specs.Setting.{take}
 use Rattle.crush_builder.specs.Rules.{complete_bucket_named, taken_number}

@@ -2,7 +2,7 @@
 use Rattle.std.proofs.Common.{rules, Bool, sym, ap, ◌∙◌}
 use Rattle.std.specs.Prelude.{if◌then◌else◌}
 use Rattle.std.proofs.lemmas.Result.{err_from_is_err_and}
-use Rattle.crush_bytes.specs.Words.{past}
+use Rattle.crush_units.specs.Words.{past}
 use Rattle.crush_text.proofs.LineEnds.{word_err, word_reads}
 use Rattle.crush_text.proofs.Reached.{part_taken}
 use Rattle.crush_text.proofs.Refused.{no_size}

@@ -1,7 +1,7 @@
 use Rattle.std.proofs.Common.{◌≡◌, ap, sym, subst, ◌∙◌}
 use Rattle.std.specs.Prelude.{Some, ◌≤◌}
 use Rattle.crush_units.specs.declared.limits.TheConstants.{HEAVIEST_BUCKET}
-use Rattle.crush_table.specs.Classes.{class_weight_of}
+use Rattle.crush_model.specs.Classes.{class_weight_of}
 use Rattle.crush_nodes.specs.Classed.{class_sum_in}
 use Rattle.crush_tree.proofs.ClassLemmas.{class_light, class_weighed}
 use Rattle.crush_tree.proofs.forest.Forest.class_weight_along.Goals as goal

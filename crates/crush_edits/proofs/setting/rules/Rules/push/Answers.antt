@@ -1,6 +1,6 @@
 use Rattle.std.proofs.Common.{ap, sym, subst, ◌∙◌}
 use Rattle.std.specs.Prelude.{map}
-use Rattle.crush_table.specs.Table.{member}
+use Rattle.crush_model.specs.Table.{member}
 use Rattle.crush_edits.specs.RulesTold.{AreTakenBy, ComeAsTaken}
 use Rattle.crush_edits.specs.Setting.{taken_by}
 use Rattle.crush_edits.specs.SettingSeen.{rule_data}

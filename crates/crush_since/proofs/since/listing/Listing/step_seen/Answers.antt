@@ -2,9 +2,9 @@ use Rattle.std.proofs.Common.{◌≡◌, ap, ◌∙◌}
 use Rattle.std.specs.Prelude.{option_and_then}
 use Rattle.crush_nodes.specs.SeenView.{view_data}
 use Rattle.crush_nodes.specs.Views.{ViewData}
-use Rattle.crush_table.specs.Table.{name_of}
+use Rattle.crush_model.specs.Table.{name_of}
 use Rattle.crush_units.specs.declared.id.ItemId.TheVariants.{Bucket}
-use Rattle.crush_view.specs.SeenStep.{step_data}
+use Rattle.crush_print.specs.SeenStep.{step_data}
 use Rattle.crush_since.proofs.since.listing.Listing.step_seen.Goals as goal
 
 pub returns : goal.returns

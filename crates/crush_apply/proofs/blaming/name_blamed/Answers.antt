@@ -1,5 +1,0 @@
-use Rattle.std.proofs.Common.{rules}
-use Rattle.crush_apply.proofs.blaming.name_blamed.Goals as goal
-
-pub returns-in-NameTaken : goal.returns-in-NameTaken
-returns-in-NameTaken c = search rules

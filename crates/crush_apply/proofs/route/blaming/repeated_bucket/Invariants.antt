@@ -1,9 +1,0 @@
-use Rattle.std.proofs.Common.{◌≡◌, drop}
-use Rattle.crush_edits.specs.Located.{names_it}
-use Rattle.crush_edits.specs.declared.location.Pair.{Pair}
-use Rattle.crush_apply.specs.Blamed.{first_name}
-use Rattle.crush_apply.proofs.route.blaming.repeated_bucket.Given as goal
-
--- what is left decides
-abbrev pub invariant-loop-k : goal.invariant-loop-k
-invariant-loop-k l = first_name (λ (p : Pair) x. names_it x p.name) (λ (p : Pair). p.name) l.pairs ≡ first_name (λ (p : Pair) x. names_it x p.name) (λ (p : Pair). p.name) (drop l.k l.pairs)

@@ -1,7 +1,0 @@
-use Rattle.std.proofs.Common.{◌≡◌, drop}
-use Rattle.crush_apply.specs.Blamed.{unknown_type}
-use Rattle.crush_apply.proofs.route.blaming.unknown_type.Given as goal
-
--- what is left decides
-abbrev pub invariant-loop-pair : goal.invariant-loop-pair
-invariant-loop-pair l = unknown_type l.setting l.pairs ≡ unknown_type l.setting (drop l.pair-index l.pairs)

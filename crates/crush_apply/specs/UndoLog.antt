@@ -1,0 +1,103 @@
+-- Batches that are made in place: what is noted of an edit, and what becomes of a forest where it is taken back.
+use Rattle.std.specs.Prelude.{◌≡◌, ℕ, ◌+◌, ◌≤◌, List, [], ◌∷◌, length, Option, Some, None, Result, Ok, Err, IfOk, Bool, true, false, ◌&&◌}
+use Rattle.crush_units.specs.declared.id.ItemId.TheVariants.{Device}
+use Rattle.crush_units.specs.declared.limits.TheConstants.{HEAVIEST_DEVICE}
+use Rattle.crush_model.specs.Table.{Row, is_there, is_placed}
+use Rattle.crush_model.specs.Columns.{set_weight}
+use Rattle.crush_model.specs.Forest.{ForestData, rows_of}
+use Rattle.crush_model.specs.Lawful.{is_too_heavy}
+use Rattle.crush_tree.specs.Required.{CanSwap}
+use Rattle.crush_tree.specs.Exact.{forest_swapped, forest_with_class, forest_with_weight}
+use Rattle.crush_edits.specs.declared.edit.Edit.{Edit}
+use Rattle.crush_edits.specs.declared.edit.Edit.TheVariants.{Insert, CreateOrMove, Update, Move, Swap, Reweight, ReweightSubtree, Remove, AddBucket, Rename, SetClass, RemoveClass}
+use Rattle.crush_edits.specs.declared.refusal.Done.{Done}
+use Rattle.crush_edits.specs.declared.refusal.EditFault.{EditFault}
+use Rattle.crush_edits.specs.Answer.{Answer}
+use Rattle.crush_apply.specs.declared.undo_log.Undo.{Undo}
+use Rattle.crush_apply.specs.declared.undo_log.Undo.TheVariants.{Weight, Class, Exchange}
+use Rattle.crush_apply.specs.Answered.{AnswersAs}
+
+-- whether it is noted what takes the edit back
+abbrev pub is_logged : Edit → Bool
+is_logged (Reweight n w) = true
+is_logged (SetClass n c) = true
+is_logged (RemoveClass n) = true
+is_logged (ReweightSubtree n w) = false
+is_logged (Swap m n) = true
+is_logged (Remove n) = false
+is_logged (Insert d n w l) = false
+is_logged (CreateOrMove d n w l) = false
+is_logged (Update d n w l) = false
+is_logged (Move n l) = false
+is_logged (AddBucket n kind) = false
+is_logged (Rename from to) = false
+
+-- whether the edit can be made in place before the later ones: the last one always, since behind it nothing is refused
+abbrev pub stays : Edit → List Edit → Bool
+stays e [] = true
+stays e (f ∷ es) = is_logged e
+
+-- whether all can
+abbrev pub are_in_place : List Edit → Bool
+are_in_place [] = true
+are_in_place (e ∷ es) = stays e es && are_in_place es
+
+-- they can, and a log of this capacity has room for what is noted of all but the last
+pub record CanBeLogged (es : List Edit) (capacity : ℕ) : Type 0 where
+  pub in_place : are_in_place es ≡ true
+  pub room : length es ≤ capacity + 1
+
+-- where the placed device d of the forest g gets the weight w, f comes of it, which is not too heavy
+pub record GivesWeight (d w : ℕ) (g f : ForestData) : Type 0 where
+  pub placed : is_placed (rows_of g) (Device d) ≡ true
+  pub light : w ≤ HEAVIEST_DEVICE
+  pub fits : is_too_heavy (set_weight (Device d) w (rows_of g)) ≡ false
+  pub is : f ≡ forest_with_weight d w g
+
+-- where the device d of the forest g gets the class, or none, f comes of it
+pub record GivesClass (d : ℕ) (class : Option (List ℕ)) (g f : ForestData) : Type 0 where
+  pub there : is_there (rows_of g) (Device d) ≡ true
+  pub is : f ≡ forest_with_class d class g
+
+-- where two buckets of the forest g are exchanged again, f comes of it
+pub record GivesSwap (a b : ℕ) (g f : ForestData) : Type 0 where
+  pub can : CanSwap a b g
+  pub is : f ≡ forest_swapped a b g
+
+-- where an edit that made g is taken back, f comes of it: the very forest, with its items in their order and its memory
+abbrev pub Undoes : {A : Type 0} → Undo A → ForestData → ForestData → Type 0
+Undoes (Weight d w) g f = GivesWeight d w g f
+Undoes (Class d class) g f = GivesClass d class g f
+Undoes (Exchange a b) g f = GivesSwap a b g f
+
+-- the same of what may be noted: where nothing is, nothing has changed
+abbrev pub UndoesAny : {A : Type 0} → Option (Undo A) → ForestData → ForestData → Type 0
+UndoesAny None g f = g ≡ f
+UndoesAny (Some undo) g f = Undoes undo g f
+
+-- where all of a log are taken back, the last first
+abbrev pub RollsBack : {A : Type 0} → List (Undo A) → ForestData → ForestData → Type 0
+RollsBack [] g f = g ≡ f
+RollsBack (undo ∷ log) g f = (e : ForestData) × RollsBack log g e × Undoes undo e f
+
+-- so it can be of the forest g
+abbrev pub CanUndo : {A : Type 0} → Undo A → ForestData → Type 0
+CanUndo undo g = (f : ForestData) × Undoes undo g f
+
+abbrev pub CanRollBack : {A : Type 0} → List (Undo A) → ForestData → Type 0
+CanRollBack log g = (f : ForestData) × RollsBack log g f
+
+-- what may be noted, as a list
+abbrev pub as_list : {A : Type 0} → Option (Undo A) → List (Undo A)
+as_list None = []
+as_list (Some undo) = undo ∷ []
+
+-- what was done, without what takes it back
+abbrev pub done_alone : {A : Type 0} → Result (Done × Option (Undo A)) EditFault → Result Done EditFault
+done_alone (Ok x) = Ok x.0
+done_alone (Err e) = Err e
+
+-- the call answers what the table answers, and what it notes takes the forest g back to f
+pub record AnswersLogged {A : Type 0} (a : List Row → Answer) (f g : ForestData) (x : Result (Done × Option (Undo A)) EditFault) : Type 0 where
+  pub answers : AnswersAs a f g (done_alone x)
+  pub logged : IfOk x (λ z. UndoesAny z.1 g f)

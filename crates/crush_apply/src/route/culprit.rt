@@ -1,0 +1,86 @@
+//! The name of a location that a refusal is about.
+
+ghost use Rattle.std.specs.Prelude.{◌≡◌, List};
+ghost use Rattle.std.specs.Option.{option_map};
+ghost use Rattle.crush_model.specs.Stands.{Stands};
+ghost use Rattle.crush_model.specs.Table.{Row};
+ghost use Rattle.crush_edits.specs.declared.location.Pair.{Pair};
+ghost use Rattle.crush_edits.specs.Located.{names_it};
+ghost use Rattle.crush_edits.specs.Stops.{stops};
+ghost use Rattle.crush_apply.specs.Culprit.{first_name, is_wrong_type, bad_name, unknown_type, end_name};
+
+use crate::route::refusals::{is_type_zero, names_bucket, names_type};
+use crate::route::stops::{first_there, route_of};
+use crush_edits::{Location, Pair, Setting};
+use crush_hierarchy::Hierarchy;
+use crush_units::Name;
+use std::alloc::{Allocator, Global};
+
+/// A type that stands twice or is type 0, else a bucket that stands twice.
+pub(crate) fn bad_name<'a>(setting: &Setting, at: &'a Location) -> Option<&'a Name<Global>>
+    ensures { option_map (λ name. name.now) result ≡ bad_name setting.now at.now }
+{
+    let pairs = at.pairs();
+    match wrong_type(setting, pairs) {
+        Some(kind) => Some(kind),
+        None => repeated_bucket(pairs),
+    }
+}
+
+fn wrong_type<'a>(setting: &Setting, pairs: &'a [Pair]) -> Option<&'a Name<Global>>
+    ensures { option_map (λ name. name.now) result
+        ≡ first_name (is_wrong_type setting.now) (λ (p : Pair). p.kind) pairs.now }
+{
+    for (k, pair) in pairs.iter().enumerate() {
+        let later = &pairs[k + 1..];
+        if is_wrong_type(setting, pair, later) {
+            return Some(&pair.kind);
+        }
+    }
+    None
+}
+
+fn is_wrong_type(setting: &Setting, pair: &Pair, later: &[Pair]) -> bool
+    ensures { result ≡ is_wrong_type setting.now pair.now later.now }
+{
+    is_type_zero(setting, pair) || names_type(later, &pair.kind)
+}
+
+fn repeated_bucket(pairs: &[Pair]) -> Option<&Name<Global>>
+    ensures { option_map (λ name. name.now) result
+        ≡ first_name (λ (p : Pair) l. names_it l p.name) (λ (p : Pair). p.name) pairs.now }
+{
+    for (k, pair) in pairs.iter().enumerate() {
+        let later = &pairs[k + 1..];
+        if names_bucket(later, &pair.name) {
+            return Some(&pair.name);
+        }
+    }
+    None
+}
+
+pub(crate) fn unknown_type<'a>(setting: &Setting, at: &'a Location) -> Option<&'a Name<Global>>
+    ensures { option_map (λ name. name.now) result ≡ unknown_type setting.now at.now }
+{
+    let pairs = at.pairs();
+    for pair in pairs {
+        if setting.kind_number(pair.kind.as_bytes()).is_none() {
+            return Some(&pair.kind);
+        }
+    }
+    None
+}
+
+pub(crate) fn end_name<'a, A: Allocator>(
+    hierarchy: &Hierarchy<A>,
+    setting: &Setting,
+    at: &'a Location,
+) -> Option<&'a Name<Global>>
+    ensures { (t : List Row) → Stands hierarchy.now t
+        → option_map (λ name. name.now) result ≡ end_name t (stops setting.now at.now) }
+{
+    let route = route_of(setting, at);
+    let end = first_there(hierarchy, at, route.stops());
+    drop(route);
+    end
+}

@@ -1,4 +1,0 @@
-pub mod Appending
-pub mod Forms
-pub mod Printed
-pub mod Split

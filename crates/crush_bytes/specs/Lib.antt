@@ -1,4 +1,0 @@
-pub mod Lexer
-pub mod Numbers
-pub mod Words
-pub mod Writes

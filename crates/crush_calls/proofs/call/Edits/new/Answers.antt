@@ -1,5 +1,0 @@
-use Rattle.std.proofs.Common.{refl}
-use Rattle.crush_calls.proofs.call.Edits.new.Goals as goal
-
-pub returns : goal.returns
-returns c = refl

@@ -1,5 +1,0 @@
-use Rattle.std.proofs.Common.{rules}
-use Rattle.crush_calls.proofs.call.Edits.push.Goals as goal
-
-pub returns : goal.returns
-returns c = search rules

@@ -1,6 +1,0 @@
-use Rattle.std.proofs.Common.{◌≡◌, ◌≤◌, take}
-use Rattle.crush_calls.specs.History.{changes}
-use Rattle.crush_calls.proofs.entry.count_changes.Given as goal
-
-abbrev pub invariant-loop-entry : goal.invariant-loop-entry
-invariant-loop-entry l = record { few : l.count ≤ l.entry-index; count : l.count ≡ changes ((take l.entry-index l.entries)) }

@@ -1,5 +1,0 @@
-use Rattle.crush_calls.proofs.RunLaws.{call_keeps, history_keeps, turns_keep}
-use Rattle.crush_calls.proofs.law.runs_keep_lawful.Goals as goal
-
-pub returns : goal.returns
-returns c = record { call = call_keeps; history = history_keeps; turns = turns_keep }

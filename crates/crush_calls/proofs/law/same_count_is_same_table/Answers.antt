@@ -1,5 +1,0 @@
-use Rattle.crush_calls.proofs.Unchanged.{no_change_keeps, same_count_same_table}
-use Rattle.crush_calls.proofs.law.same_count_is_same_table.Goals as goal
-
-pub returns : goal.returns
-returns c = record { call = no_change_keeps; history = same_count_same_table }

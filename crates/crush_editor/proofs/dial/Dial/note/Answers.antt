@@ -1,5 +1,0 @@
-use Rattle.std.proofs.Common.{rules}
-use Rattle.crush_editor.proofs.dial.Dial.note.Goals as goal
-
-pub returns-clause-seat : goal.returns-clause-seat
-returns-clause-seat g c = search rules

@@ -1,4 +1,0 @@
-use Rattle.crush_editor.proofs.editor.Started+A+Unkept.without_opening.Given as goal
-
-abbrev pub ghosts-make_gauge : goal.ghosts-make_gauge
-ghosts-make_gauge g a = record { map = a.map.now }

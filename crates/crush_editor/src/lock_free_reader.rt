@@ -1,0 +1,93 @@
+//! What a reading needs of an editor, without its lock.
+
+ghost use Rattle.std.specs.Prelude.{◌≡◌, ◌≤◌};
+ghost use mathlib.Core.List.{IsPrefix};
+ghost use Rattle.crush_gauge.specs.declared.limits.TheConstants.{MOST_CHANGES};
+ghost use Rattle.crush_history.specs.History.{changes};
+ghost use Rattle.crush_editor.specs.History.{weight_from};
+ghost use Rattle.crush_editor.specs.Seat.{Sees};
+
+use crate::law::{MapGauge, MapNote};
+use crate::locked::{Desk, Seat};
+use crush_gauge::Reading;
+use std::marker::{Model, PhantomData};
+
+/// What a seat has seen, to be handed to another seat of the same editor. It can cross threads.
+#[derive(Drop)]
+pub struct Note<N: Desk> {
+    note: MapNote,
+    of: PhantomData<N>,
+}
+
+impl<N: Desk> Model for Note<N> {
+    ghost use Rattle.std.specs.Prelude.{◌≡◌, List};
+    ghost use Rattle.crush_history.specs.History.{EntryData};
+    ghost use Rattle.crush_editor.specs.History.{IsLegalFrom};
+    ghost use Rattle.crush_editor.specs.Seat.{seen_of, reads};
+
+    ghost Value = { List EntryData };
+
+    ghost view = { λ n. seen_of n.note.view };
+
+    ghost invariant = { λ n. (n.note.table ≡ N.gauge)
+        × (n.note.view ≡ reads N.opening (seen_of n.note.view))
+        × IsLegalFrom N.opening (seen_of n.note.view) };
+}
+
+/// The gauge of an editor's name. Its calls take no lock and no memory.
+#[derive(Drop)]
+pub struct LockFreeReader<N: Desk> {
+    gauge: MapGauge,
+    of: PhantomData<N>,
+    ghost tied: { gauge.table.shared.table_id ≡ N.gauge },
+}
+
+impl<N: Desk> LockFreeReader<N> {
+    pub(crate) fn new(gauge: MapGauge) -> LockFreeReader<N>
+        requires { gauge.table.shared.table_id ≡ N.gauge }
+    {
+        LockFreeReader {
+            gauge,
+            of: PhantomData,
+        }
+    }
+
+    pub(crate) fn gauge(&self) -> &MapGauge
+        ensures { result.now.table.shared.table_id ≡ N.gauge }
+    {
+        &self.gauge
+    }
+
+    /// The number of changes so far and the weight of all placed devices, in units, by one load: it
+    /// takes no lock and no memory.
+    pub fn reading(&self, seat: &mut Seat<N>) -> Reading
+        ensures seat { Sees N.opening seat.old seat.new }
+        ensures changes { result.changes ≡ changes seat.new.seen }
+        ensures weight { result.weight ≡ weight_from N.opening seat.new.seen }
+        ensures few { result.changes ≤ MOST_CHANGES }
+    {
+        self.gauge.read(&mut seat.reader)
+    }
+
+    /// What the seat has seen, for another seat of this editor.
+    pub fn note(&self, seat: &mut Seat<N>) -> Note<N>
+        ensures seat { seat.new ≡ seat.old }
+        ensures note { result ≡ seat.old.seen }
+    {
+        let note = self.gauge.note(&mut seat.reader);
+        Note {
+            note,
+            of: PhantomData,
+        }
+    }
+
+    /// The seat has then also seen what the note's seat had seen when the note was made: its next
+    /// reading is not before either.
+    pub fn learn(&self, seat: &mut Seat<N>, note: Note<N>)
+        ensures seat { Sees N.opening seat.old seat.new }
+        ensures note { IsPrefix note seat.new.seen }
+    {
+        let Note { note, of: _ } = note;
+        self.gauge.learn(&mut seat.reader, note);
+    }
+}

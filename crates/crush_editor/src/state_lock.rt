@@ -1,0 +1,68 @@
+//! The lock of an editor. Only this file names it, so that no call comes to it without the leave to
+//! wait and memory for its slip.
+
+ghost use Rattle.std.specs.Prelude.{◌≡◌, ◌<◌, ◌≤◌, length, vec_len, vec_capacity};
+ghost use mathlib.Core.Logic.{◌↔◌};
+ghost use mathlib.Core.List.{IsPrefix};
+ghost use Rattle.crush_units.specs.declared.limits.TheConstants.{MOST_ENTRIES};
+ghost use Rattle.crush_editor.specs.History.{IsLegalFrom};
+ghost use Rattle.crush_editor.specs.Seat.{reads, seen_of};
+
+use crate::book::SubmitFault;
+use crate::law::{MapGauge, Reader};
+use crate::locked::{Desk, Locked};
+use crate::opening::Opening;
+use crate::ready::Ready;
+use crush_history::Slip;
+use std::sync::{Mutex, MutexGuard, Wait};
+
+#[derive(Drop)]
+pub(crate) struct StateLock<N: Desk, O: Opening> {
+    desk: Mutex<Locked<N, O>>,
+}
+
+impl<N: Desk, O: Opening> StateLock<N, O> {
+    pub(crate) fn new(locked: Locked<N, O>) -> StateLock<N, O> {
+        StateLock {
+            desk: Mutex::new(locked),
+        }
+    }
+
+    pub(crate) fn lock(
+        &self,
+        rt: &impl Wait,
+        slips: &Vec<Slip>,
+        ready: &Ready,
+    ) -> MutexGuard<'_, Locked<N, O>>
+        requires { vec_len slips.now < vec_capacity slips.now }
+    {
+        let _slips = slips;
+        let _ready = ready;
+        self.desk.lock(rt)
+    }
+
+    pub(crate) fn refuse(
+        &self,
+        rt: &impl Wait,
+        gauge: &MapGauge,
+        reader: &mut Reader,
+    ) -> SubmitFault
+        requires gauge { gauge.now.table.shared.table_id ≡ N.gauge }
+        requires reader { (reader.old.table ≡ N.gauge)
+            × (reader.old.view ≡ reads N.opening (seen_of reader.old.view)) }
+        ensures table { reader.new.table ≡ N.gauge }
+        ensures reader { reader.new.view ≡ reads N.opening (seen_of reader.new.view) }
+        ensures begins { IsPrefix (seen_of reader.old.view) (seen_of reader.new.view) }
+        ensures legal { IsLegalFrom N.opening (seen_of reader.new.view) }
+        ensures full { (result ≡ SubmitFault.Full)
+            ↔ (length (seen_of reader.new.view) ≡ MOST_ENTRIES) }
+        ensures few { length (seen_of reader.new.view) ≤ MOST_ENTRIES }
+    {
+        self.desk.lock(rt).refuse(gauge, reader)
+    }
+
+    pub(crate) fn into_inner(self) -> Locked<N, O> {
+        let StateLock { desk } = self;
+        desk.into_inner()
+    }
+}

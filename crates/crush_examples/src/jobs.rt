@@ -1,0 +1,158 @@
+//! Runs jobs as `crushedit` does, first those of the file `jobs`, then those of `records`: each has
+//! to come to the output, summary, standard error and status that its part of `expected` has.
+
+use crate::expected::Expected;
+use crush_input::{Words, report};
+use crush_options::{Mode, options};
+use crush_run::{Ending, NoGate, Output, Request, RunFault, SystemFiles, run_job, run_options};
+use std::io::Write;
+use std::random::RandomSource;
+use std::sync::Wait;
+use std::thread::Threads;
+use std::{fs, io};
+
+const PART_SEPARATOR: u8 = 0;
+
+pub const RECORD_SEPARATOR: u8 = 0x1e;
+
+pub fn run_jobs(
+    rt: &HostRuntime,
+    workers: &(impl AllocGlobal + RandomSource + Threads + Wait + Sync),
+    expected: &[u8],
+) -> io::Result<()> {
+    let parts: Vec<&[u8]> = expected
+        .split(|byte| *byte == PART_SEPARATOR)
+        .collect(rt.alloc())?;
+    let mut expected = Expected::new(parts.as_slice());
+    let done = run_files(rt, workers, &mut expected);
+    drop(parts);
+    done
+}
+
+fn run_files(
+    rt: &HostRuntime,
+    workers: &(impl AllocGlobal + RandomSource + Threads + Wait + Sync),
+    expected: &mut Expected<'_>,
+) -> io::Result<()> {
+    let lines = fs::read_to_string(rt, "jobs")?;
+    let done = run_lines(rt, workers, lines.as_str(), expected);
+    drop(lines);
+    done?;
+    let records = fs::read(rt, "records")?;
+    let done = run_records(rt, workers, records.as_slice(), expected);
+    drop(records);
+    done?;
+    match expected.left() {
+        0 => Ok(()),
+        left => println!(rt; "{left} parts without a run: not as expected"),
+    }
+}
+
+/// Each line has the words of a command line behind the program's name.
+fn run_lines(
+    rt: &HostRuntime,
+    workers: &(impl AllocGlobal + RandomSource + Threads + Wait + Sync),
+    lines: &str,
+    expected: &mut Expected<'_>,
+) -> io::Result<()> {
+    let mut written = Vec::new(rt.alloc());
+    for line in lines.lines() {
+        written.clear();
+        run_line(rt, workers, line, &mut written)?;
+        if expected.takes(written.as_slice()) {
+            println!(rt; "{line}: as expected")?;
+        } else {
+            println!(rt; "{line}: not as expected")?;
+            rt.stdout().write_all(written.as_slice())?;
+        }
+    }
+    Ok(())
+}
+
+/// A refused command line is reported as a fault of reading.
+fn run_line(
+    rt: &HostRuntime,
+    workers: &(impl AllocGlobal + RandomSource + Threads + Wait + Sync),
+    line: &str,
+    written: &mut Vec<u8>,
+) -> io::Result<()> {
+    let words: Vec<&str> = line.split_whitespace().collect(rt.alloc())?;
+    let read = options(rt.alloc(), words.as_slice());
+    drop(words);
+    let mut input = rt.stdin();
+    let (ending, words) = match &read {
+        Ok(options) => {
+            let files = SystemFiles(rt);
+            let ending = run_options(workers, &files, options, &mut input, written);
+            (ending, Words::of(options))
+        }
+        Err(_) => {
+            let ending = Ending {
+                outcome: Err(RunFault::Read),
+                notes: Vec::new(rt.alloc()),
+            };
+            (ending, Words::none())
+        }
+    };
+    write_end(words, &ending, written)
+}
+
+/// Runs the jobs between record separators, and prints how many wrote what is expected.
+fn run_records(
+    rt: &HostRuntime,
+    workers: &(impl AllocGlobal + RandomSource + Threads + Wait + Sync),
+    records: &[u8],
+    expected: &mut Expected<'_>,
+) -> io::Result<()> {
+    let mut written = Vec::new(rt.alloc());
+    let mut same = 0usize;
+    let jobs = records.split(|byte| *byte == RECORD_SEPARATOR);
+    for (number, job) in jobs.enumerate() {
+        written.clear();
+        let ending = run_record(workers, job, &mut written);
+        write_end(Words::none(), &ending, &mut written)?;
+        if expected.takes(written.as_slice()) {
+            same = same.saturating_add(1);
+        } else {
+            println!(rt; "record {number}: not as expected")?;
+            rt.stdout().write_all(written.as_slice())?;
+        }
+    }
+    println!(rt; "{same} records: as expected")
+}
+
+fn run_record(
+    workers: &(impl AllocGlobal + RandomSource + Threads + Wait + Sync),
+    job: &[u8],
+    written: &mut Vec<u8>,
+) -> Ending {
+    let request = Request {
+        mode: Mode {
+            in_turn: true,
+            history: true,
+            strict: false,
+            no_make: false,
+            exit_code: false,
+            explain: false,
+            json: false,
+        },
+        output: Output::Map,
+    };
+    let mut reader = job;
+    run_job(workers, &NoGate, &request, &mut reader, written)
+}
+
+/// Writes the summary, what standard error is told, and the status.
+fn write_end(words: Words<'_>, ending: &Ending, written: &mut Vec<u8>) -> io::Result<()> {
+    match &ending.outcome {
+        Ok(done) => writeln!(
+            written,
+            "< adjusted {} calls {} changes {}",
+            done.adjusted, done.calls, done.changes
+        )?,
+        Err(_) => writeln!(written, "< not done")?,
+    }
+    let notes = ending.notes.as_slice();
+    let status = report(words, &ending.outcome, notes, written).status;
+    writeln!(written, "< status {status}")
+}

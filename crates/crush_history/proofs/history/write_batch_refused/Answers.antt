@@ -1,0 +1,15 @@
+use Rattle.std.proofs.lemmas.Result.{err_from_is_err_and}
+use Rattle.crush_units.proofs.Appending.{less_of_both}
+use Rattle.crush_history.specs.HistoryText.{line_end}
+use Rattle.crush_history.proofs.Writing.{then_writes}
+use Rattle.crush_history.proofs.history.write_batch_refused.Goals as goal
+
+pub returns-in_err-write_refused_at-clause-writes : goal.returns-in_err-write_refused_at-clause-writes
+unfolding line_end
+returns-in_err-write_refused_at-clause-writes g c =
+    let p = err_from_is_err_and c.from_residual.result c.from_residual.ensures.1 in
+    rw p.1 (less_of_both _ _ _ _ c.in_err-write_refused_at.ensures.writes)
+
+pub returns-clause-writes : goal.returns-clause-writes
+unfolding line_end
+returns-clause-writes g c = then_writes _ _ _ _ _ _ c.in_ok-write_refused_at.ensures.writes c.write_refusal.ensures.writes

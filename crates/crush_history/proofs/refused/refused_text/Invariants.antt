@@ -1,0 +1,8 @@
+use Rattle.std.proofs.Common.{◌≡◌, take}
+use Rattle.crush_history.specs.Script.{scripts_data}
+use Rattle.crush_history.specs.HistoryText.{names_of}
+use Rattle.crush_history.specs.Refused.{refused_text}
+use Rattle.crush_history.proofs.refused.refused_text.Given as goal
+
+abbrev pub invariant-loop-place : goal.invariant-loop-place
+invariant-loop-place l = l.text.items ≡ refused_text (names_of (scripts_data l.scripts)) 1 ((take l.place l.entries))

@@ -1,0 +1,70 @@
+//! One call, made on a map.
+
+ghost use Rattle.std.specs.Prelude.{◌≡◌, ◌≤◌, ℕ, length, IfOk, OnErr};
+ghost use Rattle.crush_units.specs.declared.limits.TheConstants.{MOST_EDITS};
+ghost use Rattle.crush_history.specs.Turns.{Makes};
+
+use crate::call::{Call, Reply};
+use crush_edits::{BatchFault, Edit, EditFault};
+use crush_map::CrushMap;
+use std::alloc::{AllocError, Allocator};
+
+fn make_edit<A: Allocator + Clone>(map: &mut CrushMap<A>, asked: &Edit) -> Result<Reply, AllocError>
+    ensures made { IfOk result (λ reply. (n : ℕ)
+        → Makes n map.old map.new (Call.One asked.now) reply) }
+    ensures unchanged { OnErr result (map.new ≡ map.old) }
+{
+    match map.apply(asked) {
+        Ok(done) => Ok(Reply::Done(done)),
+        Err(EditFault::Refused(refusal)) => Ok(Reply::Refused(refusal)),
+        Err(EditFault::OutOfMemory) => Err(AllocError),
+    }
+}
+
+fn make_batch<A: Allocator + Clone>(
+    map: &mut CrushMap<A>,
+    asked: &[Edit],
+) -> Result<Reply, AllocError>
+    requires { length asked.now ≤ MOST_EDITS }
+    ensures made { IfOk result (λ reply. (n : ℕ)
+        → Makes n map.old map.new (Call.Batch asked.now) reply) }
+    ensures unchanged { OnErr result (map.new ≡ map.old) }
+{
+    match map.apply_batch(asked) {
+        Ok(dones) => Ok(Reply::Dones(dones)),
+        Err(BatchFault::Refused(index, refusal)) => Ok(Reply::BatchRefused(index, refusal)),
+        Err(BatchFault::OutOfMemory) => Err(AllocError),
+    }
+}
+
+fn make_guarded<A: Allocator + Clone>(
+    map: &mut CrushMap<A>,
+    count: u32,
+    seen: u32,
+    asked: &[Edit],
+) -> Result<Reply, AllocError>
+    requires { length asked.now ≤ MOST_EDITS }
+    ensures made { IfOk result (Makes count map.old map.new (Call.Guarded seen asked.now)) }
+    ensures unchanged { OnErr result (map.new ≡ map.old) }
+{
+    if seen != count {
+        return Ok(Reply::Stale(count));
+    }
+    make_batch(map, asked)
+}
+
+/// Makes one call on a map, before which so many calls changed it.
+pub fn make_call<A: Allocator + Clone>(
+    map: &mut CrushMap<A>,
+    count: u32,
+    call: &Call,
+) -> Result<Reply, AllocError>
+    ensures made { IfOk result (Makes count map.old map.new call.now) }
+    ensures unchanged { OnErr result (map.new ≡ map.old) }
+{
+    match call {
+        Call::One(edit) => make_edit(map, edit),
+        Call::Batch(edits) => make_batch(map, edits.as_slice()),
+        Call::Guarded { seen, edits } => make_guarded(map, count, *seen, edits.as_slice()),
+    }
+}

@@ -1,0 +1,75 @@
+//! Refused entries.
+
+ghost use Rattle.std.specs.Prelude.{◌≡◌, ◌<◌, ◌^◌, ◌++◌, IfOk, OnOk, length};
+ghost use Rattle.crush_history.specs.Entries.{AreOf};
+ghost use Rattle.crush_history.specs.HistoryText.{names_of};
+ghost use Rattle.crush_history.specs.Refused.{is_refused, refusals, refused_line, refused_text};
+ghost use Rattle.crush_history.specs.Script.{scripts_data};
+
+use crate::call::Reply;
+use crate::entry::Entry;
+use crate::history::{operator_name, write_entry};
+use crate::script::Script;
+use std::alloc::{AllocError, Global};
+
+/// Whether a reply refuses, or is stale.
+pub fn is_refused(reply: Reply) -> bool
+    ensures { result ≡ is_refused reply }
+{
+    match reply {
+        Reply::Done(_) => false,
+        Reply::Dones(_) => false,
+        Reply::Refused(_) => true,
+        Reply::BatchRefused(_, _) => true,
+        Reply::Stale(_) => true,
+    }
+}
+
+/// How many entries were refused.
+pub fn count_refused(entries: &[Entry]) -> u32
+    requires { length entries.now < 2 ^ 32 }
+    ensures { result ≡ refusals entries.now }
+{
+    let mut count: u32 = 0;
+    for entry in entries {
+        if is_refused(entry.reply) {
+            count += 1;
+        }
+    }
+    count
+}
+
+fn push_refused(
+    number: u32,
+    operator: &[u8],
+    entry: &Entry,
+    text: &mut Vec<u8>,
+) -> Result<(), AllocError>
+    ensures { OnOk result (text.new.items ≡ text.old.items
+        ++ refused_line number operator.now entry.now) }
+{
+    if !is_refused(entry.reply) {
+        return Ok(());
+    }
+    write_entry(number, operator, &entry.call, entry.reply, text).map_err(|_| AllocError)
+}
+
+/// The lines of refused entries, numbered as in the history.
+pub fn refused_text(
+    alloc: Global,
+    scripts: &[Script],
+    entries: &[Entry],
+) -> Result<Vec<u8>, AllocError>
+    requires few { length entries.now < 2 ^ 32 }
+    requires operators { AreOf (length scripts.now) entries.now }
+    ensures { IfOk result (λ text. text.items
+        ≡ refused_text (names_of (scripts_data scripts.now)) 1 entries.now) }
+{
+    let mut text = Vec::new(alloc);
+    for (place, entry) in entries.iter().enumerate() {
+        let number = place as u32 + 1;
+        let name = operator_name(scripts, entry.operator);
+        push_refused(number, name, entry, &mut text)?;
+    }
+    Ok(text)
+}

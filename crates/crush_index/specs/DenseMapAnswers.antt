@@ -1,0 +1,26 @@
+-- What is told of numbers most of which are near to 0.
+use Rattle.std.specs.Prelude.{◌≡◌, ℕ, List, Option, None, if◌then◌else◌, nat_eq, get_or}
+use Rattle.std.specs.Option.{option_or}
+use Rattle.indexmap.specs.IndexMap.{get, hasher_of}
+use Rattle.crush_index.specs.declared.hashing.Hashing.{Hashing}
+use Rattle.crush_index.specs.declared.dense_map.DenseMap.{DenseMap}
+
+-- the entry of a number, none past the last
+abbrev pub entry_at : {T : Type 0} → List (Option T) → ℕ → Option T
+entry_at entries n = get_or entries n None
+
+-- what is kept of a number: its entry, or, where that is empty, what is kept by itself
+unfoldable pub answer_at : {T : Type 0} → DenseMap T → ℕ → Option T
+answer_at dense_map n = option_or (entry_at dense_map.hint.items n) (get nat_eq dense_map.far n)
+
+-- the same of each number as before
+abbrev pub DenseMapSame : {T : Type 0} → DenseMap T → DenseMap T → Type 0
+DenseMapSame old new = (n : ℕ) → answer_at new n ≡ answer_at old n
+
+-- this of one number, and of each other the same as before
+abbrev pub DenseMapWith : {T : Type 0} → DenseMap T → DenseMap T → ℕ → Option T → Type 0
+DenseMapWith old new number o = (n : ℕ) → answer_at new n ≡ (if nat_eq number n then o else answer_at old n)
+
+-- how those further off are hashed
+abbrev pub numbered_hashing : {T : Type 0} → DenseMap T → Hashing
+numbered_hashing dense_map = hasher_of dense_map.far

@@ -1,0 +1,29 @@
+-- What an index of names tells, and when it tells what a table says.
+use Rattle.std.specs.Prelude.{◌≡◌, ℕ, List, Option, if◌then◌else◌, bytes_eq}
+use Rattle.indexmap.specs.IndexMap.{get}
+use Rattle.crush_units.specs.declared.id.ItemId.{ItemId}
+use Rattle.crush_model.specs.Table.{Row, id_named}
+use Rattle.crush_index.specs.Keys.{key_of, same_key}
+use Rattle.crush_index.specs.declared.names.Names.{Names}
+
+-- the id of a name
+abbrev pub id_answer : Names → List ℕ → Option ItemId
+id_answer names n = get same_key names.ids (key_of names.hashing n)
+
+-- NAMES OF A TABLE: each name has the id that the table says, and no other name has one
+abbrev pub AreNamesOf : List Row → Names → Type 0
+AreNamesOf t names = (n : List ℕ) → id_answer names n ≡ id_named t n
+
+-- the same of each name as before
+abbrev pub AnswersSame : Names → Names → Type 0
+AnswersSame old new = (n : List ℕ) → id_answer new n ≡ id_answer old n
+
+-- this of one name, and of each other the same as before
+abbrev pub AnswersOne : Names → Names → List ℕ → Option ItemId → Type 0
+AnswersOne old new name o =
+    (n : List ℕ) → id_answer new n ≡ (if bytes_eq name n then o else id_answer old n)
+
+-- this of one name, that of another, and of each third the same as before
+abbrev pub AnswersTwo : Names → Names → List ℕ → Option ItemId → List ℕ → Option ItemId → Type 0
+AnswersTwo old new name o other p =
+    (n : List ℕ) → id_answer new n ≡ (if bytes_eq name n then o else (if bytes_eq other n then p else id_answer old n))

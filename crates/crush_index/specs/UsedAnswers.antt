@@ -1,0 +1,49 @@
+-- Which ids an index tells are in use, and when it tells what a table says.
+use Rattle.std.specs.Prelude.{◌≡◌, ℕ, ◌<◌, ◌≤◌, ◌/◌, ◌%◌, ◌==◌, ◌||◌, List, Bool, true, false, if◌then◌else◌, nat_eq, nat_lt, slice_index}
+use Rattle.std.specs.Int.{bit_at}
+use Rattle.indexmap.specs.IndexSet.{contains}
+use Rattle.crush_model.specs.Table.{Row, member, used_ids}
+use Rattle.crush_units.specs.declared.limits.TheConstants.{FARTHEST_BUCKET_ID}
+use Rattle.crush_index.specs.declared.used.UsedIds.{UsedIds}
+
+-- how many ids have a bit, counted from 0
+abbrev pub near_ids : ℕ
+near_ids = 69696
+
+-- whether an id is in use: its bit, which none has past the words, or, further off, whether it is kept by itself
+abbrev pub used_answer : UsedIds → ℕ → Bool
+used_answer used k =
+    if nat_lt k near_ids then bit_at (slice_index used.words.items (k / 64)) (k % 64) == 1 else contains nat_eq used.far k
+
+-- USED IDS OF A TABLE: an id is in use exactly where the table says so
+abbrev pub AreUsedIn : List Row → UsedIds → Type 0
+AreUsedIn t used = (k : ℕ) → used_answer used k ≡ member k (used_ids t)
+
+-- the same of each id as before
+abbrev pub UsesSame : UsedIds → UsedIds → Type 0
+UsesSame old new = (k : ℕ) → used_answer new k ≡ used_answer old k
+
+-- this of one id, and of each other the same as before
+abbrev pub UsesOne : UsedIds → UsedIds → ℕ → Bool → Type 0
+UsesOne old new id b = (k : ℕ) → used_answer new k ≡ (if id == k then b else used_answer old k)
+
+-- these have come into use; these are free; and of each but these the same as before
+abbrev pub ComeIntoUse : List ℕ → UsedIds → UsedIds → Type 0
+ComeIntoUse ids old new = (k : ℕ) → used_answer new k ≡ (used_answer old k || member k ids)
+
+abbrev pub AreFree : List ℕ → UsedIds → UsedIds → Type 0
+AreFree ids old new = (k : ℕ) → used_answer new k ≡ (if member k ids then false else used_answer old k)
+
+abbrev pub UsesSameBut : List ℕ → UsedIds → UsedIds → Type 0
+UsesSameBut ids old new =
+    (k : ℕ) → (if member k ids then false else used_answer new k) ≡ (if member k ids then false else used_answer old k)
+
+-- each id that a bucket can have is in use from one on
+abbrev pub AreAllUsed : UsedIds → ℕ → Type 0
+AreAllUsed used least = (k : ℕ) → least ≤ k → k ≤ FARTHEST_BUCKET_ID → used_answer used k ≡ true
+
+-- the first id from one on that isn't in use
+pub record IsFirstFree (used : UsedIds) (least id : ℕ) : Type 0 where
+  pub after : least ≤ id
+  pub free : used_answer used id ≡ false
+  pub nearest : (k : ℕ) → least ≤ k → k < id → used_answer used k ≡ true

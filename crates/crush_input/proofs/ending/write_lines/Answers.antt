@@ -1,0 +1,20 @@
+use Rattle.std.proofs.Common.{List, ℕ, ◌++◌, Option, Result, Ok, Err}
+use Rattle.std.specs.Io.KnownBytes.{Appends}
+use Rattle.std.proofs.lemmas.Result.{err_from_is_err_and}
+use Rattle.crush_units.specs.Writes.{Writes}
+use Rattle.crush_units.proofs.Appending.{appends_both, less_of_both, then_less}
+use Rattle.crush_input.proofs.ending.write_lines.Goals as goal
+
+-- a text, and then what becomes of another
+then_writes : {X E : Type 0} (r : Result X E) (a b c : Option (List ℕ)) (x y : List ℕ) → Appends a b x → Writes r b c y → Writes r a c (x ++ y)
+then_writes (Ok v) a b c x y first second = appends_both a b c x y first second
+then_writes (Err e) a b c x y first second = then_less a b c x y first second
+
+-- less than the line was written
+pub returns-in_err-write_report : goal.returns-in_err-write_report
+returns-in_err-write_report g c =
+    let p = err_from_is_err_and c.from_residual.result c.from_residual.ensures.1 in
+    rw p.1 (less_of_both _ _ _ _ c.in_err-write_report.ensures)
+
+pub returns : goal.returns
+returns g c = rw (← c.wanted_reason.ensures) (then_writes c.put.result _ _ _ _ _ c.in_ok-write_report.ensures c.put.ensures.writes)

@@ -1,0 +1,33 @@
+-- What is told of a command line that asks for no run, and the status.
+use Rattle.std.specs.Prelude.{◌≡◌, ◌⊎◌, ℕ, List, [], Option}
+use Rattle.std.specs.Io.KnownBytes.{Appends, Keeps}
+use Rattle.crush_units.specs.Writes.{AppendsLess}
+use Rattle.crush_options.specs.declared.asked.OptionsFault.{OptionsFault}
+use Rattle.crush_options.specs.declared.asked.OptionsFault.TheVariants.{Help, Refused, Memory}
+use Rattle.crush_input.specs.Report.{run_fault}
+use Rattle.crush_input.specs.Words.{no_words}
+use Rattle.crush_input.specs.declared.fault.RunFault.TheVariants as run
+
+-- the status: help may not be written
+abbrev pub IsOptionsStatus : OptionsFault → ℕ → Type 0
+IsOptionsStatus (Help text) status = (status ≡ 0) ⊎ (status ≡ 3)
+IsOptionsStatus (Refused text) status = status ≡ 2
+IsOptionsStatus Memory status = status ≡ 4
+
+-- what standard output gets
+abbrev pub options_output : OptionsFault → List ℕ
+options_output (Help text) = text.bytes.items
+options_output (Refused text) = []
+options_output Memory = []
+
+-- what standard error gets
+abbrev pub options_error : OptionsFault → List ℕ
+options_error (Help text) = run_fault no_words run.Write
+options_error (Refused text) = text.bytes.items
+options_error Memory = run_fault no_words run.Memory
+
+-- help that ends with status 0 stands on standard output as a whole, and nothing on standard error; with status 3 its whole
+-- doesn't stand there
+abbrev pub IsHelpWhole : OptionsFault → ℕ → Option (List ℕ) → Option (List ℕ) → Option (List ℕ) → Option (List ℕ) → Type 0
+IsHelpWhole (Help text) status out new_out err new_err = (status ≡ 0 → Appends out new_out text.bytes.items × Keeps err new_err) × (status ≡ 3 → AppendsLess out new_out text.bytes.items)
+IsHelpWhole fault status out new_out err new_err = Unit {0}

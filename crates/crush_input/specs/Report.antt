@@ -1,0 +1,160 @@
+-- What a run tells on standard error, and its status.
+use Rattle.std.specs.Prelude.{ℕ, ◌==◌, Bool, List, [], ◌++◌, Result, Ok, Err, codes, decimal, if◌then◌else◌}
+use Rattle.crush_text.specs.declared.fault.TextFault.{TextFault}
+use Rattle.crush_text.specs.Fault.{fault_name}
+use Rattle.crush_script.specs.declared.fault.JobFault.{JobFault}
+use Rattle.crush_script.specs.declared.fault.JobFault.TheVariants.{BadLine, NoSuchCommand, OpenBatch, TooManyOperators, DuplicateOperator, Text, OutOfMemory, TooLong, TooManyCalls}
+use Rattle.crush_script.specs.Fault.{is_out_of_memory, lacks_memory}
+use Rattle.crush_input.specs.declared.fault.RunFault.{RunFault}
+use Rattle.crush_input.specs.declared.fault.RunFault.TheVariants as run
+use Rattle.crush_input.specs.declared.fault.OtherFault.{OtherFault}
+use Rattle.crush_input.specs.declared.fault.OtherFault.TheVariants as unread
+use Rattle.crush_input.specs.declared.fault.OtherMap.{OtherMap}
+use Rattle.crush_input.specs.declared.fault.OtherMap.TheVariants as beside
+use Rattle.crush_input.specs.declared.summary.Summary.{Summary}
+use Rattle.crush_input.specs.Words.{WordsData}
+
+-- out of memory, wherever it was
+abbrev pub out_of_memory : List ℕ
+out_of_memory = codes "crushedit: out of memory\n"
+
+-- how many written weights were replaced
+abbrev pub adjusted_line : ℕ → List ℕ
+adjusted_line adjusted = codes "crushedit: adjusted " ++ decimal adjusted ++ codes "\n"
+
+-- a fault of a line: its number and the fault's name
+abbrev pub line_fault : ℕ → List ℕ → List ℕ
+line_fault number name = codes "crushedit: line " ++ decimal number ++ codes ": " ++ name ++ codes "\n"
+
+-- a fault of the map's text: its place and its name
+abbrev pub text_fault : TextFault → List ℕ
+text_fault f = codes "crushedit: byte " ++ decimal f.place ++ codes ": " ++ fault_name f.kind ++ codes "\n"
+
+-- a fault of the job
+abbrev pub job_fault : JobFault → List ℕ
+job_fault (BadLine number) = line_fault number (codes "BadLine")
+job_fault (NoSuchCommand number) = line_fault number (codes "NoSuchCommand")
+job_fault (OpenBatch number) = line_fault number (codes "OpenBatch")
+job_fault (TooManyOperators number) = line_fault number (codes "TooManyOperators")
+job_fault (DuplicateOperator number) = line_fault number (codes "DuplicateOperator")
+job_fault (TooManyCalls number) = line_fault number (codes "TooManyCalls")
+job_fault (Text f) = text_fault f
+job_fault TooLong = codes "crushedit: TooLong\n"
+job_fault OutOfMemory = out_of_memory
+
+-- how many calls of a strict run were refused
+abbrev pub refused_line : ℕ → List ℕ
+refused_line count = codes "crushedit: refused " ++ decimal count ++ codes "\n"
+
+-- how many calls made buckets unasked in a run that was to make none
+abbrev pub made_line : ℕ → List ℕ
+made_line count = codes "crushedit: made " ++ decimal count ++ codes "\n"
+
+-- how many differences stay behind the plan of a strict run
+abbrev pub differs_line : ℕ → List ℕ
+differs_line count = codes "crushedit: differs " ++ decimal count ++ codes "\n"
+
+-- a fault of another map is told behind the word that asks for it
+abbrev pub map_word : OtherMap → List ℕ
+map_word beside.Since = codes "since"
+map_word beside.To = codes "to"
+
+-- a fault of its text
+abbrev pub other_text_fault : OtherMap → TextFault → List ℕ
+other_text_fault which f = codes "crushedit: " ++ map_word which ++ codes ": byte " ++ decimal f.place ++ codes ": " ++ fault_name f.kind ++ codes "\n"
+
+-- a fault of that map
+abbrev pub other_fault : OtherMap → OtherFault → List ℕ
+other_fault which (unread.Text f) = if is_out_of_memory f.kind then out_of_memory else other_text_fault which f
+other_fault which unread.TooLong = codes "crushedit: " ++ map_word which ++ codes ": TooLong\n"
+other_fault which unread.Read = codes "crushedit: " ++ map_word which ++ codes ": read fault\n"
+
+-- what the map lacks, by its name in the words
+abbrev pub lacking_line : List ℕ → List ℕ → List ℕ
+lacking_line what name = codes "crushedit: no " ++ what ++ name ++ codes "\n"
+
+-- a run that was not done
+abbrev pub run_fault : WordsData → RunFault → List ℕ
+run_fault w (run.Job f) = if lacks_memory f then out_of_memory else job_fault f
+run_fault w run.Read = codes "crushedit: read fault\n"
+run_fault w run.Write = codes "crushedit: write fault\n"
+run_fault w run.Memory = out_of_memory
+run_fault w run.Thread = codes "crushedit: no thread\n"
+run_fault w (run.Refused count) = refused_line count
+run_fault w (run.Made count) = made_line count
+run_fault w (run.Differs count) = differs_line count
+run_fault w run.NoItem = lacking_line (codes "item ") w.under
+run_fault w run.NoType = lacking_line (codes "type ") w.down_to
+run_fault w (run.Other which f) = other_fault which f
+
+-- one line, or nothing where all is well and no weight was replaced
+abbrev pub report_line : WordsData → Result Summary RunFault → List ℕ
+report_line w (Ok s) = if s.adjusted == 0 then [] else adjusted_line s.adjusted
+report_line w (Err f) = run_fault w f
+
+-- what is told of a fault of another map, and of a run that was not done: what was wanted, unless the run notes it
+abbrev pub memory_reason : List ℕ
+memory_reason = codes "  there is less memory than the job wants\n"
+
+abbrev pub long_reason : OtherMap → List ℕ
+long_reason beside.Since = codes "  the file of --since has at most 16777216 bytes\n"
+long_reason beside.To = codes "  the file of --to has at most 16777216 bytes\n"
+
+abbrev pub unread_reason : OtherMap → List ℕ
+unread_reason beside.Since = codes "  the file of --since is to be there, and to be read to its end\n"
+unread_reason beside.To = codes "  the file of --to is to be there, and to be read to its end\n"
+
+abbrev pub other_reason : OtherMap → OtherFault → List ℕ
+other_reason which (unread.Text f) = if is_out_of_memory f.kind then memory_reason else []
+other_reason which unread.TooLong = long_reason which
+other_reason which unread.Read = unread_reason which
+
+abbrev pub fault_reason : RunFault → List ℕ
+fault_reason (run.Job f) = if lacks_memory f then memory_reason else []
+fault_reason run.Read = codes "  each file, or standard input, is to be there, and to be read to its end\n"
+fault_reason run.Write = codes "  standard output took less than the whole, or did not store it: what stands there isn't to be used\n"
+fault_reason run.Memory = memory_reason
+fault_reason run.Thread = codes "  the system started no thread for an operator: --in-turn wants none\n"
+fault_reason (run.Refused count) = []
+fault_reason (run.Made count) = []
+fault_reason (run.Differs count) = []
+fault_reason run.NoItem = codes "  --under wants the name of an item of the map after the scripts\n"
+fault_reason run.NoType = codes "  --down-to wants the name of a type of the map\n"
+fault_reason (run.Other which f) = other_reason which f
+
+abbrev pub outcome_reason : Result Summary RunFault → List ℕ
+outcome_reason (Ok s) = []
+outcome_reason (Err f) = fault_reason f
+
+-- the line, and below it what was wanted, where that is asked for
+abbrev pub report_lines : WordsData → Result Summary RunFault → List ℕ
+report_lines w outcome = report_line w outcome ++ (if w.explain then outcome_reason outcome else [])
+
+-- and behind them what the run notes
+abbrev pub report_text : WordsData → Result Summary RunFault → List ℕ → List ℕ
+report_text w outcome notes = report_lines w outcome ++ notes
+
+abbrev pub other_status : OtherFault → ℕ
+other_status (unread.Text f) = if is_out_of_memory f.kind then 4 else 1
+other_status unread.TooLong = 1
+other_status unread.Read = 3
+
+abbrev pub fault_status : RunFault → ℕ
+fault_status (run.Job f) = if lacks_memory f then 4 else 1
+fault_status run.Read = 3
+fault_status run.Write = 3
+fault_status run.Memory = 4
+fault_status run.Thread = 4
+fault_status (run.Refused count) = 5
+fault_status (run.Made count) = 5
+fault_status (run.Differs count) = 5
+fault_status run.NoItem = 1
+fault_status run.NoType = 1
+fault_status (run.Other which f) = other_status f
+
+-- STATUS: 0 where the run was done, and 6 where there is something to tell that the status is to tell; 1 for what is no job or no map, and
+-- for names that the map doesn't have, 3 where reading or writing failed, 4 out of memory or without a thread, 5 where calls of a strict run were refused, or differences stay
+-- behind its plan, or where buckets were made that were not to be
+abbrev pub status : Result Summary RunFault → ℕ
+status (Ok s) = if s.differs then 6 else 0
+status (Err f) = fault_status f

@@ -1,0 +1,444 @@
+//! The lines on standard error, and the status with which the program ends.
+
+ghost use Rattle.std.specs.Prelude.{◌≡◌, ◌++◌, [], codes, if◌then◌else◌};
+ghost use Rattle.crush_units.specs.Writes.{Writes, AppendsPrefix};
+ghost use Rattle.crush_input.specs.OptionsReport.{IsHelpWhole, IsOptionsStatus, options_error, options_output};
+ghost use Rattle.crush_input.specs.Report.{adjusted_line, fault_reason, line_fault, text_fault, job_fault, made_line, outcome_reason, run_fault, refused_line, report_line, report_lines, report_text, status};
+ghost use Rattle.crush_input.specs.Words.{no_words, words_data};
+ghost use Rattle.crush_input.specs.Report.{differs_line, lacking_line, long_reason, map_word, other_fault, other_reason, other_status, other_text_fault, unread_reason};
+
+use crate::fault::{OtherFault, OtherMap, RunFault};
+use crate::summary::Summary;
+use crate::words::Words;
+use crush_options::OptionsFault;
+use crush_script::JobFault;
+use crush_text::TextFault;
+use crush_units::{WriteFault, put, put_all};
+use itoa::Buffer;
+use std::io::Write;
+
+const OUT_OF_MEMORY: &[u8] = b"crushedit: out of memory\n";
+
+const MEMORY_REASON: &[u8] = b"  there is less memory than the job wants\n";
+
+/// Of a failed write, or of output that couldn't be stored.
+const WRITE_REASON: &[u8] =
+    b"  standard output took less than the whole, or did not store it: what stands there isn't to be used\n";
+
+fn write_line_fault<E: Write>(number: usize, name: &str, err: &mut E) -> Result<(), WriteFault>
+    ensures { Writes result (E.contents err.old) (E.contents err.new)
+        (line_fault number name.now) }
+{
+    let mut buffer = Buffer::new();
+    let number = buffer.format(number).as_bytes();
+    put_all(
+        err,
+        &[
+            b"crushedit: line ".as_slice(),
+            number,
+            b": ".as_slice(),
+            name.as_bytes(),
+            b"\n".as_slice(),
+        ],
+    )
+}
+
+fn write_text_fault<E: Write>(fault: TextFault, err: &mut E) -> Result<(), WriteFault>
+    ensures { Writes result (E.contents err.old) (E.contents err.new) (text_fault fault) }
+{
+    let mut buffer = Buffer::new();
+    let place = buffer.format(fault.place).as_bytes();
+    let name = fault.kind.name().as_bytes();
+    put_all(
+        err,
+        &[
+            b"crushedit: byte ".as_slice(),
+            place,
+            b": ".as_slice(),
+            name,
+            b"\n".as_slice(),
+        ],
+    )
+}
+
+fn write_job_fault<E: Write>(fault: JobFault, err: &mut E) -> Result<(), WriteFault>
+    ensures { Writes result (E.contents err.old) (E.contents err.new) (job_fault fault) }
+{
+    match fault {
+        JobFault::BadLine(number) => write_line_fault(number, "BadLine", err),
+        JobFault::NoSuchCommand(number) => write_line_fault(number, "NoSuchCommand", err),
+        JobFault::OpenBatch(number) => write_line_fault(number, "OpenBatch", err),
+        JobFault::TooManyOperators(number) => write_line_fault(number, "TooManyOperators", err),
+        JobFault::DuplicateOperator(number) => write_line_fault(number, "DuplicateOperator", err),
+        JobFault::TooManyCalls(number) => write_line_fault(number, "TooManyCalls", err),
+        JobFault::Text(fault) => write_text_fault(fault, err),
+        JobFault::TooLong => put(err, b"crushedit: TooLong\n"),
+        JobFault::OutOfMemory => put(err, OUT_OF_MEMORY),
+    }
+}
+
+fn map_word(which: OtherMap) -> &'static [u8]
+    ensures { result.now ≡ map_word which }
+{
+    match which {
+        OtherMap::Since => b"since",
+        OtherMap::To => b"to",
+    }
+}
+
+fn write_other_text<E: Write>(
+    which: OtherMap,
+    fault: TextFault,
+    err: &mut E,
+) -> Result<(), WriteFault>
+    ensures { Writes result (E.contents err.old) (E.contents err.new)
+        (other_text_fault which fault) }
+{
+    let mut buffer = Buffer::new();
+    let place = buffer.format(fault.place).as_bytes();
+    let name = fault.kind.name().as_bytes();
+    put_all(
+        err,
+        &[
+            b"crushedit: ".as_slice(),
+            map_word(which),
+            b": byte ".as_slice(),
+            place,
+            b": ".as_slice(),
+            name,
+            b"\n".as_slice(),
+        ],
+    )
+}
+
+fn write_of_map<E: Write>(
+    which: OtherMap,
+    what: &'static [u8],
+    err: &mut E,
+) -> Result<(), WriteFault>
+    ensures { Writes result (E.contents err.old) (E.contents err.new)
+        (codes "crushedit: " ++ map_word which ++ what.now) }
+{
+    put_all(err, &[b"crushedit: ".as_slice(), map_word(which), what])
+}
+
+fn write_other_fault<E: Write>(
+    which: OtherMap,
+    fault: OtherFault,
+    err: &mut E,
+) -> Result<(), WriteFault>
+    ensures { Writes result (E.contents err.old) (E.contents err.new)
+        (other_fault which fault) }
+{
+    match fault {
+        OtherFault::Text(fault) if JobFault::Text(fault).lacks_memory() => put(err, OUT_OF_MEMORY),
+        OtherFault::Text(fault) => write_other_text(which, fault, err),
+        OtherFault::TooLong => write_of_map(which, b": TooLong\n", err),
+        OtherFault::Read => write_of_map(which, b": read fault\n", err),
+    }
+}
+
+fn write_lacking<E: Write>(what: &'static [u8], name: &str, err: &mut E) -> Result<(), WriteFault>
+    ensures { Writes result (E.contents err.old) (E.contents err.new)
+        (lacking_line what.now name.now) }
+{
+    put_all(
+        err,
+        &[
+            b"crushedit: no ".as_slice(),
+            what,
+            name.as_bytes(),
+            b"\n".as_slice(),
+        ],
+    )
+}
+
+fn write_run_fault<E: Write>(
+    words: Words<'_>,
+    fault: RunFault,
+    err: &mut E,
+) -> Result<(), WriteFault>
+    ensures { Writes result (E.contents err.old) (E.contents err.new)
+        (run_fault (words_data words.entry) fault) }
+{
+    match fault {
+        RunFault::Job(fault) if fault.lacks_memory() => put(err, OUT_OF_MEMORY),
+        RunFault::Job(fault) => write_job_fault(fault, err),
+        RunFault::Read => put(err, b"crushedit: read fault\n"),
+        RunFault::Write => put(err, b"crushedit: write fault\n"),
+        RunFault::Memory => put(err, OUT_OF_MEMORY),
+        RunFault::Thread => put(err, b"crushedit: no thread\n"),
+        RunFault::Refused(count) => write_refused(count, err),
+        RunFault::Made(count) => write_made(count, err),
+        RunFault::Differs(count) => write_differs(count, err),
+        RunFault::NoItem => write_lacking(b"item ", words.under, err),
+        RunFault::NoType => write_lacking(b"type ", words.down_to, err),
+        RunFault::Other(which, fault) => write_other_fault(which, fault, err),
+    }
+}
+
+fn write_refused<E: Write>(count: u32, err: &mut E) -> Result<(), WriteFault>
+    ensures { Writes result (E.contents err.old) (E.contents err.new)
+        (refused_line count) }
+{
+    let mut buffer = Buffer::new();
+    let count = buffer.format(count).as_bytes();
+    put_all(
+        err,
+        &[b"crushedit: refused ".as_slice(), count, b"\n".as_slice()],
+    )
+}
+
+fn write_made<E: Write>(count: usize, err: &mut E) -> Result<(), WriteFault>
+    ensures { Writes result (E.contents err.old) (E.contents err.new)
+        (made_line count) }
+{
+    let mut buffer = Buffer::new();
+    let count = buffer.format(count).as_bytes();
+    put_all(
+        err,
+        &[b"crushedit: made ".as_slice(), count, b"\n".as_slice()],
+    )
+}
+
+fn write_differs<E: Write>(count: usize, err: &mut E) -> Result<(), WriteFault>
+    ensures { Writes result (E.contents err.old) (E.contents err.new)
+        (differs_line count) }
+{
+    let mut buffer = Buffer::new();
+    let count = buffer.format(count).as_bytes();
+    put_all(
+        err,
+        &[b"crushedit: differs ".as_slice(), count, b"\n".as_slice()],
+    )
+}
+
+fn write_adjusted<E: Write>(adjusted: u32, err: &mut E) -> Result<(), WriteFault>
+    ensures { Writes result (E.contents err.old) (E.contents err.new)
+        (adjusted_line adjusted) }
+{
+    let mut buffer = Buffer::new();
+    let adjusted = buffer.format(adjusted).as_bytes();
+    put_all(
+        err,
+        &[
+            b"crushedit: adjusted ".as_slice(),
+            adjusted,
+            b"\n".as_slice(),
+        ],
+    )
+}
+
+fn write_report<E: Write>(
+    words: Words<'_>,
+    outcome: &Result<Summary, RunFault>,
+    err: &mut E,
+) -> Result<(), WriteFault>
+    ensures { Writes result (E.contents err.old) (E.contents err.new)
+        (report_line (words_data words.entry) outcome.now) }
+{
+    match outcome {
+        Ok(summary) if summary.adjusted == 0 => put(err, b""),
+        Ok(summary) => write_adjusted(summary.adjusted, err),
+        Err(fault) => write_run_fault(words, *fault, err),
+    }
+}
+
+fn put_fault<E: Write>(fault: RunFault, err: &mut E)
+    ensures { AppendsPrefix (E.contents err.old) (E.contents err.new)
+        (run_fault no_words fault) }
+{
+    let _ = write_run_fault(Words::none(), fault, err);
+}
+
+fn long_reason(which: OtherMap) -> &'static [u8]
+    ensures { result.now ≡ long_reason which }
+{
+    match which {
+        OtherMap::Since => b"  the file of --since has at most 16777216 bytes\n",
+        OtherMap::To => b"  the file of --to has at most 16777216 bytes\n",
+    }
+}
+
+fn unread_reason(which: OtherMap) -> &'static [u8]
+    ensures { result.now ≡ unread_reason which }
+{
+    match which {
+        OtherMap::Since => b"  the file of --since is to be there, and to be read to its end\n",
+        OtherMap::To => b"  the file of --to is to be there, and to be read to its end\n",
+    }
+}
+
+fn other_reason(which: OtherMap, fault: OtherFault) -> &'static [u8]
+    ensures { result.now ≡ other_reason which fault }
+{
+    match fault {
+        OtherFault::Text(fault) if JobFault::Text(fault).lacks_memory() => MEMORY_REASON,
+        OtherFault::Text(_) => b"",
+        OtherFault::TooLong => long_reason(which),
+        OtherFault::Read => unread_reason(which),
+    }
+}
+
+/// What was wanted where a run was not done, unless its notes say it.
+fn fault_reason(fault: RunFault) -> &'static [u8]
+    ensures { result.now ≡ fault_reason fault }
+{
+    match fault {
+        RunFault::Job(fault) if fault.lacks_memory() => MEMORY_REASON,
+        RunFault::Job(_) => b"",
+        RunFault::Read => {
+            b"  each file, or standard input, is to be there, and to be read to its end\n"
+        }
+        RunFault::Write => WRITE_REASON,
+        RunFault::Memory => MEMORY_REASON,
+        RunFault::Thread =>
+            b"  the system started no thread for an operator: --in-turn wants none\n",
+        RunFault::Refused(_) | RunFault::Made(_) | RunFault::Differs(_) => b"",
+        RunFault::NoItem => b"  --under wants the name of an item of the map after the scripts\n",
+        RunFault::NoType => b"  --down-to wants the name of a type of the map\n",
+        RunFault::Other(which, fault) => other_reason(which, fault),
+    }
+}
+
+fn outcome_reason(outcome: &Result<Summary, RunFault>) -> &'static [u8]
+    ensures { result.now ≡ outcome_reason outcome.now }
+{
+    match outcome {
+        Ok(_) => b"",
+        Err(fault) => fault_reason(*fault),
+    }
+}
+
+fn wanted_reason(words: Words<'_>, outcome: &Result<Summary, RunFault>) -> &'static [u8]
+    ensures { result.now ≡ (if words.entry.explain then outcome_reason outcome.now else []) }
+{
+    if words.explain {
+        outcome_reason(outcome)
+    } else {
+        b""
+    }
+}
+
+fn write_lines<E: Write>(
+    words: Words<'_>,
+    outcome: &Result<Summary, RunFault>,
+    err: &mut E,
+) -> Result<(), WriteFault>
+    ensures { Writes result (E.contents err.old) (E.contents err.new)
+        (report_lines (words_data words.entry) outcome.now) }
+{
+    write_report(words, outcome, err)?;
+    put(err, wanted_reason(words, outcome))
+}
+
+fn write_ending<E: Write>(
+    words: Words<'_>,
+    outcome: &Result<Summary, RunFault>,
+    notes: &[u8],
+    err: &mut E,
+) -> Result<(), WriteFault>
+    ensures { Writes result (E.contents err.old) (E.contents err.new)
+        (report_text (words_data words.entry) outcome.now notes.now) }
+{
+    write_lines(words, outcome, err)?;
+    put(err, notes)
+}
+
+fn put_prefix<E: Write>(bytes: &[u8], err: &mut E)
+    ensures { AppendsPrefix (E.contents err.old) (E.contents err.new) bytes.now }
+{
+    let _ = put(err, bytes);
+}
+
+fn other_status(fault: OtherFault) -> u8
+    ensures { result ≡ other_status fault }
+{
+    match fault {
+        OtherFault::Text(fault) if JobFault::Text(fault).lacks_memory() => 4,
+        OtherFault::Text(_) | OtherFault::TooLong => 1,
+        OtherFault::Read => 3,
+    }
+}
+
+fn status_of(outcome: &Result<Summary, RunFault>) -> u8
+    ensures { result ≡ status outcome.now }
+{
+    match outcome {
+        Ok(summary) if summary.differs => 6,
+        Ok(_) => 0,
+        Err(RunFault::Memory | RunFault::Thread) => 4,
+        Err(RunFault::Refused(_) | RunFault::Made(_) | RunFault::Differs(_)) => 5,
+        Err(RunFault::Job(fault)) if fault.lacks_memory() => 4,
+        Err(RunFault::Job(_) | RunFault::NoItem | RunFault::NoType) => 1,
+        Err(RunFault::Other(_, fault)) => other_status(*fault),
+        Err(RunFault::Read | RunFault::Write) => 3,
+    }
+}
+
+/// What [`report`] did.
+#[derive(Clone, Copy, Debug, PartialEq, Eq)]
+pub struct Reported {
+    /// The status with which the program ends.
+    pub status: u8,
+    /// Whether standard error took the whole text.
+    pub written: Result<(), WriteFault>,
+}
+
+/// Writes the one line of standard error, below it, where reasons are to be printed, what was
+/// wanted of an outcome without notes, and then the notes of the run, and answers the status.
+///
+/// - 0: the run was done; 6: the same, with something to report, where the status is to say so.
+/// - 1: the input is no job, or a map, item or type of the command line is none.
+/// - 3: reading or writing failed.
+/// - 4: out of memory, or a worker couldn't be started.
+/// - 5: refusals, made buckets or differences ended the run; the notes have their lines.
+///
+/// A failed write on standard error changes no status.
+pub fn report<E: Write>(
+    words: Words<'_>,
+    outcome: &Result<Summary, RunFault>,
+    notes: &[u8],
+    err: &mut E,
+) -> Reported
+    ensures status { result.status ≡ status outcome.now }
+    ensures text { Writes result.written (E.contents err.old) (E.contents err.new)
+        (report_text (words_data words.entry) outcome.now notes.now) }
+{
+    let written = write_ending(words, outcome, notes, err);
+    Reported {
+        status: status_of(outcome),
+        written,
+    }
+}
+
+/// Writes the text of a command line that starts no run, and answers the status: 0 where standard
+/// output took the help, and 3 where it didn't; 2 for a refusal, on standard error; and 4 out of
+/// memory.
+pub fn report_options<W: Write, E: Write>(fault: &OptionsFault, out: &mut W, err: &mut E) -> u8
+    ensures status { IsOptionsStatus fault.now result }
+    ensures out { AppendsPrefix (W.contents out.old) (W.contents out.new)
+        (options_output fault.now) }
+    ensures line { AppendsPrefix (E.contents err.old) (E.contents err.new)
+        (options_error fault.now) }
+    ensures whole { IsHelpWhole fault.now result (W.contents out.old) (W.contents out.new)
+        (E.contents err.old) (E.contents err.new) }
+{
+    match fault {
+        OptionsFault::Help(text) => match put(out, text.as_bytes()) {
+            Ok(()) => 0,
+            Err(_) => {
+                put_fault(RunFault::Write, err);
+                3
+            }
+        },
+        OptionsFault::Refused(text) => {
+            put_prefix(text.as_bytes(), err);
+            2
+        }
+        OptionsFault::Memory => {
+            put_fault(RunFault::Memory, err);
+            4
+        }
+    }
+}

@@ -1,0 +1,89 @@
+-- Laws of what leaves a table lawful.
+use Rattle.std.specs.Prelude.{◌≡◌, ℕ, ◌≤◌, List, [], ◌∷◌, ◌++◌, Option, Some, None, IfSome, true, false, All, bytes_eq, ◌==◌}
+use Rattle.std.specs.List.{count_by}
+use Rattle.crush_units.specs.declared.id.ItemId.{ItemId}
+use Rattle.crush_units.specs.declared.id.ItemId.TheVariants.{Device, Bucket}
+use Rattle.crush_units.specs.Id.{same_id}
+use Rattle.crush_units.specs.Name.{IsName}
+use Rattle.crush_model.specs.Items.{Items}
+use Rattle.crush_model.specs.Table.{Row, row_of, is_there, is_named, is_placed, member, used_ids, are_nested}
+use Rattle.crush_model.specs.Lawful.{IsRow, Lawful, is_too_heavy, has_too_many}
+use Rattle.crush_model.specs.Columns.{set_weight, set_subtree, set_name, set_class, swap_buckets, is_part, part, without_row}
+use Rattle.crush_model.specs.ItemRows.{rows}
+use Rattle.crush_units.specs.declared.limits.TheConstants.{HEAVIEST_DEVICE}
+
+-- a change leaves a lawful table lawful
+abbrev pub KeepsLawful : (List Row → List Row) → Type 0
+KeepsLawful change = (t : List Row) → Lawful t → Lawful (change t)
+
+-- a new weight of a placed device, where the sums stay in range
+abbrev pub WeightKeepsLawful : Type 0
+WeightKeepsLawful = (t : List Row) (d w : ℕ) → Lawful t → is_placed t (Device d) ≡ true
+    → w ≤ HEAVIEST_DEVICE → is_too_heavy (set_weight (Device d) w t) ≡ false
+    → Lawful (set_weight (Device d) w t)
+
+-- a new weight of all devices below a bucket, where the sums stay in range
+abbrev pub SubtreeKeepsLawful : Type 0
+SubtreeKeepsLawful = (t : List Row) (b w : ℕ) → Lawful t → w ≤ HEAVIEST_DEVICE
+    → is_too_heavy (set_subtree b w t) ≡ false → Lawful (set_subtree b w t)
+
+-- a name that no row has, for an item that is there
+abbrev pub NameKeepsLawful : Type 0
+NameKeepsLawful = (i : ItemId) (n : List ℕ) (t : List Row) (r : Row) → Lawful t
+    → row_of t i ≡ Some r → IsName n → is_named t n ≡ false → Lawful (set_name i n t)
+
+-- a class in the form of names, or none, of a device
+abbrev pub ClassKeepsLawful : Type 0
+ClassKeepsLawful = (d : ℕ) (c : Option (List ℕ)) (t : List Row) → Lawful t → IfSome c IsName
+    → Lawful (set_class (Device d) c t)
+
+-- a row that is taken out and put last with a bucket as parent that is there and neither the item
+-- nor below it, where the sums stay in range
+abbrev pub MoveKeepsLawful : Type 0
+MoveKeepsLawful = (t : List Row) (i : ItemId) (b w : ℕ) (r : Row) → Lawful t → row_of t i ≡ Some r
+    → is_there t (Bucket b) ≡ true → is_part t i (Bucket b) ≡ false
+    → IsRow (record r { parent = Some b; weight = w })
+    → is_too_heavy (without_row i t ++ record r { parent = Some b; weight = w } ∷ []) ≡ false
+    → Lawful (without_row i t ++ record r { parent = Some b; weight = w } ∷ [])
+
+-- two buckets that exchange items and names, neither of them the other or below it, where the sums
+-- stay in range
+abbrev pub SwapKeepsLawful : Type 0
+SwapKeepsLawful = (t : List Row) (a b : ℕ) (r s : Row) → Lawful t → row_of t (Bucket a) ≡ Some r
+    → row_of t (Bucket b) ≡ Some s → are_nested t a b ≡ false
+    → is_too_heavy (swap_buckets a b t) ≡ false → Lawful (swap_buckets a b t)
+
+-- an unplaced device, and an empty bucket without parent and class ids, with a fresh id and name,
+-- where there is room
+abbrev pub DeviceKeepsLawful : Type 0
+DeviceKeepsLawful = (t : List Row) (d : ℕ) (r : Row) → r.id ≡ Device d → Lawful t → IsRow r
+    → r.parent ≡ None → is_there t (Device d) ≡ false → is_named t r.name ≡ false
+    → has_too_many (t ++ r ∷ []) ≡ false → Lawful (t ++ r ∷ [])
+
+abbrev pub BucketKeepsLawful : Type 0
+BucketKeepsLawful = (t : List Row) (b : ℕ) (r : Row) → r.id ≡ Bucket b → r.class_ids ≡ [] → Lawful t
+    → IsRow r → r.parent ≡ None → member b (used_ids t) ≡ false → is_named t r.name ≡ false
+    → has_too_many (t ++ r ∷ []) ≡ false → Lawful (t ++ r ∷ [])
+
+-- a root, or an unplaced device, with what is below it by itself
+abbrev pub PartKeepsLawful : Type 0
+PartKeepsLawful = (t : List Row) (i : ItemId) → Lawful t → is_placed t i ≡ false → Lawful (part i t)
+
+-- a row in another bucket, and a device's with another weight
+abbrev pub PlacedRowKeepsForm : Type 0
+PlacedRowKeepsForm = (b : ℕ) (r : Row) → IsRow r → IsRow (record r { parent = Some b })
+
+abbrev pub PlacedDeviceKeepsForm : Type 0
+PlacedDeviceKeepsForm = (d b w : ℕ) (r : Row) → r.id ≡ Device d → w ≤ HEAVIEST_DEVICE → IsRow r
+    → IsRow (record r { parent = Some b; weight = w })
+
+-- the rows of items below a bucket that is there, or as roots, where ids, names and used ids are
+-- apart, and sums and counts stay in range
+abbrev pub RowsKeepLawful : Type 0
+RowsKeepLawful = (t : List Row) (p : Option ℕ) (n : Items) → Lawful t
+    → IfSome p (λ b. is_there t (Bucket b) ≡ true) → All IsRow (rows p n)
+    → ((i : ItemId) → count_by (λ (r : Row). same_id r.id i) (t ++ rows p n) ≤ 1)
+    → ((m : List ℕ) → count_by (λ (r : Row). bytes_eq r.name m) (t ++ rows p n) ≤ 1)
+    → ((k : ℕ) → count_by (λ u. u == k) (used_ids (t ++ rows p n)) ≤ 1)
+    → is_too_heavy (t ++ rows p n) ≡ false → has_too_many (t ++ rows p n) ≡ false
+    → Lawful (t ++ rows p n)

@@ -1,0 +1,87 @@
+-- Laws of what is read off a table.
+use Rattle.std.specs.Prelude.{◌≡◌, ℕ, ◌+◌, ◌*◌, ◌<◌, ◌≤◌, List, ◌++◌, false, length, unwrap_or, All, ◌==◌}
+use Rattle.std.specs.List.{sum_by, count_by}
+use Rattle.crush_units.specs.declared.id.ItemId.{ItemId}
+use Rattle.crush_units.specs.Id.{same_id}
+use Rattle.crush_model.specs.Table.{Row, row_of, row_named, climb, above, kids, sum_below, total, weight_of, member, used_ids, free_ids, device_count, bucket_count}
+use Rattle.crush_model.specs.Classes.{class_sum}
+use Rattle.crush_model.specs.Same.{Same}
+use Rattle.crush_model.specs.Lawful.{Lawful, is_too_heavy, has_too_many}
+use Rattle.crush_model.specs.Forest.{ForestData, IsSound, rows_of}
+use Rattle.crush_model.specs.Stands.{Stands}
+use Rattle.crush_units.specs.declared.limits.TheConstants.{FARTHEST_BUCKET_ID, MOST_BUCKETS, MOST_CLASS_IDS}
+pub use Rattle.crush_model.specs.MoveLaw.{IsOne}
+
+-- what a bucket weighs, as the sum over all devices that climb to it, is the sum of the weights of
+-- its items
+abbrev pub SumsItems : List Row → Type 0
+SumsItems t = (b : ℕ) → sum_below t b ≡ sum_by (λ i. unwrap_or (weight_of t i) 0) (kids t b)
+
+-- to climb more often than there are rows leads no further
+abbrev pub ClimbEnds : List Row → Type 0
+ClimbEnds t = (n : ℕ) (i : ItemId) → length t ≤ n → climb t n i ≡ above t i
+
+-- what is read off both tables is equal: the row of each id and each name, and so all columns; the
+-- items of a bucket in order; what is above an item; weights, also of a class, counts and ids in use
+pub record AreReadAlike (t u : List Row) : Type 0 where
+  pub row : (i : ItemId) → row_of t i ≡ row_of u i
+  pub named : (n : List ℕ) → row_named t n ≡ row_named u n
+  pub kids : (b : ℕ) → kids t b ≡ kids u b
+  pub above : (i : ItemId) → above t i ≡ above u i
+  pub sum : (b : ℕ) → sum_below t b ≡ sum_below u b
+  pub weight : (i : ItemId) → weight_of t i ≡ weight_of u i
+  pub class : (i : ItemId) (c : List ℕ) → class_sum t i c ≡ class_sum u i c
+  pub total : total t ≡ total u
+  pub devices : device_count t ≡ device_count u
+  pub buckets : bucket_count t ≡ bucket_count u
+  pub used : (k : ℕ) → member k (used_ids t) ≡ member k (used_ids u)
+  pub free : (n : ℕ) → free_ids t n ≡ free_ids u n
+
+-- so it is of a lawful table and each that is the same, and both are lawful
+abbrev pub SameIsAlike : Type 0
+SameIsAlike = (t u : List Row) → Lawful t → Same t u → AreReadAlike t u × Lawful u
+
+-- sums out of range and want of room are equal on tables that are the same, lawful or not, where
+-- each id is there once
+abbrev pub HeavyIsAlike : Type 0
+HeavyIsAlike = (t u : List Row) → ((i : ItemId) → count_by (λ (r : Row). same_id r.id i) t ≤ 1)
+    → Same t u → is_too_heavy t ≡ is_too_heavy u
+
+abbrev pub RoomIsAlike : Type 0
+RoomIsAlike = (t u : List Row) → Same t u → has_too_many t ≡ has_too_many u
+
+-- a change makes the same of tables that are the same
+abbrev pub KeepsSame : (List Row → List Row) → Type 0
+KeepsSame change = (t u : List Row) → Lawful t → Same t u → Same (change t) (change u)
+
+-- the tables for which a forest stands: its own rows, and with one all that are the same and no
+-- others
+abbrev pub StandsForOne : ForestData → Type 0
+StandsForOne f =
+    (IsSound f → Stands f (rows_of f))
+    × ((t u : List Row) → Stands f t → Stands f u → Same t u)
+    × ((t u : List Row) → Same t u → Stands f t → Stands f u)
+
+-- rows that come last add what they count, weigh and use
+pub record AddsRows (t u : List Row) : Type 0 where
+  pub devices : device_count (t ++ u) ≡ device_count t + device_count u
+  pub buckets : bucket_count (t ++ u) ≡ bucket_count t + bucket_count u
+  pub total : total (t ++ u) ≡ total t + total u
+  pub used : used_ids (t ++ u) ≡ used_ids t ++ used_ids u
+
+-- the first n free ids: so many, in range, unused, each once
+pub record AreFreeIds (t : List Row) (n : ℕ) (ids : List ℕ) : Type 0 where
+  pub many : length ids ≡ n
+  pub some : All (λ k. 0 < k) ids
+  pub most : All (λ k. k ≤ FARTHEST_BUCKET_ID) ids
+  pub unused : All (λ k. member k (used_ids t) ≡ false) ids
+  pub once : (k : ℕ) → count_by (λ u. u == k) ids ≤ 1
+
+abbrev pub FreeIdsAreFree : Type 0
+FreeIdsAreFree = (t : List Row) (n : ℕ) → length (used_ids t) + n ≤ FARTHEST_BUCKET_ID
+    → AreFreeIds t n (free_ids t n)
+
+-- a lawful table uses few: an id for each bucket, and its class ids
+abbrev pub FewIdsAreUsed : Type 0
+FewIdsAreUsed = (t : List Row) → Lawful t
+    → length (used_ids t) ≤ MOST_BUCKETS * (MOST_CLASS_IDS + 1)

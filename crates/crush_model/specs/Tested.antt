@@ -1,0 +1,73 @@
+-- A test that computes on a table that is written out: what passes it is lawful.
+use Rattle.std.specs.Prelude.{ℕ, List, [], ◌∷◌, Option, Some, None, Bool, true, false, not, ◌==◌, ◌&&◌, ◌||◌, length, map, is_some, is_none, bytes_eq, nat_lt, nat_le}
+use Rattle.std.specs.List.{list_any, list_all}
+use Rattle.crush_units.specs.declared.id.ItemId.{ItemId}
+use Rattle.crush_units.specs.declared.id.ItemId.TheVariants.{Device, Bucket}
+use Rattle.crush_units.specs.Id.{same_id}
+use Rattle.crush_units.specs.Name.{is_name}
+use Rattle.crush_model.specs.Items.{ShadowData}
+use Rattle.crush_model.specs.Table.{Row, is_there, is_below, used_ids}
+use Rattle.crush_model.specs.Lawful.{is_too_heavy, has_too_many}
+use Rattle.crush_units.specs.declared.limits.TheConstants.{DEVICE_IDS, FARTHEST_BUCKET_ID, HEAVIEST_DEVICE, LAST_TYPE, MOST_CLASS_IDS}
+
+-- each of several tests holds
+abbrev pub all_hold : List Bool → Bool
+all_hold [] = true
+all_hold (b ∷ bs) = b && all_hold bs
+
+-- no two are the same
+abbrev pub are_apart : {X : Type 0} → (X → X → Bool) → List X → Bool
+are_apart same [] = true
+are_apart same (x ∷ xs) = not (list_any (same x) xs) && are_apart same xs
+
+abbrev pub name_or_none : Option (List ℕ) → Bool
+name_or_none None = true
+name_or_none (Some n) = is_name n
+
+abbrev pub is_shadow_id : ShadowData → Bool
+is_shadow_id c = all_hold (nat_lt 0 c.id ∷ nat_le c.id FARTHEST_BUCKET_ID ∷ is_name c.class ∷ [])
+
+-- a row by itself: a device's, and a bucket's
+abbrev pub device_tests : ℕ → Row → List Bool
+device_tests d r =
+    nat_lt d DEVICE_IDS ∷ (r.kind == 0) ∷ nat_le r.weight HEAVIEST_DEVICE
+    ∷ (is_some r.parent || (r.weight == 0)) ∷ is_none r.alg ∷ (length r.class_ids == 0)
+    ∷ name_or_none r.class ∷ []
+
+abbrev pub bucket_tests : ℕ → Row → List Bool
+bucket_tests b r =
+    nat_lt 0 b ∷ nat_le b FARTHEST_BUCKET_ID ∷ nat_lt 0 r.kind ∷ nat_le r.kind LAST_TYPE
+    ∷ (r.weight == 0) ∷ is_none r.class ∷ is_some r.alg ∷ list_all is_shadow_id r.class_ids
+    ∷ nat_le (length r.class_ids) MOST_CLASS_IDS
+    ∷ are_apart bytes_eq (map (λ (c : ShadowData). c.class) r.class_ids) ∷ []
+
+abbrev pub is_row_of : ItemId → Row → Bool
+is_row_of (Device d) r = all_hold (device_tests d r)
+is_row_of (Bucket b) r = all_hold (bucket_tests b r)
+
+abbrev pub is_row : Row → Bool
+is_row r = all_hold (is_name r.name ∷ is_row_of r.id r ∷ [])
+
+-- its parent is there, and it isn't below itself
+abbrev pub parent_is_there : List Row → Option ℕ → Bool
+parent_is_there t None = true
+parent_is_there t (Some p) = is_there t (Bucket p)
+
+abbrev pub is_loop : List Row → ItemId → Bool
+is_loop t (Device d) = false
+is_loop t (Bucket b) = is_below t b (Bucket b)
+
+-- the whole table: ids, names and used ids distinct, rows, parents, loops, sums and total, counts
+abbrev pub table_tests : List Row → List Bool
+table_tests t =
+    are_apart same_id (map (λ (r : Row). r.id) t)
+    ∷ are_apart bytes_eq (map (λ (r : Row). r.name) t)
+    ∷ are_apart (λ a b. a == b) (used_ids t)
+    ∷ list_all is_row t
+    ∷ list_all (λ (r : Row). parent_is_there t r.parent) t
+    ∷ not (list_any (λ (r : Row). is_loop t r.id) t)
+    ∷ not (is_too_heavy t)
+    ∷ not (has_too_many t) ∷ []
+
+abbrev pub is_lawful : List Row → Bool
+is_lawful t = all_hold (table_tests t)

@@ -1,0 +1,226 @@
+//! A part of a map's tree.
+
+ghost use Rattle.std.specs.Prelude.{◌≡◌, ◌<◌, ◌^◌, ◌∷◌, ◌++◌, [], List, All, IfNone, IfOk, IfSome, None, Some, false, length, slice_index_or, map as each};
+ghost use Rattle.crush_nodes.specs.Seen.{items_of, node_id};
+ghost use Rattle.crush_model.specs.Items.{size_of};
+ghost use Rattle.crush_model.specs.Stands.{Stands};
+ghost use Rattle.crush_model.specs.Table.{Row, kids, parent_of, row_of};
+ghost use Rattle.crush_units.specs.Id.{same_id};
+ghost use Rattle.crush_print.specs.SeenStep.{step_data};
+ghost use Rattle.crush_print.specs.SeenPart.{HasSteps};
+ghost use Rattle.crush_print.specs.Tree.{StepData, steps_at};
+ghost use Rattle.crush_print.specs.TreePart.{closed_by, cut, down_to, is_closed, part_steps, steps_under, whole_tree};
+
+use crate::steps::{Step, push_steps, walk};
+use crush_map::CrushMap;
+use crush_tree::Node;
+use crush_units::{BucketId, ItemId, TypeId};
+use std::alloc::{AllocError, Allocator, Global};
+
+/// A part of a map's tree.
+#[derive(Clone, Copy, Debug)]
+pub struct Part {
+    /// The item at its top, `None` for the whole tree.
+    pub under: Option<ItemId>,
+    /// The type of the buckets below which it has no items, `None` where it has all.
+    pub down_to: Option<TypeId>,
+}
+
+impl Part {
+    /// The whole tree.
+    pub fn whole() -> Part
+        ensures { result ≡ whole_tree }
+    {
+        Part {
+            under: None,
+            down_to: None,
+        }
+    }
+}
+
+/// The items of a part of a map, in the order of its tree: as [`walk`] has them, or an item with
+/// all that is below it, whose own depth is then 0; and of these none that stands below a bucket of
+/// the type that the part goes down to. It costs no more than the part has items beside it and
+/// below it.
+#[tactic(auto, unfolding(crate::specs::TreePart::part_steps))]
+pub fn walk_part<A: Allocator>(
+    alloc: Global,
+    map: &CrushMap<A>,
+    part: Part,
+) -> Result<Vec<Step<'_, A>>, AllocError>
+    ensures { IfOk result (λ steps. (t : List Row) → Stands map.now.forest t
+        → each step_data steps.items ≡ part_steps part t) }
+{
+    let steps = walk_under(alloc, map, part.under)?;
+    cut(alloc, steps, part.down_to)
+}
+
+fn walk_under<A: Allocator>(
+    alloc: Global,
+    map: &CrushMap<A>,
+    under: Option<ItemId>,
+) -> Result<Vec<Step<'_, A>>, AllocError>
+    ensures { IfOk result (λ steps. (t : List Row) → Stands map.now.forest t
+        → each step_data steps.items ≡ steps_under under t) }
+{
+    match under {
+        Some(id) => walk_item(alloc, map, &id),
+        None => walk(alloc, map),
+    }
+}
+
+fn walk_item<'a, A: Allocator>(
+    alloc: Global,
+    map: &'a CrushMap<A>,
+    id: &ItemId,
+) -> Result<Vec<Step<'a, A>>, AllocError>
+    ensures { IfOk result (λ steps. (t : List Row) → Stands map.now.forest t
+        → each step_data steps.items ≡ steps_at t (length t) 0 id.now) }
+{
+    let mut steps = Vec::new(alloc);
+    let nodes = beside(map, id);
+    let parent = map.parent(*id);
+    match place_of(nodes, id) {
+        Some(place) => {
+            push_steps(&nodes[place], 0, parent, &mut steps)?;
+            Ok(steps)
+        }
+        None => Ok(steps),
+    }
+}
+
+fn beside<'a, A: Allocator>(map: &'a CrushMap<A>, id: &ItemId) -> &'a [Node<A>]
+    ensures few { size_of (items_of result.now) < 2 ^ 31 }
+    ensures steps { (t : List Row) → Stands map.now.forest t
+        → All (HasSteps t (parent_of t id.now)) result.now }
+    ensures others { (t : List Row) → Stands map.now.forest t
+        → All (λ node. same_id (node_id node) id.now ≡ false) result.now
+        → steps_at t (length t) 0 id.now ≡ [] }
+{
+    match map.parent(*id) {
+        Some(bucket) => nodes_in(map, bucket),
+        None => tops_like(map, id),
+    }
+}
+
+fn nodes_in<A: Allocator>(map: &CrushMap<A>, bucket: BucketId) -> &[Node<A>]
+    ensures few { size_of (items_of result.now) < 2 ^ 31 }
+    ensures steps { (t : List Row) → Stands map.now.forest t
+        → All (HasSteps t (Some bucket)) result.now }
+    ensures ids { (t : List Row) → Stands map.now.forest t
+        → each node_id result.now ≡ kids t bucket }
+{
+    map.forest().recall_invariant();
+    match map.items(bucket) {
+        Some(items) => items,
+        None => &[],
+    }
+}
+
+fn tops_like<'a, A: Allocator>(map: &'a CrushMap<A>, id: &ItemId) -> &'a [Node<A>]
+    ensures few { size_of (items_of result.now) < 2 ^ 31 }
+    ensures steps { (t : List Row) → Stands map.now.forest t
+        → All (HasSteps t None) result.now }
+    ensures others { (t : List Row) → Stands map.now.forest t → parent_of t id.now ≡ None
+        → All (λ node. same_id (node_id node) id.now ≡ false) result.now
+        → row_of t id.now ≡ None }
+{
+    let forest = map.forest();
+    forest.recall_invariant();
+    match id {
+        ItemId::Device(_) => forest.unplaced(),
+        ItemId::Bucket(_) => forest.roots(),
+    }
+}
+
+fn place_of<A: Allocator>(nodes: &[Node<A>], id: &ItemId) -> Option<usize>
+    ensures within { IfSome result (λ k. k < length nodes.now) }
+    ensures id { IfSome result (λ k. (d : _) → node_id (slice_index_or nodes.now k d) ≡ id.now) }
+    ensures none { IfNone result
+        (All (λ node. same_id (node_id node) id.now ≡ false) nodes.now) }
+{
+    for (place, node) in nodes.iter().enumerate() {
+        if node.id().is_same(*id) {
+            return Some(place);
+        }
+    }
+    None
+}
+
+fn cut<A: Allocator>(
+    alloc: Global,
+    steps: Vec<Step<'_, A>>,
+    kind: Option<TypeId>,
+) -> Result<Vec<Step<'_, A>>, AllocError>
+    ensures { IfOk result (λ kept. each step_data kept.items ≡ cut kind (each step_data steps.entry.items)) }
+{
+    match kind {
+        Some(kind) => steps_down_to(alloc, steps.as_slice(), kind),
+        None => Ok(steps),
+    }
+}
+
+fn steps_down_to<'a, A: Allocator>(
+    alloc: Global,
+    steps: &[Step<'a, A>],
+    kind: TypeId,
+) -> Result<Vec<Step<'a, A>>, AllocError>
+    ensures { IfOk result (λ kept. each step_data kept.items
+        ≡ down_to kind None (each step_data steps.now)) }
+{
+    let mut kept = Vec::new(alloc);
+    let mut closed = None;
+    for step in steps {
+        closed = keep_step(step, kind, closed, &mut kept)?;
+    }
+    Ok(kept)
+}
+
+/// Answers the depth of the bucket below which nothing is kept from here on.
+fn keep_step<'a, A: Allocator>(
+    step: &Step<'a, A>,
+    kind: TypeId,
+    closed: Option<u32>,
+    kept: &mut Vec<Step<'a, A>>,
+) -> Result<Option<u32>, AllocError>
+    ensures { IfOk result (λ now. (rest : List StepData)
+        → each step_data kept.old.items ++ down_to kind closed (step_data step.now ∷ rest)
+        ≡ each step_data kept.new.items ++ down_to kind now rest) }
+{
+    if is_closed(closed, step) {
+        return Ok(closed);
+    }
+    let Ok(()) = kept.push(copy_of(step)) else {
+        return Err(AllocError);
+    };
+    Ok(closed_by(kind, step))
+}
+
+fn copy_of<'a, A: Allocator>(step: &Step<'a, A>) -> Step<'a, A>
+    ensures { step_data result ≡ step_data step.now }
+{
+    Step {
+        depth: step.depth,
+        parent: step.parent,
+        node: step.node,
+    }
+}
+
+fn is_closed<A: Allocator>(closed: Option<u32>, step: &Step<'_, A>) -> bool
+    ensures { result ≡ is_closed closed (step_data step.now) }
+{
+    match closed {
+        Some(depth) => depth < step.depth,
+        None => false,
+    }
+}
+
+fn closed_by<A: Allocator>(kind: TypeId, step: &Step<'_, A>) -> Option<u32>
+    ensures { result ≡ closed_by kind (step_data step.now) }
+{
+    if step.view().kind.number() == kind.number() {
+        Some(step.depth)
+    } else {
+        None
+    }
+}

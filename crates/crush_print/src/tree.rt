@@ -1,0 +1,268 @@
+//! The tree of a map as text.
+
+ghost use Rattle.std.specs.Prelude.{◌≡◌, ◌++◌, [], List, OnOk, IfOk, length, max, flat_map, unwrap_or, map as each};
+ghost use Rattle.std.specs.Option.{option_map};
+ghost use Rattle.std.specs.Io.KnownBytes.{Keeps};
+ghost use Rattle.crush_units.specs.Writes.{Writes};
+ghost use Rattle.crush_nodes.specs.SeenView.{view_data};
+ghost use Rattle.crush_print.specs.Lines.{id_text};
+ghost use Rattle.crush_model.specs.Stands.{Stands};
+ghost use Rattle.crush_model.specs.Table.{Row};
+ghost use Rattle.crush_units.specs.Weight.{weight_text};
+ghost use Rattle.crush_print.specs.SeenStep.{step_data};
+ghost use Rattle.crush_print.specs.TreePart.{WholeTreeIsAPart, tree_part_text};
+ghost use Rattle.crush_print.specs.TreeText.{SameTablesHaveOneTree, at_right, heading, indent, kind_prefix, step_line, steps_text, tree_text, widths_of};
+
+use crate::columns::{push_left, push_right};
+use crate::part::{Part, walk_part};
+use crate::steps::{Step, walk};
+use crate::words::{bytes_of, push_id, push_indent, push_kind, push_row, push_weight};
+use crush_map::{CrushMap, Setting};
+use crush_tree::View;
+use crush_units::{ItemId, Weight, WriteFault, put};
+use std::alloc::{AllocError, Allocator, Global};
+use std::io::Write;
+
+/// Of the columns before the names, in bytes.
+#[derive(Clone, Copy, Debug)]
+pub(crate) struct Widths {
+    pub id: usize,
+    pub class: usize,
+    pub weight: usize,
+}
+
+/// Writes the tree of a map: a heading, and a line for each item in the order of [`walk`].
+pub fn write_tree<A: Allocator, W: Write>(
+    alloc: Global,
+    map: &CrushMap<A>,
+    out: &mut W,
+) -> Result<(), WriteFault>
+    ensures writes { (t : List Row) → Stands map.now.forest t
+        → Writes result (W.contents out.old) (W.contents out.new) (tree_text map.now.setting t) }
+    ensures none { result ≡ Err WriteFault.OutOfMemory
+        → Keeps (W.contents out.old) (W.contents out.new) }
+{
+    let mut text = Vec::new(alloc);
+    if push_tree(alloc, map, &mut text).is_err() {
+        return Err(WriteFault::OutOfMemory);
+    }
+    put(out, text.as_slice())
+}
+
+/// Writes a part of the tree of a map: a heading, and a line for each item in the order of
+/// [`walk_part`].
+pub fn write_tree_part<A: Allocator, W: Write>(
+    alloc: Global,
+    map: &CrushMap<A>,
+    part: Part,
+    out: &mut W,
+) -> Result<(), WriteFault>
+    ensures writes { (t : List Row) → Stands map.now.forest t → Writes result
+        (W.contents out.old) (W.contents out.new) (tree_part_text map.now.setting part t) }
+    ensures none { result ≡ Err WriteFault.OutOfMemory
+        → Keeps (W.contents out.old) (W.contents out.new) }
+{
+    let mut text = Vec::new(alloc);
+    if push_part(alloc, map, part, &mut text).is_err() {
+        return Err(WriteFault::OutOfMemory);
+    }
+    put(out, text.as_slice())
+}
+
+/// The law that [`Part::whole`] is the whole tree.
+pub fn whole_tree_is_a_part()
+    ensures { WholeTreeIsAPart }
+{}
+
+/// The law that maps of the same rows have one tree, in whatever order these stand.
+pub fn same_tables_have_one_tree()
+    ensures { SameTablesHaveOneTree }
+{}
+
+#[tactic(auto, unfolding(crate::specs::TreeText::tree_text))]
+fn push_tree<A: Allocator>(
+    alloc: Global,
+    map: &CrushMap<A>,
+    out: &mut Vec<u8>,
+) -> Result<(), AllocError>
+    ensures { (t : List Row) → Stands map.now.forest t
+        → OnOk result (out.new.items ≡ out.old.items ++ tree_text map.now.setting t) }
+{
+    let steps = walk(alloc, map)?;
+    push_text(alloc, map.setting(), steps.as_slice(), out)
+}
+
+#[tactic(auto, unfolding(crate::specs::TreePart::tree_part_text))]
+fn push_part<A: Allocator>(
+    alloc: Global,
+    map: &CrushMap<A>,
+    part: Part,
+    out: &mut Vec<u8>,
+) -> Result<(), AllocError>
+    ensures { (t : List Row) → Stands map.now.forest t
+        → OnOk result (out.new.items ≡ out.old.items ++ tree_part_text map.now.setting part t) }
+{
+    let steps = walk_part(alloc, map, part)?;
+    push_text(alloc, map.setting(), steps.as_slice(), out)
+}
+
+#[tactic(auto, unfolding(crate::specs::TreeText::steps_text))]
+fn push_text<A: Allocator>(
+    alloc: Global,
+    setting: &Setting,
+    steps: &[Step<'_, A>],
+    out: &mut Vec<u8>,
+) -> Result<(), AllocError>
+    ensures { OnOk result (out.new.items ≡ out.old.items
+        ++ steps_text setting.now (each step_data steps.now)) }
+{
+    let widths = widths_of(alloc, steps)?;
+    push_heading(alloc, &widths, out)?;
+    push_lines(alloc, setting, &widths, steps, out)
+}
+
+fn push_lines<A: Allocator>(
+    alloc: Global,
+    setting: &Setting,
+    widths: &Widths,
+    steps: &[Step<'_, A>],
+    out: &mut Vec<u8>,
+) -> Result<(), AllocError>
+    ensures { OnOk result (out.new.items ≡ out.old.items
+        ++ flat_map (λ s. step_line setting.now widths.now (step_data s)) steps.now) }
+{
+    for step in steps {
+        push_line(alloc, setting, widths, step, out)?;
+    }
+    Ok(())
+}
+
+#[tactic(auto, unfolding(crate::specs::TreeText::step_line))]
+fn push_line<A: Allocator>(
+    alloc: Global,
+    setting: &Setting,
+    widths: &Widths,
+    step: &Step<'_, A>,
+    out: &mut Vec<u8>,
+) -> Result<(), AllocError>
+    ensures { OnOk result (out.new.items ≡ out.old.items
+        ++ step_line setting.now widths.now (step_data step.now)) }
+{
+    let view = step.view();
+    let id = id_column(alloc, widths.id, view.id)?;
+    let class = class_column(alloc, widths.class, view.class)?;
+    let weight = weight_column(alloc, widths.weight, view.weight)?;
+    let name = name_column(alloc, setting, step.depth, &view)?;
+    push_row(
+        id.as_slice(),
+        class.as_slice(),
+        weight.as_slice(),
+        name.as_slice(),
+        out,
+    )
+}
+
+/// An id at the right end of its column.
+pub fn id_column(alloc: Global, width: usize, id: ItemId) -> Result<Vec<u8>, AllocError>
+    ensures { IfOk result (λ column. column.items ≡ at_right width (id_text id)) }
+{
+    let mut word = Vec::new(alloc);
+    push_id(id, &mut word)?;
+    let mut column = Vec::new(alloc);
+    push_right(width, word.as_slice(), &mut column)?;
+    Ok(column)
+}
+
+fn class_column(alloc: Global, width: usize, class: Option<&str>) -> Result<Vec<u8>, AllocError>
+    ensures { IfOk result (λ column. column.items
+        ≡ at_right width (unwrap_or (option_map (λ c. c.now) class.entry) [])) }
+{
+    let mut column = Vec::new(alloc);
+    push_right(width, bytes_of(class), &mut column)?;
+    Ok(column)
+}
+
+fn weight_column(alloc: Global, width: usize, weight: Weight) -> Result<Vec<u8>, AllocError>
+    ensures { IfOk result (λ column. column.items ≡ at_right width (weight_text weight)) }
+{
+    let mut word = Vec::new(alloc);
+    push_weight(weight, &mut word)?;
+    let mut column = Vec::new(alloc);
+    push_right(width, word.as_slice(), &mut column)?;
+    Ok(column)
+}
+
+fn name_column(
+    alloc: Global,
+    setting: &Setting,
+    depth: u32,
+    view: &View<'_>,
+) -> Result<Vec<u8>, AllocError>
+    ensures { IfOk result (λ column. column.items ≡ indent depth
+        ++ kind_prefix setting.now (view_data view.now).id (view_data view.now).kind
+        ++ (view_data view.now).name) }
+{
+    let mut column = Vec::new(alloc);
+    push_indent(depth, &mut column)?;
+    push_kind(setting, view.id, view.kind, &mut column)?;
+    column.extend_from_slice(view.name.as_bytes())?;
+    Ok(column)
+}
+
+#[tactic(auto, unfolding(crate::specs::TreeText::heading))]
+fn push_heading(alloc: Global, widths: &Widths, out: &mut Vec<u8>) -> Result<(), AllocError>
+    ensures { OnOk result (out.new.items ≡ out.old.items ++ heading widths.now) }
+{
+    let mut id = Vec::new(alloc);
+    push_left(widths.id, b"ID", &mut id)?;
+    let mut class = Vec::new(alloc);
+    push_left(widths.class, b"CLASS", &mut class)?;
+    let mut weight = Vec::new(alloc);
+    push_left(widths.weight, b"WEIGHT", &mut weight)?;
+    push_row(
+        id.as_slice(),
+        class.as_slice(),
+        weight.as_slice(),
+        b"TYPE NAME",
+        out,
+    )
+}
+
+/// A width, or the length of a word that is longer.
+pub fn wider(width: usize, word: &[u8]) -> usize
+    ensures { result ≡ max width (length word.now) }
+{
+    width.max(word.len())
+}
+
+/// A width, or the length of an id that is longer.
+pub fn wider_id(alloc: Global, width: usize, id: ItemId) -> Result<usize, AllocError>
+    ensures { IfOk result (λ wider. wider ≡ max width (length (id_text id))) }
+{
+    let mut word = Vec::new(alloc);
+    push_id(id, &mut word)?;
+    Ok(wider(width, word.as_slice()))
+}
+
+fn wider_weight(alloc: Global, width: usize, weight: Weight) -> Result<usize, AllocError>
+    ensures { IfOk result (λ wider. wider ≡ max width (length (weight_text weight))) }
+{
+    let mut word = Vec::new(alloc);
+    push_weight(weight, &mut word)?;
+    Ok(wider(width, word.as_slice()))
+}
+
+fn widths_of<A: Allocator>(alloc: Global, steps: &[Step<'_, A>]) -> Result<Widths, AllocError>
+    ensures { IfOk result (λ widths. widths ≡ widths_of (each step_data steps.now)) }
+{
+    let mut id = 2;
+    let mut class = 5;
+    let mut weight = 6;
+    for step in steps {
+        let view = step.view();
+        id = wider_id(alloc, id, view.id)?;
+        class = wider(class, bytes_of(view.class));
+        weight = wider_weight(alloc, weight, view.weight)?;
+    }
+    Ok(Widths { id, class, weight })
+}

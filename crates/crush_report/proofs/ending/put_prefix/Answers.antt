@@ -1,5 +1,0 @@
-use Rattle.crush_bytes.proofs.Appending.{prefix_of_writes}
-use Rattle.crush_report.proofs.ending.put_prefix.Goals as goal
-
-pub returns : goal.returns
-returns g c = prefix_of_writes c.put.result _ _ _ c.put.ensures.writes

@@ -1,7 +1,0 @@
-use Rattle.std.proofs.Common.{append_assoc}
-use Rattle.crush_report.proofs.ending.write_line_fault.Goals as goal
-
-pub returns : goal.returns
-returns g c =
-    let w = rw (c.as_slice.ensures, c.as_bytes-number.ensures.value, c.format.ensures.text, c.as_slice-2.ensures, c.as_bytes.ensures.value, c.as_slice-3.ensures) at c.put_all.ensures.writes in
-    simp append_assoc w

@@ -1,3 +1,0 @@
-pub mod OptionsReport
-pub mod Report
-pub mod Words

@@ -1,0 +1,190 @@
+-- How a run ends that a command line asks for.
+use Rattle.std.proofs.Common.{◌≡◌, ℕ, Bool, List, [], Option, None, Result, Ok, Err, subst}
+use Rattle.std.specs.Prelude.{IfOk, IfErr, IfSome}
+use Rattle.crush_script.specs.Job.{HasJob, JobData}
+use Rattle.crush_options.specs.declared.asked.Options.{Options}
+use Rattle.crush_options.specs.declared.asked.Printed.{Printed}
+use Rattle.crush_options.specs.declared.asked.Printed.TheVariants as printed
+use Rattle.crush_input.specs.declared.output.Output.{Output}
+use Rattle.crush_input.specs.declared.fault.OtherMap.{OtherMap}
+use Rattle.crush_input.specs.declared.fault.OtherMap.TheVariants as beside
+use Rattle.crush_input.specs.declared.fault.RunFault.{RunFault}
+use Rattle.crush_input.specs.declared.fault.RunFault.TheVariants as run
+use Rattle.crush_input.specs.declared.summary.Summary.{Summary}
+use Rattle.crush_input.specs.Input.{job_bytes}
+use Rattle.crush_run.specs.Options.{EndsAsWanted, IsOptionsFault}
+use Rattle.crush_input.specs.Options.{IsOutputFault, IsOutputNoted, IsOutputOf, IsMapFault, IsNotedAsWanted}
+use Rattle.crush_input.specs.Notes.{IsMapNoted, IsNoted, TextData, text_of}
+use Rattle.crush_reasons.specs.Place.{OriginData}
+use Rattle.crush_input.specs.Origins.{job_origin}
+use Rattle.crush_run.specs.Run.{Ends}
+use Rattle.crush_run.specs.Stages.{IsEarlyFault, IsOutcomeFault}
+use Rattle.crush_input.specs.Stages.{IsReadFault}
+
+-- a fault of what is asked for comes before there is a history
+early_of_map : (why : OtherMap) (all : Option (List ℕ)) (f : RunFault) → IsMapFault why all f → IsEarlyFault f
+early_of_map why all (run.Job j) h = absurd h
+early_of_map why all run.Read h = absurd h
+early_of_map why all run.Write h = absurd h
+early_of_map why all run.Memory h = tt
+early_of_map why all run.Thread h = absurd h
+early_of_map why all (run.Refused n) h = absurd h
+early_of_map why all (run.Made n) h = absurd h
+early_of_map why all (run.Differs n) h = absurd h
+early_of_map why all run.NoItem h = absurd h
+early_of_map why all run.NoType h = absurd h
+early_of_map why all (run.Other w s) h = tt
+
+pub early_of_output : (content : List ℕ → Option (List ℕ)) (what : Printed) (f : RunFault) → IsOutputFault content what f → IsEarlyFault f
+early_of_output content printed.Map f h = absurd h
+early_of_output content (printed.Tree part) f h = rw h tt
+early_of_output content (printed.Since words) f h = early_of_map beside.Since (content words.map.bytes.items) f h
+early_of_output content (printed.Changes name) f h = early_of_map beside.Since (content name.bytes.items) f h
+early_of_output content printed.AsCeph f h = absurd h
+early_of_output content (printed.To words) f h = early_of_map beside.To (content words.map.bytes.items) f h
+
+-- a run that ended early came to no output
+ended_before : (content : List ℕ → Option (List ℕ)) (options : Options) (origin : ℕ → OriginData) (bytes : List ℕ) (job : JobData) (f : RunFault) (old new : Option (List ℕ)) (notes : List ℕ) → IsEarlyFault f → EndsAsWanted content options origin bytes job (Err f) old new notes
+ended_before content options origin bytes job (run.Job j) old new notes early = tt
+ended_before content options origin bytes job run.Read old new notes early = tt
+ended_before content options origin bytes job run.Write old new notes early = absurd early
+ended_before content options origin bytes job run.Memory old new notes early = tt
+ended_before content options origin bytes job run.Thread old new notes early = tt
+ended_before content options origin bytes job (run.Refused n) old new notes early = absurd early
+ended_before content options origin bytes job (run.Made n) old new notes early = absurd early
+ended_before content options origin bytes job (run.Differs n) old new notes early = absurd early
+ended_before content options origin bytes job run.NoItem old new notes early = absurd early
+ended_before content options origin bytes job run.NoType old new notes early = absurd early
+ended_before content options origin bytes job (run.Other w s) old new notes early = tt
+
+pub ended_before_output : (content : List ℕ → Option (List ℕ)) (options : Options) (origin : ℕ → OriginData) (bytes : List ℕ) (job : JobData) (r : Result Summary RunFault) (f : RunFault) (old new : Option (List ℕ)) (notes : List ℕ) → r ≡ Err f → IsEarlyFault f
+    → EndsAsWanted content options origin bytes job r old new notes
+ended_before_output content options origin bytes job r f old new notes is early = rw is (ended_before content options origin bytes job f old new notes early)
+
+-- a run with what is asked for ends as asked
+ended : (content : List ℕ → Option (List ℕ)) (options : Options) (what : Output) (origin : ℕ → OriginData) (bytes : List ℕ) (job : JobData) (r : Result Summary RunFault) (old new : Option (List ℕ)) (notes : List ℕ) → IsOutputOf content options.printed what
+    → Ends options.mode what job (text_of options.mode.explain origin bytes job.table) r old new notes → EndsAsWanted content options origin bytes job r old new notes
+ended content options what origin bytes job (Ok s) old new notes is ends = record { what = what; output = is; ends = ends }
+ended content options what origin bytes job (Err (run.Job j)) old new notes is ends = tt
+ended content options what origin bytes job (Err run.Read) old new notes is ends = tt
+ended content options what origin bytes job (Err run.Write) old new notes is ends = record { what = what; output = is; ends = ends }
+ended content options what origin bytes job (Err run.Memory) old new notes is ends = tt
+ended content options what origin bytes job (Err run.Thread) old new notes is ends = tt
+ended content options what origin bytes job (Err (run.Refused n)) old new notes is ends = record { what = what; output = is; ends = ends }
+ended content options what origin bytes job (Err (run.Made n)) old new notes is ends = record { what = what; output = is; ends = ends }
+ended content options what origin bytes job (Err (run.Differs n)) old new notes is ends = record { what = what; output = is; ends = ends }
+ended content options what origin bytes job (Err run.NoItem) old new notes is ends = record { what = what; output = is; ends = ends }
+ended content options what origin bytes job (Err run.NoType) old new notes is ends = record { what = what; output = is; ends = ends }
+ended content options what origin bytes job (Err (run.Other w s)) old new notes is ends = tt
+
+pub ended_as_wanted : (content : List ℕ → Option (List ℕ)) (options : Options) (what : Output) (origin : ℕ → OriginData) (bytes : List ℕ) (job : JobData) (text : TextData) (r : Result Summary RunFault) (old new : Option (List ℕ)) (notes : List ℕ) → IsOutputOf content options.printed what
+    → text ≡ text_of options.mode.explain origin bytes job.table → Ends options.mode what job text r old new notes → EndsAsWanted content options origin bytes job r old new notes
+ended_as_wanted content options what origin bytes job text r old new notes is same ends =
+    ended content options what origin bytes job r old new notes is (subst (λ (w : TextData). Ends options.mode what job w r old new notes) same ends)
+
+-- when the faults of the stages are told
+pub options_fault_of_read : (content : List ℕ → Option (List ℕ)) (options : Options) (all : Option (List ℕ)) (f : RunFault) → IsReadFault all f → IsOptionsFault content options all f
+options_fault_of_read content options all (run.Job j) h = h
+options_fault_of_read content options all run.Read h = tt
+options_fault_of_read content options all run.Write h = absurd h
+options_fault_of_read content options all run.Memory h = tt
+options_fault_of_read content options all run.Thread h = absurd h
+options_fault_of_read content options all (run.Refused n) h = absurd h
+options_fault_of_read content options all (run.Made n) h = absurd h
+options_fault_of_read content options all (run.Differs n) h = absurd h
+options_fault_of_read content options all run.NoItem h = absurd h
+options_fault_of_read content options all run.NoType h = absurd h
+options_fault_of_read content options all (run.Other w s) h = absurd h
+
+fault_of_map : (content : List ℕ → Option (List ℕ)) (options : Options) (why : OtherMap) (all own : Option (List ℕ)) (f : RunFault) → IfSome all HasJob → IsOutputFault content options.printed f → IsMapFault why own f → IsOptionsFault content options all f
+fault_of_map content options why all own (run.Job j) has output h = absurd h
+fault_of_map content options why all own run.Read has output h = absurd h
+fault_of_map content options why all own run.Write has output h = absurd h
+fault_of_map content options why all own run.Memory has output h = tt
+fault_of_map content options why all own run.Thread has output h = absurd h
+fault_of_map content options why all own (run.Refused n) has output h = absurd h
+fault_of_map content options why all own (run.Made n) has output h = absurd h
+fault_of_map content options why all own (run.Differs n) has output h = absurd h
+fault_of_map content options why all own run.NoItem has output h = absurd h
+fault_of_map content options why all own run.NoType has output h = absurd h
+fault_of_map content options why all own (run.Other w s) has output h = (has, output)
+
+-- a fault of what is asked for is one of another map, or may be
+output_is_map : (content : List ℕ → Option (List ℕ)) (what : Printed) (f : RunFault) → IsOutputFault content what f → (why : OtherMap) × (own : Option (List ℕ)) × IsMapFault why own f
+output_is_map content printed.Map f h = absurd h
+output_is_map content (printed.Tree part) f h = (beside.Since, None, rw h tt)
+output_is_map content (printed.Since words) f h = (beside.Since, content words.map.bytes.items, h)
+output_is_map content (printed.Changes name) f h = (beside.Since, content name.bytes.items, h)
+output_is_map content printed.AsCeph f h = absurd h
+output_is_map content (printed.To words) f h = (beside.To, content words.map.bytes.items, h)
+
+pub options_fault_of_asked : (content : List ℕ → Option (List ℕ)) (options : Options) (all : Option (List ℕ)) (f : RunFault) → IfSome all HasJob → IsOutputFault content options.printed f → IsOptionsFault content options all f
+options_fault_of_asked content options all f has output =
+    let own = output_is_map content options.printed f output in
+    fault_of_map content options own.0 all own.1 f has output own.2
+
+pub options_fault_of_outcome : (content : List ℕ → Option (List ℕ)) (options : Options) (all : Option (List ℕ)) (r : Result Summary RunFault) → IfSome all HasJob → IfErr r (IsOutcomeFault options.mode)
+    → IfErr r (IsOptionsFault content options all)
+options_fault_of_outcome content options all (Ok s) has h = tt
+options_fault_of_outcome content options all (Err (run.Job j)) has h = absurd h
+options_fault_of_outcome content options all (Err run.Read) has h = absurd h
+options_fault_of_outcome content options all (Err run.Write) has h = has
+options_fault_of_outcome content options all (Err run.Memory) has h = tt
+options_fault_of_outcome content options all (Err run.Thread) has h = (h, has)
+options_fault_of_outcome content options all (Err (run.Refused n)) has h = (h, has)
+options_fault_of_outcome content options all (Err (run.Made n)) has h = (h, has)
+options_fault_of_outcome content options all (Err (run.Differs n)) has h = (h, has)
+options_fault_of_outcome content options all (Err run.NoItem) has h = has
+options_fault_of_outcome content options all (Err run.NoType) has h = has
+options_fault_of_outcome content options all (Err (run.Other w s)) has h = absurd h
+
+-- where what was read is a job, it is one
+pub job_where_done : {X : Type 0} (r : Result X RunFault) (all : Option (List ℕ)) → IfSome all HasJob → IfOk r (λ _. IfSome all HasJob)
+job_where_done (Ok x) all has = has
+job_where_done (Err f) all has = tt
+
+-- what is noted of the ending of a run is noted as asked
+pub ending_as_wanted : (content : List ℕ → Option (List ℕ)) (options : Options) (input : Option (List ℕ)) (r : Result Summary RunFault) (notes : List ℕ) → IfErr r (IsOutcomeFault options.mode)
+    → IsNoted options.mode.explain (job_origin content options input) (job_bytes content options input) r notes → IsNotedAsWanted content options input r notes
+ending_as_wanted content options input (Ok s) notes h told = told
+ending_as_wanted content options input (Err (run.Job j)) notes h told = told
+ending_as_wanted content options input (Err run.Read) notes h told = absurd h
+ending_as_wanted content options input (Err run.Write) notes h told = told
+ending_as_wanted content options input (Err run.Memory) notes h told = told
+ending_as_wanted content options input (Err run.Thread) notes h told = told
+ending_as_wanted content options input (Err (run.Refused n)) notes h told = told
+ending_as_wanted content options input (Err (run.Made n)) notes h told = told
+ending_as_wanted content options input (Err (run.Differs n)) notes h told = told
+ending_as_wanted content options input (Err run.NoItem) notes h told = told
+ending_as_wanted content options input (Err run.NoType) notes h told = told
+ending_as_wanted content options input (Err (run.Other w s)) notes h told = absurd h
+
+-- what is noted of a fault of what the words ask for, which is another map alone, is noted as asked
+noted_of_map : (content : List ℕ → Option (List ℕ)) (options : Options) (why : OtherMap) (input own : Option (List ℕ)) (name : List ℕ) (f : RunFault) (notes : List ℕ) → IsMapFault why own f → IsMapNoted options.mode.explain name own f notes
+    → IsOutputNoted content options.mode.explain options.printed f notes → IsNotedAsWanted content options input (Err f) notes
+noted_of_map content options why input own name (run.Job j) notes may told output = absurd may
+noted_of_map content options why input own name run.Read notes may told output = absurd may
+noted_of_map content options why input own name run.Write notes may told output = absurd may
+noted_of_map content options why input own name run.Memory notes may told output = told
+noted_of_map content options why input own name run.Thread notes may told output = absurd may
+noted_of_map content options why input own name (run.Refused n) notes may told output = absurd may
+noted_of_map content options why input own name (run.Made n) notes may told output = absurd may
+noted_of_map content options why input own name (run.Differs n) notes may told output = absurd may
+noted_of_map content options why input own name run.NoItem notes may told output = absurd may
+noted_of_map content options why input own name run.NoType notes may told output = absurd may
+noted_of_map content options why input own name (run.Other w s) notes may told output = output
+
+output_is_noted : (content : List ℕ → Option (List ℕ)) (explain : Bool) (what : Printed) (f : RunFault) (notes : List ℕ) → IsOutputFault content what f → IsOutputNoted content explain what f notes
+    → (why : OtherMap) × (own : Option (List ℕ)) × (name : List ℕ) × IsMapFault why own f × IsMapNoted explain name own f notes
+output_is_noted content explain printed.Map f notes h told = absurd h
+output_is_noted content explain (printed.Tree part) f notes h told = (beside.Since, None, [], rw h tt, rw h told)
+output_is_noted content explain (printed.Since words) f notes h told = (beside.Since, content words.map.bytes.items, words.map.bytes.items, h, told)
+output_is_noted content explain (printed.Changes name) f notes h told = (beside.Since, content name.bytes.items, name.bytes.items, h, told)
+output_is_noted content explain printed.AsCeph f notes h told = absurd h
+output_is_noted content explain (printed.To words) f notes h told = (beside.To, content words.map.bytes.items, words.map.bytes.items, h, told)
+
+pub noted_as_wanted : (content : List ℕ → Option (List ℕ)) (options : Options) (input : Option (List ℕ)) (f : RunFault) (notes : List ℕ) → IsOutputFault content options.printed f → IsOutputNoted content options.mode.explain options.printed f notes
+    → IsNotedAsWanted content options input (Err f) notes
+noted_as_wanted content options input f notes h told =
+    let own = output_is_noted content options.mode.explain options.printed f notes h told in
+    noted_of_map content options own.0 input own.1 own.2 f notes own.3 own.4 told

@@ -1,5 +1,0 @@
-use Rattle.crush_table.proofs.Forms.{placed_row, placed_device}
-use Rattle.crush_table.proofs.law.placed_rows_keep_their_form.Goals as goal
-
-pub returns : goal.returns
-returns c = record { row = placed_row; device = placed_device }

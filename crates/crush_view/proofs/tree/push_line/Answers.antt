@@ -1,7 +1,0 @@
-use Rattle.std.proofs.Common.{rules}
-use Rattle.crush_view.specs.TreeText.{step_line}
-use Rattle.crush_view.proofs.tree.push_line.Goals as goal
-
-pub returns : goal.returns
-unfolding step_line
-returns g c = search rules

@@ -1,5 +1,0 @@
-use Rattle.crush_view.proofs.SameTree.{tree_text-same}
-use Rattle.crush_view.proofs.tree.same_tables_have_one_tree.Goals as goal
-
-pub returns : goal.returns
-returns c = tree_text-same

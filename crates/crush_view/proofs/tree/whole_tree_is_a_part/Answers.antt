@@ -1,7 +1,0 @@
-use Rattle.std.proofs.Common.{refl}
-use Rattle.crush_view.specs.TreePart.{part_steps}
-use Rattle.crush_view.proofs.tree.whole_tree_is_a_part.Goals as goal
-
-pub returns : goal.returns
-unfolding part_steps
-returns c = λ t. refl

@@ -1,5 +1,0 @@
-pub mod SeenPart
-pub mod SeenStep
-pub mod Tree
-pub mod TreePart
-pub mod TreeText
