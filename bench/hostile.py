@@ -252,7 +252,7 @@ def a_wide_level_over_a_nest(size):
 
 
 def batches_of_sixteen_operators(size):
-    """Each of sixteen operators makes ten batches on a map of as many devices as fit, each on a copy of its own."""
+    """Each of sixteen operators makes ten batches on a map of as many devices as fit."""
     sections = [line for o in range(16) for line in [f"%operator o{o}"] + ["begin", "reweight osd.0 1", "reweight osd.1 2", "commit"] * 10]
     count = min(MOST_DEVICES - 1, (size - bytes_of(sections)) // 55)
     return flat(count, 100, 0.25) + sections

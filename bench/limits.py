@@ -7,8 +7,9 @@ The numbers are kB, as `ulimit -v` and `ulimit -s` take them. The jobs are the e
 4,096 buckets with an edit of the device in the innermost, and the maps of two operators, each at once and with
 --in-turn. A line for each run of limits under which a job ends alike: with status 0 and the whole output, with
 another status and its line, by a signal, or in the loader (127) before the program begins. Then, by stack alone, each
-kind of edit at the foot of such a nest, whose innermost bucket holds two. With --fits, as in the gate, only whether each
-of these is made with so much stack: status 1 where one isn't.
+kind of edit at the foot of such a nest, whose innermost bucket holds two, and two batches that are taken back, of
+weights below all of it and of what moves and comes. With --fits, as in the gate, only whether each of these is made
+with so much stack: status 1 where one isn't.
 """
 
 import argparse
@@ -30,6 +31,8 @@ EDITS = [
     "reweight osd.0 2.0", "reweight-subtree left 3.0", "move osd.0 rack=right", "move left rack=right",
     "add osd.2 1.0 rack=left", "set osd.2 1.0 rack=left", "create-or-move osd.2 1.0 rack=left", "rm osd.0",
     "rename-bucket left x", "swap-bucket left right", "begin\nswap-bucket left right\nrm osd.0\ncommit",
+    "begin\nreweight-subtree b1 3.0\nrm left\ncommit",
+    "begin\nmove osd.0 rack=right\nadd osd.2 1.0 rack=left\nrm left\ncommit",
 ]
 
 

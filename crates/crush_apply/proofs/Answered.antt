@@ -19,7 +19,7 @@ use Rattle.crush_edits.specs.Placing.{put_after}
 use Rattle.crush_edits.specs.Put.{put}
 use Rattle.crush_edits.specs.Stops.{fresh_stops}
 use Rattle.crush_edits.proofs.Changes.{table_refl}
-use Rattle.crush_apply.specs.Answered.{AnswersAs, last_answer}
+use Rattle.crush_apply.specs.Answered.{AnswersAs, Makes, last_answer}
 use Rattle.crush_apply.specs.Destination.{DestinationData, Leads}
 use Rattle.crush_apply.proofs.Refused.{same_refusal, no_want, no_refusal}
 
@@ -57,6 +57,17 @@ when_lacking a f g (Err e) h same changes = record {
 pub when_passed : (a : List Row → Answer) (f g : ForestData) (e : EditFault) (x : Result Done EditFault) → IsErrAnd x (λ z. z ≡ e) → AnswersAs a f g (Err e) → AnswersAs a f g x
 when_passed a f g e (Ok d) h told = elim h [ ]
 when_passed a f g e (Err z) h told = subst (λ y. AnswersAs a f g (Err y)) (sym h) told
+
+-- what is promised where a call may be out of memory, by what is promised else
+pub makes_so : (a : List Row → Answer) (f g : ForestData) (x : Result Done EditFault) → AnswersAs a f g x → Makes a f g x
+makes_so a f g x told = record { done = told.done; refused = told.refused; unchanged = told.unchanged }
+
+pub makes_lacking : (a : List Row → Answer) (f : ForestData) → Makes a f f (Err OutOfMemory)
+makes_lacking a f = record { done = tt; refused = λ r is. absurd cc; unchanged = refl }
+
+pub makes_passed : (a : List Row → Answer) (f g : ForestData) (e : EditFault) (x : Result Done EditFault) → IsErrAnd x (λ z. z ≡ e) → Makes a f g (Err e) → Makes a f g x
+makes_passed a f g e (Ok d) h told = elim h [ ]
+makes_passed a f g e (Err z) h told = subst (λ y. Makes a f g (Err y)) (sym h) told
 
 -- an answer that is another's
 pub when_is : (a : List Row → Answer) (f g : ForestData) (x y : Result Done EditFault) → y ≡ x → AnswersAs a f g x → AnswersAs a f g y

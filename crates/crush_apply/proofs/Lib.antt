@@ -23,4 +23,5 @@ pub mod Found
 pub mod Names
 pub mod Singles
 pub mod Batching
+pub mod Undone
 pub mod RolledBack

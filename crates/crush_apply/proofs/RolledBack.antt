@@ -1,17 +1,18 @@
 -- Edits that are taken back.
 use Rattle.std.proofs.Common.{◌≡◌, ℕ, Bool, true, false, not, List, [], ◌∷◌, ◌++◌, ap, sym, subst, ◌∙◌, refl, arith, ⊎_elim, nat_eq, append-nil}
-use Rattle.std.specs.Prelude.{if◌then◌else◌, Option, Some, None, is_some, Result, Ok, Err, IsErrAnd}
+use Rattle.std.specs.Prelude.{◌&&◌, if◌then◌else◌, Option, Some, None, is_some, Result, Ok, Err, IfOk, IsErrAnd}
 use Rattle.std.specs.Option.{option_map}
 use Rattle.std.proofs.lemmas.Bool.Decides.{eqb_tells}
 use Rattle.crush_units.specs.declared.id.ItemId.{ItemId}
-use Rattle.crush_units.specs.declared.id.ItemId.TheVariants.{Device}
+use Rattle.crush_units.specs.declared.id.ItemId.TheVariants.{Device, Bucket}
 use Rattle.crush_units.specs.Id.{same_id}
 use Rattle.crush_units.proofs.Ids.{same_id_tells}
 use Rattle.crush_model.specs.Count.{one_if}
-use Rattle.crush_model.specs.Table.{Row, row_of, is_there, is_placed, own_weight_of, weight_of, item_weight}
+use Rattle.crush_model.specs.Table.{Row, row_of, is_below, is_device, is_there, is_placed, own_weight_of, weight_of, item_weight}
 use Rattle.crush_model.specs.Same.{Same}
-use Rattle.crush_model.specs.Columns.{set_class, set_weight}
+use Rattle.crush_model.specs.Columns.{set_class, set_subtree, set_weight}
 use Rattle.crush_model.specs.Forest.{ForestData, rows_of, IsSound}
+use Rattle.crush_model.specs.Lawful.{Lawful}
 use Rattle.crush_model.specs.Stands.{Stands}
 use Rattle.crush_model.proofs.Changes.{Same-set_weight, with_weight, with_weight-id, with_weight-parent}
 use Rattle.crush_model.proofs.Classes.{with_class, with_class-id}
@@ -21,7 +22,8 @@ use Rattle.crush_model.proofs.Same.{Lawful-same, Same-sym}
 use Rattle.crush_model.proofs.Stands.{stands_for_rows, stands_lawful}
 use Rattle.crush_model.proofs.Weighs.{lawful_light}
 use Rattle.crush_tree.specs.Changed.{SetsClass}
-use Rattle.crush_tree.specs.NewWeights.{ReplacesWeight}
+use Rattle.crush_tree.specs.Exact.{weights_below}
+use Rattle.crush_tree.specs.NewWeights.{ReplacesWeight, ReplacesWeights}
 use Rattle.crush_edits.specs.declared.refusal.Refusal.{Refusal}
 use Rattle.crush_edits.specs.declared.refusal.Done.{Done}
 use Rattle.crush_edits.specs.declared.refusal.EditFault.{EditFault}
@@ -30,13 +32,13 @@ use Rattle.crush_edits.specs.declared.edit.Edit.TheVariants.{Reweight}
 use Rattle.crush_edits.specs.Setting.{SettingData}
 use Rattle.crush_edits.specs.Answer.{Answer, refused, done}
 use Rattle.crush_edits.specs.Edit.{edit}
-use Rattle.crush_edits.specs.Outcome.{IsChange}
+use Rattle.crush_edits.specs.Outcome.{IsChange, IsDone}
 use Rattle.crush_edits.proofs.Changes.{weights_kept}
 use Rattle.crush_apply.specs.declared.undo_log.Undo.{Undo}
 use Rattle.crush_apply.specs.declared.undo_log.Undo.TheVariants.{Weight}
-use Rattle.crush_apply.specs.UndoLog.{as_list, done_alone, AnswersLogged, UndoesAny, Undoes, GivesClass, GivesWeight, RollsBack}
+use Rattle.crush_apply.specs.UndoLog.{as_list, done_alone, AnswersLogged, UndoesAny, Undoes, GivesClass, GivesWeight, GivesWeights, RollsBack}
 use Rattle.crush_apply.specs.Weighed.{CanReweight}
-use Rattle.crush_apply.proofs.Answered.{when_done, when_refused, when_lacking}
+use Rattle.crush_apply.proofs.Answered.{when_changed, when_done, when_lacking, when_refused, when_same, when_still}
 use Rattle.crush_apply.proofs.Done.{own_light}
 use Rattle.crush_apply.proofs.Weights.{fitting, weight_stays, reweight_made}
 
@@ -127,6 +129,22 @@ pub when_short : {A : Type 0} (a : List Row → Answer) (f g : ForestData) (x : 
 when_short a f g (Ok z) h same changes = elim h [ ]
 when_short a f g (Err e) h same changes = record { answers = when_lacking a f g (Err e) h same changes; logged = tt }
 
+pub when_brought : {A : Type 0} (a : List Row → Answer) (f g : ForestData) (d : Done) (k : ℕ) (undo : Undo A) → d ≡ record { changed = true; made = k } → ((t : List Row) → Stands f t → IsDone (Stands g) (a t) (record { changed = true; made = k })) → Undoes undo g f
+    → AnswersLogged a f g (Ok (d, Some undo))
+when_brought a f g d k undo is h undoes = subst (λ z. AnswersLogged a f g (Ok (z, Some undo))) (sym is) (record { answers = when_changed a f g k h; logged = undoes })
+
+pub when_unmoved : {A : Type 0} (a : List Row → Answer) (f : ForestData) → ((t : List Row) → Stands f t → IsDone (Stands f) (a t) (record { changed = false; made = 0 })) → AnswersLogged {A = A} a f f (Ok (record { changed = false; made = 0 }, None))
+when_unmoved a f h = record { answers = when_still a f 0 h; logged = refl }
+
+-- what the table answers alike
+pub when_alike : {A : Type 0} (a b : List Row → Answer) (f g : ForestData) (x : Result (Done × Option (Undo A)) EditFault) → ((t : List Row) → Stands f t → a t ≡ b t) → AnswersLogged b f g x → AnswersLogged a f g x
+when_alike a b f g x same told = record { answers = when_same a b f g (done_alone x) same told.answers; logged = told.logged }
+
+-- of what is refused nothing is noted
+pub nothing_logged : {A : Type 0} (f g : ForestData) (q : Refusal) (x : Result (Done × Option (Undo A)) EditFault) → IsErrAnd x (λ e. e ≡ Refused q) → IfOk x (λ z. UndoesAny z.1 g f)
+nothing_logged f g q (Ok z) h = elim h [ ]
+nothing_logged f g q (Err e) h = tt
+
 -- out of memory stays out of memory
 pub lacks_alone : {A : Type 0} (x : Result (Done × Option (Undo A)) EditFault) → done_alone x ≡ Err OutOfMemory → x ≡ Err OutOfMemory
 lacks_alone (Ok z) is = absurd cc
@@ -141,6 +159,22 @@ class_given f g d c had sound there r =
     record {
       there = is_there-same (rows_of g) u after.same.rows (stands_lawful g u after).ids (Device d) ∙ is_there-map (with_class (Device d) c) (with_class-id (Device d) c) t (Device d) ∙ there;
       is = r.back;
+    }
+
+-- WHAT IS NOTED of weights below a bucket
+pub weights_given : (f g : ForestData) (b w : ℕ) (ws : List ℕ) (change : _) → IsSound f → is_there (rows_of f) (Bucket b) ≡ true → ◌≡◌ {A = Option (List ℕ)} (Some ws) (weights_below b f) → ReplacesWeights b w f g (Some change) → GivesWeights b ws g f
+weights_given f g b w ws change sound there told r =
+    let t = rows_of f in
+    let u = set_subtree b w t in
+    let after = r.stands t (stands_for_rows f sound) in
+    let which : Row → Bool = λ x. is_device x && is_below t b x.id in
+    let back = r.back ws told in
+    record {
+      can = record {
+        there = is_there-same (rows_of g) u after.same.rows (stands_lawful g u after).ids (Bucket b) ∙ is_there-map (with_weight which w) (with_weight-id which w) t (Bucket b) ∙ there;
+        fits = subst (λ (z : ForestData). Lawful (rows_of z)) back sound.lawful;
+      };
+      is = back;
     }
 
 -- WHAT IS TAKEN BACK

@@ -20,6 +20,12 @@ pub record AnswersAs (a : List Row → Answer) (f g : ForestData) (x : Result Do
   pub unchanged : OnErr x (g ≡ f)
   pub still : IfOk x (λ d. d.changed ≡ false → g ≡ f)
 
+-- the same of a call that may be out of memory whatever the table answers
+pub record Makes (a : List Row → Answer) (f g : ForestData) (x : Result Done EditFault) : Type 0 where
+  pub done : IfOk x (λ d. (t : List Row) → Stands f t → IsDone (Stands g) (a t) d)
+  pub refused : (r : Refusal) → x ≡ Err (Refused r) → (t : List Row) → Stands f t → a t ≡ refused r
+  pub unchanged : OnErr x (g ≡ f)
+
 -- each place has the room in g that it had in f
 abbrev pub KeepsRooms : ForestData → ForestData → Type 0
 KeepsRooms f g = (p : Place) → room g p ≡ room f p

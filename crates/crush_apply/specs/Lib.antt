@@ -1,4 +1,5 @@
 pub mod Destination
+pub mod UndoSteps
 pub mod Placed
 pub mod Coming
 pub mod Answered

@@ -1,17 +1,22 @@
 -- New buckets, and what an item needs to be put at the end of a route.
-use Rattle.std.specs.Prelude.{◌≡◌, ℕ, List, Option, Some, None, false, length, bytes_eq}
+use Rattle.std.specs.Prelude.{◌≡◌, ◌<◌, ◌++◌, ℕ, List, Option, Some, None, Result, IfOk, OnOk, OnErr, false, length, bytes_eq}
 use Rattle.std.specs.List.{count_by}
 use Rattle.crush_units.specs.declared.id.ItemId.TheVariants.{Device}
+use Rattle.crush_model.specs.Forest.{ForestData}
 use Rattle.crush_model.specs.Items.{LeafData, Items, none}
 use Rattle.crush_model.specs.ItemRows.{device_row}
+use Rattle.crush_model.specs.Stands.{Stands}
 use Rattle.crush_model.specs.Table.{Row, is_there, is_named, free_ids}
 use Rattle.crush_model.specs.Lawful.{IsRow, is_too_heavy, has_too_many}
+use Rattle.crush_nodes.specs.Room.{room as room_at}
 use Rattle.crush_nodes.specs.declared.place.Place.{Place}
 use Rattle.crush_nodes.specs.declared.place.Place.TheVariants.{Bucket as AtBucket, Root}
 use Rattle.crush_edits.specs.Boxes.{boxes}
 use Rattle.crush_edits.specs.LawPut.{IsApart}
 use Rattle.crush_edits.specs.Put.{NewData, with_ids, put}
 use Rattle.crush_edits.specs.Stops.{StopData}
+use Rattle.crush_apply.specs.declared.came.Came.{Came}
+use Rattle.crush_apply.specs.UndoSteps.{Goes}
 
 -- the place of what receives: a bucket, or among the roots
 abbrev pub place_at : Option ℕ → Place
@@ -39,3 +44,11 @@ pub record CanPutNew (t : List Row) (d : LeafData) (ps : List StopData) : Type 0
   pub form : (b : ℕ) → IsRow (device_row (Some b) d)
   pub room : has_too_many (put t (device_row None d) ps) ≡ false
   pub light : is_too_heavy (put t (device_row None d) ps) ≡ false
+
+-- a bucket has room, of each table for which the forest stood the one, and rows came; what came can go, and after an Err nothing has changed
+pub record MakesRoom {A E : Type 0} (more : List Row → List Row) (which : List Row → Option ℕ) (old new : ForestData) (answer : Result (ℕ × Came A) E) : Type 0 where
+  pub next : IfOk answer (λ z. (t : List Row) → Stands old t → which t ≡ Some z.0)
+  pub stands : OnOk answer ((t : List Row) → Stands old t → Stands new (t ++ more t))
+  pub room : IfOk answer (λ z. 0 < room_at new (AtBucket z.0))
+  pub goes : IfOk answer (λ z. Goes z.1 new old)
+  pub unchanged : OnErr answer (new ≡ old)

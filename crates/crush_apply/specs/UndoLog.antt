@@ -6,31 +6,38 @@ use Rattle.crush_model.specs.Table.{Row, is_there, is_placed}
 use Rattle.crush_model.specs.Columns.{set_weight}
 use Rattle.crush_model.specs.Forest.{ForestData, rows_of}
 use Rattle.crush_model.specs.Lawful.{is_too_heavy}
-use Rattle.crush_tree.specs.Required.{CanSwap}
-use Rattle.crush_tree.specs.Exact.{forest_swapped, forest_with_class, forest_with_weight}
+use Rattle.crush_tree.specs.Required.{CanGiveWeights, CanSwap}
+use Rattle.crush_tree.specs.Exact.{forest_swapped, forest_with_class, forest_with_weight, forest_with_weights}
+use Rattle.crush_tree.specs.Runs.{weights_of}
 use Rattle.crush_edits.specs.declared.edit.Edit.{Edit}
 use Rattle.crush_edits.specs.declared.edit.Edit.TheVariants.{Insert, CreateOrMove, Update, Move, Swap, Reweight, ReweightSubtree, Remove, AddBucket, Rename, SetClass, RemoveClass}
 use Rattle.crush_edits.specs.declared.refusal.Done.{Done}
 use Rattle.crush_edits.specs.declared.refusal.EditFault.{EditFault}
 use Rattle.crush_edits.specs.Answer.{Answer}
 use Rattle.crush_apply.specs.declared.undo_log.Undo.{Undo}
-use Rattle.crush_apply.specs.declared.undo_log.Undo.TheVariants.{Weight, Class, Exchange}
+use Rattle.crush_apply.specs.declared.undo_log.Undo.TheVariants.{Weight, Class, Weights, Exchange, Arrived, Moved}
 use Rattle.crush_apply.specs.Answered.{AnswersAs}
+use Rattle.crush_apply.specs.UndoSteps.{Goes, Returns}
 
 -- whether it is noted what takes the edit back
 abbrev pub is_logged : Edit → Bool
 is_logged (Reweight n w) = true
 is_logged (SetClass n c) = true
 is_logged (RemoveClass n) = true
-is_logged (ReweightSubtree n w) = false
+is_logged (ReweightSubtree n w) = true
 is_logged (Swap m n) = true
 is_logged (Remove n) = false
-is_logged (Insert d n w l) = false
-is_logged (CreateOrMove d n w l) = false
-is_logged (Update d n w l) = false
-is_logged (Move n l) = false
-is_logged (AddBucket n kind) = false
+is_logged (Insert d n w l) = true
+is_logged (CreateOrMove d n w l) = true
+is_logged (Update d n w l) = true
+is_logged (Move n l) = true
+is_logged (AddBucket n kind) = true
 is_logged (Rename from to) = false
+
+-- whether the edit itself hands out what takes it back; the weights below a bucket are gathered before
+abbrev pub hands_out : Edit → Bool
+hands_out (ReweightSubtree n w) = false
+hands_out e = is_logged e
 
 -- whether the edit can be made in place before the later ones: the last one always, since behind it nothing is refused
 abbrev pub stays : Edit → List Edit → Bool
@@ -59,6 +66,11 @@ pub record GivesClass (d : ℕ) (class : Option (List ℕ)) (g f : ForestData) :
   pub there : is_there (rows_of g) (Device d) ≡ true
   pub is : f ≡ forest_with_class d class g
 
+-- where the devices below the bucket b of the forest g get the weights ws, f comes of it
+pub record GivesWeights (b : ℕ) (ws : List ℕ) (g f : ForestData) : Type 0 where
+  pub can : CanGiveWeights b ws g
+  pub is : f ≡ forest_with_weights b ws g
+
 -- where two buckets of the forest g are exchanged again, f comes of it
 pub record GivesSwap (a b : ℕ) (g f : ForestData) : Type 0 where
   pub can : CanSwap a b g
@@ -68,7 +80,10 @@ pub record GivesSwap (a b : ℕ) (g f : ForestData) : Type 0 where
 abbrev pub Undoes : {A : Type 0} → Undo A → ForestData → ForestData → Type 0
 Undoes (Weight d w) g f = GivesWeight d w g f
 Undoes (Class d class) g f = GivesClass d class g f
+Undoes (Weights b runs) g f = GivesWeights b (weights_of runs.items) g f
 Undoes (Exchange a b) g f = GivesSwap a b g f
+Undoes (Arrived came) g f = Goes came g f
+Undoes (Moved stood came) g f = Returns stood came g f
 
 -- the same of what may be noted: where nothing is, nothing has changed
 abbrev pub UndoesAny : {A : Type 0} → Option (Undo A) → ForestData → ForestData → Type 0

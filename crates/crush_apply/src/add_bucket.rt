@@ -8,9 +8,11 @@ ghost use Rattle.crush_edits.specs.declared.edit.Edit.TheVariants.{AddBucket};
 ghost use Rattle.crush_edits.specs.Edit.{edit, refusal};
 ghost use Rattle.crush_edits.specs.Fits.{Fits};
 ghost use Rattle.crush_apply.specs.Alone.{CanAddBucket};
-ghost use Rattle.crush_apply.specs.Answered.{AnswersAs};
+ghost use Rattle.crush_apply.specs.UndoLog.{AnswersLogged};
 
+use crate::came::bring;
 use crate::route::empty_bucket;
+use crate::undo_log::Undo;
 use crush_edits::{Done, EditFault, Refusal, Setting};
 use crush_hierarchy::Hierarchy;
 use crush_tree::Place;
@@ -60,9 +62,9 @@ pub(crate) fn add_bucket<A: Allocator + Clone>(
     setting: &Setting,
     name: &Name<Global>,
     kind: &Name<Global>,
-) -> Result<Done, EditFault>
+) -> Result<(Done, Option<Undo<A>>), EditFault>
     requires { Fits setting.now (rows_of hierarchy.old) }
-    ensures { AnswersAs (λ t. edit setting.now t (AddBucket name.now kind.now))
+    ensures { AnswersLogged (λ t. edit setting.now t (AddBucket name.now kind.now))
         hierarchy.old hierarchy.new result }
 {
     hierarchy.recall_invariant();
@@ -70,9 +72,10 @@ pub(crate) fn add_bucket<A: Allocator + Clone>(
     let number = check_add(hierarchy, setting, name, kind)?;
     let id = first_free(hierarchy);
     let node = empty_bucket(hierarchy.allocator(), id, number, name)?;
-    hierarchy.add(Place::Root, node)?;
-    Ok(Done {
+    let came = bring(hierarchy, Place::Root, node)?;
+    let done = Done {
         changed: true,
         made: 1,
-    })
+    };
+    Ok((done, Some(Undo::Arrived { came })))
 }

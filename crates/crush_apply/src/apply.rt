@@ -13,7 +13,7 @@ ghost use Rattle.crush_edits.specs.Fits.{Fits};
 ghost use Rattle.crush_edits.specs.LawEdit.{IsEdit};
 ghost use Rattle.crush_edits.specs.Outcome.{IsDone, IsChange};
 ghost use Rattle.crush_apply.specs.Answered.{AnswersAs, KeepsRooms};
-ghost use Rattle.crush_apply.specs.UndoLog.{is_logged, done_alone, UndoesAny};
+ghost use Rattle.crush_apply.specs.UndoLog.{hands_out, done_alone, UndoesAny};
 ghost use Rattle.crush_apply.specs.declared.place.IfPlaced.TheVariants.{Refuse, KeepWeight, SetWeight};
 
 use crate::add_bucket::add_bucket;
@@ -22,7 +22,7 @@ use crate::place::{IfPlaced, place};
 use crate::relocate::relocate;
 use crate::remove::remove;
 use crate::rename::rename;
-use crate::reweight::reweight_logged;
+use crate::reweight::reweight;
 use crate::reweight_subtree::reweight_subtree;
 use crate::route::NewDevice;
 use crate::swap::swap;
@@ -123,7 +123,7 @@ pub(crate) fn make<A: Allocator + Clone>(
     requires { Fits setting.now (rows_of hierarchy.old) }
     ensures made { AnswersAs (λ t. edit setting.now t requested.now)
         hierarchy.old hierarchy.new (done_alone result) }
-    ensures logged { is_logged requested.now ≡ true
+    ensures logged { hands_out requested.now ≡ true
         → IfOk result (λ z. UndoesAny z.1 hierarchy.new hierarchy.old) }
     ensures memory { result ≡ Err EditFault.OutOfMemory → takes_memory requested.now ≡ true }
     ensures rooms { sets_weights requested.now ≡ true → KeepsRooms hierarchy.old hierarchy.new }
@@ -153,16 +153,16 @@ pub(crate) fn make<A: Allocator + Clone>(
                 weight: *weight,
                 at,
             };
-            unlogged(place(hierarchy, setting, if_placed(requested), &arrival))
+            place(hierarchy, setting, if_placed(requested), &arrival)
         }
-        Edit::Move { name, at } => unlogged(relocate(hierarchy, setting, name, at)),
+        Edit::Move { name, at } => relocate(hierarchy, setting, name, at),
         Edit::Swap { a, b } => swap(hierarchy, a, b),
-        Edit::Reweight { name, weight } => reweight_logged(hierarchy, name, *weight),
+        Edit::Reweight { name, weight } => reweight(hierarchy, name, *weight),
         Edit::ReweightSubtree { name, weight } => {
             unlogged(reweight_subtree(hierarchy, name, *weight))
         }
         Edit::Remove { name } => unlogged(remove(hierarchy, setting, name)),
-        Edit::AddBucket { name, kind } => unlogged(add_bucket(hierarchy, setting, name, kind)),
+        Edit::AddBucket { name, kind } => add_bucket(hierarchy, setting, name, kind),
         Edit::Rename { from, to } => unlogged(rename(hierarchy, from, to)),
         Edit::SetClass { name, class } => set_class(hierarchy, name, class),
         Edit::RemoveClass { name } => remove_class(hierarchy, name),

@@ -11,11 +11,13 @@ ghost use Rattle.crush_edits.specs.Fits.{Fits};
 ghost use Rattle.crush_edits.specs.Answer.{refused};
 ghost use Rattle.crush_edits.specs.Outcome.{IsDone};
 ghost use Rattle.crush_edits.specs.Edit.{edit};
+ghost use Rattle.crush_apply.specs.Answered.{Makes};
 ghost use Rattle.crush_apply.specs.AsBefore.{IsAsBefore};
 ghost use Rattle.crush_apply.specs.Batched.{IsBatchDone};
-ghost use Rattle.crush_apply.specs.UndoLog.{is_logged, are_in_place, as_list, CanBeLogged, RollsBack};
+ghost use Rattle.crush_apply.specs.UndoLog.{is_logged, are_in_place, as_list, done_alone, CanBeLogged, UndoesAny, RollsBack};
 
 use crate::apply::{make, recall_forms};
+use crate::reweight_subtree::reweight_subtree_logged;
 use crate::undo_log::{Undo, are_in_place, roll_back};
 use crush_edits::{BatchFault, Done, Dones, Edit, EditFault, Setting};
 use crush_hierarchy::Hierarchy;
@@ -24,9 +26,9 @@ use std::alloc::{AllocError, Allocator};
 /// Makes all of the edits, at most 65,536, each on what the ones before it made, or none; a refusal
 /// comes with the index of its edit, from 0.
 ///
-/// Where each but the last gives a single device a weight or a class, or exchanges two buckets, they
-/// are made in place, and taken back where one isn't made; others are made on a copy of the
-/// hierarchy, without its spare room. Out of memory may hide a later refusal.
+/// Where none but the last removes an item or gives one another name, they are made in place, and
+/// taken back where one isn't made; others are made on a copy of the hierarchy, without its spare
+/// room. Out of memory may hide a later refusal.
 pub fn apply_batch<A: Allocator + Clone>(
     hierarchy: &mut Hierarchy<A>,
     setting: &Setting,
@@ -176,9 +178,31 @@ fn apply_logged<A: Allocator + Clone>(
 {
     hierarchy.recall_invariant();
     recall_forms(requested);
-    let (done, undo) = make(hierarchy, setting, requested)?;
+    let has_room = log.len() < log.capacity();
+    let (done, undo) = make_logged(hierarchy, setting, requested, has_room)?;
     log_undo(log, undo);
     Ok(done)
+}
+
+/// Out of memory may be for what takes the edit back, which is gathered only where the log has room.
+fn make_logged<A: Allocator + Clone>(
+    hierarchy: &mut Hierarchy<A>,
+    setting: &Setting,
+    requested: &Edit,
+    has_room: bool,
+) -> Result<(Done, Option<Undo<A>>), EditFault>
+    requires { Fits setting.now (rows_of hierarchy.old) }
+    ensures makes { Makes (λ t. edit setting.now t requested.now)
+        hierarchy.old hierarchy.new (done_alone result) }
+    ensures logged { has_room ≡ true → is_logged requested.now ≡ true
+        → IfOk result (λ z. UndoesAny z.1 hierarchy.new hierarchy.old) }
+{
+    match requested {
+        Edit::ReweightSubtree { name, weight } => {
+            reweight_subtree_logged(hierarchy, name, *weight, has_room)
+        }
+        _ => make(hierarchy, setting, requested),
+    }
 }
 
 fn log_undo<A: Allocator>(log: &mut Vec<Undo<A>, A>, undo: Option<Undo<A>>)

@@ -6,6 +6,7 @@
 mod add_bucket;
 mod apply;
 mod batch;
+mod came;
 mod classes;
 mod culprits;
 mod place;
@@ -15,6 +16,7 @@ mod rename;
 mod reweight;
 mod reweight_subtree;
 mod route;
+mod stood;
 mod swap;
 mod undo_log;
 

@@ -9,11 +9,12 @@ ghost use Rattle.crush_edits.specs.Edit.{edit};
 ghost use Rattle.crush_edits.specs.Fits.{Fits};
 ghost use Rattle.crush_edits.specs.Placing.{kept_weight};
 ghost use Rattle.crush_edits.specs.Setting.{SettingData};
-ghost use Rattle.crush_apply.specs.Answered.{AnswersAs};
+ghost use Rattle.crush_apply.specs.UndoLog.{AnswersLogged};
 ghost use Rattle.crush_apply.specs.IfPlaced.{placing, is_barred, coming_weight, stay_answer};
 
 use crate::reweight::reweight;
 use crate::route::{NewDevice, check_device, destination_of, is_held, place_device};
+use crate::undo_log::Undo;
 use crush_edits::{Done, EditFault, Refusal, Setting};
 use crush_hierarchy::Hierarchy;
 use crush_units::{DeviceId, ItemId, Weight};
@@ -35,9 +36,9 @@ pub(crate) fn place<A: Allocator + Clone>(
     setting: &Setting,
     how: IfPlaced,
     arrival: &NewDevice<'_>,
-) -> Result<Done, EditFault>
+) -> Result<(Done, Option<Undo<A>>), EditFault>
     requires { Fits setting.now (rows_of hierarchy.old) }
-    ensures { AnswersAs (λ t. edit setting.now t (placing how arrival.now.device
+    ensures { AnswersLogged (λ t. edit setting.now t (placing how arrival.now.device
         arrival.now.name.now arrival.now.weight arrival.now.at.now))
         hierarchy.old hierarchy.new result }
 {
@@ -69,18 +70,19 @@ fn stay<A: Allocator>(
     hierarchy: &mut Hierarchy<A>,
     how: IfPlaced,
     arrival: &NewDevice<'_>,
-) -> Result<Done, EditFault>
-    ensures { (s : SettingData) → AnswersAs
+) -> Result<(Done, Option<Undo<A>>), EditFault>
+    ensures { (s : SettingData) → AnswersLogged
         (λ t. stay_answer s t how arrival.now.name.now arrival.now.weight)
         hierarchy.old hierarchy.new result }
 {
     if let IfPlaced::SetWeight = how {
         return reweight(hierarchy, arrival.name, arrival.weight);
     }
-    Ok(Done {
+    let done = Done {
         changed: false,
         made: 0,
-    })
+    };
+    Ok((done, None))
 }
 
 fn coming_weight<A: Allocator>(

@@ -7,11 +7,11 @@ ghost use Rattle.crush_edits.specs.Setting.{SettingData};
 ghost use Rattle.crush_edits.specs.declared.edit.Edit.TheVariants.{Reweight, ReweightSubtree};
 ghost use Rattle.crush_edits.specs.Answer.{is_heavy};
 ghost use Rattle.crush_edits.specs.Edit.{edit, refusal};
-ghost use Rattle.crush_apply.specs.Answered.{AnswersAs, KeepsRooms};
+ghost use Rattle.crush_apply.specs.Answered.{KeepsRooms};
 ghost use Rattle.crush_apply.specs.UndoLog.{AnswersLogged};
 ghost use Rattle.crush_apply.specs.Weighed.{CanReweight};
 
-use crate::undo_log::{Undo, done_alone};
+use crate::undo_log::Undo;
 use crush_edits::{Done, EditFault, Refusal};
 use crush_hierarchy::Hierarchy;
 use crush_units::{DeviceId, ItemId, Name, Weight};
@@ -61,19 +61,6 @@ fn check_reweight<A: Allocator>(
 }
 
 pub(crate) fn reweight<A: Allocator>(
-    hierarchy: &mut Hierarchy<A>,
-    name: &Name<Global>,
-    weight: Weight,
-) -> Result<Done, EditFault>
-    ensures answers { (s : SettingData) → AnswersAs (λ t. edit s t (Reweight name.now weight))
-        hierarchy.old hierarchy.new result }
-    ensures memory { result ≢ Err EditFault.OutOfMemory }
-    ensures rooms { KeepsRooms hierarchy.old hierarchy.new }
-{
-    done_alone(reweight_logged(hierarchy, name, weight))
-}
-
-pub(crate) fn reweight_logged<A: Allocator>(
     hierarchy: &mut Hierarchy<A>,
     name: &Name<Global>,
     weight: Weight,

@@ -4,12 +4,15 @@ ghost use Rattle.std.specs.Prelude.{◌≡◌, List};
 ghost use Rattle.crush_model.specs.Forest.{ForestData};
 ghost use Rattle.crush_apply.specs.UndoLog.{is_logged, stays, are_in_place, done_alone, Undoes, RollsBack, CanUndo, CanRollBack};
 
+use crate::came::{Came, send_back};
+use crate::stood::{Stood, move_back};
 use crush_edits::{Done, Edit, EditFault};
 use crush_hierarchy::Hierarchy;
+use crush_tree::WeightRun;
 use crush_units::{BucketId, DeviceId, Name, Weight};
 use std::alloc::Allocator;
 
-/// What takes an edit back, without memory.
+/// What takes an edit back, which needs no memory.
 #[derive(Drop)]
 pub(crate) enum Undo<A: Allocator> {
     /// The weight before.
@@ -22,10 +25,24 @@ pub(crate) enum Undo<A: Allocator> {
         device: DeviceId,
         class: Option<Name<A>>,
     },
+    /// The weights below a bucket before.
+    Weights {
+        bucket: BucketId,
+        runs: Vec<WeightRun, A>,
+    },
     /// Two buckets that are exchanged again.
     Exchange {
         first: BucketId,
         second: BucketId,
+    },
+    /// What goes again.
+    Arrived {
+        came: Came<A>,
+    },
+    /// An item that is put back, and then what came before it moved.
+    Moved {
+        stood: Stood,
+        came: Came<A>,
     },
 }
 
@@ -54,10 +71,7 @@ pub(crate) fn unlogged<A: Allocator>(
 fn is_logged(requested: &Edit) -> bool
     ensures { result ≡ is_logged requested.now }
 {
-    matches!(
-        requested,
-        Edit::Reweight { .. } | Edit::SetClass { .. } | Edit::RemoveClass { .. } | Edit::Swap { .. }
-    )
+    !matches!(requested, Edit::Remove { .. } | Edit::Rename { .. })
 }
 
 /// Whether it can be made in place.
@@ -95,7 +109,13 @@ fn undo_one<A: Allocator>(hierarchy: &mut Hierarchy<A>, undo: Undo<A>)
         Undo::Class { device, class } => {
             let _class = hierarchy.set_class(device, class);
         }
+        Undo::Weights { bucket, runs } => hierarchy.give_weights(bucket, runs),
         Undo::Exchange { first, second } => hierarchy.swap(first, second),
+        Undo::Arrived { came } => send_back(hierarchy, came),
+        Undo::Moved { stood, came } => {
+            move_back(hierarchy, stood);
+            send_back(hierarchy, came);
+        }
     }
 }
 

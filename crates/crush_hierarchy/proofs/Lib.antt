@@ -1,3 +1,5 @@
+pub mod BackLemmas
+pub mod CameLemmas
 pub mod ClassLemmas
 pub mod GivenLemmas
 pub mod GuideLemmas

@@ -1,3 +1,4 @@
+pub mod Back
 pub mod Counted
 pub mod Given
 pub mod Indexed

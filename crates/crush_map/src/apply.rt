@@ -62,10 +62,11 @@ impl<A: Allocator> CrushMap<A> {
     /// Makes the edits one after the other, each on what the ones before it made, or none of them:
     /// at most 65,536.
     ///
-    /// A refusal comes with the index of its edit, from 0, and the map then stands for the tables
-    /// for which it stood, with the room that it had. Out of memory may hide a later refusal, and
-    /// has changed nothing. docs/edits.md says which batches are made in place; others are made on
-    /// a copy.
+    /// A refusal comes with the index of its edit, from 0. Out of memory may hide a later refusal.
+    /// After either the map is what it was.
+    ///
+    /// Where none but the last removes an item or gives one another name, they are made in place,
+    /// others on a copy.
     pub fn apply_batch(&mut self, edits: &[Edit]) -> Result<Dones, BatchFault>
     where
         A: Clone,
@@ -77,6 +78,7 @@ impl<A: Allocator> CrushMap<A> {
             → (t : List Row) → Stands self.old.forest t
             → batch self.old.setting t edits.now ≡ batch_refused index r }
         ensures memory { result ≡ Err BatchFault.OutOfMemory → self.new ≡ self.old }
+        ensures unchanged { OnErr result (self.new ≡ self.old) }
         ensures as_before { OnErr result (IsAsBefore self.old.forest self.new.forest) }
         ensures single { length edits.now ≤ 1 → OnErr result (self.new ≡ self.old) }
         ensures setting { self.new.setting ≡ self.old.setting }

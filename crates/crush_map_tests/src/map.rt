@@ -7,6 +7,7 @@ mod blaming;
 mod building;
 mod classes;
 mod faults;
+mod in_place;
 mod lacking;
 mod looked_up;
 mod memory;

@@ -1,9 +1,11 @@
 pub mod Accepted
+pub mod Rehoused
 pub mod Required
 pub mod Changed
 pub mod Climbed
 pub mod Exact
 pub mod Memory
+pub mod Moves
 pub mod NewWeights
 pub mod Sameness
 pub mod SeenForest
@@ -18,6 +20,7 @@ pub use Rattle.crush_nodes.specs.Held
 pub use Rattle.crush_walks.specs.Named
 pub use Rattle.crush_nodes.specs.Ops
 pub use Rattle.crush_nodes.specs.Room
+pub use Rattle.crush_walks.specs.Runs
 pub use Rattle.crush_nodes.specs.Search
 pub use Rattle.crush_nodes.specs.Seen
 pub use Rattle.crush_nodes.specs.SeenView

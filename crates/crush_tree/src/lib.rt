@@ -8,5 +8,7 @@ mod forest;
 pub use crush_nodes::guide::{Found, Guide, Position};
 pub use crush_nodes::search::counts_in;
 pub use crush_nodes::{Bucket, Counts, Header, Leaf, Node, Place, ShadowId, View};
+pub use crush_walks::runs::{WeightRun, weight_runs};
 pub use crush_walks::subtree::SubtreeDelta;
 pub use forest::Forest;
+pub use forest::stand::Stand;

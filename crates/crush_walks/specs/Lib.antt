@@ -1,10 +1,14 @@
 pub mod Change
 pub mod Classed
+pub mod Grown
 pub mod Moving
 pub mod Named
 pub mod OtherWeights
+pub mod Positions
 pub mod Putting
+pub mod Rehoused
 pub mod Replaced
+pub mod Runs
 pub mod Shuffled
 pub mod Subtree
 pub mod Swapping

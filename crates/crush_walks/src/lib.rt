@@ -5,13 +5,17 @@
 #![tactic(auto)]
 
 pub mod attach;
+pub mod back;
 pub mod change;
 pub mod classes;
 pub mod detach;
 pub mod fit;
+pub mod grow;
 pub mod item;
 pub mod moved;
+pub mod rehouse;
 pub mod rename;
+pub mod runs;
 pub mod subtree;
 pub mod swap;
 pub mod swap_fit;

@@ -1,6 +1,6 @@
 //! An item comes to its destination.
 
-ghost use Rattle.std.specs.Prelude.{◌≡◌, List, None, false, IfOk};
+ghost use Rattle.std.specs.Prelude.{◌≡◌, List, None, true, false, IfOk};
 ghost use Rattle.crush_units.specs.declared.id.ItemId.TheVariants.{Device};
 ghost use Rattle.crush_model.specs.Stands.{Stands};
 ghost use Rattle.crush_model.specs.Table.{Row, row_of, is_there};
@@ -8,8 +8,9 @@ ghost use Rattle.crush_nodes.specs.Seen.{leaf_data};
 ghost use Rattle.crush_edits.specs.Answer.{on_some};
 ghost use Rattle.crush_edits.specs.Placing.{put_after, edited_device};
 ghost use Rattle.crush_edits.specs.Put.{held};
-ghost use Rattle.crush_apply.specs.Answered.{AnswersAs, last_answer};
+ghost use Rattle.crush_apply.specs.Answered.{last_answer};
 ghost use Rattle.crush_apply.specs.Coming.{CanMove, CanArrive};
+ghost use Rattle.crush_apply.specs.UndoLog.{AnswersLogged};
 
 use crate::route::NewDevice;
 use crate::route::destination::Destination;
@@ -17,6 +18,7 @@ use crate::route::put::{put_device, put_item, put_new};
 use crate::route::room::{
     fits_put_device, fits_put_item, fits_put_new, lacks_room, lacks_room_for_new,
 };
+use crate::undo_log::Undo;
 use crush_edits::{Done, EditFault, Refusal};
 use crush_hierarchy::Hierarchy;
 use crush_tree::Leaf;
@@ -27,10 +29,10 @@ pub(crate) fn place_item<A: Allocator + Clone>(
     hierarchy: &mut Hierarchy<A>,
     id: ItemId,
     to: &Destination,
-) -> Result<Done, EditFault>
+) -> Result<(Done, Option<Undo<A>>), EditFault>
     requires can { (t : List Row) → Stands hierarchy.old t → CanMove t id to.now }
     requires free { (t : List Row) → Stands hierarchy.old t → held t id to.now.stops ≡ false }
-    ensures { AnswersAs (λ t. last_answer t
+    ensures { AnswersLogged (λ t. last_answer t
         (on_some t (row_of t id) (λ r. put_after t r to.now.stops)))
         hierarchy.old hierarchy.new result }
 {
@@ -41,11 +43,8 @@ pub(crate) fn place_item<A: Allocator + Clone>(
     if !fits_put_item(hierarchy, *id, to) {
         return Err(EditFault::Refused(Refusal::SumTooLarge));
     }
-    put_item(hierarchy, *id, to)?;
-    Ok(Done {
-        changed: true,
-        made: to.fresh() as u16,
-    })
+    let undo = put_item(hierarchy, *id, to)?;
+    Ok((done_at(to), Some(undo)))
 }
 
 /// A device that is there keeps its class; a new one has none.
@@ -53,12 +52,12 @@ pub(crate) fn place_device<A: Allocator + Clone>(
     hierarchy: &mut Hierarchy<A>,
     arrival: &NewDevice<'_>,
     to: &Destination,
-) -> Result<Done, EditFault>
+) -> Result<(Done, Option<Undo<A>>), EditFault>
     requires can { (t : List Row) → Stands hierarchy.old t → CanArrive t arrival.now.device
         arrival.now.name.now arrival.now.weight to.now }
     requires free { (t : List Row) → Stands hierarchy.old t
         → held t (Device arrival.now.device) to.now.stops ≡ false }
-    ensures { AnswersAs (λ t. last_answer t
+    ensures { AnswersLogged (λ t. last_answer t
         (put_after t (edited_device t arrival.now.device arrival.now.name.now arrival.now.weight)
         to.now.stops))
         hierarchy.old hierarchy.new result }
@@ -73,25 +72,22 @@ pub(crate) fn place_device<A: Allocator + Clone>(
     if !fits_put_device(hierarchy, arrival.device, arrival.weight, to) {
         return Err(EditFault::Refused(Refusal::SumTooLarge));
     }
-    put_device(hierarchy, arrival.device, arrival.weight, to)?;
-    Ok(Done {
-        changed: true,
-        made: to.fresh() as u16,
-    })
+    let undo = put_device(hierarchy, arrival.device, arrival.weight, to)?;
+    Ok((done_at(to), Some(undo)))
 }
 
 fn place_new<A: Allocator + Clone>(
     hierarchy: &mut Hierarchy<A>,
     arrival: &NewDevice<'_>,
     to: &Destination,
-) -> Result<Done, EditFault>
+) -> Result<(Done, Option<Undo<A>>), EditFault>
     requires can { (t : List Row) → Stands hierarchy.old t → CanArrive t arrival.now.device
         arrival.now.name.now arrival.now.weight to.now }
     requires free { (t : List Row) → Stands hierarchy.old t
         → held t (Device arrival.now.device) to.now.stops ≡ false }
     requires gone { (t : List Row) → Stands hierarchy.old t
         → is_there t (Device arrival.now.device) ≡ false }
-    ensures { AnswersAs (λ t. last_answer t
+    ensures { AnswersLogged (λ t. last_answer t
         (put_after t (edited_device t arrival.now.device arrival.now.name.now arrival.now.weight)
         to.now.stops))
         hierarchy.old hierarchy.new result }
@@ -106,11 +102,17 @@ fn place_new<A: Allocator + Clone>(
         return Err(EditFault::Refused(Refusal::SumTooLarge));
     }
     let leaf = new_leaf(hierarchy.allocator(), arrival)?;
-    put_new(hierarchy, leaf, to)?;
-    Ok(Done {
+    let undo = put_new(hierarchy, leaf, to)?;
+    Ok((done_at(to), Some(undo)))
+}
+
+fn done_at(to: &Destination) -> Done
+    ensures { result ≡ record { changed = true; made = to.now.fresh } }
+{
+    Done {
         changed: true,
         made: to.fresh() as u16,
-    })
+    }
 }
 
 fn new_leaf<A: Allocator + Clone>(alloc: &A, arrival: &NewDevice<'_>) -> Result<Leaf<A>, AllocError>

@@ -3,7 +3,9 @@
 use super::asks::{fits_attach, fits_move, fits_swap, has_item};
 use super::comes::{put_bucket, put_placed, put_root, put_unplaced};
 use super::items::{bucket, bucket_item, device, device_item, name};
-use super::puts::{exchange, give_name, make_room, put_device, weigh, weigh_all};
+use super::puts::{
+    exchange, give_name, grow, grow_and_back, make_room, put_device, weigh, weigh_all,
+};
 use crush_hierarchy::{Hashing, Hierarchy};
 use crush_tree::Node;
 use crush_units::{Alg, DeviceId, ItemId, Name, TypeId, Weight};
@@ -255,6 +257,24 @@ fn memory_to_spare(rt: HostRuntime) {
     let is_given_back = gives_memory_back(&rt, &mut hierarchy);
     drop(hierarchy);
     assert!(rt; is_given_back);
+}
+
+fn grows_and_back(rt: &impl Abort, hierarchy: &mut Hierarchy<Global>) -> bool {
+    let h1 = bucket(rt, 2);
+    grow_and_back(hierarchy, h1) == Some(4)
+        && holds_all(rt, hierarchy)
+        && grow(hierarchy, h1) == Some(2)
+        && grow(hierarchy, h1).is_none()
+        && holds_all(rt, hierarchy)
+        && sums_up(hierarchy, 4, 3, 163840)
+}
+
+#[test]
+fn memory_and_back(rt: HostRuntime) {
+    let mut hierarchy = example(&rt);
+    let is_back = grows_and_back(&rt, &mut hierarchy);
+    drop(hierarchy);
+    assert!(rt; is_back);
 }
 
 fn goes_out(rt: &impl Abort, hierarchy: &mut Hierarchy<Global>) -> bool {

@@ -133,3 +133,36 @@ pub(super) fn exchange(hierarchy: &mut Hierarchy<Global>, first: &[u8], second: 
     hierarchy.swap(a, b);
     true
 }
+
+/// For how many a bucket had memory before it grew; `None` where it had room.
+pub(super) fn grow(hierarchy: &mut Hierarchy<Global>, bucket: BucketId) -> Option<usize> {
+    if !has_item(hierarchy, &ItemId::Bucket(bucket)) {
+        return None;
+    }
+    match hierarchy.grow(Place::Bucket(bucket)) {
+        Ok(Some(before)) => {
+            let had = before.capacity();
+            drop(before);
+            Some(had)
+        }
+        Ok(None) => None,
+        Err(_) => None,
+    }
+}
+
+/// For how many a bucket had memory after it grew, and before it was given back.
+pub(super) fn grow_and_back(hierarchy: &mut Hierarchy<Global>, bucket: BucketId) -> Option<usize> {
+    if !has_item(hierarchy, &ItemId::Bucket(bucket)) {
+        return None;
+    }
+    match hierarchy.grow(Place::Bucket(bucket)) {
+        Ok(Some(before)) => {
+            let after = hierarchy.rehouse(Place::Bucket(bucket), before);
+            let had = after.capacity();
+            drop(after);
+            Some(had)
+        }
+        Ok(None) => None,
+        Err(_) => None,
+    }
+}

@@ -1,5 +1,5 @@
 //! Edits and batches for which memory runs out at each of their growths: the map is then as before,
-//! and the same call does as ever where there is memory again.
+//! and the same call does as ever where there is memory again. Refused, it leaves the map as before.
 
 use crate::map::asking::{
     Asked, CHANGED, Fact, Told, answer, are_true_of, edit, edits, make_batch,
@@ -65,6 +65,13 @@ fn is_out_of_memory(told: Told) -> bool {
     }
 }
 
+fn is_err(told: Told) -> bool {
+    match told {
+        Told::One(answer) => answer.is_err(),
+        Told::Batch(answer) => answer.is_err(),
+    }
+}
+
 fn is_made(rt: &impl Abort, map: &CrushMap<&LocalHeap>, place: usize, call: &Call, told: Told) {
     assert!(rt; told == call.told, "call {place}");
     are_true_of(rt, map, place, call.then);
@@ -98,6 +105,9 @@ fn lacked(
         made = answer(rt, map, asking.edits);
     }
     is_made(rt, map, asking.place, asking.call, made);
+    if is_err(made) {
+        is_the_example_map(rt, alloc, map);
+    }
     lacks
 }
 
@@ -273,8 +283,8 @@ fn memory_lacks_for_other_edits(rt: HostRuntime) {
     lack_at_each_growth(&rt, rt.alloc(), OTHERS);
 }
 
-/// One is made, one refused at its third edit, and one made in place, whose first and last edit
-/// take memory.
+/// One is made, one refused at its third edit, two made in place, one whose first and last edit take
+/// memory and one into full buckets and new ones, and one refused behind weights below a bucket.
 const BATCHES: &[Call] = &[
     Call {
         asked: &[
@@ -326,6 +336,49 @@ const BATCHES: &[Call] = &[
             Fact::HasId("h9", -4),
         ],
         least: 3,
+    },
+    Call {
+        asked: &[
+            Asked::CreateOrMove(0, 327680, &[("host", "h2")]),
+            Asked::Add(
+                3,
+                21823,
+                &[("host", "h3"), ("rack", "r1"), ("root", "default")],
+            ),
+            Asked::Move("h2", &[("rack", "r1")]),
+        ],
+        told: Told::Batch(Ok(Dones {
+            edits: 3,
+            changed: 3,
+            made: 2,
+        })),
+        then: &[
+            Fact::Holds("h1", &["osd.1"], 65536),
+            Fact::Holds("h2", &["osd.2", "osd.0"], 98304),
+            Fact::Holds("r1", &["h3", "h2"], 120127),
+            Fact::Holds("default", &["h1", "r1"], 185663),
+            Fact::HasId("h3", -4),
+        ],
+        least: 4,
+    },
+    Call {
+        asked: &[
+            Asked::ReweightSubtree("default", 16384),
+            Asked::Reweight("osd.1", 1),
+            Asked::ReweightSubtree("default", 32768),
+            Asked::Remove("h2"),
+        ],
+        told: Told::Batch(Err(BatchFault::Refused(3, Refusal::NotEmpty))),
+        then: &[
+            Fact::Holds("h1", &["osd.0", "osd.1"], 131072),
+            Fact::Holds("h2", &["osd.2"], 32768),
+            Fact::Holds("default", &["h1", "h2"], 163840),
+            Fact::Weighs("osd.0", 65536),
+            Fact::Weighs("osd.1", 65536),
+            Fact::Weighs("osd.2", 32768),
+            Fact::Total(163840),
+        ],
+        least: 2,
     },
 ];
 

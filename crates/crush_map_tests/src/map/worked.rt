@@ -370,7 +370,7 @@ fn what_batches_do_is_looked_up(rt: HostRuntime) {
     make_all(&rt, rt.alloc(), BATCHES);
 }
 
-/// A batch refused at its last edit, one refused before, and one that is made, whose last edit is
+/// Batches refused at their last edit, one refused before, and one that is made, whose last edit is
 /// an exchange.
 const BATCHES_OF_WEIGHTS: &[Line] = &[
     Line {
@@ -381,6 +381,17 @@ const BATCHES_OF_WEIGHTS: &[Line] = &[
             Asked::Remove("h2"),
         ],
         told: Told::Batch(Err(BatchFault::Refused(3, Refusal::NotEmpty))),
+        then: EXAMPLE,
+    },
+    Line {
+        asked: &[
+            Asked::Swap("h1", "h2"),
+            Asked::Reweight("osd.2", 1),
+            Asked::Swap("h2", "h1"),
+            Asked::Swap("h1", "h2"),
+            Asked::Remove("h2"),
+        ],
+        told: Told::Batch(Err(BatchFault::Refused(4, Refusal::NotEmpty))),
         then: EXAMPLE,
     },
     Line {
@@ -411,6 +422,54 @@ const BATCHES_OF_WEIGHTS: &[Line] = &[
         ],
     },
 ];
+
+/// A batch refused behind three new weights below buckets, one of them below another and one behind
+/// an exchange, one refused before, and one that is made.
+const BATCHES_BELOW: &[Line] = &[
+    Line {
+        asked: &[
+            Asked::Reweight("osd.1", 196608),
+            Asked::ReweightSubtree("default", 16384),
+            Asked::ReweightSubtree("h1", 0),
+            Asked::Swap("h1", "h2"),
+            Asked::ReweightSubtree("h1", 1),
+            Asked::Remove("h2"),
+        ],
+        told: Told::Batch(Err(BatchFault::Refused(5, Refusal::NotEmpty))),
+        then: EXAMPLE,
+    },
+    Line {
+        asked: &[
+            Asked::ReweightSubtree("h1", 131072),
+            Asked::ReweightSubtree("osd.2", 65536),
+        ],
+        told: Told::Batch(Err(BatchFault::Refused(1, Refusal::NotABucket))),
+        then: EXAMPLE,
+    },
+    Line {
+        asked: &[
+            Asked::ReweightSubtree("default", 16384),
+            Asked::ReweightSubtree("h2", 131072),
+            Asked::Reweight("osd.0", 65536),
+        ],
+        told: Told::Batch(Ok(Dones {
+            edits: 3,
+            changed: 3,
+            made: 0,
+        })),
+        then: &[
+            Kids::Roots(&[("default", -1, 212992)]),
+            Kids::Of("default", &[("h1", -2, 81920), ("h2", -3, 131072)]),
+            Kids::Of("h1", &[("osd.0", 0, 65536), ("osd.1", 1, 16384)]),
+            Kids::Of("h2", &[("osd.2", 2, 131072)]),
+        ],
+    },
+];
+
+#[test]
+fn what_batches_below_buckets_do_is_looked_up(rt: HostRuntime) {
+    make_all(&rt, rt.alloc(), BATCHES_BELOW);
+}
 
 #[test]
 fn what_batches_of_weights_do_is_looked_up(rt: HostRuntime) {

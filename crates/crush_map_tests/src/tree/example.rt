@@ -4,7 +4,9 @@
 use super::alike::{copy_of, is_same};
 use super::asks::{fits, fits_moved, has_item};
 use super::items::{Item, bucket, bucket_item, device, device_item, holding, inside, name, node};
-use super::puts::{Refused, add, add_in, classify, exchange, give_name, put, weigh, weigh_all};
+use super::puts::{
+    Refused, add, add_in, classify, exchange, give_name, grows_and_back, put, weigh, weigh_all,
+};
 use crush_tree::{Forest, Node, Place, View};
 use crush_units::{Alg, BucketId, ItemId, Weight};
 use linked_list_allocator::LocalHeap;
@@ -375,6 +377,24 @@ fn memory_to_spare(rt: HostRuntime) {
     let is_kept = keeps_osd_3(&rt, &mut forest);
     drop(forest);
     assert!(rt; is_kept);
+}
+
+fn grows_twice_and_back(rt: &impl Abort, forest: &mut Forest<Global>) -> bool {
+    let h1 = bucket(rt, 2);
+    grows_and_back(forest, h1, 2, 4)
+        && holds(rt, forest, 2, &[0, 1])
+        && grows_and_back(forest, h1, 2, 4)
+        && is_in_order(rt, forest)
+}
+
+#[test]
+fn memory_and_back(rt: HostRuntime) {
+    let mut forest = example(&rt);
+    let idle = Item::DeviceOfClass(3, "osd.3", 0);
+    add(&rt, &mut forest, Place::Unplaced, idle);
+    let is_back = grows_twice_and_back(&rt, &mut forest);
+    drop(forest);
+    assert!(rt; is_back);
 }
 
 /// The root weighs 163840 units, and may weigh 4294967295; a device of the root that moves counts

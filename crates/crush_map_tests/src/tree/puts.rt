@@ -160,3 +160,26 @@ pub(super) fn exchange<A: Allocator>(
     forest.swap(a, b);
     Ok(())
 }
+
+/// Whether a bucket has memory for so many, grows to so many more, and has the first back then.
+pub(super) fn grows_and_back<A: Allocator + Clone>(
+    forest: &mut Forest<A>,
+    bucket: BucketId,
+    had: usize,
+    has: usize,
+) -> bool {
+    if !has_item(forest, &ItemId::Bucket(bucket)) {
+        return false;
+    }
+    match forest.grow(Place::Bucket(bucket)) {
+        Ok(Some(before)) => {
+            let is_before = before.capacity() == had;
+            let after = forest.rehouse(Place::Bucket(bucket), before);
+            let is_after = after.capacity() == has && after.is_empty();
+            drop(after);
+            is_before && is_after
+        }
+        Ok(None) => false,
+        Err(_) => false,
+    }
+}

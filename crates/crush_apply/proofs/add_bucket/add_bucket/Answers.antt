@@ -9,28 +9,28 @@ use Rattle.crush_model.specs.Stands.{Stands}
 use Rattle.crush_model.proofs.Stands.{stands_for_rows}
 use Rattle.crush_edits.specs.declared.edit.Edit.TheVariants.{AddBucket}
 use Rattle.crush_edits.specs.Put.{new_header}
-use Rattle.crush_apply.proofs.Answered.{when_changed, when_refused, when_lacking}
+use Rattle.crush_apply.proofs.RolledBack.{when_brought, when_short, when_unnoted}
 use Rattle.crush_apply.proofs.Singles.{add_bucket_done, add_bucket_lawful}
 use Rattle.crush_apply.proofs.Weights.{refused_edit}
 use Rattle.crush_apply.proofs.add_bucket.add_bucket.Goals as goal
 
 pub returns-in_err-number : goal.returns-in_err-number
 returns-in_err-number g c =
-    when_refused _ _ _ _ _ c.from_residual.ensures.1 refl
+    when_unnoted _ _ _ _ _ c.from_residual.ensures.1 refl
     (λ t st. refused_edit c.args.setting.now t (AddBucket c.args.name.now c.args.kind.now) _ (c.in_err-number.ensures.refused t st))
 
 pub returns-in_err-node : goal.returns-in_err-node
 returns-in_err-node g c =
-    when_lacking _ _ _ _ c.from_residual-in_err-node.ensures.1 refl
+    when_short _ _ _ _ c.from_residual-in_err-node.ensures.1 refl
     (λ t st. (1, _, add_bucket_done c.args.setting.now t c.args.name.now c.args.kind.now c.in_ok-number.number c.first_free-id.result st.lawful (c.in_ok-number.ensures.can t st) (c.first_free-id.ensures t st)))
 
-pub returns-in_err-add : goal.returns-in_err-add
-returns-in_err-add g c =
-    when_lacking _ _ _ _ c.from_residual-in_err-add.ensures.1 c.in_err-add.ensures.err
+pub returns-in_err-came : goal.returns-in_err-came
+returns-in_err-came g c =
+    when_short _ _ _ _ c.from_residual-in_err-came.ensures.1 c.in_err-came.ensures.adds.err
     (λ t st. (1, _, add_bucket_done c.args.setting.now t c.args.name.now c.args.kind.now c.in_ok-number.number c.first_free-id.result st.lawful (c.in_ok-number.ensures.can t st) (c.first_free-id.ensures t st)))
 
-pub add-requires : goal.add-requires
-add-requires g c = record {
+pub bring-requires : goal.bring-requires
+bring-requires g c = record {
   there = refl;
   sums = search rules;
   kind = search rules;
@@ -43,9 +43,10 @@ add-requires g c = record {
 
 pub returns : goal.returns
 returns g c =
-    when_changed _ _ _ _
+    when_brought _ _ _ _ 1 _ refl
     (λ t st. (
       t ++ bucket_row None (new_header (record { id = c.first_free-id.result; kind = c.in_ok-number.number; name = c.args.name.now })) ∷ [],
       add_bucket_done c.args.setting.now t c.args.name.now c.args.kind.now c.in_ok-number.number c.first_free-id.result st.lawful (c.in_ok-number.ensures.can t st) (c.first_free-id.ensures t st),
-      subst (λ (n : Items). Stands c.add.new.self (t ++ rows None n)) c.in_ok-node.ensures (c.in_ok-add.ensures.stands t st),
+      subst (λ (n : Items). Stands c.bring.new.hierarchy (t ++ rows None n)) c.in_ok-node.ensures (c.in_ok-came.ensures.adds.stands t st),
     ))
+    c.in_ok-came.ensures.goes

@@ -1,7 +1,7 @@
 use Rattle.std.proofs.Common.{◌≡◌, Bool, true, false, ap, sym, ◌∙◌, ⊎_elim}
 use Rattle.crush_edits.specs.Edit.{edit}
 use Rattle.crush_apply.specs.IfPlaced.{placing}
-use Rattle.crush_apply.specs.UndoLog.{is_logged, done_alone}
+use Rattle.crush_apply.specs.UndoLog.{hands_out, done_alone}
 use Rattle.crush_apply.proofs.Answered.{when_same, when_is}
 use Rattle.crush_apply.proofs.apply.make.Goals as goal
 
@@ -23,34 +23,28 @@ returns-in-Insert-clause-made g c =
     (λ is. is ∙ ap (λ h. placing h d n w l) (sym (how.update d n w l is)))
     more)
     c.in-Insert.is in
-    when_is _ _ _ _ _ c.unlogged-in-Insert.ensures (when_same _ _ _ _ _ (λ t st. ap (edit c.args.setting.now t) same) c.place.ensures)
+    when_same _ _ _ _ _ (λ t st. ap (edit c.args.setting.now t) same) c.place.ensures.answers
 
 pub returns-in-Insert-clause-logged : goal.returns-in-Insert-clause-logged
-returns-in-Insert-clause-logged g c = λ logged. absurd (⊎_elim
-    (λ is. not_noted (is_logged c.args.requested.now) (ap is_logged is) logged)
-    (λ more. ⊎_elim
-    (λ is. not_noted (is_logged c.args.requested.now) (ap is_logged is) logged)
-    (λ is. not_noted (is_logged c.args.requested.now) (ap is_logged is) logged)
-    more)
-    c.in-Insert.is)
+returns-in-Insert-clause-logged g c = λ logged. c.place.ensures.logged
 
 pub returns-in-Move-clause-made : goal.returns-in-Move-clause-made
-returns-in-Move-clause-made g c = when_is _ _ _ _ _ c.unlogged.ensures (when_same _ _ _ _ _ (λ t st. ap (edit c.args.setting.now t) c.in-Move.is) (c.relocate.ensures))
+returns-in-Move-clause-made g c = when_same _ _ _ _ _ (λ t st. ap (edit c.args.setting.now t) c.in-Move.is) c.relocate.ensures.answers
 
 pub returns-in-Move-clause-logged : goal.returns-in-Move-clause-logged
-returns-in-Move-clause-logged g c = λ logged. absurd (not_noted (is_logged c.args.requested.now) (ap is_logged c.in-Move.is) logged)
+returns-in-Move-clause-logged g c = λ logged. c.relocate.ensures.logged
 
 pub returns-in-AddBucket-clause-made : goal.returns-in-AddBucket-clause-made
-returns-in-AddBucket-clause-made g c = when_is _ _ _ _ _ c.unlogged-in-AddBucket.ensures (when_same _ _ _ _ _ (λ t st. ap (edit c.args.setting.now t) c.in-AddBucket.is) (c.add_bucket.ensures))
+returns-in-AddBucket-clause-made g c = when_same _ _ _ _ _ (λ t st. ap (edit c.args.setting.now t) c.in-AddBucket.is) c.add_bucket.ensures.answers
 
 pub returns-in-AddBucket-clause-logged : goal.returns-in-AddBucket-clause-logged
-returns-in-AddBucket-clause-logged g c = λ logged. absurd (not_noted (is_logged c.args.requested.now) (ap is_logged c.in-AddBucket.is) logged)
+returns-in-AddBucket-clause-logged g c = λ logged. c.add_bucket.ensures.logged
 
 pub returns-in-Rename-clause-made : goal.returns-in-Rename-clause-made
 returns-in-Rename-clause-made g c = when_is _ _ _ _ _ c.unlogged-in-Rename.ensures (when_same _ _ _ _ _ (λ t st. ap (edit c.args.setting.now t) c.in-Rename.is) (c.rename.ensures c.args.setting.now))
 
 pub returns-in-Rename-clause-logged : goal.returns-in-Rename-clause-logged
-returns-in-Rename-clause-logged g c = λ logged. absurd (not_noted (is_logged c.args.requested.now) (ap is_logged c.in-Rename.is) logged)
+returns-in-Rename-clause-logged g c = λ logged. absurd (not_noted (hands_out c.args.requested.now) (ap hands_out c.in-Rename.is) logged)
 
 pub returns-in-Swap-clause-made : goal.returns-in-Swap-clause-made
 returns-in-Swap-clause-made g c = when_same _ _ _ _ _ (λ t st. ap (edit c.args.setting.now t) c.in-Swap.is) (c.swap.ensures.answers c.args.setting.now).answers
@@ -62,31 +56,31 @@ pub returns-in-Swap-clause-memory : goal.returns-in-Swap-clause-memory
 returns-in-Swap-clause-memory g c = λ is. absurd (c.swap.ensures.memory is)
 
 pub returns-in-ReweightSubtree-clause-made : goal.returns-in-ReweightSubtree-clause-made
-returns-in-ReweightSubtree-clause-made g c = when_is _ _ _ _ _ c.unlogged-in-ReweightSubtree.ensures (when_same _ _ _ _ _ (λ t st. ap (edit c.args.setting.now t) c.in-ReweightSubtree.is) (c.reweight_subtree.ensures.answers c.args.setting.now))
+returns-in-ReweightSubtree-clause-made g c = when_is _ _ _ _ _ c.unlogged.ensures (when_same _ _ _ _ _ (λ t st. ap (edit c.args.setting.now t) c.in-ReweightSubtree.is) (c.reweight_subtree.ensures.answers c.args.setting.now))
 
 pub returns-in-ReweightSubtree-clause-logged : goal.returns-in-ReweightSubtree-clause-logged
-returns-in-ReweightSubtree-clause-logged g c = λ logged. absurd (not_noted (is_logged c.args.requested.now) (ap is_logged c.in-ReweightSubtree.is) logged)
+returns-in-ReweightSubtree-clause-logged g c = λ logged. absurd (not_noted (hands_out c.args.requested.now) (ap hands_out c.in-ReweightSubtree.is) logged)
 
 pub returns-in-ReweightSubtree-clause-memory : goal.returns-in-ReweightSubtree-clause-memory
-returns-in-ReweightSubtree-clause-memory g c = λ is. absurd (c.reweight_subtree.ensures.memory (sym c.unlogged-in-ReweightSubtree.ensures ∙ ap done_alone is))
+returns-in-ReweightSubtree-clause-memory g c = λ is. absurd (c.reweight_subtree.ensures.memory (sym c.unlogged.ensures ∙ ap done_alone is))
 
 pub returns-in-Remove-clause-made : goal.returns-in-Remove-clause-made
 returns-in-Remove-clause-made g c = when_is _ _ _ _ _ c.unlogged-in-Remove.ensures (when_same _ _ _ _ _ (λ t st. ap (edit c.args.setting.now t) c.in-Remove.is) (c.remove.ensures.answers))
 
 pub returns-in-Remove-clause-logged : goal.returns-in-Remove-clause-logged
-returns-in-Remove-clause-logged g c = λ logged. absurd (not_noted (is_logged c.args.requested.now) (ap is_logged c.in-Remove.is) logged)
+returns-in-Remove-clause-logged g c = λ logged. absurd (not_noted (hands_out c.args.requested.now) (ap hands_out c.in-Remove.is) logged)
 
 pub returns-in-Remove-clause-memory : goal.returns-in-Remove-clause-memory
 returns-in-Remove-clause-memory g c = λ is. absurd (c.remove.ensures.memory (sym c.unlogged-in-Remove.ensures ∙ ap done_alone is))
 
 pub returns-in-Reweight-clause-made : goal.returns-in-Reweight-clause-made
-returns-in-Reweight-clause-made g c = when_same _ _ _ _ _ (λ t st. ap (edit c.args.setting.now t) c.in-Reweight.is) (c.reweight_logged.ensures.answers c.args.setting.now).answers
+returns-in-Reweight-clause-made g c = when_same _ _ _ _ _ (λ t st. ap (edit c.args.setting.now t) c.in-Reweight.is) (c.reweight.ensures.answers c.args.setting.now).answers
 
 pub returns-in-Reweight-clause-logged : goal.returns-in-Reweight-clause-logged
-returns-in-Reweight-clause-logged g c = λ logged. (c.reweight_logged.ensures.answers c.args.setting.now).logged
+returns-in-Reweight-clause-logged g c = λ logged. (c.reweight.ensures.answers c.args.setting.now).logged
 
 pub returns-in-Reweight-clause-memory : goal.returns-in-Reweight-clause-memory
-returns-in-Reweight-clause-memory g c = λ is. absurd (c.reweight_logged.ensures.memory is)
+returns-in-Reweight-clause-memory g c = λ is. absurd (c.reweight.ensures.memory is)
 
 pub returns-in-SetClass-clause-made : goal.returns-in-SetClass-clause-made
 returns-in-SetClass-clause-made g c = when_same _ _ _ _ _ (λ t st. ap (edit c.args.setting.now t) c.in-SetClass.is) (c.set_class.ensures c.args.setting.now).answers

@@ -1,4 +1,4 @@
-use Rattle.std.proofs.Common.{◌+◌, ap, sym, ◌∙◌, arith, refl}
+use Rattle.std.proofs.Common.{◌+◌, ap, sym, ◌∙◌, arith}
 use Rattle.std.specs.Prelude.{drop, Err}
 use Rattle.crush_nodes.proofs.Steps.{drop_at}
 use Rattle.crush_edits.specs.Batch.{batch_refused, batch_from}

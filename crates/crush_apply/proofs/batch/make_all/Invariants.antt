@@ -1,4 +1,4 @@
-use Rattle.std.specs.Prelude.{◌≡◌, ◌<◌, ◌≤◌, true, drop, length, vec_len, vec_capacity}
+use Rattle.std.specs.Prelude.{◌≡◌, ◌≤◌, drop, vec_len, vec_capacity}
 use Rattle.crush_model.specs.Forest.{rows_of}
 use Rattle.crush_edits.specs.Fits.{Fits}
 use Rattle.crush_apply.specs.Batched.{IsBegun, AreDone}

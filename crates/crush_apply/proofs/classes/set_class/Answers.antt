@@ -1,5 +1,5 @@
 use Rattle.std.proofs.Common.{◌≡◌, ℕ, true, List, subst, refl}
-use Rattle.std.specs.Prelude.{Some, None}
+use Rattle.std.specs.Prelude.{Some}
 use Rattle.crush_units.specs.declared.id.ItemId.TheVariants.{Device}
 use Rattle.crush_model.specs.Columns.{set_class}
 use Rattle.crush_model.specs.Forest.{ForestData, rows_of, IsSound}
@@ -7,7 +7,7 @@ use Rattle.crush_model.specs.Stands.{Stands}
 use Rattle.crush_model.specs.Table.{Row, is_there}
 use Rattle.crush_model.proofs.Stands.{stands_for_rows}
 use Rattle.crush_edits.specs.declared.edit.Edit.TheVariants.{SetClass}
-use Rattle.crush_apply.specs.Alone.{HasClass, GetsClass}
+use Rattle.crush_apply.specs.Alone.{GetsClass}
 use Rattle.crush_apply.proofs.Answered.{when_changed, when_still}
 use Rattle.crush_apply.proofs.Classed.{set_class_done, set_class_still}
 use Rattle.crush_apply.proofs.Found.{there_by_name}

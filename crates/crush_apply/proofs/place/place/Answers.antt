@@ -7,7 +7,7 @@ use Rattle.crush_edits.specs.Placing.{put_after, edited_device}
 use Rattle.crush_edits.specs.Put.{held}
 use Rattle.crush_edits.specs.Stops.{stops}
 use Rattle.crush_apply.specs.Answered.{last_answer}
-use Rattle.crush_apply.proofs.Answered.{when_refused, when_same}
+use Rattle.crush_apply.proofs.RolledBack.{when_alike, when_unnoted}
 use Rattle.crush_apply.proofs.Asked.{located, can_come}
 use Rattle.crush_apply.proofs.Placings.{device_refused, barred, end_refused, stays, comes}
 use Rattle.crush_apply.proofs.place.place.Goals as goal
@@ -15,13 +15,13 @@ use Rattle.crush_apply.proofs.place.place.Goals as goal
 pub returns-in_err-check_device : goal.returns-in_err-check_device
 returns-in_err-check_device g c =
     let a = c.args.arrival.now in
-    when_refused _ _ _ _ _ c.from_residual.ensures.1 refl
+    when_unnoted _ _ _ _ _ c.from_residual.ensures.1 refl
     (λ t st. device_refused c.args.setting.now t a.device a.name.now a.weight a.at.now c.args.how _ (c.in_err-check_device.ensures.refused t st))
 
 pub returns-then-is_barred : goal.returns-then-is_barred
 returns-then-is_barred g c =
     let a = c.args.arrival.now in
-    when_refused _ _ _ AlreadyPlaced _ refl refl
+    when_unnoted _ _ _ AlreadyPlaced _ refl refl
     (λ t st. barred c.args.setting.now t a.device a.name.now a.weight a.at.now c.args.how (c.in_ok-check_device.ensures.passes t st) (sym (c.is_barred.ensures t st) ∙ c.if-is_barred.true))
 
 pub destination_of-requires-clause-located : goal.destination_of-requires-clause-located
@@ -33,14 +33,14 @@ destination_of-requires-clause-located g c =
 pub returns-in_err-to : goal.returns-in_err-to
 returns-in_err-to g c =
     let a = c.args.arrival.now in
-    when_refused _ _ _ _ _ c.from_residual-in_err-to.ensures.1 refl
+    when_unnoted _ _ _ _ _ c.from_residual-in_err-to.ensures.1 refl
     (λ t st. end_refused c.args.setting.now t a.device a.name.now a.weight a.at.now c.args.how _ (c.in_ok-check_device.ensures.passes t st) (sym (c.is_barred.ensures t st) ∙ c.if-is_barred.false) (c.in_err-to.ensures.refused t st))
 
 pub returns-then-is_held : goal.returns-then-is_held
 returns-then-is_held g c =
     let s = c.args.setting.now in
     let a = c.args.arrival.now in
-    when_same _ _ _ _ _
+    when_alike _ _ _ _ _
     (λ t st.
     let can = can_come s t a.device a.name.now a.weight a.at.now c.in_ok-to.to (c.in_ok-check_device.ensures.passes t st) c.in_ok-to.ensures.stops (c.in_ok-to.ensures.leads t st) in
     let there : held t (Device a.device) (stops s a.at.now) ≡ true = ap (held t (Device a.device)) (sym c.in_ok-to.ensures.stops) ∙ sym (c.is_held.ensures t st (c.in_ok-to.ensures.leads t st)) ∙ c.if-is_held.true in
@@ -70,7 +70,7 @@ returns g c =
     let d = a.device in
     let n = a.name.now in
     let l = a.at.now in
-    when_same _ _ _ _ _
+    when_alike _ _ _ _ _
     (λ t st.
     let out : held t (Device d) (stops s l) ≡ false = ap (held t (Device d)) (sym c.in_ok-to.ensures.stops) ∙ sym (c.is_held.ensures t st (c.in_ok-to.ensures.leads t st)) ∙ c.if-is_held.false in
     comes s t d n a.weight l (c.in_ok-check_device.ensures.passes t st) (c.in_ok-to.ensures.passes t st) c.args.how (sym (c.is_barred.ensures t st) ∙ c.if-is_barred.false) out

@@ -1,4 +1,4 @@
-use Rattle.std.proofs.Common.{List, sym, subst}
+use Rattle.std.proofs.Common.{sym, subst}
 use Rattle.crush_model.specs.Forest.{ForestData}
 use Rattle.crush_apply.specs.UndoLog.{RollsBack}
 use Rattle.crush_apply.proofs.RolledBack.{popped}

@@ -1,5 +1,6 @@
 use Rattle.std.proofs.Common.{sym, subst, ◌∙◌}
 use Rattle.crush_apply.specs.UndoLog.{Undoes}
+use Rattle.crush_apply.specs.UndoSteps.{Goes}
 use Rattle.crush_apply.proofs.RolledBack.{weight_taken_back}
 use Rattle.crush_apply.proofs.undo_log.undo_one.Goals as goal
 
@@ -12,6 +13,12 @@ pub returns-in-Weight : goal.returns-in-Weight
 returns-in-Weight g c = λ f back.
     weight_taken_back c.args.hierarchy.now _ f c.in-Weight.device c.in-Weight.weight _ c.recall_invariant.ensures c.replace_weight-weight.ensures (subst (λ u. Undoes u c.args.hierarchy.now f) c.in-Weight.is back)
 
+pub give_weights-requires : goal.give_weights-requires
+give_weights-requires g c = (subst (λ u. Undoes u c.args.hierarchy.now c.requires.0) c.in-Weights.is c.requires.1).can
+
+pub returns-in-Weights : goal.returns-in-Weights
+returns-in-Weights g c = λ f back. c.give_weights.ensures ∙ sym (subst (λ u. Undoes u c.args.hierarchy.now f) c.in-Weights.is back).is
+
 pub swap-requires : goal.swap-requires
 swap-requires g c = (subst (λ u. Undoes u c.args.hierarchy.now c.requires.0) c.in-Exchange.is c.requires.1).can
 
@@ -23,3 +30,22 @@ set_class-class-requires g c = (subst (λ u. Undoes u c.args.hierarchy.now c.req
 
 pub returns-in-Class : goal.returns-in-Class
 returns-in-Class g c = λ f back. c.set_class-class.ensures.is ∙ sym (subst (λ u. Undoes u c.args.hierarchy.now f) c.in-Class.is back).is
+
+pub send_back-requires : goal.send_back-requires
+send_back-requires g c = (c.requires.0, subst (λ u. Undoes u c.args.hierarchy.now c.requires.0) c.in-Arrived.is c.requires.1)
+
+pub returns-in-Arrived : goal.returns-in-Arrived
+returns-in-Arrived g c = λ f back. c.send_back.ensures f (subst (λ u. Undoes u c.args.hierarchy.now f) c.in-Arrived.is back)
+
+pub move_back-requires : goal.move_back-requires
+move_back-requires g c = let back = subst (λ u. Undoes u c.args.hierarchy.now c.requires.0) c.in-Moved.is c.requires.1 in (back.stood, back.back)
+
+pub send_back-requires-in-Moved : goal.send_back-requires-in-Moved
+send_back-requires-in-Moved g c =
+    let back = subst (λ u. Undoes u c.args.hierarchy.now c.requires.0) c.in-Moved.is c.requires.1 in
+    (c.requires.0, subst (λ z. Goes c.in-Moved.came z c.requires.0) (sym (c.move_back.ensures back.stood back.back)) back.goes)
+
+pub returns-in-Moved : goal.returns-in-Moved
+returns-in-Moved g c = λ f h.
+    let back = subst (λ u. Undoes u c.args.hierarchy.now f) c.in-Moved.is h in
+    c.send_back-in-Moved.ensures f (subst (λ z. Goes c.in-Moved.came z f) (sym (c.move_back.ensures back.stood back.back)) back.goes)

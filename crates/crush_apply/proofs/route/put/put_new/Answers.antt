@@ -16,8 +16,9 @@ use Rattle.crush_edits.specs.Put.{put, with_ids}
 use Rattle.crush_edits.proofs.Boxes.{StoresSums-boxes}
 use Rattle.crush_apply.specs.Placed.{place_at}
 use Rattle.crush_apply.specs.Stopped.{stops_data}
-use Rattle.crush_apply.proofs.Destinations.{parent_of_place, place_there, stops-length, boxes_are, fresh_forms, on_ok}
+use Rattle.crush_apply.proofs.Destinations.{parent_of_place, place_there, stops-length, boxes_are, fresh_forms}
 use Rattle.crush_apply.proofs.Steps.{new_item, new_same, new_lawful, new_fits}
+use Rattle.crush_apply.proofs.Batching.{anyway}
 use Rattle.crush_apply.proofs.route.put.put_new.Goals as goal
 
 pub in_new_buckets-requires-clause-forms : goal.in_new_buckets-requires-clause-forms
@@ -25,8 +26,8 @@ in_new_buckets-requires-clause-forms g c =
     let f = c.args.hierarchy.now in
     fresh_forms (rows_of f) c.new_stops.result.0.now c.new_stops.result.1.now c.args.to.now c.new_stops.ensures.stops (c.requires.leads (rows_of f) (stands_for_rows f c.recall_invariant.ensures))
 
-pub add-requires : goal.add-requires
-add-requires g c =
+pub bring-requires : goal.bring-requires
+bring-requires g c =
     let f = c.args.hierarchy.now in
     let t : List Row = rows_of f in
     let st : Stands f t = stands_for_rows f c.recall_invariant.ensures in
@@ -49,9 +50,7 @@ add-requires g c =
     }
 
 pub returns-clause-stands : goal.returns-clause-stands
-returns-clause-stands g c =
-    on_ok c.add.result
-    (λ stands t st.
+returns-clause-stands g c = λ t st.
     let l = c.new_stops.result.0.now in
     let xs = c.new_stops.result.1.now in
     let to = c.args.to.now in
@@ -62,6 +61,8 @@ returns-clause-stands g c =
     let ids : c.free_ids.new.ids ≡ free_ids t (length (stops_data l xs)) = c.free_ids.ensures.first t st ∙ ap (free_ids t) (length-take-le (length xs) c.new_slots-slots.result few ∙ sym (stops-length l xs)) in
     let is : items_of (c.in_ok-node.node ∷ []) ≡ new_item t st.lawful to leads d can = c.in_ok-node.ensures ∙ boxes_are t l xs to c.new_stops.ensures.stops leads (device d none) c.free_ids.new.ids ids in
     let at : parent_at c.place.result ≡ to.receiver = ap parent_at c.place.ensures ∙ parent_of_place to.receiver in
-    same_stands c.add.new.self (t ++ rows to.receiver (new_item t st.lawful to leads d can)) (put t (device_row None d) to.stops) (new_same t st.lawful to leads d can)
-    (subst (λ p. Stands c.add.new.self (t ++ rows p (new_item t st.lawful to leads d can))) at (subst (λ (n : Items). Stands c.add.new.self (t ++ rows (parent_at c.place.result) n)) is (stands t st))))
-    c.add.ensures.stands
+    same_stands c.bring.new.hierarchy (t ++ rows to.receiver (new_item t st.lawful to leads d can)) (put t (device_row None d) to.stops) (new_same t st.lawful to leads d can)
+    (subst (λ p. Stands c.bring.new.hierarchy (t ++ rows p (new_item t st.lawful to leads d can))) at (subst (λ (n : Items). Stands c.bring.new.hierarchy (t ++ rows (parent_at c.place.result) n)) is (c.in_ok-came.ensures.adds.stands t st)))
+
+pub returns-in_err-came-clause-unchanged : goal.returns-in_err-came-clause-unchanged
+returns-in_err-came-clause-unchanged g c = anyway c.from_residual-in_err-came.result c.in_err-came.ensures.adds.err

@@ -32,7 +32,7 @@ pub invariant_of-self-in_err-add : goal.invariant_of-self-in_err-add
 invariant_of-self-in_err-add g c =
     let b : BuilderData = record { setting = c.self.inside.setting; forest = c.self.inside.hierarchy; pending = pending_data c.replace.new.dest; adjusted = c.self.inside.adjusted } in
     let idle : IsPending b.setting (rows_of b.forest) b.pending = subst (λ (p : Pending). IsPending b.setting (rows_of b.forest) p) (ap pending_data (sym c.replace.ensures.after)) tt in
-    kept_fits b c.add.new.self c.recall_invariant.ensures (ap forest_without_capacity c.in_err-add.ensures.err) (record { fits = c.self.invariant.fits; part = idle; few = c.self.invariant.few })
+    kept_fits b c.add.new.self c.recall_invariant.ensures (ap forest_without_capacity c.in_err-add.ensures.adds.err) (record { fits = c.self.invariant.fits; part = idle; few = c.self.invariant.few })
 
 pub invariant_of-self-2 : goal.invariant_of-self-2
 invariant_of-self-2 g c =
@@ -42,7 +42,7 @@ invariant_of-self-2 g c =
     let node = c.in_ok-node.ensures ∙ (λ i. bucket (record { id = c.in-Numbered.id; kind = c.in-Numbered.kind; name = c.in-Numbered.name; alg = c.args.alg; class_ids = c.in_ok-class_ids.ensures i }) 0 1 none none) in
     draft_fits (record { setting = b.setting; forest = c.add.new.self; pending = filling c.in-Numbered.id; adjusted = b.adjusted }) (with_alg (own_draft b) c.args.alg)
     (alg_step b c.add.new.self (own_draft b) c.in-Numbered.kind c.in-Numbered.name c.in-Numbered.id (listed c.in-Numbered.class_ids) c.args.alg own p
-    (subst (λ (n : Items). Stands c.add.new.self ((own_draft b).table ++ rows None n)) node (c.in_ok-add.ensures.stands (own_draft b).table own.stands)))
+    (subst (λ (n : Items). Stands c.add.new.self ((own_draft b).table ++ rows None n)) node (c.in_ok-add.ensures.adds.stands (own_draft b).table own.stands)))
 
 pub returns-clause-ok : goal.returns-clause-ok
 returns-clause-ok g c = λ d i.
@@ -51,4 +51,4 @@ returns-clause-ok g c = λ d i.
     let p : b.pending ≡ numbered c.in-Numbered.kind c.in-Numbered.name c.in-Numbered.id (listed c.in-Numbered.class_ids) = ap pending_data (sym c.replace.ensures.value ∙ c.in-Numbered.is) in
     let node = c.in_ok-node.ensures ∙ (λ i. bucket (record { id = c.in-Numbered.id; kind = c.in-Numbered.kind; name = c.in-Numbered.name; alg = c.args.alg; class_ids = c.in_ok-class_ids.ensures i }) 0 1 none none) in
     alg_step b c.add.new.self d c.in-Numbered.kind c.in-Numbered.name c.in-Numbered.id (listed c.in-Numbered.class_ids) c.args.alg at p
-    (subst (λ (n : Items). Stands c.add.new.self (d.table ++ rows None n)) node (c.in_ok-add.ensures.stands d.table at.stands))
+    (subst (λ (n : Items). Stands c.add.new.self (d.table ++ rows None n)) node (c.in_ok-add.ensures.adds.stands d.table at.stands))

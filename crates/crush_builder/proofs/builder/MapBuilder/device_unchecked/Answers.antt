@@ -47,7 +47,7 @@ add-requires g c = record {
 pub invariant_of-self : goal.invariant_of-self
 invariant_of-self g c =
     let b : BuilderData = record { setting = c.self.inside.setting; forest = c.self.inside.hierarchy; pending = pending_data c.self.inside.pending; adjusted = c.self.inside.adjusted } in
-    kept_fits b c.add.new.self c.recall_invariant.ensures (ap forest_without_capacity c.in_err-add.ensures.err) c.self.invariant
+    kept_fits b c.add.new.self c.recall_invariant.ensures (ap forest_without_capacity c.in_err-add.ensures.adds.err) c.self.invariant
 
 pub invariant_of-self-2 : goal.invariant_of-self-2
 invariant_of-self-2 g c =
@@ -58,7 +58,7 @@ invariant_of-self-2 g c =
     c.device-node.ensures ∙ (λ i. device (record { id = c.args.id; name = c.in_ok-name.ensures i; weight = c.from_units.ensures i; class = c.in_ok-class.ensures i }) none) in
     draft_fits (record b { forest = c.add.new.self }) (with_device d c.args.id c.args.name.now (option_copied c.args.class))
     (device_step b c.add.new.self d c.args.id c.args.name.now (option_copied c.args.class) own (ap (λ (x : BuilderData). x.pending) c.self.view_is ∙ c.requires.idle)
-    (subst (λ (n : Items). Stands c.add.new.self (d.table ++ rows None n)) node (c.in_ok-add.ensures.stands d.table own.stands)))
+    (subst (λ (n : Items). Stands c.add.new.self (d.table ++ rows None n)) node (c.in_ok-add.ensures.adds.stands d.table own.stands)))
 
 pub returns : goal.returns
 returns g c = record {
@@ -68,5 +68,5 @@ returns g c = record {
       let node : ◌≡◌ {A = Items} (items_of (c.device-node.result ∷ [])) (device (record { id = c.args.id; name = c.args.name.now; weight = 0; class = option_copied c.args.class }) none) =
       c.device-node.ensures ∙ (λ i. device (record { id = c.args.id; name = c.in_ok-name.ensures i; weight = c.from_units.ensures i; class = c.in_ok-class.ensures i }) none) in
       device_step b c.add.new.self d c.args.id c.args.name.now (option_copied c.args.class) at (ap (λ (x : BuilderData). x.pending) c.self.view_is ∙ c.requires.idle)
-      (subst (λ (n : Items). Stands c.add.new.self (d.table ++ rows None n)) node (c.in_ok-add.ensures.stands d.table at.stands));
+      (subst (λ (n : Items). Stands c.add.new.self (d.table ++ rows None n)) node (c.in_ok-add.ensures.adds.stands d.table at.stands));
 }

@@ -1,0 +1,114 @@
+//! Batches whose edits move items and bring new ones: where one is refused, items stand in their
+//! order as before, in as much memory, and where none is, they do what the edits do one by one.
+
+use crate::map::asking::{Asked, Told, answer, edit, edits};
+use crate::map::same::has_the_same;
+use crate::map::whole::{whole_example_map, whole_example_map_in};
+use crush_map::{BatchFault, CrushMap, Dones, Edit, Refusal};
+use linked_list_allocator::LocalHeap;
+use std::alloc::Global;
+use std::process::Abort;
+
+/// Into full buckets, new ones and among the roots; a device that is there with another weight and
+/// with its own; a bucket that moves, one that others moved into, and back.
+const EDITS: &[Asked] = &[
+    Asked::Move("osd.0", &[("host", "h2")]),
+    Asked::Add(
+        3,
+        21823,
+        &[("host", "h3"), ("rack", "r1"), ("root", "default")],
+    ),
+    Asked::CreateOrMove(1, 5, &[("host", "h3")]),
+    Asked::AddBucket("h9", "host"),
+    Asked::Move("h9", &[("root", "default")]),
+    Asked::Move("h1", &[("rack", "r9")]),
+    Asked::Set(2, 7, &[("host", "h1")]),
+    Asked::Swap("h1", "h2"),
+    Asked::Add(10, 1, &[("host", "hx")]),
+    Asked::Add(11, 1, &[("host", "hx")]),
+    Asked::Move("r9", &[("root", "default")]),
+    Asked::Set(3, 9, &[("host", "h9")]),
+    Asked::Reweight("osd.3", 4),
+    Asked::SetClass("osd.3", "ssd"),
+    Asked::CreateOrMove(3, 0, &[("host", "h9")]),
+    Asked::Move("h2", &[("root", "default")]),
+];
+
+const REFUSED: Asked = Asked::Move("x", &[("root", "default")]);
+
+fn first_edits(rt: &impl Abort, alloc: Global, count: usize) -> Vec<Edit> {
+    let mut made = Vec::new(alloc);
+    for asked in EDITS.iter().take(count) {
+        made.push(edit(rt, alloc, *asked)).expect(rt, "memory");
+    }
+    made
+}
+
+fn is_the_example_map(rt: &impl Abort, alloc: Global, map: &CrushMap<&LocalHeap>) -> bool {
+    let whole = whole_example_map(rt, alloc);
+    let same = has_the_same(map, &whole);
+    drop(whole);
+    same
+}
+
+/// The heap has as much memory in use as before.
+fn is_refused(
+    rt: &impl Abort,
+    heap: &LocalHeap,
+    map: &mut CrushMap<&LocalHeap>,
+    edits: &[Edit],
+    place: u32,
+) -> bool {
+    let used = heap.used();
+    let told = answer(rt, map, edits);
+    let is_told = told == Told::Batch(Err(BatchFault::Refused(place, Refusal::NoSuchItem)));
+    is_told && heap.used() == used
+}
+
+fn refuse_behind(rt: &impl Abort, alloc: Global, count: u32) {
+    let heap = LocalHeap::new(alloc, 65536).expect(rt, "a heap");
+    let mut map = whole_example_map_in(rt, alloc, &heap).expect(rt, "a map");
+    let mut edits = first_edits(rt, alloc, count as usize);
+    edits.push(edit(rt, alloc, REFUSED)).expect(rt, "memory");
+    let is_refused = is_refused(rt, &heap, &mut map, edits.as_slice(), count);
+    drop(edits);
+    let is_same = is_the_example_map(rt, alloc, &map);
+    drop(map);
+    assert!(rt; is_refused && is_same, "behind {count}");
+}
+
+#[test]
+fn a_refused_batch_is_taken_back(rt: HostRuntime) {
+    for count in 1..EDITS.len() as u32 + 1 {
+        refuse_behind(&rt, rt.alloc(), count);
+    }
+}
+
+fn made_one_by_one(rt: &impl Abort, alloc: Global) -> CrushMap<Global> {
+    let mut map = whole_example_map(rt, alloc);
+    for asked in EDITS {
+        let edit = edit(rt, alloc, *asked);
+        assert!(rt; map.apply(&edit).is_ok());
+        drop(edit);
+    }
+    map
+}
+
+const ALL: Told = Told::Batch(Ok(Dones {
+    edits: 16,
+    changed: 15,
+    made: 5,
+}));
+
+#[test]
+fn a_batch_does_what_its_edits_do(rt: HostRuntime) {
+    let mut map = whole_example_map(&rt, rt.alloc());
+    let edits = edits(&rt, rt.alloc(), EDITS);
+    let told = answer(&rt, &mut map, edits.as_slice());
+    drop(edits);
+    let other = made_one_by_one(&rt, rt.alloc());
+    let is_same = has_the_same(&map, &other);
+    drop(map);
+    drop(other);
+    assert!(rt; told == ALL && is_same);
+}

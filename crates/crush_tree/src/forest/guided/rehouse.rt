@@ -1,0 +1,60 @@
+//! Memory of places, by a guide.
+
+ghost use Rattle.std.specs.Prelude.{◌≡◌, true, vec_capacity};
+ghost use Rattle.crush_model.specs.Forest.{rows_of};
+ghost use Rattle.crush_nodes.specs.Ops.{is_place};
+ghost use Rattle.crush_tree.specs.Rehoused.{CanRehouse, Grows, Rehouses};
+ghost use Rattle.crush_tree.specs.Required.{Guided};
+
+use super::along::along_mut;
+use crate::forest::Forest;
+use crush_nodes::guide::Guide;
+use crush_nodes::node::Node;
+use crush_nodes::place::Place;
+use crush_nodes::way::Search;
+use crush_units::ItemId;
+use std::alloc::{AllocError, Allocator};
+
+impl<A: Allocator> Forest<A> {
+    /// [`Forest::rehouse`] by a guide.
+    pub fn rehouse_by<G: Guide>(
+        &mut self,
+        guide: &G,
+        place: Place,
+        given: Vec<Node<A>, A>,
+    ) -> Vec<Node<A>, A>
+        requires { Guided (G.place_of guide.now) self.old (CanRehouse place given self.old) }
+        ensures { Rehouses place (vec_capacity given) self.old self.new result }
+    {
+        self.recall_invariant();
+        let place = &place;
+        let Some(bucket) = place.holder() else {
+            return self.rehouse_along(&Search, *place, given);
+        };
+        along_mut(guide, ItemId::Bucket(bucket), self, |forest, _, way| {
+            forest.rehouse_along(way, *place, given)
+        })
+    }
+}
+
+impl<A: Allocator + Clone> Forest<A> {
+    /// [`Forest::grow`] by a guide.
+    pub fn grow_by<G: Guide>(
+        &mut self,
+        guide: &G,
+        place: Place,
+    ) -> Result<Option<Vec<Node<A>, A>>, AllocError>
+        requires { Guided (G.place_of guide.now) self.old
+            (is_place (rows_of self.old) place ≡ true) }
+        ensures { Grows place self.old self.new result }
+    {
+        self.recall_invariant();
+        let place = &place;
+        let Some(bucket) = place.holder() else {
+            return self.grow_along(&Search, *place);
+        };
+        along_mut(guide, ItemId::Bucket(bucket), self, |forest, _, way| {
+            forest.grow_along(way, *place)
+        })
+    }
+}

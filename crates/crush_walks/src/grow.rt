@@ -1,0 +1,67 @@
+//! More memory for items, with the memory before handed out, so that it can be taken back.
+
+ghost use Rattle.std.specs.Prelude.{◌∷◌, []};
+ghost use Rattle.crush_units.specs.declared.id.ItemId.TheVariants.{Bucket as BucketItem};
+ghost use Rattle.crush_nodes.specs.Ops.{StoresUpTo};
+ghost use Rattle.crush_nodes.specs.Seen.{items_of};
+ghost use Rattle.crush_walks.specs.Grown.{IsBucket, IsGrown, IsGrownBucket, IsGrownIn};
+ghost use Rattle.crush_walks.specs.WayTo.{IsWayTo};
+ghost use Rattle.crush_units.specs.declared.limits.TheConstants.{HEAVIEST_BUCKET};
+
+use crate::change::{NodeChange, change_at};
+use crate::rehouse::rehouse_all;
+use crush_nodes::node::{Bucket, Node};
+use crush_nodes::way::Way;
+use crush_units::{BucketId, ItemId};
+use std::alloc::{AllocError, Allocator};
+
+/// Makes room for one more item in a bucket: where it is full, its items move into memory half as
+/// large again, and the memory before is handed out.
+pub fn grow_in<A: Allocator + Clone, W: Way>(
+    items: &mut [Node<A>],
+    way: &W,
+    place: BucketId,
+) -> Result<Option<Vec<Node<A>, A>>, AllocError>
+    requires way { IsWayTo (W.knows way.now) (BucketItem place) (items_of items.old) }
+    requires stored { StoresUpTo HEAVIEST_BUCKET (items_of items.old) }
+    ensures { IsGrownIn place (items_of items.old) (items_of items.new) result }
+{
+    change_at(items, way, &ItemId::Bucket(place), Grow)
+}
+
+/// Makes room for one more item among all that stand together.
+pub fn grow_all<A: Allocator + Clone>(
+    items: &mut Vec<Node<A>, A>,
+) -> Result<Option<Vec<Node<A>, A>>, AllocError>
+    ensures { IsGrown items.old items.new result }
+{
+    let len = items.len();
+    if len < items.capacity() {
+        return Ok(None);
+    }
+    let larger = Vec::with_capacity(items.allocator().clone()?, len + len / 2 + 1)?;
+    Ok(Some(rehouse_all(items, larger)))
+}
+
+/// Room for one more item in a bucket; it hands out the memory before, where it took more.
+#[derive(Drop)]
+struct Grow;
+
+impl<A: Allocator + Clone> NodeChange<A> for Grow {
+    type Out = Result<Option<Vec<Node<A>, A>>, AllocError>;
+
+    ghost can = { λ act x. IsBucket x };
+
+    ghost does = { λ act x y out. IsGrownBucket x y out };
+
+    #[inline(never)]
+    fn act(self, node: &mut Node<A>) -> Result<Option<Vec<Node<A>, A>>, AllocError> {
+        match node {
+            Node::Device(_) => unreachable!(),
+            Node::Bucket(bucket) => {
+                let bucket: &mut Bucket<A> = bucket;
+                grow_all(&mut bucket.items)
+            }
+        }
+    }
+}

@@ -1,0 +1,94 @@
+//! Items moved into other memory.
+
+ghost use Rattle.std.specs.Prelude.{◌≡◌, ◌+◌, ◌≤◌, [], ◌++◌, vec_capacity, vec_len};
+ghost use Rattle.crush_units.specs.declared.id.ItemId.TheVariants.{Bucket as BucketItem};
+ghost use Rattle.crush_nodes.specs.Ops.{StoresUpTo};
+ghost use Rattle.crush_nodes.specs.Room.{count};
+ghost use Rattle.crush_nodes.specs.Seen.{items_of};
+ghost use Rattle.crush_walks.specs.Rehoused.{with_capacity, HoldsUpTo, IsRehoused};
+ghost use Rattle.crush_walks.specs.Swapping.{bucket_in};
+ghost use Rattle.crush_walks.specs.WayTo.{IsWayTo};
+ghost use Rattle.crush_units.specs.declared.limits.TheConstants.{HEAVIEST_BUCKET};
+
+use crate::change::{NodeChange, change_at};
+use crush_nodes::node::{Bucket, Node};
+use crush_nodes::way::Way;
+use crush_units::{BucketId, ItemId};
+use std::alloc::Allocator;
+use std::mem;
+
+/// Moves the items of a bucket into an empty vector with memory for them, and hands out the one in
+/// which they were.
+pub fn rehouse_in<A: Allocator, W: Way>(
+    items: &mut [Node<A>],
+    way: &W,
+    place: BucketId,
+    given: Vec<Node<A>, A>,
+) -> Vec<Node<A>, A>
+    requires way { IsWayTo (W.knows way.now) (BucketItem place) (items_of items.old) }
+    requires stored { StoresUpTo HEAVIEST_BUCKET (items_of items.old) }
+    requires empty { given.items ≡ [] }
+    requires enough { count (bucket_in place (items_of items.old)).kids ≤ vec_capacity given }
+    ensures after { items_of items.new
+        ≡ with_capacity place (vec_capacity given) (items_of items.old) }
+    ensures empty { result.items ≡ [] }
+    ensures capacity { vec_capacity result
+        ≡ (bucket_in place (items_of items.old)).capacity }
+    ensures enough { count (bucket_in place (items_of items.old)).kids ≤ vec_capacity result }
+{
+    change_at(items, way, &ItemId::Bucket(place), Rehouse { items: given })
+}
+
+/// Moves all items into an empty vector with memory for them, which takes the place of the one in
+/// which they were; this is handed out.
+pub fn rehouse_all<A: Allocator>(
+    items: &mut Vec<Node<A>, A>,
+    mut given: Vec<Node<A>, A>,
+) -> Vec<Node<A>, A>
+    requires empty { given.items ≡ [] }
+    requires enough { vec_len items.old ≤ vec_capacity given }
+    ensures items { items.new.items ≡ items.old.items }
+    ensures given { vec_capacity items.new ≡ vec_capacity given }
+    ensures empty { result.items ≡ [] }
+    ensures capacity { vec_capacity result ≡ vec_capacity items.old }
+{
+    move_all(items, &mut given);
+    mem::replace(items, given)
+}
+
+fn move_all<A: Allocator>(from: &mut Vec<Node<A>, A>, to: &mut Vec<Node<A>, A>)
+    requires { vec_len to.old + vec_len from.old ≤ vec_capacity to.old }
+    ensures items { to.new.items ≡ to.old.items ++ from.old.items }
+    ensures empty { from.new.items ≡ [] }
+    ensures memory { vec_capacity to.new ≡ vec_capacity to.old }
+    ensures left { vec_capacity from.new ≡ vec_capacity from.old }
+{
+    for node in from.drain(..) {
+        to.push_reserved(node);
+    }
+}
+
+/// The items of a bucket moved into an empty vector; it hands out the one in which they were.
+#[derive(Drop)]
+struct Rehouse<A: Allocator> {
+    items: Vec<Node<A>, A>,
+}
+
+impl<A: Allocator> NodeChange<A> for Rehouse<A> {
+    type Out = Vec<Node<A>, A>;
+
+    ghost can = { λ act x. (act.items.items ≡ []) × HoldsUpTo (vec_capacity act.items) x };
+
+    ghost does = { λ act x y out. IsRehoused (vec_capacity act.items) x y out };
+
+    #[inline(never)]
+    fn act(self, node: &mut Node<A>) -> Vec<Node<A>, A> {
+        match node {
+            Node::Device(_) => unreachable!(),
+            Node::Bucket(bucket) => {
+                let bucket: &mut Bucket<A> = bucket;
+                rehouse_all(&mut bucket.items, self.items)
+            }
+        }
+    }
+}
