@@ -231,6 +231,12 @@ def batches_of_a_move_and_a_weight(size):
     return filled(lines + [OPERATOR], size, lambda n: f"begin\nmove osd.0 host=h{(n + 1) % 2}\nreweight osd.0 {n % 7}\ncommit")
 
 
+def batches_of_new_names(size):
+    """A host gets another name and its own again, in batches on a map of many devices."""
+    lines = flat(devices_for(size), 2)
+    return filled(lines + [OPERATOR], size, lambda n: "begin\nrename-bucket h0 x\nrename-bucket x h0\ncommit")
+
+
 def batches_of_long_names(size):
     """Batches of two on a map whose names are as long as a name may be."""
     lines = filled([], size // 2, lambda n: f"device {n} {long_name(n)}", MOST_DEVICES)
@@ -445,7 +451,7 @@ INPUTS = {
     comments_in_a_section, blanks_in_a_line, spaces_of_operators, moves_at_the_foot, moves_at_the_foot_of_far_ids,
     weights_at_the_foot, weights_at_the_foot_of_far_ids, swaps_at_the_foot_of_far_ids, classes_at_the_foot,
     batches_of_a_far_device, batches_of_a_move_and_a_weight, full_swaps, swaps_of_far_ids, the_end_of_a_bucket,
-    batches_of_long_names, a_wide_level_over_a_nest, batches_of_sixteen_operators)}}
+    batches_of_new_names, batches_of_long_names, a_wide_level_over_a_nest, batches_of_sixteen_operators)}}
 
 
 def timed(program, job, limit):
