@@ -350,6 +350,19 @@ def removals_at_the_front(size):
     return filled(flat(count) + [OPERATOR], size, lambda n: f"rm osd.{n}", count)
 
 
+def removals_taken_back(size):
+    """One batch takes out all devices of a host, the first each time, and is refused."""
+    count = devices_for(size)
+    lines = filled(flat(count) + [OPERATOR, "begin"], size - 12, lambda n: f"rm osd.{n}", count)
+    return lines + ["rm x", "commit"]
+
+
+def names_taken_back(size):
+    """One batch at the foot of a nest renames the innermost again and again, and is refused."""
+    lines = filled(nest() + [OPERATOR, "begin"], size - 12, lambda n: f"rename-bucket {['b4096 c', 'c b4096'][n % 2]}", MOST_CALLS - 1)
+    return lines + ["rm x", "commit"]
+
+
 def moves_from_the_front(size):
     count = devices_for(size)
     lines = flat(count) + bucket("host", "other", 3, [])
@@ -446,7 +459,7 @@ INPUTS = {
     hundred_deep_reweights, deep_reweights, deep_subtrees, deep_renames, deep_moves, deep_absent, deep_batches,
     deep_pairs_of_edits, deep_swaps, devices_alone, long_names, long_absent_names, colliding_names, new_buckets,
     new_devices, flat_batches, batches_of_two, refused_batches, one_batch, removals_at_the_front,
-    moves_from_the_front, moves_there_and_back, subtrees, large_swaps, take_steps, pairs_over_types,
+    removals_taken_back, names_taken_back, moves_from_the_front, moves_there_and_back, subtrees, large_swaps, take_steps, pairs_over_types,
     routes_without_room, class_ids, new_buckets_of_class_ids, sixteen_operators, a_comment, a_word, blank_lines,
     comments_in_a_section, blanks_in_a_line, spaces_of_operators, moves_at_the_foot, moves_at_the_foot_of_far_ids,
     weights_at_the_foot, weights_at_the_foot_of_far_ids, swaps_at_the_foot_of_far_ids, classes_at_the_foot,

@@ -62,9 +62,6 @@ when_passed a f g e (Err z) h told = subst (λ y. AnswersAs a f g (Err y)) (sym 
 pub makes_so : (a : List Row → Answer) (f g : ForestData) (x : Result Done EditFault) → AnswersAs a f g x → Makes a f g x
 makes_so a f g x told = record { done = told.done; refused = told.refused; unchanged = told.unchanged }
 
-pub makes_lacking : (a : List Row → Answer) (f : ForestData) → Makes a f f (Err OutOfMemory)
-makes_lacking a f = record { done = tt; refused = λ r is. absurd cc; unchanged = refl }
-
 pub makes_passed : (a : List Row → Answer) (f g : ForestData) (e : EditFault) (x : Result Done EditFault) → IsErrAnd x (λ z. z ≡ e) → Makes a f g (Err e) → Makes a f g x
 makes_passed a f g e (Ok d) h told = elim h [ ]
 makes_passed a f g e (Err z) h told = subst (λ y. Makes a f g (Err y)) (sym h) told

@@ -1,6 +1,6 @@
 -- Edits that are taken back.
-use Rattle.std.proofs.Common.{◌≡◌, ℕ, Bool, true, false, not, List, [], ◌∷◌, ◌++◌, ap, sym, subst, ◌∙◌, refl, arith, ⊎_elim, nat_eq, append-nil}
-use Rattle.std.specs.Prelude.{◌&&◌, if◌then◌else◌, Option, Some, None, is_some, Result, Ok, Err, IfOk, IsErrAnd}
+use Rattle.std.proofs.Common.{◌≡◌, ℕ, Bool, true, false, not, List, [], ◌∷◌, ◌++◌, ap, sym, subst, ◌∙◌, refl, arith, ⊎_elim, nat_eq, append-nil, true≢false}
+use Rattle.std.specs.Prelude.{◌&&◌, if◌then◌else◌, Option, Some, None, is_some, Result, Ok, Err, IsErrAnd}
 use Rattle.std.specs.Option.{option_map}
 use Rattle.std.proofs.lemmas.Bool.Decides.{eqb_tells}
 use Rattle.crush_units.specs.declared.id.ItemId.{ItemId}
@@ -36,9 +36,11 @@ use Rattle.crush_edits.specs.Outcome.{IsChange, IsDone}
 use Rattle.crush_edits.proofs.Changes.{weights_kept}
 use Rattle.crush_apply.specs.declared.undo_log.Undo.{Undo}
 use Rattle.crush_apply.specs.declared.undo_log.Undo.TheVariants.{Weight}
-use Rattle.crush_apply.specs.UndoLog.{as_list, done_alone, AnswersLogged, UndoesAny, Undoes, GivesClass, GivesWeight, GivesWeights, RollsBack}
+use Rattle.crush_apply.specs.Answered.{AnswersAs}
+use Rattle.crush_apply.specs.UndoLog.{as_list, done_alone, AnswersLogged, AnswersLoggedIf, UndoesAny, Undoes, GivesClass, GivesWeight, GivesWeights, RollsBack}
 use Rattle.crush_apply.specs.Weighed.{CanReweight}
-use Rattle.crush_apply.proofs.Answered.{when_changed, when_done, when_lacking, when_refused, when_same, when_still}
+use Rattle.crush_apply.proofs.Refused.{no_refusal}
+use Rattle.crush_apply.proofs.Answered.{makes_so, when_changed, when_done, when_lacking, when_refused, when_same, when_still}
 use Rattle.crush_apply.proofs.Done.{own_light}
 use Rattle.crush_apply.proofs.Weights.{fitting, weight_stays, reweight_made}
 
@@ -140,10 +142,23 @@ when_unmoved a f h = record { answers = when_still a f 0 h; logged = refl }
 pub when_alike : {A : Type 0} (a b : List Row → Answer) (f g : ForestData) (x : Result (Done × Option (Undo A)) EditFault) → ((t : List Row) → Stands f t → a t ≡ b t) → AnswersLogged b f g x → AnswersLogged a f g x
 when_alike a b f g x same told = record { answers = when_same a b f g (done_alone x) same told.answers; logged = told.logged }
 
--- of what is refused nothing is noted
-pub nothing_logged : {A : Type 0} (f g : ForestData) (q : Refusal) (x : Result (Done × Option (Undo A)) EditFault) → IsErrAnd x (λ e. e ≡ Refused q) → IfOk x (λ z. UndoesAny z.1 g f)
-nothing_logged f g q (Ok z) h = elim h [ ]
-nothing_logged f g q (Err e) h = tt
+-- WHAT IS NOTED ONLY WHERE THAT IS WANTED: what is noted anyway
+pub noted_anyway : {A : Type 0} (logged takes : Bool) (a : List Row → Answer) (f g : ForestData) (x : Result (Done × Option (Undo A)) EditFault) → AnswersLogged a f g x → (x ≡ Err OutOfMemory → takes ≡ true) → AnswersLoggedIf logged takes a f g x
+noted_anyway logged takes a f g x told memory = record { makes = makes_so a f g (done_alone x) told.answers; exact = λ _. told.answers; back = λ _. told.logged; memory = λ _. memory }
+
+-- what is made
+pub noted_if : {A : Type 0} (logged takes : Bool) (a : List Row → Answer) (f g : ForestData) (d : Done) (o : Option (Undo A)) → AnswersAs a f g (Ok d) → (logged ≡ true → UndoesAny o g f) → AnswersLoggedIf logged takes a f g (Ok (d, o))
+noted_if logged takes a f g d o told back = record { makes = makes_so a f g (Ok d) told; exact = λ _. told; back = back; memory = λ _ is. absurd cc }
+
+-- and what isn't, since memory lacks for it
+pub noted_lacking : {A : Type 0} (logged takes : Bool) (a : List Row → Answer) (f g : ForestData) (x : Result (Done × Option (Undo A)) EditFault) → logged ≡ true → IsErrAnd x (λ e. e ≡ OutOfMemory) → g ≡ f → AnswersLoggedIf logged takes a f g x
+noted_lacking logged takes a f g (Ok z) wanted h same = elim h [ ]
+noted_lacking logged takes a f g (Err e) wanted h same = record {
+  makes = record { done = tt; refused = λ r is. absurd (no_refusal r (Err e) h is); unchanged = same };
+  exact = λ no. absurd (true≢false (sym wanted ∙ no));
+  back = λ _. tt;
+  memory = λ no. absurd (true≢false (sym wanted ∙ no));
+}
 
 -- out of memory stays out of memory
 pub lacks_alone : {A : Type 0} (x : Result (Done × Option (Undo A)) EditFault) → done_alone x ≡ Err OutOfMemory → x ≡ Err OutOfMemory

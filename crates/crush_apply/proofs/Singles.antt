@@ -1,17 +1,16 @@
 -- What the table answers where one row is taken out, and where an empty bucket comes.
-use Rattle.std.proofs.Common.{◌≡◌, ℕ, ◌<◌, ◌≤◌, List, [], ◌∷◌, ◌++◌, length, true, false, not, refl, sym, ap, subst, ◌∙◌, arith, ⊎_elim}
-use Rattle.std.specs.Prelude.{Option, Some, None, IfSome, All, ◌||◌, ◌==◌, if◌then◌else◌, nat_lt, map, filter}
+use Rattle.std.proofs.Common.{◌≡◌, ℕ, ◌<◌, ◌≤◌, List, [], ◌∷◌, ◌++◌, true, false, not, refl, sym, ap, subst, ◌∙◌, arith, ⊎_elim}
+use Rattle.std.specs.Prelude.{None, ◌||◌, ◌==◌, nat_lt}
 use Rattle.std.proofs.lemmas.Bool.Decides.{eqb_tells}
-use Rattle.std.proofs.lemmas.List.Elements.{All-head, All-tail}
 use Rattle.std.proofs.lemmas.Bool.Decides.{nat_tests}
 use Rattle.crush_units.specs.declared.id.ItemId.{ItemId}
 use Rattle.crush_units.specs.declared.id.ItemId.TheVariants.{Device, Bucket}
 use Rattle.crush_units.specs.Name.{IsName}
 use Rattle.crush_units.specs.declared.limits.TheConstants.{MOST_BUCKETS, MOST_DEVICES}
 use Rattle.crush_model.specs.ItemRows.{bucket_row}
-use Rattle.crush_model.specs.Table.{Row, is_there, is_parent, kids, free_ids, device_count, bucket_count}
+use Rattle.crush_model.specs.Table.{Row, free_ids, device_count, bucket_count}
 use Rattle.crush_model.specs.Columns.{table_without, without_row}
-use Rattle.crush_model.specs.Lawful.{HasParent, Lawful, has_too_many}
+use Rattle.crush_model.specs.Lawful.{Lawful, has_too_many}
 use Rattle.crush_model.proofs.Emptied.{table_without-empty, table_without-device}
 use Rattle.crush_edits.specs.Setting.{SettingData}
 use Rattle.crush_edits.specs.Fits.{Fits}
@@ -65,17 +64,3 @@ add_bucket_lawful s t n kind k b l fits form c free = subst Lawful (added_is_row
 -- a type's number that was compared with 0
 pub not_zero : (k n : ℕ) → n ≡ k → (n ≡ 0 → ⊥) → (k == 0) ≡ false
 not_zero k n is other = ⊎_elim (λ p. absurd (other (is ∙ p.1))) (λ p. p.0) (eqb_tells k 0)
-
--- WHAT ISN'T THERE holds nothing
-no_parent : (t : List Row) (b : ℕ) (o : Option ℕ) → is_there t (Bucket b) ≡ false → IfSome o (λ p. is_there t (Bucket p) ≡ true) → is_parent b o ≡ false
-no_parent t b None gone h = refl
-no_parent t b (Some p) gone h = ⊎_elim (λ q. absurd (let no : false ≡ true = sym gone ∙ ap (λ x. is_there t (Bucket x)) (sym q.1) ∙ h in cc)) (λ q. q.0) (eqb_tells p b)
-
-no_kids : (t u : List Row) (b : ℕ) → is_there t (Bucket b) ≡ false → All (HasParent t) u → kids u b ≡ []
-no_kids t [] b gone a = refl
-no_kids t (r ∷ u) b gone a =
-    let rest = filter (λ (x : Row). is_parent b x.parent) u in
-    ap (λ h. map (λ (x : Row). x.id) (if h then r ∷ rest else rest)) (no_parent t b r.parent gone (All-head (HasParent t) r u a)) ∙ no_kids t u b gone (All-tail (HasParent t) r u a)
-
-pub none_held : (t : List Row) (b : ℕ) → Lawful t → is_there t (Bucket b) ≡ false → holds_items t b ≡ false
-none_held t b l gone = ap (λ (xs : List ItemId). not (length xs == 0)) (no_kids t t b gone l.parents)

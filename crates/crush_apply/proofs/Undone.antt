@@ -6,40 +6,32 @@ use Rattle.crush_model.specs.Forest.{ForestData, all_items, rows_of, IsSound}
 use Rattle.crush_model.specs.Items.{Items}
 use Rattle.crush_model.specs.Stands.{Stands}
 use Rattle.crush_model.specs.Stored.{weight_sum}
-use Rattle.crush_model.specs.Table.{Row, is_there, weight_of}
+use Rattle.crush_model.specs.Table.{Row, is_there}
 use Rattle.crush_model.proofs.Stands.{stands_for_rows}
 use Rattle.crush_nodes.specs.Ops.{part_of}
 use Rattle.crush_nodes.specs.declared.node.Node.{Node}
 use Rattle.crush_nodes.specs.declared.place.Place.{Place}
 use Rattle.crush_tree.specs.declared.forest.stand.Stand.{Stand}
-use Rattle.crush_tree.specs.Answered.{IsPart}
 use Rattle.crush_tree.specs.Changed.{Detaches}
 use Rattle.crush_tree.specs.Rehoused.{Grows}
-use Rattle.crush_tree.specs.Moves.{AnswersStand, forest_without}
+use Rattle.crush_tree.specs.Moves.{IsStand, forest_without}
 use Rattle.crush_hierarchy.specs.Placed.{Adds, Puts}
-use Rattle.crush_apply.specs.declared.came.Came.{Came}
+use Rattle.crush_apply.specs.declared.addition.Addition.{Addition}
 use Rattle.crush_apply.specs.Placed.{MakesRoom}
-use Rattle.crush_apply.specs.UndoSteps.{GetsMemory, GoesBack, Leaves}
-
--- an item that is there stands somewhere
-pub stands_somewhere : (f : ForestData) (i : ItemId) → IsSound f → is_there (rows_of f) i ≡ true → AnswersStand i f None → ⊥
-stands_somewhere f i sound there none = let no : false ≡ true = none.there (rows_of f) (stands_for_rows f sound) ∙ there in cc
+use Rattle.crush_apply.specs.UndoSteps.{GetsAnyMemory, GoesBack, Leaves}
 
 -- WHAT IS NOTED of an item that moves
-pub noted_stood : (f g : ForestData) (i : ItemId) (b : ℕ) (w own : Option ℕ) (s : Stand) → IsSound f → IsPart i f → AnswersStand i f (Some s) → ((t : List Row) → Stands f t → own ≡ weight_of t i) → Puts i b w f g → GoesBack (record { item = i; stand = s; weight = own }) g f
-noted_stood f g i b w own s sound part at told puts =
-    let t = rows_of f in
-    let st = stands_for_rows f sound in
-    let is : own ≡ Some (weight_sum (part_of i (all_items f))) = told t st ∙ part.weight t st in
+pub noted_stood : (f g : ForestData) (i : ItemId) (b : ℕ) (w : Option ℕ) (s : Stand) (own : ℕ) → IsSound f → IsStand i f s → own ≡ weight_sum (part_of i (all_items f)) → Puts i b w f g → GoesBack (record { item = i; stand = s; weight = own }) g f
+noted_stood f g i b w s own sound at is puts =
     let back = puts.back s.place s.position at.stands in
-    subst (λ (o : Option ℕ). GoesBack (record { item = i; stand = s; weight = o }) g f) (sym is)
+    subst (λ (u : ℕ). GoesBack (record { item = i; stand = s; weight = u }) g f) (sym is)
     (record {
       can = record { there = puts.there; kind = at.kind; room = puts.freed s.place s.position at.stands; sound = subst IsSound back sound };
       is = back;
     })
 
 -- WHAT IS NOTED of a place that grew
-pub noted_memory : {A E : Type 0} (p : Place) (m : Option (Vec (Node A) A)) (f g : ForestData) → Grows {E = E} p f g (Ok m) → GetsMemory p m g f
+pub noted_memory : {A E : Type 0} (p : Place) (m : Option (Vec (Node A) A)) (f g : ForestData) → Grows {E = E} p f g (Ok m) → GetsAnyMemory p m g f
 noted_memory p None f g grown = grown.none
 noted_memory p (Some items) f g grown = record { can = grown.moved.again; is = grown.moved.back }
 
@@ -56,12 +48,12 @@ grown_adds p n f h g m x y grown adds = record {
 }
 
 -- ROOM IS MADE, or nothing has changed
-pub no_room_made : {A E : Type 0} (more : List Row → List Row) (which : List Row → Option ℕ) (f g : ForestData) (P : E → Type 0) (x : Result (ℕ × Came A) E) → IsErrAnd x P → g ≡ f → MakesRoom more which f g x
+pub no_room_made : {A E : Type 0} (more : List Row → List Row) (which : List Row → Option ℕ) (f g : ForestData) (P : E → Type 0) (x : Result (ℕ × Addition A) E) → IsErrAnd x P → g ≡ f → MakesRoom more which f g x
 no_room_made more which f g P (Ok z) h same = elim h [ ]
 no_room_made more which f g P (Err e) h same = record { next = tt; stands = tt; room = tt; goes = tt; unchanged = same }
 
 -- the same room by other words for the rows and the bucket
-pub room_as : {A E : Type 0} (more others : List Row → List Row) (which it : List Row → Option ℕ) (f g : ForestData) (x : Result (ℕ × Came A) E)
+pub room_as : {A E : Type 0} (more others : List Row → List Row) (which it : List Row → Option ℕ) (f g : ForestData) (x : Result (ℕ × Addition A) E)
     → ((t : List Row) → Stands f t → more t ≡ others t) → ((t : List Row) (b : ℕ) → Stands f t → which t ≡ Some b → it t ≡ Some b) → MakesRoom more which f g x → MakesRoom others it f g x
 room_as more others which it f g (Ok z) same next made = record {
   next = λ t st. next t z.0 st (made.next t st);

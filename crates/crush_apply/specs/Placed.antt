@@ -15,7 +15,7 @@ use Rattle.crush_edits.specs.Boxes.{boxes}
 use Rattle.crush_edits.specs.LawPut.{IsApart}
 use Rattle.crush_edits.specs.Put.{NewData, with_ids, put}
 use Rattle.crush_edits.specs.Stops.{StopData}
-use Rattle.crush_apply.specs.declared.came.Came.{Came}
+use Rattle.crush_apply.specs.declared.addition.Addition.{Addition}
 use Rattle.crush_apply.specs.UndoSteps.{Goes}
 
 -- the place of what receives: a bucket, or among the roots
@@ -46,7 +46,7 @@ pub record CanPutNew (t : List Row) (d : LeafData) (ps : List StopData) : Type 0
   pub light : is_too_heavy (put t (device_row None d) ps) ≡ false
 
 -- a bucket has room, of each table for which the forest stood the one, and rows came; what came can go, and after an Err nothing has changed
-pub record MakesRoom {A E : Type 0} (more : List Row → List Row) (which : List Row → Option ℕ) (old new : ForestData) (answer : Result (ℕ × Came A) E) : Type 0 where
+pub record MakesRoom {A E : Type 0} (more : List Row → List Row) (which : List Row → Option ℕ) (old new : ForestData) (answer : Result (ℕ × Addition A) E) : Type 0 where
   pub next : IfOk answer (λ z. (t : List Row) → Stands old t → which t ≡ Some z.0)
   pub stands : OnOk answer ((t : List Row) → Stands old t → Stands new (t ++ more t))
   pub room : IfOk answer (λ z. 0 < room_at new (AtBucket z.0))

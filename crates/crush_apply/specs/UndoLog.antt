@@ -1,58 +1,26 @@
 -- Batches that are made in place: what is noted of an edit, and what becomes of a forest where it is taken back.
-use Rattle.std.specs.Prelude.{◌≡◌, ℕ, ◌+◌, ◌≤◌, List, [], ◌∷◌, length, Option, Some, None, Result, Ok, Err, IfOk, Bool, true, false, ◌&&◌}
-use Rattle.crush_units.specs.declared.id.ItemId.TheVariants.{Device}
+use Rattle.std.specs.Prelude.{◌≡◌, ℕ, ◌≤◌, List, [], ◌∷◌, Option, Some, None, Result, Ok, Err, IfOk, Bool, true, false}
+use Rattle.crush_units.specs.declared.id.ItemId.TheVariants.{Device, Bucket}
 use Rattle.crush_units.specs.declared.limits.TheConstants.{HEAVIEST_DEVICE}
 use Rattle.crush_model.specs.Table.{Row, is_there, is_placed}
 use Rattle.crush_model.specs.Columns.{set_weight}
 use Rattle.crush_model.specs.Forest.{ForestData, rows_of}
 use Rattle.crush_model.specs.Lawful.{is_too_heavy}
 use Rattle.crush_tree.specs.Required.{CanGiveWeights, CanSwap}
-use Rattle.crush_tree.specs.Exact.{forest_swapped, forest_with_class, forest_with_weight, forest_with_weights}
+use Rattle.crush_tree.specs.Exact.{forest_swapped, forest_with_class, forest_with_name, forest_with_weight, forest_with_weights}
 use Rattle.crush_tree.specs.Runs.{weights_of}
-use Rattle.crush_edits.specs.declared.edit.Edit.{Edit}
-use Rattle.crush_edits.specs.declared.edit.Edit.TheVariants.{Insert, CreateOrMove, Update, Move, Swap, Reweight, ReweightSubtree, Remove, AddBucket, Rename, SetClass, RemoveClass}
+use Rattle.crush_hierarchy.specs.Naming.{CanRestoreName}
+use Rattle.crush_hierarchy.specs.Taking.{forest_restored, CanRestore}
+use Rattle.crush_hierarchy.specs.declared.hierarchy.renamed.OldName.{OldName}
+use Rattle.crush_hierarchy.specs.declared.hierarchy.taken.Taken.{Taken}
 use Rattle.crush_edits.specs.declared.refusal.Done.{Done}
 use Rattle.crush_edits.specs.declared.refusal.EditFault.{EditFault}
+use Rattle.crush_edits.specs.declared.refusal.EditFault.TheVariants.{OutOfMemory}
 use Rattle.crush_edits.specs.Answer.{Answer}
 use Rattle.crush_apply.specs.declared.undo_log.Undo.{Undo}
-use Rattle.crush_apply.specs.declared.undo_log.Undo.TheVariants.{Weight, Class, Weights, Exchange, Arrived, Moved}
-use Rattle.crush_apply.specs.Answered.{AnswersAs}
+use Rattle.crush_apply.specs.declared.undo_log.Undo.TheVariants.{Weight, Class, Weights, Exchange, Removed, Renamed, Arrived, Moved}
+use Rattle.crush_apply.specs.Answered.{AnswersAs, Makes}
 use Rattle.crush_apply.specs.UndoSteps.{Goes, Returns}
-
--- whether it is noted what takes the edit back
-abbrev pub is_logged : Edit → Bool
-is_logged (Reweight n w) = true
-is_logged (SetClass n c) = true
-is_logged (RemoveClass n) = true
-is_logged (ReweightSubtree n w) = true
-is_logged (Swap m n) = true
-is_logged (Remove n) = false
-is_logged (Insert d n w l) = true
-is_logged (CreateOrMove d n w l) = true
-is_logged (Update d n w l) = true
-is_logged (Move n l) = true
-is_logged (AddBucket n kind) = true
-is_logged (Rename from to) = false
-
--- whether the edit itself hands out what takes it back; the weights below a bucket are gathered before
-abbrev pub hands_out : Edit → Bool
-hands_out (ReweightSubtree n w) = false
-hands_out e = is_logged e
-
--- whether the edit can be made in place before the later ones: the last one always, since behind it nothing is refused
-abbrev pub stays : Edit → List Edit → Bool
-stays e [] = true
-stays e (f ∷ es) = is_logged e
-
--- whether all can
-abbrev pub are_in_place : List Edit → Bool
-are_in_place [] = true
-are_in_place (e ∷ es) = stays e es && are_in_place es
-
--- they can, and a log of this capacity has room for what is noted of all but the last
-pub record CanBeLogged (es : List Edit) (capacity : ℕ) : Type 0 where
-  pub in_place : are_in_place es ≡ true
-  pub room : length es ≤ capacity + 1
 
 -- where the placed device d of the forest g gets the weight w, f comes of it, which is not too heavy
 pub record GivesWeight (d w : ℕ) (g f : ForestData) : Type 0 where
@@ -76,14 +44,26 @@ pub record GivesSwap (a b : ℕ) (g f : ForestData) : Type 0 where
   pub can : CanSwap a b g
   pub is : f ≡ forest_swapped a b g
 
+-- where the item that was taken out comes back to the forest g, f comes of it
+pub record ComesBack {A : Type 0} (taken : Taken A) (g f : ForestData) : Type 0 where
+  pub can : CanRestore taken g
+  pub is : f ≡ forest_restored taken g
+
+-- where the bucket b of the forest g gets the name that it had, f comes of it
+pub record GivesName {A : Type 0} (b : ℕ) (old : OldName A) (g f : ForestData) : Type 0 where
+  pub can : CanRestoreName (Bucket b) old g
+  pub is : f ≡ forest_with_name (Bucket b) old.name g
+
 -- where an edit that made g is taken back, f comes of it: the very forest, with its items in their order and its memory
 abbrev pub Undoes : {A : Type 0} → Undo A → ForestData → ForestData → Type 0
 Undoes (Weight d w) g f = GivesWeight d w g f
 Undoes (Class d class) g f = GivesClass d class g f
 Undoes (Weights b runs) g f = GivesWeights b (weights_of runs.items) g f
 Undoes (Exchange a b) g f = GivesSwap a b g f
-Undoes (Arrived came) g f = Goes came g f
-Undoes (Moved stood came) g f = Returns stood came g f
+Undoes (Removed taken) g f = ComesBack taken g f
+Undoes (Renamed b old) g f = GivesName b old g f
+Undoes (Arrived addition) g f = Goes addition g f
+Undoes (Moved old_stand addition) g f = Returns old_stand addition g f
 
 -- the same of what may be noted: where nothing is, nothing has changed
 abbrev pub UndoesAny : {A : Type 0} → Option (Undo A) → ForestData → ForestData → Type 0
@@ -116,3 +96,10 @@ done_alone (Err e) = Err e
 pub record AnswersLogged {A : Type 0} (a : List Row → Answer) (f g : ForestData) (x : Result (Done × Option (Undo A)) EditFault) : Type 0 where
   pub answers : AnswersAs a f g (done_alone x)
   pub logged : IfOk x (λ z. UndoesAny z.1 g f)
+
+-- the same of a call that notes only where that is wanted, and then may be out of memory whatever the table answers; where it isn't, only if it takes memory
+pub record AnswersLoggedIf {A : Type 0} (logged takes : Bool) (a : List Row → Answer) (f g : ForestData) (x : Result (Done × Option (Undo A)) EditFault) : Type 0 where
+  pub makes : Makes a f g (done_alone x)
+  pub exact : logged ≡ false → AnswersAs a f g (done_alone x)
+  pub back : logged ≡ true → IfOk x (λ z. UndoesAny z.1 g f)
+  pub memory : logged ≡ false → x ≡ Err OutOfMemory → takes ≡ true

@@ -7,12 +7,12 @@ use Rattle.crush_nodes.specs.declared.node.Node.{Node}
 use Rattle.crush_nodes.specs.declared.place.Place.{Place}
 use Rattle.crush_tree.specs.Moves.{forest_without}
 use Rattle.crush_tree.specs.Rehoused.{forest_with_capacity, CanRehouse}
-use Rattle.crush_hierarchy.specs.Back.{item_moved_back, CanPutBack}
-use Rattle.crush_apply.specs.declared.came.Came.{Came}
-use Rattle.crush_apply.specs.declared.stood.Stood.{Stood}
+use Rattle.crush_hierarchy.specs.Back.{item_moved_back, CanMoveBack}
+use Rattle.crush_apply.specs.declared.addition.Addition.{Addition}
+use Rattle.crush_apply.specs.declared.old_stand.OldStand.{OldStand}
 
 -- where the place of the forest g gets other memory, f comes of it
-pub record Rehouses {A : Type 0} (p : Place) (items : Vec (Node A) A) (g f : ForestData) : Type 0 where
+pub record GetsMemory {A : Type 0} (p : Place) (items : Vec (Node A) A) (g f : ForestData) : Type 0 where
   pub can : CanRehouse p items g
   pub is : f ≡ forest_with_capacity p (vec_capacity items) g
 
@@ -22,40 +22,40 @@ pub record Leaves (i : ItemId) (g f : ForestData) : Type 0 where
   pub is : f ≡ forest_without i g
 
 -- where an item of the forest g is put back to where it stood, f comes of it
-pub record GoesBack (s : Stood) (g f : ForestData) : Type 0 where
-  pub can : CanPutBack s.item s.stand.place s.stand.position s.weight g
-  pub is : f ≡ item_moved_back s.item s.stand.place s.stand.position s.weight g
+pub record GoesBack (s : OldStand) (g f : ForestData) : Type 0 where
+  pub can : CanMoveBack s.item s.stand.place s.stand.position (Some s.weight) g
+  pub is : f ≡ item_moved_back s.item s.stand.place s.stand.position (Some s.weight) g
 
 -- the same of memory and of an item that there may be: where there is none, nothing has changed
-abbrev pub GetsMemory : {A : Type 0} → Place → Option (Vec (Node A) A) → ForestData → ForestData → Type 0
-GetsMemory p None g f = g ≡ f
-GetsMemory p (Some items) g f = Rehouses p items g f
+abbrev pub GetsAnyMemory : {A : Type 0} → Place → Option (Vec (Node A) A) → ForestData → ForestData → Type 0
+GetsAnyMemory p None g f = g ≡ f
+GetsAnyMemory p (Some items) g f = GetsMemory p items g f
 
 abbrev pub LeavesAny : Option ItemId → ForestData → ForestData → Type 0
 LeavesAny None g f = g ≡ f
 LeavesAny (Some i) g f = Leaves i g f
 
 -- where what came to the forest g goes, first the item, then the memory, f comes of it
-pub record Goes {A : Type 0} (c : Came A) (g f : ForestData) : Type 0 where
+pub record Goes {A : Type 0} (c : Addition A) (g f : ForestData) : Type 0 where
   pub without : ForestData
   pub leaves : LeavesAny c.item g without
-  pub memory : GetsMemory c.place c.memory without f
+  pub memory : GetsAnyMemory c.place c.memory without f
 
 -- where an item of the forest g is put back, and what came before it moved goes, f comes of it
-pub record Returns {A : Type 0} (s : Stood) (c : Came A) (g f : ForestData) : Type 0 where
+pub record Returns {A : Type 0} (s : OldStand) (c : Addition A) (g f : ForestData) : Type 0 where
   pub stood : ForestData
   pub back : GoesBack s g stood
   pub goes : Goes c stood f
 
 -- so it can be of the forest g
 abbrev pub CanGetMemory : {A : Type 0} → Place → Option (Vec (Node A) A) → ForestData → Type 0
-CanGetMemory p m g = (f : ForestData) × GetsMemory p m g f
+CanGetMemory p m g = (f : ForestData) × GetsAnyMemory p m g f
 
 abbrev pub CanLeave : Option ItemId → ForestData → Type 0
 CanLeave i g = (f : ForestData) × LeavesAny i g f
 
-abbrev pub CanGo : {A : Type 0} → Came A → ForestData → Type 0
+abbrev pub CanGo : {A : Type 0} → Addition A → ForestData → Type 0
 CanGo c g = (f : ForestData) × Goes c g f
 
-abbrev pub CanGoBack : Stood → ForestData → Type 0
+abbrev pub CanGoBack : OldStand → ForestData → Type 0
 CanGoBack s g = (f : ForestData) × GoesBack s g f

@@ -12,8 +12,8 @@ ghost use Rattle.crush_edits.specs.Edit.{edit, takes_memory, sets_weights};
 ghost use Rattle.crush_edits.specs.Fits.{Fits};
 ghost use Rattle.crush_edits.specs.LawEdit.{IsEdit};
 ghost use Rattle.crush_edits.specs.Outcome.{IsDone, IsChange};
-ghost use Rattle.crush_apply.specs.Answered.{AnswersAs, KeepsRooms};
-ghost use Rattle.crush_apply.specs.UndoLog.{hands_out, done_alone, UndoesAny};
+ghost use Rattle.crush_apply.specs.Answered.{KeepsRooms};
+ghost use Rattle.crush_apply.specs.UndoLog.{AnswersLoggedIf};
 ghost use Rattle.crush_apply.specs.declared.place.IfPlaced.TheVariants.{Refuse, KeepWeight, SetWeight};
 
 use crate::add_bucket::add_bucket;
@@ -26,7 +26,7 @@ use crate::reweight::reweight;
 use crate::reweight_subtree::reweight_subtree;
 use crate::route::NewDevice;
 use crate::swap::swap;
-use crate::undo_log::{Undo, done_alone, unlogged};
+use crate::undo_log::{Undo, done_alone};
 use crush_edits::{Done, Edit, EditFault, Setting};
 use crush_hierarchy::Hierarchy;
 use std::alloc::Allocator;
@@ -54,7 +54,7 @@ pub fn apply_edit<A: Allocator + Clone>(
 {
     hierarchy.recall_invariant();
     recall_forms(requested);
-    done_alone(make(hierarchy, setting, requested))
+    done_alone(make(hierarchy, setting, requested, false))
 }
 
 /// The invariants of the parts of an edit.
@@ -115,17 +115,16 @@ fn if_placed(requested: &Edit) -> IfPlaced
     }
 }
 
+/// Where `logged`, out of memory may be for what takes the edit back.
 pub(crate) fn make<A: Allocator + Clone>(
     hierarchy: &mut Hierarchy<A>,
     setting: &Setting,
     requested: &Edit,
+    logged: bool,
 ) -> Result<(Done, Option<Undo<A>>), EditFault>
     requires { Fits setting.now (rows_of hierarchy.old) }
-    ensures made { AnswersAs (λ t. edit setting.now t requested.now)
-        hierarchy.old hierarchy.new (done_alone result) }
-    ensures logged { hands_out requested.now ≡ true
-        → IfOk result (λ z. UndoesAny z.1 hierarchy.new hierarchy.old) }
-    ensures memory { result ≡ Err EditFault.OutOfMemory → takes_memory requested.now ≡ true }
+    ensures answers { AnswersLoggedIf logged (takes_memory requested.now)
+        (λ t. edit setting.now t requested.now) hierarchy.old hierarchy.new result }
     ensures rooms { sets_weights requested.now ≡ true → KeepsRooms hierarchy.old hierarchy.new }
 {
     match requested {
@@ -159,11 +158,11 @@ pub(crate) fn make<A: Allocator + Clone>(
         Edit::Swap { a, b } => swap(hierarchy, a, b),
         Edit::Reweight { name, weight } => reweight(hierarchy, name, *weight),
         Edit::ReweightSubtree { name, weight } => {
-            unlogged(reweight_subtree(hierarchy, name, *weight))
+            reweight_subtree(hierarchy, name, *weight, logged)
         }
-        Edit::Remove { name } => unlogged(remove(hierarchy, setting, name)),
+        Edit::Remove { name } => remove(hierarchy, setting, name, logged),
         Edit::AddBucket { name, kind } => add_bucket(hierarchy, setting, name, kind),
-        Edit::Rename { from, to } => unlogged(rename(hierarchy, from, to)),
+        Edit::Rename { from, to } => rename(hierarchy, from, to),
         Edit::SetClass { name, class } => set_class(hierarchy, name, class),
         Edit::RemoveClass { name } => remove_class(hierarchy, name),
     }

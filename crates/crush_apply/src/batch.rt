@@ -1,6 +1,6 @@
 //! Several edits, all made or none.
 
-ghost use Rattle.std.specs.Prelude.{◌≡◌, ℕ, ◌+◌, ◌*◌, ◌<◌, ◌≤◌, ◌++◌, List, [], length, IfOk, OnOk, OnErr, true, vec_len, vec_capacity};
+ghost use Rattle.std.specs.Prelude.{◌≡◌, ℕ, ◌+◌, ◌*◌, ◌<◌, ◌≤◌, ◌++◌, List, [], length, IfOk, OnOk, OnErr, vec_len, vec_capacity};
 ghost use Rattle.crush_units.specs.declared.limits.TheConstants.{MOST_EDITS};
 ghost use Rattle.crush_model.specs.Table.{Row};
 ghost use Rattle.crush_model.specs.Forest.{ForestData, rows_of};
@@ -11,14 +11,12 @@ ghost use Rattle.crush_edits.specs.Fits.{Fits};
 ghost use Rattle.crush_edits.specs.Answer.{refused};
 ghost use Rattle.crush_edits.specs.Outcome.{IsDone};
 ghost use Rattle.crush_edits.specs.Edit.{edit};
-ghost use Rattle.crush_apply.specs.Answered.{Makes};
 ghost use Rattle.crush_apply.specs.AsBefore.{IsAsBefore};
 ghost use Rattle.crush_apply.specs.Batched.{IsBatchDone};
-ghost use Rattle.crush_apply.specs.UndoLog.{is_logged, are_in_place, as_list, done_alone, CanBeLogged, UndoesAny, RollsBack};
+ghost use Rattle.crush_apply.specs.UndoLog.{as_list, RollsBack};
 
 use crate::apply::{make, recall_forms};
-use crate::reweight_subtree::reweight_subtree_logged;
-use crate::undo_log::{Undo, are_in_place, roll_back};
+use crate::undo_log::{Undo, roll_back};
 use crush_edits::{BatchFault, Done, Dones, Edit, EditFault, Setting};
 use crush_hierarchy::Hierarchy;
 use std::alloc::{AllocError, Allocator};
@@ -26,9 +24,8 @@ use std::alloc::{AllocError, Allocator};
 /// Makes all of the edits, at most 65,536, each on what the ones before it made, or none; a refusal
 /// comes with the index of its edit, from 0.
 ///
-/// Where none but the last removes an item or gives one another name, they are made in place, and
-/// taken back where one isn't made; others are made on a copy of the hierarchy, without its spare
-/// room. Out of memory may hide a later refusal.
+/// They are made in place, and taken back where one isn't made. Out of memory may hide a later
+/// refusal.
 pub fn apply_batch<A: Allocator + Clone>(
     hierarchy: &mut Hierarchy<A>,
     setting: &Setting,
@@ -45,55 +42,6 @@ pub fn apply_batch<A: Allocator + Clone>(
     ensures unchanged { OnErr result (hierarchy.new ≡ hierarchy.old) }
     ensures as_before { OnErr result (IsAsBefore hierarchy.old hierarchy.new) }
     ensures single { length edits.now ≤ 1 → OnErr result (hierarchy.new ≡ hierarchy.old) }
-    ensures fits { Fits setting.now (rows_of hierarchy.new) }
-{
-    if are_in_place(edits) {
-        return make_in_place(hierarchy, setting, edits);
-    }
-    let Ok(mut copy) = hierarchy.try_copy() else {
-        return Err(BatchFault::OutOfMemory);
-    };
-    let dones = make_unlogged(&mut copy, setting, edits)?;
-    *hierarchy = copy;
-    Ok(dones)
-}
-
-/// On a copy: nothing is taken back.
-fn make_unlogged<A: Allocator + Clone>(
-    hierarchy: &mut Hierarchy<A>,
-    setting: &Setting,
-    edits: &[Edit],
-) -> Result<Dones, BatchFault>
-    requires few { length edits.now ≤ MOST_EDITS }
-    requires fits { Fits setting.now (rows_of hierarchy.old) }
-    ensures done { IfOk result (λ d. (t : List Row) → Stands hierarchy.old t
-        → IsBatchDone (Stands hierarchy.new) (batch setting.now t edits.now) d) }
-    ensures refused { (index : ℕ) (r : DeclaredRefusal)
-        → result ≡ Err (BatchFault.Refused index r) → (t : List Row) → Stands hierarchy.old t
-        → batch setting.now t edits.now ≡ batch_refused index r }
-    ensures fits { Fits setting.now (rows_of hierarchy.new) }
-{
-    let Ok(mut log) = new_log(hierarchy, 0) else {
-        return Err(BatchFault::OutOfMemory);
-    };
-    make_all(hierarchy, setting, edits, &mut log)
-}
-
-/// What takes the last edit back isn't noted: behind it nothing is refused.
-fn make_in_place<A: Allocator + Clone>(
-    hierarchy: &mut Hierarchy<A>,
-    setting: &Setting,
-    edits: &[Edit],
-) -> Result<Dones, BatchFault>
-    requires few { length edits.now ≤ MOST_EDITS }
-    requires fits { Fits setting.now (rows_of hierarchy.old) }
-    requires in_place { are_in_place edits.now ≡ true }
-    ensures done { IfOk result (λ d. (t : List Row) → Stands hierarchy.old t
-        → IsBatchDone (Stands hierarchy.new) (batch setting.now t edits.now) d) }
-    ensures refused { (index : ℕ) (r : DeclaredRefusal)
-        → result ≡ Err (BatchFault.Refused index r) → (t : List Row) → Stands hierarchy.old t
-        → batch setting.now t edits.now ≡ batch_refused index r }
-    ensures unchanged { OnErr result (hierarchy.new ≡ hierarchy.old) }
     ensures fits { Fits setting.now (rows_of hierarchy.new) }
 {
     let room = edits.len().saturating_sub(1);
@@ -120,6 +68,7 @@ fn new_log<A: Allocator + Clone>(
     Vec::with_capacity(hierarchy.allocator().clone()?, room)
 }
 
+/// What takes the last edit back isn't noted: behind it nothing is refused.
 fn make_all<A: Allocator + Clone>(
     hierarchy: &mut Hierarchy<A>,
     setting: &Setting,
@@ -130,13 +79,13 @@ fn make_all<A: Allocator + Clone>(
     requires fits { Fits setting.now (rows_of hierarchy.old) }
     requires empty { log.old.items ≡ [] }
     requires len { vec_len log.old ≡ 0 }
+    requires room { length edits.now ≤ vec_capacity log.old + 1 }
     ensures done { IfOk result (λ d. (t : List Row) → Stands hierarchy.old t
         → IsBatchDone (Stands hierarchy.new) (batch setting.now t edits.now) d) }
     ensures refused { (index : ℕ) (r : DeclaredRefusal)
         → result ≡ Err (BatchFault.Refused index r) → (t : List Row) → Stands hierarchy.old t
         → batch setting.now t edits.now ≡ batch_refused index r }
-    ensures log { CanBeLogged edits.now (vec_capacity log.old)
-        → OnErr result (RollsBack log.new.items hierarchy.new hierarchy.old) }
+    ensures log { OnErr result (RollsBack log.new.items hierarchy.new hierarchy.old) }
     ensures fits { Fits setting.now (rows_of hierarchy.new) }
 {
     let mut dones = Dones {
@@ -165,7 +114,7 @@ fn apply_logged<A: Allocator + Clone>(
     requires fits { Fits setting.now (rows_of hierarchy.old) }
     ensures done { IfOk result (λ d. (t : List Row) → Stands hierarchy.old t
         → IsDone (Stands hierarchy.new) (edit setting.now t requested.now) d) }
-    ensures logged { vec_len log.old < vec_capacity log.old → is_logged requested.now ≡ true
+    ensures logged { vec_len log.old < vec_capacity log.old
         → OnOk result ((f : ForestData) → RollsBack log.old.items hierarchy.old f
         → RollsBack log.new.items hierarchy.new f) }
     ensures refused { (r : DeclaredRefusal) → result ≡ Err (EditFault.Refused r)
@@ -179,30 +128,9 @@ fn apply_logged<A: Allocator + Clone>(
     hierarchy.recall_invariant();
     recall_forms(requested);
     let has_room = log.len() < log.capacity();
-    let (done, undo) = make_logged(hierarchy, setting, requested, has_room)?;
+    let (done, undo) = make(hierarchy, setting, requested, has_room)?;
     log_undo(log, undo);
     Ok(done)
-}
-
-/// Out of memory may be for what takes the edit back, which is gathered only where the log has room.
-fn make_logged<A: Allocator + Clone>(
-    hierarchy: &mut Hierarchy<A>,
-    setting: &Setting,
-    requested: &Edit,
-    has_room: bool,
-) -> Result<(Done, Option<Undo<A>>), EditFault>
-    requires { Fits setting.now (rows_of hierarchy.old) }
-    ensures makes { Makes (λ t. edit setting.now t requested.now)
-        hierarchy.old hierarchy.new (done_alone result) }
-    ensures logged { has_room ≡ true → is_logged requested.now ≡ true
-        → IfOk result (λ z. UndoesAny z.1 hierarchy.new hierarchy.old) }
-{
-    match requested {
-        Edit::ReweightSubtree { name, weight } => {
-            reweight_subtree_logged(hierarchy, name, *weight, has_room)
-        }
-        _ => make(hierarchy, setting, requested),
-    }
 }
 
 fn log_undo<A: Allocator>(log: &mut Vec<Undo<A>, A>, undo: Option<Undo<A>>)

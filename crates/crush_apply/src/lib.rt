@@ -4,11 +4,12 @@
 #![tactic(auto)]
 
 mod add_bucket;
+mod addition;
 mod apply;
 mod batch;
-mod came;
 mod classes;
 mod culprits;
+mod old_stand;
 mod place;
 mod relocate;
 mod remove;
@@ -16,7 +17,6 @@ mod rename;
 mod reweight;
 mod reweight_subtree;
 mod route;
-mod stood;
 mod swap;
 mod undo_log;
 

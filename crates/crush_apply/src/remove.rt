@@ -1,26 +1,33 @@
 //! A device or an empty bucket that is taken out.
 
-ghost use Rattle.std.specs.Prelude.{◌≡◌, ◌≢◌, List, Some, IfOk, IfErr, Err};
-ghost use Rattle.crush_model.specs.Table.{Row};
+ghost use Rattle.std.specs.Prelude.{◌≡◌, List, Some, IfOk, IfErr, true, false};
+ghost use Rattle.crush_units.specs.declared.id.ItemId.TheVariants.{Bucket};
+ghost use Rattle.crush_model.specs.Forest.{rows_of};
+ghost use Rattle.crush_model.specs.Table.{Row, is_there};
 ghost use Rattle.crush_model.specs.Stands.{Stands};
 ghost use Rattle.crush_edits.specs.declared.edit.Edit.TheVariants.{Remove};
 ghost use Rattle.crush_edits.specs.Edit.{edit, refusal};
 ghost use Rattle.crush_edits.specs.Making.{holds_items};
+ghost use Rattle.crush_hierarchy.specs.Taking.{StandsAlone};
 ghost use Rattle.crush_apply.specs.Alone.{CanRemove};
-ghost use Rattle.crush_apply.specs.Answered.{AnswersAs};
+ghost use Rattle.crush_apply.specs.UndoLog.{AnswersLoggedIf};
 
+use crate::undo_log::Undo;
 use crush_edits::{Done, EditFault, Refusal, Setting};
 use crush_hierarchy::Hierarchy;
 use crush_units::{BucketId, ItemId, Name};
 use std::alloc::{Allocator, Global};
 
 fn holds_items<A: Allocator>(hierarchy: &Hierarchy<A>, bucket: BucketId) -> bool
-    ensures { (t : List Row) → Stands hierarchy.now t → result ≡ holds_items t bucket }
+    requires { is_there (rows_of hierarchy.now) (Bucket bucket) ≡ true }
+    ensures holds { (t : List Row) → Stands hierarchy.now t → result ≡ holds_items t bucket }
+    ensures alone { result ≡ false → StandsAlone (Bucket bucket) hierarchy.now }
 {
-    match hierarchy.items(bucket) {
-        Some(items) => !items.is_empty(),
-        None => false,
-    }
+    hierarchy.recall_invariant();
+    let Some(items) = hierarchy.items(bucket) else {
+        unreachable!()
+    };
+    !items.is_empty()
 }
 
 fn check_remove<A: Allocator>(
@@ -30,9 +37,11 @@ fn check_remove<A: Allocator>(
 ) -> Result<ItemId, Refusal>
     ensures can { IfOk result (λ i. (t : List Row) → Stands hierarchy.now t
         → CanRemove setting.now t name.now i) }
+    ensures alone { IfOk result (λ i. StandsAlone i hierarchy.now) }
     ensures refused { IfErr result (λ r. (t : List Row) → Stands hierarchy.now t
         → refusal setting.now t (Remove name.now) ≡ Some r) }
 {
+    hierarchy.recall_invariant();
     let Some(id) = hierarchy.id_of(name.as_str()) else {
         return Err(Refusal::NoSuchItem);
     };
@@ -52,18 +61,23 @@ pub(crate) fn remove<A: Allocator>(
     hierarchy: &mut Hierarchy<A>,
     setting: &Setting,
     name: &Name<Global>,
-) -> Result<Done, EditFault>
-    ensures answers { AnswersAs (λ t. edit setting.now t (Remove name.now))
+    logged: bool,
+) -> Result<(Done, Option<Undo<A>>), EditFault>
+    ensures { AnswersLoggedIf logged false (λ t. edit setting.now t (Remove name.now))
         hierarchy.old hierarchy.new result }
-    ensures memory { result ≢ Err EditFault.OutOfMemory }
 {
     hierarchy.recall_invariant();
     let id = check_remove(hierarchy, setting, name)?;
+    let done = Done {
+        changed: true,
+        made: 0,
+    };
+    if logged {
+        let taken = hierarchy.take(id)?;
+        return Ok((done, Some(Undo::Removed { taken })));
+    }
     let Some(_) = hierarchy.detach(id) else {
         unreachable!()
     };
-    Ok(Done {
-        changed: true,
-        made: 0,
-    })
+    Ok((done, None))
 }

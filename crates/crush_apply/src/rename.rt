@@ -7,8 +7,9 @@ ghost use Rattle.crush_edits.specs.Setting.{SettingData};
 ghost use Rattle.crush_edits.specs.declared.edit.Edit.TheVariants.{Rename};
 ghost use Rattle.crush_edits.specs.Edit.{edit, refusal};
 ghost use Rattle.crush_apply.specs.Alone.{CanRename};
-ghost use Rattle.crush_apply.specs.Answered.{AnswersAs};
+ghost use Rattle.crush_apply.specs.UndoLog.{AnswersLogged};
 
+use crate::undo_log::Undo;
 use crush_edits::{Done, EditFault, Refusal};
 use crush_hierarchy::Hierarchy;
 use crush_units::{BucketId, ItemId, Name};
@@ -44,17 +45,18 @@ pub(crate) fn rename<A: Allocator + Clone>(
     hierarchy: &mut Hierarchy<A>,
     from: &Name<Global>,
     to: &Name<Global>,
-) -> Result<Done, EditFault>
-    ensures { (s : SettingData) → AnswersAs (λ t. edit s t (Rename from.now to.now))
+) -> Result<(Done, Option<Undo<A>>), EditFault>
+    ensures { (s : SettingData) → AnswersLogged (λ t. edit s t (Rename from.now to.now))
         hierarchy.old hierarchy.new result }
 {
     hierarchy.recall_invariant();
     let bucket = check_rename(hierarchy, from, to)?;
     let name = to.try_copy(hierarchy.allocator().clone()?)?;
     let _form = to.as_bytes();
-    hierarchy.rename(ItemId::Bucket(bucket), name)?;
-    Ok(Done {
+    let old = hierarchy.replace_name(ItemId::Bucket(bucket), name)?;
+    let done = Done {
         changed: true,
         made: 0,
-    })
+    };
+    Ok((done, Some(Undo::Renamed { bucket, old })))
 }

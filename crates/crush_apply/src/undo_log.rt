@@ -1,15 +1,15 @@
 //! What takes edits back, noted as they are made.
 
-ghost use Rattle.std.specs.Prelude.{◌≡◌, List};
+ghost use Rattle.std.specs.Prelude.{◌≡◌};
 ghost use Rattle.crush_model.specs.Forest.{ForestData};
-ghost use Rattle.crush_apply.specs.UndoLog.{is_logged, stays, are_in_place, done_alone, Undoes, RollsBack, CanUndo, CanRollBack};
+ghost use Rattle.crush_apply.specs.UndoLog.{done_alone, Undoes, RollsBack, CanUndo, CanRollBack};
 
-use crate::came::{Came, send_back};
-use crate::stood::{Stood, move_back};
-use crush_edits::{Done, Edit, EditFault};
-use crush_hierarchy::Hierarchy;
+use crate::addition::{Addition, send_back};
+use crate::old_stand::{OldStand, move_back};
+use crush_edits::{Done, EditFault};
+use crush_hierarchy::{Hierarchy, OldName, Taken};
 use crush_tree::WeightRun;
-use crush_units::{BucketId, DeviceId, Name, Weight};
+use crush_units::{BucketId, DeviceId, ItemId, Name, Weight};
 use std::alloc::Allocator;
 
 /// What takes an edit back, which needs no memory.
@@ -35,14 +35,23 @@ pub(crate) enum Undo<A: Allocator> {
         first: BucketId,
         second: BucketId,
     },
+    /// An item that comes back.
+    Removed {
+        taken: Taken<A>,
+    },
+    /// The name before.
+    Renamed {
+        bucket: BucketId,
+        old: OldName<A>,
+    },
     /// What goes again.
     Arrived {
-        came: Came<A>,
+        addition: Addition<A>,
     },
     /// An item that is put back, and then what came before it moved.
     Moved {
-        stood: Stood,
-        came: Came<A>,
+        old_stand: OldStand,
+        addition: Addition<A>,
     },
 }
 
@@ -55,46 +64,6 @@ pub(crate) fn done_alone<A: Allocator>(
         Ok((done, _undo)) => Ok(done),
         Err(fault) => Err(fault),
     }
-}
-
-pub(crate) fn unlogged<A: Allocator>(
-    answer: Result<Done, EditFault>,
-) -> Result<(Done, Option<Undo<A>>), EditFault>
-    ensures { done_alone result ≡ answer }
-{
-    match answer {
-        Ok(done) => Ok((done, None)),
-        Err(fault) => Err(fault),
-    }
-}
-
-fn is_logged(requested: &Edit) -> bool
-    ensures { result ≡ is_logged requested.now }
-{
-    !matches!(requested, Edit::Remove { .. } | Edit::Rename { .. })
-}
-
-/// Whether it can be made in place.
-fn stays(requested: &Edit, later: &[Edit]) -> bool
-    ensures { result ≡ stays requested.now later.now }
-{
-    if later.is_empty() {
-        true
-    } else {
-        is_logged(requested)
-    }
-}
-
-pub(crate) fn are_in_place(edits: &[Edit]) -> bool
-    ensures { result ≡ are_in_place edits.now }
-{
-    for (k, requested) in edits.iter().enumerate() {
-        let later = &edits[k + 1..];
-        if !stays(requested, later) {
-            return false;
-        }
-    }
-    true
 }
 
 fn undo_one<A: Allocator>(hierarchy: &mut Hierarchy<A>, undo: Undo<A>)
@@ -111,10 +80,15 @@ fn undo_one<A: Allocator>(hierarchy: &mut Hierarchy<A>, undo: Undo<A>)
         }
         Undo::Weights { bucket, runs } => hierarchy.give_weights(bucket, runs),
         Undo::Exchange { first, second } => hierarchy.swap(first, second),
-        Undo::Arrived { came } => send_back(hierarchy, came),
-        Undo::Moved { stood, came } => {
-            move_back(hierarchy, stood);
-            send_back(hierarchy, came);
+        Undo::Removed { taken } => hierarchy.restore(taken),
+        Undo::Renamed { bucket, old } => hierarchy.restore_name(ItemId::Bucket(bucket), old),
+        Undo::Arrived { addition } => send_back(hierarchy, addition),
+        Undo::Moved {
+            old_stand,
+            addition,
+        } => {
+            move_back(hierarchy, old_stand);
+            send_back(hierarchy, addition);
         }
     }
 }

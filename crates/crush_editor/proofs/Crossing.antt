@@ -16,8 +16,7 @@ use Rattle.crush_map.specs.contracts.map.CrushMap.TheInside as MapInside
 use Rattle.crush_tree.specs.contracts.forest.Forest.TheInside as ForestInside
 use Rattle.crush_index.specs.contracts.hashing.Hashing as Hashing
 use Rattle.crush_index.proofs.hashing.Hashing.TheSendSync.{the_send as hashing_send}
-use Rattle.crush_index.specs.contracts.index.Index as Index
-use Rattle.crush_index.proofs.index.Index.TheSendSync.{the_send as index_send}
+use Rattle.crush_editor.proofs.IndexCrossing.{index_sent}
 use Rattle.crush_hierarchy.specs.contracts.hierarchy.Hierarchy as Hierarchy
 use Rattle.crush_hierarchy.specs.contracts.hierarchy.Hierarchy.TheInside as HierarchyInside
 use Rattle.crush_units.specs.contracts.weight.Weight as Weight
@@ -70,9 +69,6 @@ machine_sent = search (sendable, crosses) depth 10
 
 hashing_sent : IsSend (as_row Hashing.the_field)
 hashing_sent = search (hashing_send, sendable, crosses) depth 10
-
-index_sent : IsSend (as_row Index.the_field)
-index_sent = search (index_send, sendable, crosses) depth 10
 
 counts_sent : IsSend (as_row Counts.the_field)
 counts_sent = search (sendable, crosses) depth 10

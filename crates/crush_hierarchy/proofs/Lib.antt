@@ -1,3 +1,4 @@
+pub mod TakenLemmas
 pub mod BackLemmas
 pub mod CameLemmas
 pub mod ClassLemmas

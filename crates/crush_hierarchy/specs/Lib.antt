@@ -2,5 +2,7 @@ pub mod Back
 pub mod Counted
 pub mod Given
 pub mod Indexed
+pub mod Naming
 pub mod Placed
+pub mod Taking
 pub mod AnswersKept

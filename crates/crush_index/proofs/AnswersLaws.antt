@@ -9,7 +9,8 @@ use Rattle.crush_model.proofs.Appended.{row_of-append}
 use Rattle.crush_model.proofs.NameColumn.{id_named-append}
 use Rattle.crush_model.proofs.UsedColumn.{used-append}
 use Rattle.crush_nodes.specs.Guides.{place_under}
-use Rattle.crush_index.specs.IndexAnswers.{Answers, with_row, with_rows, without_rows}
+use Rattle.crush_nodes.specs.declared.place.Place.{Place}
+use Rattle.crush_index.specs.IndexAnswers.{Answers, with_name, with_row, with_rows, without_rows}
 use Rattle.crush_index.specs.UsedLaw.{uses}
 
 -- the same of each name, of each item and of each number
@@ -122,6 +123,18 @@ same_but-right a b s u e = without_rows-append a b u ∙ turned b a u ∙ ap (wi
 pub came : (r : Row) (s u : Answers) → ((n : List ℕ) → u.names n ≡ (if bytes_eq r.name n then Some r.id else s.names n)) → ((i : ItemId) → u.places i ≡ (if same_id r.id i then Some (place_under (is_device r) r.parent) else s.places i))
     → ((k : ℕ) → u.used k ≡ (s.used k || member k (uses r))) → u ≡ with_row r s
 came r s u names places used = tells u (with_row r s) names places used
+
+pub not_used : (b : Bool) → b ≡ (b || false)
+not_used true = refl
+not_used false = refl
+
+-- a row has come after its name
+pub came_named : (r : Row) (name : List ℕ) (place : Place) (s m u : Answers) → name ≡ r.name → place ≡ place_under (is_device r) r.parent → m ≡ with_name name r.id s → ((n : List ℕ) → u.names n ≡ m.names n)
+    → ((i : ItemId) → u.places i ≡ (if same_id r.id i then Some place else m.places i)) → ((k : ℕ) → u.used k ≡ (m.used k || member k (uses r))) → u ≡ with_row r s
+came_named r name place s m u is at e names places used = came r s u
+    (λ n. names n ∙ ap (λ (x : Answers). x.names n) e ∙ ap (λ z. if bytes_eq z n then Some r.id else s.names n) is)
+    (λ i. places i ∙ ap (λ (x : Answers). if same_id r.id i then Some place else x.places i) e ∙ ap (λ z. if same_id r.id i then Some z else s.places i) at)
+    (λ k. used k ∙ ap (λ (x : Answers). x.used k || member k (uses r)) e)
 
 -- the same but of one row
 pub same_but_one : (r : Row) (s u : Answers) → ((n : List ℕ) → (if bytes_eq r.name n then None else u.names n) ≡ (if bytes_eq r.name n then None else s.names n))

@@ -1,5 +1,5 @@
 -- Ids of a bucket and its class ids that come into use or are free again one after the other.
-use Rattle.std.proofs.Common.{◌≡◌, ℕ, ◌+◌, ◌<◌, ◌≤◌, Bool, true, false, List, [], ◌∷◌, ◌++◌, length, get_or, take, drop, ap, sym, ◌∙◌, refl}
+use Rattle.std.proofs.Common.{◌≡◌, ℕ, suc, ◌+◌, ◌<◌, ◌≤◌, Bool, true, false, List, [], ◌∷◌, ◌++◌, length, get_or, take, drop, ap, sym, ◌∙◌, refl}
 use Rattle.std.specs.Prelude.{◌==◌, ◌||◌, if◌then◌else◌}
 use Rattle.std.proofs.lemmas.List.{take-append-drop, take_all, take_more}
 use Rattle.crush_model.specs.Table.{member}
@@ -13,6 +13,10 @@ use Rattle.crush_index.proofs.AnswersLaws.{either_then}
 numbers-append : {A : _} (a b : List (ShadowId A)) → shadow_numbers (a ++ b) ≡ shadow_numbers a ++ shadow_numbers b
 numbers-append [] b = refl
 numbers-append (x ∷ a) b = ap (λ z. x.id ∷ z) (numbers-append a b)
+
+pub numbers-length : {A : _} (cs : List (ShadowId A)) → length (shadow_numbers cs) ≡ length cs
+numbers-length [] = refl
+numbers-length (x ∷ cs) = ap suc (numbers-length cs)
 
 or_false : (a : Bool) → (a || false) ≡ a
 or_false true = refl

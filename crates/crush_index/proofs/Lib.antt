@@ -7,6 +7,6 @@ pub mod AnswersLaws
 pub mod UsedBits
 pub mod WordBits
 pub mod Exchanged
-pub mod PlaceSlots
-pub mod SlotLaws
+pub mod ChainLaws
+pub mod FarLaws
 pub mod MapCopies

@@ -1,28 +1,17 @@
 -- What an index of used ids tells of an id that has a bit, and of one further off.
 use Rattle.std.proofs.Common.{◌≡◌, ◌⊎◌, inl, inr, ⊎_elim, ℕ, ◌+◌, ◌*◌, ◌/◌, ◌%◌, ◌<◌, ◌≤◌, max, Bool, true, false, List, get_or, ap, ◌∙◌, arith}
-use Rattle.std.specs.Prelude.{◌==◌, if◌then◌else◌, nat_eq, nat_lt}
+use Rattle.std.specs.Prelude.{◌==◌, ◌||◌, if◌then◌else◌, is_some, nat_eq, nat_lt}
 use Rattle.std.specs.Int.{bit_at}
 use Rattle.std.proofs.lemmas.Bool.{cases_order}
 use Rattle.std.proofs.lemmas.Bool.Decides.{nat_tests}
 use Rattle.indexmap.specs.IndexSet.{contains}
+use Rattle.crush_index.specs.Chains.{chain_answer}
 use Rattle.crush_index.specs.declared.used.UsedIds.{UsedIds}
-use Rattle.crush_index.specs.UsedAnswers.{used_answer, near_ids, IsFirstFree}
-
--- the bit of an id
-abbrev pub bit_of : List ℕ → ℕ → Bool
-bit_of ws k = bit_at (get_or ws (k / 64) 0) (k % 64) == 1
+use Rattle.crush_index.specs.UsedAnswers.{used_answer}
+use Rattle.crush_index.specs.UsedKept.{near_ids}
 
 below : (a n : ℕ) → a < n → nat_lt a n ≡ true
 below a n h = grind (arith, nat_tests)
-
-pub answer_by_bit : (used : UsedIds) (k : ℕ) → k < near_ids → used_answer used k ≡ bit_of used.words.items k
-answer_by_bit used k h = ap (λ b. if b then bit_of used.words.items k else contains nat_eq used.far k) (below k near_ids h)
-
-is_one : (n : ℕ) → n ≡ 1 → (n == 1) ≡ true
-is_one n e = ap (λ z. z == 1) e
-
-is_none : (n : ℕ) → n ≡ 0 → (n == 1) ≡ false
-is_none n e = ap (λ z. z == 1) e
 
 -- SEARCHED: the ids from one on before a word are in use
 abbrev pub Searched : UsedIds → ℕ → ℕ → Type 0
@@ -39,9 +28,12 @@ pub searched_words : (used : UsedIds) (least place : ℕ) → Searched used leas
 searched_words used least place before next h k from to = before k from (omega (arith, h, from, to))
 
 module _ (used : UsedIds) (least place : ℕ) (within : place < 1089) (before : Searched used least place) where
-  -- an id of the word
-  answer_here : (k : ℕ) → k / 64 ≡ place → used_answer used k ≡ (bit_at (get_or used.words.items place 0) (k % 64) == 1)
-  answer_here k e = answer_by_bit used k (omega (arith, e, within)) ∙ ap (λ z. bit_at (get_or used.words.items z 0) (k % 64) == 1) e
+  -- an id of the word that has its bit
+  used_here : (k : ℕ) → k / 64 ≡ place → bit_at (get_or used.words.items place 0) (k % 64) ≡ 1 → used_answer used k ≡ true
+  used_here k e one =
+      ap (λ b. (if b then bit_at (get_or used.words.items (k / 64) 0) (k % 64) == 1 else contains nat_eq used.far k) || is_some (chain_answer (nat_eq k) used.late)) (below k near_ids (omega (arith, e, within)))
+      ∙ ap (λ z. (bit_at (get_or used.words.items z 0) (k % 64) == 1) || is_some (chain_answer (nat_eq k) used.late)) e
+      ∙ ap (λ z. (z == 1) || is_some (chain_answer (nat_eq k) used.late)) one
 
   pub searched_word : (from : ℕ) → ((i : ℕ) → i < 64 → least ≤ 64 * place + i → from ≤ i) → ((i : ℕ) → from ≤ i → i < 64 → bit_at (get_or used.words.items place 0) i ≡ 1) → Searched used least (place + 1)
   searched_word from each full k low high = ⊎_elim
@@ -49,20 +41,15 @@ module _ (used : UsedIds) (least place : ℕ) (within : place < 1089) (before : 
       (λ here.
       let same : k / 64 ≡ place = omega (arith, here, high) in
       let bit : from ≤ k % 64 = each (k % 64) (omega arith) (omega (arith, same, low)) in
-      answer_here k same ∙ is_one (bit_at (get_or used.words.items place 0) (k % 64)) (full (k % 64) bit (omega arith)))
+      used_here k same (full (k % 64) bit (omega arith)))
       (below_or_not k (64 * place))
 
-  pub found_free : (from bit id : ℕ) → id ≡ place * 64 + bit → bit < 64 → ((i : ℕ) → i < 64 → least ≤ 64 * place + i → from ≤ i) → least ≤ 64 * place + from → from ≤ bit
-      → bit_at (get_or used.words.items place 0) bit ≡ 0 → ((i : ℕ) → from ≤ i → i < bit → bit_at (get_or used.words.items place 0) i ≡ 1) → IsFirstFree used least id
-  found_free from bit id e small each low up clear first = record {
-    after = omega (arith, e, low, up);
-    free = (let same : id / 64 ≡ place = omega (arith, e, small) in let rest : id % 64 ≡ bit = omega (arith, e, small) in
-        answer_here id same ∙ ap (λ z. bit_at (get_or used.words.items place 0) z == 1) rest ∙ is_none (bit_at (get_or used.words.items place 0) bit) clear);
-    nearest = λ k from_least to. ⊎_elim
-        (λ earlier. before k from_least earlier)
-        (λ here.
-        let same : k / 64 ≡ place = omega (arith, here, to, e, small) in
-        let in_word : from ≤ k % 64 = each (k % 64) (omega arith) (omega (arith, same, from_least)) in
-        answer_here k same ∙ is_one (bit_at (get_or used.words.items place 0) (k % 64)) (first (k % 64) in_word (omega (arith, e, to, same, here))))
-        (below_or_not k (64 * place));
-  }
+  pub found_clear : (from bit : ℕ) → bit < 64 → ((i : ℕ) → i < 64 → least ≤ 64 * place + i → from ≤ i) → ((i : ℕ) → from ≤ i → i < bit → bit_at (get_or used.words.items place 0) i ≡ 1)
+      → (k : ℕ) → least ≤ k → k < place * 64 + bit → used_answer used k ≡ true
+  found_clear from bit small each first k from_least to = ⊎_elim
+      (λ earlier. before k from_least earlier)
+      (λ here.
+      let same : k / 64 ≡ place = omega (arith, here, to, small) in
+      let in_word : from ≤ k % 64 = each (k % 64) (omega arith) (omega (arith, same, from_least)) in
+      used_here k same (first (k % 64) in_word (omega (arith, to, same, here))))
+      (below_or_not k (64 * place))

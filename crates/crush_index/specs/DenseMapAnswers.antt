@@ -1,7 +1,9 @@
 -- What is told of numbers most of which are near to 0.
 use Rattle.std.specs.Prelude.{◌≡◌, ℕ, List, Option, None, if◌then◌else◌, nat_eq, get_or}
 use Rattle.std.specs.Option.{option_or}
-use Rattle.indexmap.specs.IndexMap.{get, hasher_of}
+use Rattle.indexmap.specs.IndexMap.{IndexMap, get, hasher_of}
+use Rattle.crush_index.specs.Chains.{chain_answer}
+use Rattle.crush_index.specs.declared.chain.Chain.{Chain}
 use Rattle.crush_index.specs.declared.hashing.Hashing.{Hashing}
 use Rattle.crush_index.specs.declared.dense_map.DenseMap.{DenseMap}
 
@@ -9,9 +11,13 @@ use Rattle.crush_index.specs.declared.dense_map.DenseMap.{DenseMap}
 abbrev pub entry_at : {T : Type 0} → List (Option T) → ℕ → Option T
 entry_at entries n = get_or entries n None
 
--- what is kept of a number: its entry, or, where that is empty, what is kept by itself
+-- what is kept of a number by itself, or, where nothing is, in a link
+abbrev pub far_at : {T S : Type 0} → IndexMap ℕ T S → Chain ℕ T → ℕ → Option T
+far_at far late n = option_or (get nat_eq far n) (chain_answer (nat_eq n) late)
+
+-- what is kept of a number: its entry, or, where that is empty, what is kept further off
 unfoldable pub answer_at : {T : Type 0} → DenseMap T → ℕ → Option T
-answer_at dense_map n = option_or (entry_at dense_map.hint.items n) (get nat_eq dense_map.far n)
+answer_at dense_map n = option_or (entry_at dense_map.near.items n) (far_at dense_map.far dense_map.late n)
 
 -- the same of each number as before
 abbrev pub DenseMapSame : {T : Type 0} → DenseMap T → DenseMap T → Type 0

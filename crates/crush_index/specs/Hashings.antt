@@ -2,7 +2,7 @@
 use Rattle.std.specs.Prelude.{◌≡◌}
 use Rattle.indexmap.specs.IndexSet.{hasher_of as set_hasher_of}
 use Rattle.crush_index.specs.DenseMapAnswers.{numbered_hashing}
-use Rattle.crush_index.specs.SlotsAnswers.{slots_hashing}
+use Rattle.crush_index.specs.SlotsAnswers.{SlotsHashings, slots_hashings}
 use Rattle.crush_index.specs.declared.hashing.Hashing.{Hashing}
 use Rattle.crush_index.specs.declared.index.Index.{Index}
 use Rattle.crush_index.specs.declared.names.Names.{Names}
@@ -19,10 +19,10 @@ used_hashing used = set_hasher_of used.far
 -- how the numbers of devices and of buckets are
 pub record PlacesHashings : Type 0 where
   pub devices : Hashing
-  pub buckets : Hashing
+  pub buckets : SlotsHashings
 
 abbrev pub places_hashings : Places → PlacesHashings
-places_hashings places = record { devices = numbered_hashing places.devices; buckets = slots_hashing places.slots }
+places_hashings places = record { devices = numbered_hashing places.devices; buckets = slots_hashings places.slots }
 
 -- how all tables of an index are
 pub record Hashings : Type 0 where
@@ -35,7 +35,7 @@ hashings index = record { names = names_hashing index.names; places = places_has
 
 -- HASHED: each table of an index hashes so
 abbrev pub ArePlacesHashed : Hashing → Places → Type 0
-ArePlacesHashed h places = places_hashings places ≡ record { devices = h; buckets = h }
+ArePlacesHashed h places = places_hashings places ≡ record { devices = h; buckets = record { numbers = h; slots = h } }
 
 abbrev pub IsHashed : Hashing → Index → Type 0
-IsHashed h index = hashings index ≡ record { names = h; places = record { devices = h; buckets = h }; used = h }
+IsHashed h index = hashings index ≡ record { names = h; places = record { devices = h; buckets = record { numbers = h; slots = h } }; used = h }

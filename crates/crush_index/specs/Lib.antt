@@ -1,3 +1,4 @@
+pub mod Chains
 pub mod Hashed
 pub mod Hashings
 pub mod IndexChanged
@@ -13,8 +14,10 @@ pub mod PlacesChanged
 pub mod PlacesKept
 pub mod PlacesLaw
 pub mod PlacesAnswers
+pub mod Returning
 pub mod SlotsKept
 pub mod SlotsAnswers
 pub mod UsedChanged
+pub mod UsedKept
 pub mod UsedLaw
 pub mod UsedAnswers

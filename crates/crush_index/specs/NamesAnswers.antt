@@ -1,14 +1,16 @@
 -- What an index of names tells, and when it tells what a table says.
 use Rattle.std.specs.Prelude.{◌≡◌, ℕ, List, Option, if◌then◌else◌, bytes_eq}
+use Rattle.std.specs.Option.{option_or}
 use Rattle.indexmap.specs.IndexMap.{get}
 use Rattle.crush_units.specs.declared.id.ItemId.{ItemId}
 use Rattle.crush_model.specs.Table.{Row, id_named}
+use Rattle.crush_index.specs.Chains.{chain_answer}
 use Rattle.crush_index.specs.Keys.{key_of, same_key}
 use Rattle.crush_index.specs.declared.names.Names.{Names}
 
--- the id of a name
+-- the id of a name, in the table, or, where it isn't there, in a link
 abbrev pub id_answer : Names → List ℕ → Option ItemId
-id_answer names n = get same_key names.ids (key_of names.hashing n)
+id_answer names n = option_or (get same_key names.ids (key_of names.hashing n)) (chain_answer (same_key (key_of names.hashing n)) names.late)
 
 -- NAMES OF A TABLE: each name has the id that the table says, and no other name has one
 abbrev pub AreNamesOf : List Row → Names → Type 0

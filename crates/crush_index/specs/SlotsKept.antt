@@ -1,42 +1,24 @@
 -- What is kept of slots and of the buckets that have them.
-use Rattle.std.specs.Prelude.{◌≡◌, ◌<◌, ℕ, List, Option, Some, None, option_and_then, get_or, length}
+use Rattle.std.specs.Prelude.{◌≡◌, ℕ, Option, IsSome, option_and_then, unwrap_or}
+use Rattle.std.specs.Option.{option_map}
 use Rattle.crush_index.specs.DenseMapAnswers.{answer_at}
 use Rattle.crush_index.specs.declared.dense_map.DenseMap.{DenseMap}
-use Rattle.crush_index.specs.declared.slot.Among.{Among}
-use Rattle.crush_index.specs.declared.slot.Among.TheVariants.{Roots, Unplaced, Slot as AmongSlot}
 use Rattle.crush_index.specs.declared.slot.Entry.{Entry}
 use Rattle.crush_index.specs.declared.slot.Slot.{Slot}
 
--- a slot, one without a bucket past the last
-abbrev pub no_slot : Slot
-no_slot = record { bucket = 0; kept = None }
+-- the slot of a bucket, and the bucket that has a slot: the same id where none is kept
+abbrev pub slot_in : DenseMap ℕ → ℕ → ℕ
+slot_in numbers b = unwrap_or (answer_at numbers b) b
 
-abbrev pub slot_in : List Slot → ℕ → Slot
-slot_in slots s = get_or slots s no_slot
+abbrev pub bucket_in : DenseMap Slot → ℕ → ℕ
+bucket_in slots s = unwrap_or (option_map (λ (k : Slot). k.bucket) (answer_at slots s)) s
 
--- what is kept of a bucket: of the slot that it has
-abbrev pub kept_of : List Slot → Option ℕ → Option Entry
-kept_of slots o = option_and_then (λ s. (slot_in slots s).kept) o
+-- what is kept of the bucket that has a slot
+abbrev pub kept_in : DenseMap Slot → ℕ → Option Entry
+kept_in slots s = option_and_then (λ (k : Slot). k.kept) (answer_at slots s)
 
--- INVERSE: each bucket that has a slot is the bucket of that slot, and the bucket of each slot has it
-pub record AreInverse (numbers : DenseMap ℕ) (slots : List Slot) : Type 0 where
-  pub within : (b s : ℕ) → answer_at numbers b ≡ Some s → s < length slots
-  pub bucket : (b s : ℕ) → answer_at numbers b ≡ Some s → (slot_in slots s).bucket ≡ b
-  pub slot : (s : ℕ) → s < length slots → answer_at numbers (slot_in slots s).bucket ≡ Some s
-
--- the slot that is named
-abbrev pub among_slot : Among → Option ℕ
-among_slot Roots = None
-among_slot Unplaced = None
-among_slot (AmongSlot s) = Some s
-
--- and the one that what is kept names
-abbrev pub kept_slot : Option Entry → Option ℕ
-kept_slot o = option_and_then (λ (k : Entry). among_slot k.among) o
-
--- what is kept names one of so many slots, if any
-abbrev pub IsAmongWithin : ℕ → Among → Type 0
-IsAmongWithin n a = (s : ℕ) → among_slot a ≡ Some s → s < n
-
-abbrev pub IsWithin : ℕ → Option Entry → Type 0
-IsWithin n o = (s : ℕ) → kept_slot o ≡ Some s → s < n
+-- INVERSE: each bucket has the slot that it is the bucket of, and each slot that is kept is kept of its bucket
+pub record AreInverse (numbers : DenseMap ℕ) (slots : DenseMap Slot) : Type 0 where
+  pub bucket : (b : ℕ) → bucket_in slots (slot_in numbers b) ≡ b
+  pub slot : (s : ℕ) → slot_in numbers (bucket_in slots s) ≡ s
+  pub known : (b : ℕ) → IsSome (answer_at slots (slot_in numbers b)) → IsSome (answer_at numbers b)

@@ -1,19 +1,14 @@
 -- Which ids an index tells are in use, and when it tells what a table says.
-use Rattle.std.specs.Prelude.{◌≡◌, ℕ, ◌<◌, ◌≤◌, ◌/◌, ◌%◌, ◌==◌, ◌||◌, List, Bool, true, false, if◌then◌else◌, nat_eq, nat_lt, slice_index}
-use Rattle.std.specs.Int.{bit_at}
-use Rattle.indexmap.specs.IndexSet.{contains}
+use Rattle.std.specs.Prelude.{◌≡◌, ℕ, ◌<◌, ◌≤◌, ◌==◌, ◌||◌, List, Bool, true, false, if◌then◌else◌, nat_eq, is_some}
 use Rattle.crush_model.specs.Table.{Row, member, used_ids}
 use Rattle.crush_units.specs.declared.limits.TheConstants.{FARTHEST_BUCKET_ID}
+use Rattle.crush_index.specs.Chains.{chain_answer}
+use Rattle.crush_index.specs.UsedKept.{bit_answer}
 use Rattle.crush_index.specs.declared.used.UsedIds.{UsedIds}
 
--- how many ids have a bit, counted from 0
-abbrev pub near_ids : ℕ
-near_ids = 69696
-
--- whether an id is in use: its bit, which none has past the words, or, further off, whether it is kept by itself
+-- whether an id is in use: so, or by a link
 abbrev pub used_answer : UsedIds → ℕ → Bool
-used_answer used k =
-    if nat_lt k near_ids then bit_at (slice_index used.words.items (k / 64)) (k % 64) == 1 else contains nat_eq used.far k
+used_answer used k = bit_answer used.words.items used.far k || is_some (chain_answer (nat_eq k) used.late)
 
 -- USED IDS OF A TABLE: an id is in use exactly where the table says so
 abbrev pub AreUsedIn : List Row → UsedIds → Type 0

@@ -6,6 +6,7 @@ ghost use Rattle.std.specs.Hash as fed;
 ghost use Rattle.std.proofs.Common.{ap, rules};
 ghost use Rattle.crush_index.specs.Keys.{sought_key, digest, key_of, same_digests, same_key, same_key_equiv};
 
+use crate::chain::Finds;
 use crate::hashing::Hashing;
 use crush_units::Name;
 use indexmap::Equivalent;
@@ -131,6 +132,14 @@ impl<'a> Equivalent<Key> for Sought<'a> {
 
     fn equivalent(&self, key: &Key) -> bool {
         self.digest == key.digest && self.bytes == key.name.as_bytes()
+    }
+}
+
+impl<'a> Finds<Key> for Sought<'a> {
+    ghost finds = { λ sought. same_key (sought_key sought) };
+
+    fn finds(&self, key: &Key) -> bool {
+        self.equivalent(key)
     }
 }
 

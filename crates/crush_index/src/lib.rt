@@ -5,6 +5,7 @@
 //! and no hash; [`law`] says how it follows the table.
 #![tactic(auto)]
 
+mod chain;
 mod copied;
 mod dense_map;
 mod digests;
@@ -20,5 +21,5 @@ mod used;
 mod word;
 
 pub use hashing::Hashing;
-pub use index::Index;
+pub use index::{Index, NameBack, WayBack};
 pub use places::Places;

@@ -1,11 +1,12 @@
 //! The ids of names.
 
-ghost use Rattle.std.specs.Prelude.{◌≡◌, true, false, Some, None, List, ℕ, ◌++◌, ◌∷◌, [], bytes_eq, IfOk};
+ghost use Rattle.std.specs.Prelude.{◌≡◌, true, false, Some, None, List, ℕ, ◌++◌, ◌∷◌, [], bytes_eq, IfOk, IsSome};
 ghost use Rattle.crush_model.specs.Table.{Row, is_named, name_of};
 ghost use Rattle.crush_index.specs.Hashings.{names_hashing};
 ghost use Rattle.crush_index.specs.NamesChanged.{IsCopyOf, Inserts};
 ghost use Rattle.crush_index.specs.NamesAnswers.{id_answer, AnswersOne, AnswersTwo};
 
+use crate::chain::{Chain, Spare};
 use crate::digests::IdentityHashing;
 use crate::hashing::Hashing;
 use crate::key::{Key, Sought};
@@ -13,12 +14,13 @@ use crush_units::{ItemId, Name};
 use indexmap::IndexMap;
 use std::alloc::{AllocError, Global};
 
-/// The id of each name.
+/// The id of each name: in a table, or, where memory lacked as it came back, in a link.
 #[derive(Drop)]
 pub(crate) struct Names {
     machine: Global,
     hashing: Hashing,
     ids: IndexMap<Key, ItemId, IdentityHashing>,
+    late: Chain<Key, ItemId>,
 }
 
 impl Names {
@@ -30,6 +32,7 @@ impl Names {
             machine: alloc,
             hashing,
             ids: IndexMap::with_hasher(alloc, IdentityHashing),
+            late: Chain::End,
         }
     }
 
@@ -37,19 +40,22 @@ impl Names {
         ensures { IfOk result (IsCopyOf self.now) }
     {
         let ids = self.ids.clone()?;
+        let late = self.late.try_copy(self.machine)?;
         Ok(Names {
             machine: self.machine,
             hashing: self.hashing,
             ids,
+            late,
         })
     }
 
     pub(crate) fn id_of(&self, name: &[u8]) -> Option<ItemId>
         ensures { result ≡ id_answer self.now name.now }
     {
-        match self.ids.get(Sought::of(name, &self.hashing)) {
+        let sought = Sought::of(name, &self.hashing);
+        match self.ids.get(sought) {
             Some(id) => Some(*id),
-            None => None,
+            None => self.late.get(&sought),
         }
     }
 
@@ -65,7 +71,21 @@ impl Names {
         ensures answers { AnswersOne self.old self.new name.now None }
         ensures hashing { names_hashing self.new ≡ names_hashing self.old }
     {
-        self.ids.swap_remove(Sought::of(name, &self.hashing));
+        let sought = Sought::of(name, &self.hashing);
+        self.ids.swap_remove(sought);
+        self.late.remove(&sought);
+    }
+
+    /// As [`Names::insert`], but where memory lacks, into memory that was ready.
+    pub(crate) fn restore(&mut self, name: Name<Global>, id: ItemId, spare: Spare<Key, ItemId>)
+        ensures answers { AnswersOne self.old self.new name (Some id) }
+        ensures hashing { names_hashing self.new ≡ names_hashing self.old }
+    {
+        let key = Key::of(self.machine, name, &self.hashing);
+        if let Err(failed) = self.ids.insert(key, id) {
+            let (key, id) = failed.value;
+            self.late.push(spare, key, id);
+        }
     }
 
     pub(crate) fn exchange(&mut self, a: &[u8], b: &[u8], first: ItemId, second: ItemId)
@@ -74,11 +94,21 @@ impl Names {
         ensures answers { AnswersTwo self.old self.new a.now (Some second) b.now (Some first) }
         ensures hashing { names_hashing self.new ≡ names_hashing self.old }
     {
-        if let Some(id) = self.ids.get_mut(Sought::of(b, &self.hashing)) {
-            *id = first;
+        self.set(b, first);
+        self.set(a, second);
+    }
+
+    /// Another id for a name that has one.
+    fn set(&mut self, name: &[u8], id: ItemId)
+        requires { IsSome (id_answer self.old name.now) }
+        ensures answers { AnswersOne self.old self.new name.now (Some id) }
+        ensures hashing { names_hashing self.new ≡ names_hashing self.old }
+    {
+        let sought = Sought::of(name, &self.hashing);
+        if let Some(known) = self.ids.get_mut(sought) {
+            *known = id;
+            return;
         }
-        if let Some(id) = self.ids.get_mut(Sought::of(a, &self.hashing)) {
-            *id = second;
-        }
+        self.late.set(&sought, id);
     }
 }

@@ -8,15 +8,15 @@ pub(crate) enum Among {
     Roots,
     Unplaced,
     /// The items of the bucket that has this slot.
-    Slot(u32),
+    Slot(BucketId),
 }
 
 impl Among {
-    /// The slot, or the first one.
+    /// The number of the slot, or 0.
     pub(crate) fn slot(self) -> u32 {
         match self {
             Among::Roots | Among::Unplaced => 0,
-            Among::Slot(slot) => slot,
+            Among::Slot(slot) => slot.distance(),
         }
     }
 }
@@ -29,7 +29,7 @@ pub(crate) struct Entry {
     pub(crate) hint: u32,
 }
 
-/// A bucket, and what is kept of it where it is there.
+/// The bucket that has a slot, and what is kept of it where it is there.
 #[derive(Clone, Copy)]
 pub(crate) struct Slot {
     pub(crate) bucket: BucketId,

@@ -1,8 +1,10 @@
 //! Which ids buckets and class ids use.
 
-ghost use Rattle.std.specs.Prelude.{◌≡◌, ◌+◌, ◌*◌, ◌/◌, ◌≤◌, ◌<◌, ℕ, false, OnOk, IfOk, IfSome, IfNone, length, slice_index, nat_eq};
+ghost use Rattle.std.specs.Prelude.{◌≡◌, ◌+◌, ◌*◌, ◌/◌, ◌≤◌, ◌<◌, ◌==◌, if◌then◌else◌, ℕ, false, OnOk, IfOk, IfSome, IfNone, length, slice_index, nat_eq, true};
 ghost use Rattle.indexmap.specs.IndexSet.{contains, hasher_of};
+ghost use Rattle.crush_index.specs.UsedKept.{bit_answer};
 
+use crate::chain::{Chain, Spare};
 use crate::copied::copied;
 use crate::hashing::Hashing;
 use crate::word::{first_clear, is_set, with_bit, without_bit};
@@ -15,11 +17,13 @@ use std::alloc::{AllocError, Global};
 const NEAR: u32 = 69696;
 
 /// The used ids, as distances below 0: near ones as bits of words, so that the first free one is
-/// found word by word, others by themselves. Words stay.
+/// found word by word, others by themselves, and in links those for which memory lacked as they came
+/// back. Words stay.
 #[derive(Drop)]
 pub(crate) struct UsedIds {
     words: Vec<u64>,
     far: IndexSet<u32, Hashing>,
+    late: Chain<u32, ()>,
     ghost few: { length words.items ≤ 1089 },
 }
 
@@ -35,6 +39,7 @@ impl UsedIds {
         UsedIds {
             words: Vec::new(alloc),
             far: IndexSet::with_hasher(alloc, hashing),
+            late: Chain::End,
         }
     }
 
@@ -43,11 +48,18 @@ impl UsedIds {
     {
         let words = copied(&self.words)?;
         let far = copy_far(&self.far)?;
-        Ok(UsedIds { words, far })
+        let late = self.late.try_copy(*self.words.allocator())?;
+        Ok(UsedIds { words, far, late })
     }
 
     pub(crate) fn has(&self, id: u32) -> bool
         ensures { result ≡ used_answer self.now id }
+    {
+        self.has_bit(id) || self.late.get(&id).is_some()
+    }
+
+    fn has_bit(&self, id: u32) -> bool
+        ensures { result ≡ bit_answer self.now.words.items self.now.far id }
     {
         if id < NEAR {
             is_set(word_at(self.words.as_slice(), id as usize / 64), id % 64)
@@ -69,38 +81,67 @@ impl UsedIds {
         Ok(())
     }
 
+    /// As [`UsedIds::insert`], but where memory lacks, into memory that was ready.
+    pub(crate) fn restore(&mut self, id: u32, spare: Spare<u32, ()>)
+        ensures answers { UsesOne self.old self.new id true }
+        ensures hashing { used_hashing self.new ≡ used_hashing self.old }
+    {
+        if self.insert(id).is_err() {
+            self.late.push(spare, id, ());
+        }
+    }
+
     pub(crate) fn remove(&mut self, id: u32)
         ensures answers { UsesOne self.old self.new id false }
         ensures hashing { used_hashing self.new ≡ used_hashing self.old }
     {
-        if id < NEAR {
-            let place = id as usize / 64;
-            if place < self.words.len() {
-                self.words[place] = without_bit(self.words[place], id % 64);
-            }
-        } else {
-            self.far.swap_remove(&id);
-        }
+        remove_bit(&mut self.words, &mut self.far, id);
+        self.late.remove(&id);
     }
 
     pub(crate) fn first_free(&self, least: u32) -> Option<u32>
         ensures some { IfSome result (IsFirstFree self.now least) }
         ensures none { IfNone result (AreAllUsed self.now least) }
     {
-        let first = least as usize / 64;
-        for place in first..self.words.len() {
-            let from = first_bit(least, place);
-            if let Some(bit) = first_clear(self.words[place], from) {
-                return Some(place as u32 * 64 + bit);
-            }
-        }
-        let past = self.words.len() as u32 * 64;
-        for id in past.max(least)..FARTHEST_BUCKET_ID + 1 {
+        for id in self.first_clear(least)..FARTHEST_BUCKET_ID + 1 {
             if !self.has(id) {
                 return Some(id);
             }
         }
         None
+    }
+
+    /// An id before which all from `least` on are in use: mostly the first one that is free.
+    fn first_clear(&self, least: u32) -> u32
+        ensures least { least ≤ result }
+        ensures used { (k : ℕ) → least ≤ k → k < result → used_answer self.now k ≡ true }
+    {
+        let first = least as usize / 64;
+        for place in first..self.words.len() {
+            let from = first_bit(least, place);
+            if let Some(bit) = first_clear(self.words[place], from) {
+                return place as u32 * 64 + bit;
+            }
+        }
+        let past = self.words.len() as u32 * 64;
+        past.max(least)
+    }
+}
+
+fn remove_bit(words: &mut Vec<u64>, far: &mut IndexSet<u32, Hashing>, id: u32)
+    requires { length words.old.items ≤ 1089 }
+    ensures answers { (k : ℕ) → bit_answer words.new.items far.new k
+        ≡ (if id == k then false else bit_answer words.old.items far.old k) }
+    ensures few { length words.new.items ≤ 1089 }
+    ensures hashing { hasher_of far.new ≡ hasher_of far.old }
+{
+    if id < NEAR {
+        let place = id as usize / 64;
+        if place < words.len() {
+            words[place] = without_bit(words[place], id % 64);
+        }
+    } else {
+        far.swap_remove(&id);
     }
 }
 

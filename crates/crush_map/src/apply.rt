@@ -63,10 +63,7 @@ impl<A: Allocator> CrushMap<A> {
     /// at most 65,536.
     ///
     /// A refusal comes with the index of its edit, from 0. Out of memory may hide a later refusal.
-    /// After either the map is what it was.
-    ///
-    /// Where none but the last removes an item or gives one another name, they are made in place,
-    /// others on a copy.
+    /// After either the map is what it was: they are made in place, and taken back.
     pub fn apply_batch(&mut self, edits: &[Edit]) -> Result<Dones, BatchFault>
     where
         A: Clone,

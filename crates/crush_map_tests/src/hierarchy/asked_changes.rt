@@ -49,7 +49,7 @@ fn take_out(guide: &Asked<'_>, forest: &mut Forest<Global>, id: &ItemId) -> bool
     requires { rows_of forest.old ≡ rows_of guide.now.forest.now }
 {
     match forest.detach_by(guide, *id) {
-        Some(node) => {
+        Some((node, _)) => {
             drop(node);
             true
         }

@@ -52,16 +52,19 @@ fn finds(index: &Index, id: &ItemId, slot: u32, found: &Found) -> bool {
 fn leads(index: &Index, id: ItemId, position: Option<Position>, slot: u32) -> bool {
     let id = &id;
     let found = Found { position, slot };
-    finds(index, id, 0, &found) && finds(index, id, 1, &found) && finds(index, id, u32::MAX, &found)
+    finds(index, id, 0, &found)
+        && finds(index, id, 1, &found)
+        && finds(index, id, 2, &found)
+        && finds(index, id, u32::MAX, &found)
 }
 
 #[test]
 fn a_slot_is_never_trusted(rt: HostRuntime) {
     let mut index = Index::new(rt.alloc(), Hashing::plain());
     add_four(&rt, &mut index);
-    // The root has slot 0, and the host slot 1.
-    let leads_there = leads(&index, device_item(&rt, 2), below(&rt, 2, 1), 1)
-        && leads(&index, bucket_item(&rt, 2), below(&rt, 1, 0), 0)
+    // The slot of a bucket is its own id until it is exchanged.
+    let leads_there = leads(&index, device_item(&rt, 2), below(&rt, 2, 1), 2)
+        && leads(&index, bucket_item(&rt, 2), below(&rt, 1, 0), 1)
         && leads(&index, bucket_item(&rt, 3), None, 0);
     drop(index);
     assert!(rt; leads_there);

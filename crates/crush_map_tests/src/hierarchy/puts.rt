@@ -94,7 +94,7 @@ pub(super) fn give_name(
         drop(name);
         return false;
     }
-    hierarchy.rename(*id, name).is_ok()
+    hierarchy.replace_name(*id, name).is_ok()
 }
 
 fn named(hierarchy: &Hierarchy<Global>, name: &[u8]) -> Option<BucketId>

@@ -1,5 +1,6 @@
-//! Batches whose edits move items and bring new ones: where one is refused, items stand in their
-//! order as before, in as much memory, and where none is, they do what the edits do one by one.
+//! Batches whose edits move items, bring new ones, and take out and rename others: where one is
+//! refused, items stand in their order as before, in as much memory, and where none is, they do what
+//! the edits do one by one.
 
 use crate::map::asking::{Asked, Told, answer, edit, edits};
 use crate::map::same::has_the_same;
@@ -32,6 +33,13 @@ const EDITS: &[Asked] = &[
     Asked::SetClass("osd.3", "ssd"),
     Asked::CreateOrMove(3, 0, &[("host", "h9")]),
     Asked::Move("h2", &[("root", "default")]),
+    Asked::Remove("osd.0"),
+    Asked::Rename("h1", "hq"),
+    Asked::Remove("osd.2"),
+    Asked::Add(2, 3, &[("host", "h2")]),
+    Asked::Rename("h9", "h1"),
+    Asked::Remove("osd.3"),
+    Asked::Remove("h1"),
 ];
 
 const REFUSED: Asked = Asked::Move("x", &[("root", "default")]);
@@ -95,8 +103,8 @@ fn made_one_by_one(rt: &impl Abort, alloc: Global) -> CrushMap<Global> {
 }
 
 const ALL: Told = Told::Batch(Ok(Dones {
-    edits: 16,
-    changed: 15,
+    edits: 23,
+    changed: 22,
     made: 5,
 }));
 

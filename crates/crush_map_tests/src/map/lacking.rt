@@ -283,8 +283,9 @@ fn memory_lacks_for_other_edits(rt: HostRuntime) {
     lack_at_each_growth(&rt, rt.alloc(), OTHERS);
 }
 
-/// One is made, one refused at its third edit, two made in place, one whose first and last edit take
-/// memory and one into full buckets and new ones, and one refused behind weights below a bucket.
+/// One is made, one refused at its third edit, two made, one whose first and last edit take memory and
+/// one into full buckets and new ones, and two refused, one behind weights below a bucket and one
+/// behind items that go and a name that another takes.
 const BATCHES: &[Call] = &[
     Call {
         asked: &[
@@ -377,6 +378,22 @@ const BATCHES: &[Call] = &[
             Fact::Weighs("osd.1", 65536),
             Fact::Weighs("osd.2", 32768),
             Fact::Total(163840),
+        ],
+        least: 2,
+    },
+    Call {
+        asked: &[
+            Asked::Remove("osd.2"),
+            Asked::Remove("h2"),
+            Asked::Rename("h1", "h2"),
+            Asked::Remove("h2"),
+        ],
+        told: Told::Batch(Err(BatchFault::Refused(3, Refusal::NotEmpty))),
+        then: &[
+            Fact::Holds("h1", &["osd.0", "osd.1"], 131072),
+            Fact::Holds("h2", &["osd.2"], 32768),
+            Fact::Holds("default", &["h1", "h2"], 163840),
+            Fact::HasId("h2", -3),
         ],
         least: 2,
     },

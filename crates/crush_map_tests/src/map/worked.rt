@@ -475,3 +475,99 @@ fn what_batches_below_buckets_do_is_looked_up(rt: HostRuntime) {
 fn what_batches_of_weights_do_is_looked_up(rt: HostRuntime) {
     make_all(&rt, rt.alloc(), BATCHES_OF_WEIGHTS);
 }
+
+/// Devices and empty buckets that go, some of which come again, at their ids and names or at other
+/// ones: refused at the last edit, refused once more, and made.
+const BATCHES_OF_REMOVALS: &[Line] = &[
+    Line {
+        asked: &[
+            Asked::Remove("osd.0"),
+            Asked::Remove("osd.2"),
+            Asked::Remove("h2"),
+            Asked::Remove("h1"),
+        ],
+        told: Told::Batch(Err(BatchFault::Refused(3, Refusal::NotEmpty))),
+        then: EXAMPLE,
+    },
+    Line {
+        asked: &[
+            Asked::Remove("osd.2"),
+            Asked::Remove("h2"),
+            Asked::AddBucket("h9", "host"),
+            Asked::AddBucket("h2", "host"),
+            Asked::Add(2, 7, &[("host", "h2")]),
+            Asked::Remove("osd.1"),
+            Asked::Remove("h1"),
+        ],
+        told: Told::Batch(Err(BatchFault::Refused(6, Refusal::NotEmpty))),
+        then: EXAMPLE,
+    },
+    Line {
+        asked: &[
+            Asked::Remove("osd.0"),
+            Asked::Remove("osd.2"),
+            Asked::Add(0, 7, &[("host", "h2")]),
+        ],
+        told: Told::Batch(Ok(Dones {
+            edits: 3,
+            changed: 3,
+            made: 0,
+        })),
+        then: &[
+            Kids::Roots(&[("default", -1, 65543)]),
+            Kids::Of("default", &[("h1", -2, 65536), ("h2", -3, 7)]),
+            Kids::Of("h1", &[("osd.1", 1, 65536)]),
+            Kids::Of("h2", &[("osd.0", 0, 7)]),
+        ],
+    },
+];
+
+#[test]
+fn what_batches_of_removals_do_is_looked_up(rt: HostRuntime) {
+    make_all(&rt, rt.alloc(), BATCHES_OF_REMOVALS);
+}
+
+/// Names that go there and back, that another bucket takes, and that two buckets exchange.
+const BATCHES_OF_NAMES: &[Line] = &[
+    Line {
+        asked: &[
+            Asked::Rename("h1", "hq"),
+            Asked::Rename("hq", "h1"),
+            Asked::Rename("h2", "hx"),
+            Asked::AddBucket("h2", "host"),
+            Asked::Remove("x"),
+        ],
+        told: Told::Batch(Err(BatchFault::Refused(4, Refusal::NoSuchItem))),
+        then: EXAMPLE,
+    },
+    Line {
+        asked: &[
+            Asked::Rename("h1", "hq"),
+            Asked::Rename("h2", "h1"),
+            Asked::Rename("hq", "h2"),
+            Asked::Remove("osd.0"),
+            Asked::Rename("h2", "h1"),
+        ],
+        told: Told::Batch(Err(BatchFault::Refused(4, Refusal::NameTaken))),
+        then: EXAMPLE,
+    },
+    Line {
+        asked: &[Asked::Rename("h1", "hq"), Asked::Rename("h2", "h1")],
+        told: Told::Batch(Ok(Dones {
+            edits: 2,
+            changed: 2,
+            made: 0,
+        })),
+        then: &[
+            Kids::Roots(&[("default", -1, 163840)]),
+            Kids::Of("default", &[("hq", -2, 131072), ("h1", -3, 32768)]),
+            Kids::Of("hq", &[("osd.0", 0, 65536), ("osd.1", 1, 65536)]),
+            Kids::Of("h1", &[("osd.2", 2, 32768)]),
+        ],
+    },
+];
+
+#[test]
+fn what_batches_of_names_do_is_looked_up(rt: HostRuntime) {
+    make_all(&rt, rt.alloc(), BATCHES_OF_NAMES);
+}

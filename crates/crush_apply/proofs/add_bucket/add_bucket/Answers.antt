@@ -24,9 +24,9 @@ returns-in_err-node g c =
     when_short _ _ _ _ c.from_residual-in_err-node.ensures.1 refl
     (λ t st. (1, _, add_bucket_done c.args.setting.now t c.args.name.now c.args.kind.now c.in_ok-number.number c.first_free-id.result st.lawful (c.in_ok-number.ensures.can t st) (c.first_free-id.ensures t st)))
 
-pub returns-in_err-came : goal.returns-in_err-came
-returns-in_err-came g c =
-    when_short _ _ _ _ c.from_residual-in_err-came.ensures.1 c.in_err-came.ensures.adds.err
+pub returns-in_err-addition : goal.returns-in_err-addition
+returns-in_err-addition g c =
+    when_short _ _ _ _ c.from_residual-in_err-addition.ensures.1 c.in_err-addition.ensures.adds.err
     (λ t st. (1, _, add_bucket_done c.args.setting.now t c.args.name.now c.args.kind.now c.in_ok-number.number c.first_free-id.result st.lawful (c.in_ok-number.ensures.can t st) (c.first_free-id.ensures t st)))
 
 pub bring-requires : goal.bring-requires
@@ -47,6 +47,6 @@ returns g c =
     (λ t st. (
       t ++ bucket_row None (new_header (record { id = c.first_free-id.result; kind = c.in_ok-number.number; name = c.args.name.now })) ∷ [],
       add_bucket_done c.args.setting.now t c.args.name.now c.args.kind.now c.in_ok-number.number c.first_free-id.result st.lawful (c.in_ok-number.ensures.can t st) (c.first_free-id.ensures t st),
-      subst (λ (n : Items). Stands c.bring.new.hierarchy (t ++ rows None n)) c.in_ok-node.ensures (c.in_ok-came.ensures.adds.stands t st),
+      subst (λ (n : Items). Stands c.bring.new.hierarchy (t ++ rows None n)) c.in_ok-node.ensures (c.in_ok-addition.ensures.adds.stands t st),
     ))
-    c.in_ok-came.ensures.goes
+    c.in_ok-addition.ensures.goes

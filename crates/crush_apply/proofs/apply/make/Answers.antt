@@ -1,16 +1,36 @@
-use Rattle.std.proofs.Common.{◌≡◌, Bool, true, false, ap, sym, ◌∙◌, ⊎_elim}
-use Rattle.crush_edits.specs.Edit.{edit}
+use Rattle.std.proofs.Common.{◌≡◌, ℕ, Bool, true, List, refl, ap, sym, subst, ◌∙◌, ⊎_elim}
+use Rattle.std.specs.Prelude.{Option, Result, Err}
+use Rattle.crush_model.specs.Forest.{ForestData}
+use Rattle.crush_edits.specs.declared.edit.Edit.{Edit}
+use Rattle.crush_edits.specs.declared.location.Pair.{Pair}
+use Rattle.crush_edits.specs.declared.refusal.Done.{Done}
+use Rattle.crush_edits.specs.declared.refusal.EditFault.{EditFault}
+use Rattle.crush_edits.specs.declared.refusal.EditFault.TheVariants.{OutOfMemory}
+use Rattle.crush_edits.specs.Edit.{edit, takes_memory}
+use Rattle.crush_edits.specs.Setting.{SettingData}
+use Rattle.crush_apply.specs.declared.place.IfPlaced.{IfPlaced}
+use Rattle.crush_apply.specs.declared.place.IfPlaced.TheVariants.{Refuse, KeepWeight, SetWeight}
+use Rattle.crush_apply.specs.declared.undo_log.Undo.{Undo}
 use Rattle.crush_apply.specs.IfPlaced.{placing}
-use Rattle.crush_apply.specs.UndoLog.{hands_out, done_alone}
-use Rattle.crush_apply.proofs.Answered.{when_same, when_is}
+use Rattle.crush_apply.specs.UndoLog.{AnswersLogged, AnswersLoggedIf}
+use Rattle.crush_apply.proofs.RolledBack.{noted_anyway}
 use Rattle.crush_apply.proofs.apply.make.Goals as goal
 
--- of the other edits nothing is noted
-not_noted : (b : Bool) → b ≡ false → b ≡ true → ⊥
-not_noted b isnt is = let both : false ≡ true = sym isnt ∙ is in cc
+-- the edit e is d
+made : {A : Type 0} (s : SettingData) (e d : Edit) (logged : Bool) (f g : ForestData) (x : Result (Done × Option (Undo A)) EditFault) → e ≡ d → AnswersLoggedIf logged (takes_memory d) (λ t. edit s t d) f g x → AnswersLoggedIf logged (takes_memory e) (λ t. edit s t e) f g x
+made s e d logged f g x is told = subst (λ z. AnswersLoggedIf logged (takes_memory z) (λ t. edit s t z) f g x) (sym is) told
 
-pub returns-in-Insert-clause-made : goal.returns-in-Insert-clause-made
-returns-in-Insert-clause-made g c =
+-- of which it is noted anyway what takes it back
+noted : {A : Type 0} (s : SettingData) (e d : Edit) (logged : Bool) (f g : ForestData) (x : Result (Done × Option (Undo A)) EditFault) → e ≡ d → AnswersLogged (λ t. edit s t d) f g x → (x ≡ Err OutOfMemory → takes_memory d ≡ true) → AnswersLoggedIf logged (takes_memory e) (λ t. edit s t e) f g x
+noted s e d logged f g x is told memory = made s e d logged f g x is (noted_anyway logged (takes_memory d) (λ t. edit s t d) f g x told memory)
+
+placing_takes : (how : IfPlaced) (d : ℕ) (n : List ℕ) (w : ℕ) (l : List Pair) → takes_memory (placing how d n w l) ≡ true
+placing_takes Refuse d n w l = refl
+placing_takes KeepWeight d n w l = refl
+placing_takes SetWeight d n w l = refl
+
+pub returns-in-Insert-clause-answers : goal.returns-in-Insert-clause-answers
+returns-in-Insert-clause-answers g c =
     let d = c.in-Insert.device in
     let n = c.in-Insert.name in
     let w = c.in-Insert.weight in
@@ -23,76 +43,31 @@ returns-in-Insert-clause-made g c =
     (λ is. is ∙ ap (λ h. placing h d n w l) (sym (how.update d n w l is)))
     more)
     c.in-Insert.is in
-    when_same _ _ _ _ _ (λ t st. ap (edit c.args.setting.now t) same) c.place.ensures.answers
+    noted c.args.setting.now _ _ _ _ _ _ same c.place.ensures (λ lacks. placing_takes c.if_placed.result d n w l)
 
-pub returns-in-Insert-clause-logged : goal.returns-in-Insert-clause-logged
-returns-in-Insert-clause-logged g c = λ logged. c.place.ensures.logged
+pub returns-in-Move-clause-answers : goal.returns-in-Move-clause-answers
+returns-in-Move-clause-answers g c = noted c.args.setting.now _ _ _ _ _ _ c.in-Move.is c.relocate.ensures (λ lacks. refl)
 
-pub returns-in-Move-clause-made : goal.returns-in-Move-clause-made
-returns-in-Move-clause-made g c = when_same _ _ _ _ _ (λ t st. ap (edit c.args.setting.now t) c.in-Move.is) c.relocate.ensures.answers
+pub returns-in-AddBucket-clause-answers : goal.returns-in-AddBucket-clause-answers
+returns-in-AddBucket-clause-answers g c = noted c.args.setting.now _ _ _ _ _ _ c.in-AddBucket.is c.add_bucket.ensures (λ lacks. refl)
 
-pub returns-in-Move-clause-logged : goal.returns-in-Move-clause-logged
-returns-in-Move-clause-logged g c = λ logged. c.relocate.ensures.logged
+pub returns-in-Rename-clause-answers : goal.returns-in-Rename-clause-answers
+returns-in-Rename-clause-answers g c = noted c.args.setting.now _ _ _ _ _ _ c.in-Rename.is (c.rename.ensures c.args.setting.now) (λ lacks. refl)
 
-pub returns-in-AddBucket-clause-made : goal.returns-in-AddBucket-clause-made
-returns-in-AddBucket-clause-made g c = when_same _ _ _ _ _ (λ t st. ap (edit c.args.setting.now t) c.in-AddBucket.is) c.add_bucket.ensures.answers
+pub returns-in-SetClass-clause-answers : goal.returns-in-SetClass-clause-answers
+returns-in-SetClass-clause-answers g c = noted c.args.setting.now _ _ _ _ _ _ c.in-SetClass.is (c.set_class.ensures c.args.setting.now) (λ lacks. refl)
 
-pub returns-in-AddBucket-clause-logged : goal.returns-in-AddBucket-clause-logged
-returns-in-AddBucket-clause-logged g c = λ logged. c.add_bucket.ensures.logged
+pub returns-in-Swap-clause-answers : goal.returns-in-Swap-clause-answers
+returns-in-Swap-clause-answers g c = noted c.args.setting.now _ _ _ _ _ _ c.in-Swap.is (c.swap.ensures.answers c.args.setting.now) (λ lacks. absurd (c.swap.ensures.memory lacks))
 
-pub returns-in-Rename-clause-made : goal.returns-in-Rename-clause-made
-returns-in-Rename-clause-made g c = when_is _ _ _ _ _ c.unlogged-in-Rename.ensures (when_same _ _ _ _ _ (λ t st. ap (edit c.args.setting.now t) c.in-Rename.is) (c.rename.ensures c.args.setting.now))
+pub returns-in-Reweight-clause-answers : goal.returns-in-Reweight-clause-answers
+returns-in-Reweight-clause-answers g c = noted c.args.setting.now _ _ _ _ _ _ c.in-Reweight.is (c.reweight.ensures.answers c.args.setting.now) (λ lacks. absurd (c.reweight.ensures.memory lacks))
 
-pub returns-in-Rename-clause-logged : goal.returns-in-Rename-clause-logged
-returns-in-Rename-clause-logged g c = λ logged. absurd (not_noted (hands_out c.args.requested.now) (ap hands_out c.in-Rename.is) logged)
+pub returns-in-RemoveClass-clause-answers : goal.returns-in-RemoveClass-clause-answers
+returns-in-RemoveClass-clause-answers g c = noted c.args.setting.now _ _ _ _ _ _ c.in-RemoveClass.is (c.remove_class.ensures.answers c.args.setting.now) (λ lacks. absurd (c.remove_class.ensures.memory lacks))
 
-pub returns-in-Swap-clause-made : goal.returns-in-Swap-clause-made
-returns-in-Swap-clause-made g c = when_same _ _ _ _ _ (λ t st. ap (edit c.args.setting.now t) c.in-Swap.is) (c.swap.ensures.answers c.args.setting.now).answers
+pub returns-in-ReweightSubtree-clause-answers : goal.returns-in-ReweightSubtree-clause-answers
+returns-in-ReweightSubtree-clause-answers g c = made c.args.setting.now _ _ _ _ _ _ c.in-ReweightSubtree.is (c.reweight_subtree.ensures.answers c.args.setting.now)
 
-pub returns-in-Swap-clause-logged : goal.returns-in-Swap-clause-logged
-returns-in-Swap-clause-logged g c = λ logged. (c.swap.ensures.answers c.args.setting.now).logged
-
-pub returns-in-Swap-clause-memory : goal.returns-in-Swap-clause-memory
-returns-in-Swap-clause-memory g c = λ is. absurd (c.swap.ensures.memory is)
-
-pub returns-in-ReweightSubtree-clause-made : goal.returns-in-ReweightSubtree-clause-made
-returns-in-ReweightSubtree-clause-made g c = when_is _ _ _ _ _ c.unlogged.ensures (when_same _ _ _ _ _ (λ t st. ap (edit c.args.setting.now t) c.in-ReweightSubtree.is) (c.reweight_subtree.ensures.answers c.args.setting.now))
-
-pub returns-in-ReweightSubtree-clause-logged : goal.returns-in-ReweightSubtree-clause-logged
-returns-in-ReweightSubtree-clause-logged g c = λ logged. absurd (not_noted (hands_out c.args.requested.now) (ap hands_out c.in-ReweightSubtree.is) logged)
-
-pub returns-in-ReweightSubtree-clause-memory : goal.returns-in-ReweightSubtree-clause-memory
-returns-in-ReweightSubtree-clause-memory g c = λ is. absurd (c.reweight_subtree.ensures.memory (sym c.unlogged.ensures ∙ ap done_alone is))
-
-pub returns-in-Remove-clause-made : goal.returns-in-Remove-clause-made
-returns-in-Remove-clause-made g c = when_is _ _ _ _ _ c.unlogged-in-Remove.ensures (when_same _ _ _ _ _ (λ t st. ap (edit c.args.setting.now t) c.in-Remove.is) (c.remove.ensures.answers))
-
-pub returns-in-Remove-clause-logged : goal.returns-in-Remove-clause-logged
-returns-in-Remove-clause-logged g c = λ logged. absurd (not_noted (hands_out c.args.requested.now) (ap hands_out c.in-Remove.is) logged)
-
-pub returns-in-Remove-clause-memory : goal.returns-in-Remove-clause-memory
-returns-in-Remove-clause-memory g c = λ is. absurd (c.remove.ensures.memory (sym c.unlogged-in-Remove.ensures ∙ ap done_alone is))
-
-pub returns-in-Reweight-clause-made : goal.returns-in-Reweight-clause-made
-returns-in-Reweight-clause-made g c = when_same _ _ _ _ _ (λ t st. ap (edit c.args.setting.now t) c.in-Reweight.is) (c.reweight.ensures.answers c.args.setting.now).answers
-
-pub returns-in-Reweight-clause-logged : goal.returns-in-Reweight-clause-logged
-returns-in-Reweight-clause-logged g c = λ logged. (c.reweight.ensures.answers c.args.setting.now).logged
-
-pub returns-in-Reweight-clause-memory : goal.returns-in-Reweight-clause-memory
-returns-in-Reweight-clause-memory g c = λ is. absurd (c.reweight.ensures.memory is)
-
-pub returns-in-SetClass-clause-made : goal.returns-in-SetClass-clause-made
-returns-in-SetClass-clause-made g c = when_same _ _ _ _ _ (λ t st. ap (edit c.args.setting.now t) c.in-SetClass.is) (c.set_class.ensures c.args.setting.now).answers
-
-pub returns-in-SetClass-clause-logged : goal.returns-in-SetClass-clause-logged
-returns-in-SetClass-clause-logged g c = λ logged. (c.set_class.ensures c.args.setting.now).logged
-
-pub returns-in-RemoveClass-clause-made : goal.returns-in-RemoveClass-clause-made
-returns-in-RemoveClass-clause-made g c = when_same _ _ _ _ _ (λ t st. ap (edit c.args.setting.now t) c.in-RemoveClass.is) (c.remove_class.ensures.answers c.args.setting.now).answers
-
-pub returns-in-RemoveClass-clause-logged : goal.returns-in-RemoveClass-clause-logged
-returns-in-RemoveClass-clause-logged g c = λ logged. (c.remove_class.ensures.answers c.args.setting.now).logged
-
-pub returns-in-RemoveClass-clause-memory : goal.returns-in-RemoveClass-clause-memory
-returns-in-RemoveClass-clause-memory g c = λ is. absurd (c.remove_class.ensures.memory is)
+pub returns-in-Remove-clause-answers : goal.returns-in-Remove-clause-answers
+returns-in-Remove-clause-answers g c = made c.args.setting.now _ _ _ _ _ _ c.in-Remove.is c.remove.ensures

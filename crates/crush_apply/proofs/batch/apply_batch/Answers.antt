@@ -1,19 +1,23 @@
-use Rattle.std.proofs.Common.{refl}
-use Rattle.crush_apply.proofs.Batching.{anyway, on_err, passed_fault, same_before}
+use Rattle.std.proofs.Common.{sym, subst}
+use Rattle.crush_model.specs.Forest.{ForestData, rows_of}
+use Rattle.crush_edits.specs.Fits.{Fits}
+use Rattle.crush_apply.proofs.Batching.{same_before}
 use Rattle.crush_apply.proofs.batch.apply_batch.Goals as goal
 
-pub returns-then-are_in_place-clause-memory : goal.returns-then-are_in_place-clause-memory
-returns-then-are_in_place-clause-memory g c = λ is. on_err c.make_in_place.result _ is c.make_in_place.ensures.unchanged
+pub roll_back-requires : goal.roll_back-requires
+roll_back-requires g c = (c.args.hierarchy.now, c.in-Err.ensures.log)
 
-pub returns-then-are_in_place-clause-as_before : goal.returns-then-are_in_place-clause-as_before
-returns-then-are_in_place-clause-as_before g c = same_before c.make_in_place.result _ _ c.make_in_place.ensures.unchanged
+pub returns-in-Err-clause-memory : goal.returns-in-Err-clause-memory
+returns-in-Err-clause-memory g c = λ is. c.roll_back.ensures c.args.hierarchy.now c.in-Err.ensures.log
 
-pub returns-in_err-dones-clause-refused : goal.returns-in_err-dones-clause-refused
-returns-in_err-dones-clause-refused g c = λ index r told t st.
-    c.in_err-dones.ensures.refused index r (passed_fault _ _ c.from_residual.result c.from_residual.ensures.1 told) t (c.in-Ok.ensures.stands t st)
+pub returns-in-Err-clause-unchanged : goal.returns-in-Err-clause-unchanged
+returns-in-Err-clause-unchanged g c = c.roll_back.ensures c.args.hierarchy.now c.in-Err.ensures.log
 
-pub returns-in_err-dones-clause-unchanged : goal.returns-in_err-dones-clause-unchanged
-returns-in_err-dones-clause-unchanged g c = anyway c.from_residual.result refl
+pub returns-in-Err-clause-as_before : goal.returns-in-Err-clause-as_before
+returns-in-Err-clause-as_before g c = same_before _ _ (c.roll_back.ensures c.args.hierarchy.now c.in-Err.ensures.log)
 
-pub returns-in_err-dones-clause-as_before : goal.returns-in_err-dones-clause-as_before
-returns-in_err-dones-clause-as_before g c = same_before c.from_residual.result c.args.hierarchy.now c.args.hierarchy.now (anyway c.from_residual.result refl)
+pub returns-in-Err-clause-single : goal.returns-in-Err-clause-single
+returns-in-Err-clause-single g c = λ one. c.roll_back.ensures c.args.hierarchy.now c.in-Err.ensures.log
+
+pub returns-in-Err-clause-fits : goal.returns-in-Err-clause-fits
+returns-in-Err-clause-fits g c = subst (λ (z : ForestData). Fits c.args.setting.now (rows_of z)) (sym (c.roll_back.ensures c.args.hierarchy.now c.in-Err.ensures.log)) c.requires.fits

@@ -2,7 +2,7 @@ use Rattle.std.proofs.Common.{◌+◌, ap, sym, ◌∙◌, arith}
 use Rattle.std.specs.Prelude.{drop, Err}
 use Rattle.crush_nodes.proofs.Steps.{drop_at}
 use Rattle.crush_edits.specs.Batch.{batch_refused, batch_from}
-use Rattle.crush_apply.proofs.Batching.{fault_parts, stops_at, goes_on, on_err, kept_back, first_stays, rest_stays, noted_before}
+use Rattle.crush_apply.proofs.Batching.{fault_parts, stops_at, goes_on, on_err, kept_back}
 use Rattle.crush_apply.proofs.batch.make_all.Goals as goal
 
 pub returns-in-Err-Refused-clause-refused : goal.returns-in-Err-Refused-clause-refused
@@ -17,14 +17,14 @@ returns-in-Err-Refused-clause-refused g c = λ index r told t st.
     ∙ (λ i. batch_refused (parts.0 i) ((sym c.in-Err-Refused.refusal-is ∙ parts.1) i))
 
 pub returns-in-Err-Refused-clause-log : goal.returns-in-Err-Refused-clause-log
-returns-in-Err-Refused-clause-log g c = λ can.
-    kept_back _ _ _ _ _ ((c.loop-requested.invariant.logged can).back c.loop-requested-test.true)
+returns-in-Err-Refused-clause-log g c =
+    kept_back _ _ _ _ _ (c.loop-requested.invariant.back c.loop-requested-test.true)
     (on_err c.apply_logged.result _ c.in-Err-Refused.is c.apply_logged.ensures.unchanged)
     (on_err c.apply_logged.result _ c.in-Err-Refused.is c.apply_logged.ensures.log)
 
 pub returns-in-Err-OutOfMemory-clause-log : goal.returns-in-Err-OutOfMemory-clause-log
-returns-in-Err-OutOfMemory-clause-log g c = λ can.
-    kept_back _ _ _ _ _ ((c.loop-requested.invariant.logged can).back c.loop-requested-test.true)
+returns-in-Err-OutOfMemory-clause-log g c =
+    kept_back _ _ _ _ _ (c.loop-requested.invariant.back c.loop-requested-test.true)
     (on_err c.apply_logged.result _ c.in-Err-OutOfMemory.is c.apply_logged.ensures.unchanged)
     (on_err c.apply_logged.result _ c.in-Err-OutOfMemory.is c.apply_logged.ensures.log)
 
@@ -49,14 +49,7 @@ loop-requested-preserved g c =
         changed = omega (arith, so_far.changed, more.changed);
         made = omega (arith, so_far.made, more.made);
       };
-      logged = λ can.
-          let before = c.loop-requested.invariant.logged can in
-          let stay = first_stays c.requested-item.result (drop k es) (drop (k + 1) es) left before.left in
-          record {
-            left = rest_stays c.requested-item.result (drop k es) (drop (k + 1) es) left before.left;
-            back = λ behind. c.in-Ok.ensures.logged (omega (arith, can.room, c.loop-requested.invariant.len, c.loop-requested.invariant.capacity, behind))
-                (noted_before c.requested-item.result es k stay behind) c.args.hierarchy.now (before.back c.loop-requested-test.true);
-          };
+      back = λ behind. c.in-Ok.ensures.logged (omega (arith, c.requires.room, c.loop-requested.invariant.len, c.loop-requested.invariant.capacity, behind)) c.args.hierarchy.now (c.loop-requested.invariant.back c.loop-requested-test.true);
       len = omega (arith, c.loop-requested.invariant.len, c.apply_logged.ensures.len);
       capacity = c.apply_logged.ensures.capacity ∙ c.loop-requested.invariant.capacity;
     }

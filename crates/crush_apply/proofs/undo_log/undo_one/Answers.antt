@@ -31,6 +31,18 @@ set_class-class-requires g c = (subst (λ u. Undoes u c.args.hierarchy.now c.req
 pub returns-in-Class : goal.returns-in-Class
 returns-in-Class g c = λ f back. c.set_class-class.ensures.is ∙ sym (subst (λ u. Undoes u c.args.hierarchy.now f) c.in-Class.is back).is
 
+pub restore-requires : goal.restore-requires
+restore-requires g c = (subst (λ u. Undoes u c.args.hierarchy.now c.requires.0) c.in-Removed.is c.requires.1).can
+
+pub returns-in-Removed : goal.returns-in-Removed
+returns-in-Removed g c = λ f back. c.restore.ensures ∙ sym (subst (λ u. Undoes u c.args.hierarchy.now f) c.in-Removed.is back).is
+
+pub restore_name-requires : goal.restore_name-requires
+restore_name-requires g c = (subst (λ u. Undoes u c.args.hierarchy.now c.requires.0) c.in-Renamed.is c.requires.1).can
+
+pub returns-in-Renamed : goal.returns-in-Renamed
+returns-in-Renamed g c = λ f back. c.restore_name.ensures ∙ sym (subst (λ u. Undoes u c.args.hierarchy.now f) c.in-Renamed.is back).is
+
 pub send_back-requires : goal.send_back-requires
 send_back-requires g c = (c.requires.0, subst (λ u. Undoes u c.args.hierarchy.now c.requires.0) c.in-Arrived.is c.requires.1)
 
@@ -43,9 +55,9 @@ move_back-requires g c = let back = subst (λ u. Undoes u c.args.hierarchy.now c
 pub send_back-requires-in-Moved : goal.send_back-requires-in-Moved
 send_back-requires-in-Moved g c =
     let back = subst (λ u. Undoes u c.args.hierarchy.now c.requires.0) c.in-Moved.is c.requires.1 in
-    (c.requires.0, subst (λ z. Goes c.in-Moved.came z c.requires.0) (sym (c.move_back.ensures back.stood back.back)) back.goes)
+    (c.requires.0, subst (λ z. Goes c.in-Moved.addition z c.requires.0) (sym (c.move_back.ensures back.stood back.back)) back.goes)
 
 pub returns-in-Moved : goal.returns-in-Moved
 returns-in-Moved g c = λ f h.
     let back = subst (λ u. Undoes u c.args.hierarchy.now f) c.in-Moved.is h in
-    c.send_back-in-Moved.ensures f (subst (λ z. Goes c.in-Moved.came z f) (sym (c.move_back.ensures back.stood back.back)) back.goes)
+    c.send_back-in-Moved.ensures f (subst (λ z. Goes c.in-Moved.addition z f) (sym (c.move_back.ensures back.stood back.back)) back.goes)

@@ -49,14 +49,14 @@ bring-requires g c =
 pub returns-in_err-node : goal.returns-in_err-node
 returns-in_err-node g c = no_room_made _ _ _ _ _ _ c.from_residual.ensures.1 refl
 
-pub returns-in_err-came : goal.returns-in_err-came
-returns-in_err-came g c = no_room_made _ _ _ _ _ _ c.from_residual-in_err-came.ensures.1 c.in_err-came.ensures.adds.err
+pub returns-in_err-addition : goal.returns-in_err-addition
+returns-in_err-addition g c = no_room_made _ _ _ _ _ _ c.from_residual-in_err-addition.ensures.1 c.in_err-addition.ensures.adds.err
 
 pub returns : goal.returns
 returns g c =
     let f = c.args.hierarchy.now in
     let h = c.bring.new.hierarchy in
-    let adds = c.in_ok-came.ensures.adds in
+    let adds = c.in_ok-addition.ensures.adds in
     let ps = stops_data c.args.at.now c.args.stops.now in
     let ids = c.free_ids.new.ids in
     let b = c.index-ids-0.result in
@@ -81,6 +81,6 @@ returns g c =
       room =
           room_kept f h n (AtBucket b) c.place_of.result (adds.rooms (AtBucket b)) (ap (same_place (AtBucket b)) c.place_of.ensures ∙ new_place (rows_of f) c.args.receiver b unused c.requires.there)
           (subst (λ m. 0 < bucket_room b m) (sym c.in_ok-node.ensures) own);
-      goes = c.in_ok-came.ensures.goes;
+      goes = c.in_ok-addition.ensures.goes;
       unchanged = tt;
     }

@@ -33,8 +33,8 @@ recall_part-requires g c =
     stands_there c.make_room.new.hierarchy (t ++ rows_made t c.args.to.now.stops) i (c.in_ok-bucket.ensures.stands t st)
     (still_there t st.lawful i c.args.to.now (c.requires.moves t st).leads row.0 c.args.weight row.1 (c.requires.can t row.0 st row.1))
 
-pub move_into-stood-requires : goal.move_into-stood-requires
-move_into-stood-requires g c =
+pub move_into-old_stand-requires : goal.move_into-old_stand-requires
+move_into-old_stand-requires g c =
     let f = c.args.hierarchy.now in
     let t : List Row = rows_of f in
     let st : Stands f t = stands_for_rows f c.recall_invariant.ensures in
@@ -73,9 +73,9 @@ returns-clause-stands g c = λ t r st found.
     let l = one_device (part_of i (all_items h)) (part_devices c.args.device (all_items h)) c.recall_part.ensures.one in
     let d : LeafData = record l.0 { weight = w } in
     let whole : Same (rows None (device l.0 none)) (part i (t ++ rows_made t ps)) = subst (λ n. Same (rows None n) (part i (t ++ rows_made t ps))) l.1 (c.recall_part.ensures.rows (t ++ rows_made t ps) mid) in
-    same_stands c.move_into-stood.new.hierarchy (table_without i (t ++ rows_made t ps) ++ rows (Some b) (device d none)) (put t (record r { weight = w }) ps)
+    same_stands c.move_into-old_stand.new.hierarchy (table_without i (t ++ rows_made t ps) ++ rows (Some b) (device d none)) (put t (record r { weight = w }) ps)
     (device_same t st.lawful i c.args.to.now (c.requires.moves t st).leads r w found (c.requires.can t r st found) l.0 b (c.in_ok-bucket.ensures.next t st) whole)
-    (subst (λ (n : Items). Stands c.move_into-stood.new.hierarchy (table_without i (t ++ rows_made t ps) ++ rows (Some b) (with_first_weight w n))) l.1 (c.move_into-stood.ensures.puts.stands (t ++ rows_made t ps) mid))
+    (subst (λ (n : Items). Stands c.move_into-old_stand.new.hierarchy (table_without i (t ++ rows_made t ps) ++ rows (Some b) (with_first_weight w n))) l.1 (c.move_into-old_stand.ensures.puts.stands (t ++ rows_made t ps) mid))
 
 pub returns-clause-undoes : goal.returns-clause-undoes
-returns-clause-undoes g c = record { stood = c.make_room.new.hierarchy; back = c.move_into-stood.ensures.back; goes = c.in_ok-bucket.ensures.goes }
+returns-clause-undoes g c = record { stood = c.make_room.new.hierarchy; back = c.move_into-old_stand.ensures.back; goes = c.in_ok-bucket.ensures.goes }

@@ -28,8 +28,8 @@ recall_part-requires g c =
     stands_there c.make_room.new.hierarchy (t ++ rows_made t c.args.to.now.stops) c.args.id (c.in_ok-bucket.ensures.stands t st)
     (still_there t st.lawful c.args.id c.args.to.now (c.requires.moves t st).leads row.0 row.0.weight row.1 (c.requires.can t row.0 st row.1))
 
-pub move_into-stood-requires : goal.move_into-stood-requires
-move_into-stood-requires g c =
+pub move_into-old_stand-requires : goal.move_into-old_stand-requires
+move_into-old_stand-requires g c =
     let f = c.args.hierarchy.now in
     let t : List Row = rows_of f in
     let st : Stands f t = stands_for_rows f c.recall_invariant.ensures in
@@ -60,9 +60,9 @@ returns-clause-stands g c = λ t r st found.
     let b = c.in_ok-bucket.bucket in
     let n = part_of c.args.id (all_items h) in
     let mid : Stands h (t ++ rows_made t ps) = c.in_ok-bucket.ensures.stands t st in
-    same_stands c.move_into-stood.new.hierarchy (table_without c.args.id (t ++ rows_made t ps) ++ rows (Some b) n) (put t r ps)
+    same_stands c.move_into-old_stand.new.hierarchy (table_without c.args.id (t ++ rows_made t ps) ++ rows (Some b) n) (put t r ps)
     (item_same t st.lawful c.args.id c.args.to.now (c.requires.moves t st).leads r found (c.requires.can t r st found) n b (c.in_ok-bucket.ensures.next t st) c.recall_part.ensures.one (c.recall_part.ensures.rows (t ++ rows_made t ps) mid))
-    (c.move_into-stood.ensures.puts.stands (t ++ rows_made t ps) mid)
+    (c.move_into-old_stand.ensures.puts.stands (t ++ rows_made t ps) mid)
 
 pub returns-clause-undoes : goal.returns-clause-undoes
-returns-clause-undoes g c = record { stood = c.make_room.new.hierarchy; back = c.move_into-stood.ensures.back; goes = c.in_ok-bucket.ensures.goes }
+returns-clause-undoes g c = record { stood = c.make_room.new.hierarchy; back = c.move_into-old_stand.ensures.back; goes = c.in_ok-bucket.ensures.goes }

@@ -62,7 +62,7 @@ returns-clause-stands g c = λ t st.
     let is : items_of (c.in_ok-node.node ∷ []) ≡ new_item t st.lawful to leads d can = c.in_ok-node.ensures ∙ boxes_are t l xs to c.new_stops.ensures.stops leads (device d none) c.free_ids.new.ids ids in
     let at : parent_at c.place.result ≡ to.receiver = ap parent_at c.place.ensures ∙ parent_of_place to.receiver in
     same_stands c.bring.new.hierarchy (t ++ rows to.receiver (new_item t st.lawful to leads d can)) (put t (device_row None d) to.stops) (new_same t st.lawful to leads d can)
-    (subst (λ p. Stands c.bring.new.hierarchy (t ++ rows p (new_item t st.lawful to leads d can))) at (subst (λ (n : Items). Stands c.bring.new.hierarchy (t ++ rows (parent_at c.place.result) n)) is (c.in_ok-came.ensures.adds.stands t st)))
+    (subst (λ p. Stands c.bring.new.hierarchy (t ++ rows p (new_item t st.lawful to leads d can))) at (subst (λ (n : Items). Stands c.bring.new.hierarchy (t ++ rows (parent_at c.place.result) n)) is (c.in_ok-addition.ensures.adds.stands t st)))
 
-pub returns-in_err-came-clause-unchanged : goal.returns-in_err-came-clause-unchanged
-returns-in_err-came-clause-unchanged g c = anyway c.from_residual-in_err-came.result c.in_err-came.ensures.adds.err
+pub returns-in_err-addition-clause-unchanged : goal.returns-in_err-addition-clause-unchanged
+returns-in_err-addition-clause-unchanged g c = anyway c.from_residual-in_err-addition.result c.in_err-addition.ensures.adds.err

@@ -70,7 +70,7 @@ invariant_of-self-2 g c =
     let d : Draft = own_draft b in
     let at : IsDraft b d = own in
     let st : Stands c.put.new.self (table_without c.args.id d.table ++ rows (Some k) (with_first_weight (weight_or_one c.args.written) n)) =
-    subst (λ w. Stands c.put.new.self (table_without c.args.id d.table ++ rows (Some k) (with_first_weight w n))) c.device_weight-weight.ensures (c.put.ensures.stands d.table (c.reserve.ensures.stands d.table at.stands)) in
+    subst (λ w. Stands c.put.new.self (table_without c.args.id d.table ++ rows (Some k) (with_first_weight w n))) c.device_weight-weight.ensures (c.put.ensures.puts.stands d.table (c.reserve.ensures.stands d.table at.stands)) in
     draft_fits (record b { forest = c.put.new.self; adjusted = b.adjusted + c.adjustment-adjustment.result }) (with_next_item d c.args.id c.args.written)
     (put_is_draft b c.args.id k n took c.put.new.self c.args.written d at st c.adjustment-adjustment.result (c.adjustment-adjustment.ensures d own_at (took.there d at)))
 
@@ -84,5 +84,5 @@ returns g c =
     let took : Coming b c.args.id k n = clear_comes b c.args.self.now c.args.id k n c.args.written c.self.view_is c.recall_invariant.ensures c.self.invariant (ap pending_data c.in-Filling.is) c.requires.clear (λ t st. c.recall_part.ensures.rows t (c.reserve.ensures.stands t st)) c.recall_part.ensures.one c.recall_part.ensures.sums in
     let at : IsDraft b d = subst (λ (x : BuilderData). IsDraft x d) (sym c.self.view_is) i in
     let st : Stands c.put.new.self (table_without c.args.id d.table ++ rows (Some k) (with_first_weight (weight_or_one c.args.written) n)) =
-    subst (λ w. Stands c.put.new.self (table_without c.args.id d.table ++ rows (Some k) (with_first_weight w n))) c.device_weight-weight.ensures (c.put.ensures.stands d.table (c.reserve.ensures.stands d.table at.stands)) in
+    subst (λ w. Stands c.put.new.self (table_without c.args.id d.table ++ rows (Some k) (with_first_weight w n))) c.device_weight-weight.ensures (c.put.ensures.puts.stands d.table (c.reserve.ensures.stands d.table at.stands)) in
     put_is_draft b c.args.id k n took c.put.new.self c.args.written d at st c.adjustment-adjustment.result (c.adjustment-adjustment.ensures d i (took.there d at))

@@ -5,8 +5,8 @@ use Rattle.crush_model.proofs.Renamed.{Lawful-set_name}
 use Rattle.crush_map_tests.proofs.Passed.{found}
 use Rattle.crush_map_tests.proofs.hierarchy.puts.give_name.Goals as goal
 
-pub rename-requires : goal.rename-requires
-rename-requires c = record {
+pub replace_name-requires : goal.replace_name-requires
+replace_name-requires c = record {
   there = search rules;
   fits =
       let t = rows_of c.args.hierarchy.now in

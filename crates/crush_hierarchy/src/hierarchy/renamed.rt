@@ -1,0 +1,76 @@
+//! New names, and old ones that come back without memory.
+
+ghost use Rattle.std.specs.Prelude.{◌≡◌};
+ghost use Rattle.crush_tree.specs.Exact.{forest_with_name};
+ghost use Rattle.crush_tree.specs.Required.{CanRename};
+ghost use Rattle.crush_hierarchy.specs.Naming.{CanRestoreName, ReplacesName, TellsName};
+
+use super::Hierarchy;
+use crush_index::{Index, NameBack};
+use crush_units::{ItemId, Name};
+use std::alloc::{AllocError, Allocator, Global};
+
+/// A name that an item had, and what the index needs as it comes back.
+#[derive(Drop)]
+pub struct OldName<A: Allocator> {
+    name: Name<A>,
+    back: NameBack,
+}
+
+impl<A: Allocator> Hierarchy<A> {
+    /// Gives an item a name that no other item has, so that [`Hierarchy::restore_name`] gives it the
+    /// old one again.
+    pub fn replace_name(&mut self, id: ItemId, name: Name<A>) -> Result<OldName<A>, AllocError>
+        requires { CanRename id name self.old }
+        ensures { ReplacesName id name self.old self.new result }
+    {
+        let id = &id;
+        self.forest.recall_invariant();
+        let copy = name.try_copy(self.machine)?;
+        let old = self.forest.rename_by(self.index.places(), *id, name);
+        self.forest.recall_invariant();
+        match tell_new_name(&mut self.index, *id, copy, &old) {
+            Ok(back) => Ok(OldName { name: old, back }),
+            Err(failed) => {
+                drop(self.forest.rename_by(self.index.places(), *id, old));
+                Err(failed)
+            }
+        }
+    }
+
+    /// Gives an item the name again that it had. It takes no memory.
+    pub fn restore_name(&mut self, id: ItemId, old: OldName<A>)
+        requires { CanRestoreName id old self.old }
+        ensures { self.new ≡ forest_with_name id old.name self.old }
+    {
+        let id = &id;
+        self.forest.recall_invariant();
+        let OldName { name, back } = old;
+        let free = self.index.id_of(name.as_bytes()).is_none();
+        let other = self.forest.rename_by(self.index.places(), *id, name);
+        self.forest.recall_invariant();
+        if free {
+            self.index.restore_name(back, *id);
+            self.index.forget_name(other.as_bytes());
+        }
+        drop(other);
+    }
+}
+
+/// Tells the index of the new name, unless it is the item's own, and makes what the old one needs to
+/// come back.
+fn tell_new_name<A: Allocator>(
+    index: &mut Index,
+    id: ItemId,
+    name: Name<Global>,
+    old: &Name<A>,
+) -> Result<NameBack, AllocError>
+    ensures { TellsName id name old.now index.old index.new result }
+{
+    let back = index.name_back(old)?;
+    if index.id_of(name.as_bytes()).is_none() {
+        index.add_name(name, id)?;
+        index.forget_name(old.as_bytes());
+    }
+    Ok(back)
+}

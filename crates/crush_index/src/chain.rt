@@ -1,0 +1,146 @@
+//! What is kept where a table lacks memory.
+
+ghost use Rattle.std.specs.Prelude.{◌≡◌, Bool, IfOk, is_some};
+ghost use Rattle.std.specs.Option.{option_map};
+ghost use Rattle.crush_index.specs.Chains.{chain_answer, chain_with, chain_without, Pushes, TellsSame};
+
+use std::alloc::{AllocError, Global};
+use std::mem::replace;
+
+/// Tells the keys that it looks for from others.
+pub(crate) trait Finds<K> {
+    ghost finds: { Self → K → Bool };
+
+    fn finds(&self, key: &K) -> bool
+        ensures { result ≡ finds self.now key.now };
+}
+
+impl Finds<u32> for u32 {
+    ghost use Rattle.std.specs.Prelude.{nat_eq};
+
+    ghost finds = { nat_eq };
+
+    fn finds(&self, key: &u32) -> bool {
+        *self == *key
+    }
+}
+
+/// What is kept of keys, each in a link of its own, whose memory was ready before: mostly none.
+/// It is searched link by link.
+pub(crate) enum Chain<K: Drop, V: Drop> {
+    End,
+    Link {
+        key: K,
+        value: V,
+        rest: Box<Chain<K, V>>,
+    },
+}
+
+/// Memory for one link.
+pub(crate) type Spare<K, V> = Box<Chain<K, V>>;
+
+impl<K: Drop, V: Drop> Drop for Chain<K, V> {
+    fn drop(mut self) {
+        loop {
+            match self {
+                Chain::End => return,
+                Chain::Link {
+                    key: _,
+                    value: _,
+                    rest,
+                } => self = Box::into_inner(rest),
+            }
+        }
+    }
+}
+
+pub(crate) fn spare<K: Drop, V: Drop>(alloc: Global) -> Result<Spare<K, V>, AllocError> {
+    Ok(Box::new(alloc, Chain::End)?)
+}
+
+impl<K: Drop, V: Copy + Drop> Chain<K, V> {
+    pub(crate) fn get<Q: Finds<K>>(&self, sought: &Q) -> Option<V>
+        ensures { result ≡ chain_answer (Q.finds sought.now) self.now }
+    {
+        let mut rest = self;
+        while let Chain::Link {
+            key,
+            value,
+            rest: next,
+        } = rest
+        {
+            if sought.finds(key) {
+                return Some(*value);
+            }
+            rest = next;
+        }
+        None
+    }
+
+    pub(crate) fn try_copy(&self, alloc: Global) -> Result<Chain<K, V>, AllocError>
+    where
+        K: Clone,
+        ensures { ((k l : K) → K.is_clone k l → l ≡ k) → IfOk result (TellsSame self.now) }
+    {
+        match self {
+            Chain::End => Ok(Chain::End),
+            Chain::Link { key, value, rest } => {
+                let rest = rest.try_copy(alloc)?;
+                let rest = Box::new(alloc, rest)?;
+                Ok(Chain::Link {
+                    key: key.clone()?,
+                    value: *value,
+                    rest,
+                })
+            }
+        }
+    }
+
+    /// Another value for a key that is there; whether it is.
+    pub(crate) fn set<Q: Finds<K>>(&mut self, sought: &Q, value: V) -> bool
+        ensures there { result ≡ is_some (chain_answer (Q.finds sought.now) self.old) }
+        ensures with { self.new ≡ chain_with (Q.finds sought.now) value self.old }
+    {
+        match self {
+            Chain::End => false,
+            Chain::Link {
+                key,
+                value: kept,
+                rest,
+            } => {
+                if sought.finds(key) {
+                    *kept = value;
+                    true
+                } else {
+                    rest.set(sought, value)
+                }
+            }
+        }
+    }
+
+    pub(crate) fn remove<Q: Finds<K>>(&mut self, sought: &Q)
+        ensures { self.new ≡ chain_without (Q.finds sought.now) self.old }
+    {
+        if let Chain::Link {
+            key,
+            value: _,
+            rest,
+        } = self
+        {
+            rest.remove(sought);
+            if sought.finds(key) {
+                let rest = replace(rest.as_mut(), Chain::End);
+                *self = rest;
+            }
+        }
+    }
+
+    /// It takes no memory.
+    pub(crate) fn push(&mut self, spare: Spare<K, V>, key: K, value: V)
+        ensures { Pushes key value self.old self.new }
+    {
+        let mut rest = spare;
+        *rest = replace(self, Chain::End);
+        *self = Chain::Link { key, value, rest };
+    }
+}
