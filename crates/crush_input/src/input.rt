@@ -70,7 +70,8 @@ impl From<AllocError> for ReadFailure {
     }
 }
 
-/// By at most `most` reads.
+/// By at most `most` reads. Not inlined, so that no piece is on the stack while a job is run.
+#[inline(never)]
 fn read_most<R: Read>(alloc: Global, most: usize, reader: &mut R) -> Result<Vec<u8>, ReadFailure>
     ensures few { IfOk result (λ bytes. length bytes.items ≤ most) }
     ensures consumed { IfOk result (λ bytes.
