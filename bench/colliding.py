@@ -5,8 +5,8 @@
 Keys are drawn anew for each run, so that nobody can work out names that collide. A run that lost them answers the same,
 and only takes longer: so each job is run with names that all hash alike without keys, and with as many others of the
 same length, 8,000 if nothing is said. The jobs read a map and look for names that aren't there; read a map that
-`--since` names; and make batches on copies of a map. Printed are the processor seconds of each, the least of three runs;
-the status is 1 where the first are more than three times the second.
+`--since` names; and tell why batches are refused, each on a copy of the map (`--explain`). Printed are the processor
+seconds of each, the least of three runs; the status is 1 where the first are more than three times the second.
 """
 
 import os
@@ -29,22 +29,22 @@ def reading(names, absent):
 
 
 def since(names, absent):
-    return [OPERATOR], devices(names + absent)
+    return [OPERATOR], ["--since", devices(names + absent)]
 
 
 def batches(names, absent):
     names = names[:2000]
     lines = [line for number in range(300) for line in
              ("begin", f"set-device-class c{number} {names[0]}", f"rm {absent[0]}", "commit")]
-    return devices(names) + [OPERATOR] + lines, []
+    return devices(names) + [OPERATOR] + lines, ["--explain"]
 
 
-def seconds(program, job, earlier):
-    """The least processor time of three runs of a job, with the map of `--since`, if there is one."""
+def seconds(program, job, words):
+    """The least processor time of three runs of a job, with the words before it."""
     taken = []
     for _ in range(3):
         with open(job, "rb") as stdin:
-            run = subprocess.Popen([program, *earlier], stdin=stdin, stdout=subprocess.DEVNULL)
+            run = subprocess.Popen([program, *words], stdin=stdin, stdout=subprocess.DEVNULL, stderr=subprocess.DEVNULL)
             _, how, used = os.wait4(run.pid, 0)
             run.returncode = os.waitstatus_to_exitcode(how)
         if run.returncode:
@@ -62,10 +62,12 @@ def main():
         for kind in (reading, since, batches):
             taken = []
             for names in sets:
-                lines, earlier = kind(names[:-1000], names[-1000:])
+                lines, words = kind(names[:-1000], names[-1000:])
                 job.write_text("\n".join(lines) + "\n")
-                other.write_text("\n".join(earlier) + "\n")
-                taken.append(seconds(program, job, ["--since", str(other)] if earlier else []))
+                if words[1:]:
+                    other.write_text("\n".join(words[1]) + "\n")
+                    words[1] = str(other)
+                taken.append(seconds(program, job, words))
             print(f"{kind.__name__:10}{taken[0]:8.3f}{taken[1]:8.3f}", flush=True)
             is_slow |= taken[0] > MOST * taken[1]
     sys.exit(is_slow)
