@@ -353,7 +353,7 @@ def removals_at_the_front(size):
 def removals_taken_back(size):
     """One batch takes out all devices of a host, the first each time, and is refused."""
     count = devices_for(size)
-    lines = filled(flat(count) + [OPERATOR, "begin"], size - 12, lambda n: f"rm osd.{n}", count)
+    lines = filled(flat(count) + [OPERATOR, "begin"], size - 12, lambda n: f"rm osd.{n}", min(count, MOST_CALLS - 1))
     return lines + ["rm x", "commit"]
 
 
