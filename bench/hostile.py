@@ -21,7 +21,8 @@ import tempfile
 MOST_DEVICES, MOST_BUCKETS, MOST_CALLS = 65536, 4096, 65536
 TYPES = ["type 0 osd", "type 1 host", "type 2 chassis", "type 3 rack", "type 11 root"]
 OPERATOR = "%operator a"
-# From here on, away from 0, ids are found by a hash and not in a table.
+# Devices from here on, away from 0, are found by a hash and not in a table; buckets, where the first that came is
+# nearer to 0.
 FAR = 131072
 
 
@@ -67,10 +68,12 @@ def nest(depth=MOST_BUCKETS, first_id=1):
     return lines
 
 
-def fork_at_the_foot(first_id):
-    """A nest whose innermost two buckets stand side by side, and the device in the one."""
-    depth = MOST_BUCKETS - 2
+def fork_at_the_foot(first_id, beside=()):
+    """A nest whose innermost two buckets stand side by side, and the device in the one, behind so many empty hosts."""
+    depth = MOST_BUCKETS - 2 - len(beside)
     lines = ["device 0 osd.0"] + TYPES
+    for number in beside:
+        lines += bucket("host", f"beside{number}", number, [])
     lines += bucket("host", "left", first_id + depth, [("osd.0", 1)])
     lines += bucket("host", "right", first_id + depth + 1, [])
     items = [("left", 1), ("right", 0)]
@@ -136,16 +139,21 @@ def deep_swaps(size):
     return filled(lines + [OPERATOR], size, lambda n: f"swap-bucket b0_{n % 2000} b1_{n % 2000}")
 
 
-def moves_at_the_foot(size, first_id=1):
+def moves_at_the_foot(size, first_id=1, beside=()):
     """One batch in which the device goes from one bucket at the foot of a nest to the one beside it, and back."""
-    lines = filled(fork_at_the_foot(first_id) + [OPERATOR, "begin"], size - 7,
+    lines = filled(fork_at_the_foot(first_id, beside) + [OPERATOR, "begin"], size - 7,
                    lambda n: f"move osd.0 host={['right', 'left'][n % 2]}", 65536)
     return lines + ["commit"]
 
 
 def moves_at_the_foot_of_far_ids(size):
-    """The same, with ids that no table has, so that a climb begins with a hash."""
+    """The same, with bucket ids far from 0."""
     return moves_at_the_foot(size, FAR)
+
+
+def moves_at_the_foot_of_near_and_far_ids(size):
+    """The same behind a bucket of a near id, so that each step of a climb takes a hash."""
+    return moves_at_the_foot(size, FAR, [1])
 
 
 def weights_at_the_foot(size, first_id=1):
@@ -171,7 +179,7 @@ def classes_at_the_foot(size):
 
 
 def batches_of_a_far_device(size):
-    """Batches of two on 10,000 devices, of which one has the last id that a table of places would have."""
+    """Batches of two on 10,000 devices, of which one has the last id that a table of places may have."""
     lines = flat(10000, 100)
     lines = [f"device {FAR - 1} far"] + lines
     return filled(lines + [OPERATOR], size, lambda n: f"begin\nreweight osd.{n % 10000} {n % 7}\nreweight osd.0 9\ncommit")
@@ -208,18 +216,18 @@ def batches_of_two_on(lines, edits):
     return lambda size: filled(lines + [OPERATOR], size, lambda n: f"begin\n{edits}\ncommit")
 
 
-# One device that no bucket holds, whose id is the last that a table of places would have
+# One device that no bucket holds, whose id is the last that a table of places may have
 batches_of_a_far_class = batches_of_two_on([f"device {FAR - 1} x"], "set-device-class c x\nrm-device-class x")
 
 # The same of two devices of which one is behind that table, each of its own kind of look-up
 batches_of_near_and_far_classes = batches_of_two_on(
     [f"device {FAR - 1} x", f"device {FAR} y"], "set-device-class c x\nset-device-class c y\nrm-device-class x\nrm-device-class y")
 
-# Two roots with the last ids that a table of slots would have
+# Two roots of far ids
 batches_of_far_roots = batches_of_two_on(
     TYPES + bucket("root", "a", FAR - 1, []) + bucket("root", "b", FAR - 2, []), "swap-bucket a b\nswap-bucket a b")
 
-# A device and a bucket of the last ids that such tables would have
+# A device and a bucket of far ids
 batches_of_a_far_device_and_a_far_bucket = batches_of_two_on(
     [f"device {FAR - 1} x"] + TYPES + bucket("host", "h", FAR - 1, [("x", 1)]), "rename-bucket h g\nrename-bucket g h")
 
@@ -462,7 +470,8 @@ INPUTS = {
     removals_taken_back, names_taken_back, moves_from_the_front, moves_there_and_back, subtrees, large_swaps, take_steps, pairs_over_types,
     routes_without_room, class_ids, new_buckets_of_class_ids, sixteen_operators, a_comment, a_word, blank_lines,
     comments_in_a_section, blanks_in_a_line, spaces_of_operators, moves_at_the_foot, moves_at_the_foot_of_far_ids,
-    weights_at_the_foot, weights_at_the_foot_of_far_ids, swaps_at_the_foot_of_far_ids, classes_at_the_foot,
+    moves_at_the_foot_of_near_and_far_ids, weights_at_the_foot, weights_at_the_foot_of_far_ids,
+    swaps_at_the_foot_of_far_ids, classes_at_the_foot,
     batches_of_a_far_device, batches_of_a_move_and_a_weight, full_swaps, swaps_of_far_ids, the_end_of_a_bucket,
     batches_of_new_names, batches_of_long_names, a_wide_level_over_a_nest, batches_of_sixteen_operators)}}
 

@@ -14,12 +14,13 @@ use crush_units::{ItemId, Name};
 use indexmap::IndexMap;
 use std::alloc::{AllocError, Global};
 
-/// The id of each name: in a table, or, where memory lacked as it came back, in a link.
+/// The id of each name.
 #[derive(Drop)]
 pub(crate) struct Names {
     machine: Global,
     hashing: Hashing,
     ids: IndexMap<Key, ItemId, IdentityHashing>,
+    /// Of names that came back where memory lacked.
     late: Chain<Key, ItemId>,
 }
 

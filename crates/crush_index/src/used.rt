@@ -17,12 +17,12 @@ use std::alloc::{AllocError, Global};
 const NEAR: u32 = 69696;
 
 /// The used ids, as distances below 0: near ones as bits of words, so that the first free one is
-/// found word by word, others by themselves, and in links those for which memory lacked as they came
-/// back. Words stay.
+/// found word by word, others by themselves. Words stay.
 #[derive(Drop)]
 pub(crate) struct UsedIds {
     words: Vec<u64>,
     far: IndexSet<u32, Hashing>,
+    /// Those that came back where memory lacked.
     late: Chain<u32, ()>,
     ghost few: { length words.items ≤ 1089 },
 }
