@@ -21,8 +21,7 @@ import tempfile
 MOST_DEVICES, MOST_BUCKETS, MOST_CALLS = 65536, 4096, 65536
 TYPES = ["type 0 osd", "type 1 host", "type 2 chassis", "type 3 rack", "type 11 root"]
 OPERATOR = "%operator a"
-# Devices from here on, away from 0, are found by a hash and not in a table; buckets, where the first that came is
-# nearer to 0.
+# From here on, away from 0, ids are found by a hash and not in a table.
 FAR = 131072
 
 
@@ -147,12 +146,12 @@ def moves_at_the_foot(size, first_id=1, beside=()):
 
 
 def moves_at_the_foot_of_far_ids(size):
-    """The same, with bucket ids far from 0."""
+    """The same, with ids that no table has, so that a climb begins with a hash."""
     return moves_at_the_foot(size, FAR)
 
 
 def moves_at_the_foot_of_near_and_far_ids(size):
-    """The same behind a bucket of a near id, so that each step of a climb takes a hash."""
+    """The same behind a bucket of a near id."""
     return moves_at_the_foot(size, FAR, [1])
 
 

@@ -42,15 +42,15 @@ names_sent = declared_send Names.the_type
 
 entries_sent : IsSend (DenseMap.the_row Entry.the_row)
 entries_sent = declared_send (DenseMap.the_type Entry.the_row)
-    (search (entry_send, sendable, crosses) depth 20, (search sendable, (search sendable, (search (map_send, entry_send, hashing_send, sendable, crosses) depth 20, (chain_sent _ Entry.the_row (search sendable) entry_send, (search sendable, tt))))))
+    (search (entry_send, sendable, crosses) depth 20, (search (map_send, entry_send, hashing_send, sendable, crosses) depth 20, (chain_sent _ Entry.the_row (search sendable) entry_send, (search sendable, tt))))
 
 numbers_sent : IsSend (DenseMap.the_row BucketId.the_row)
 numbers_sent = declared_send (DenseMap.the_type BucketId.the_row)
-    (search (bucket_id_send, sendable, crosses) depth 20, (search sendable, (search sendable, (search (map_send, bucket_id_send, hashing_send, sendable, crosses) depth 20, (chain_sent _ BucketId.the_row (search sendable) bucket_id_send, (search sendable, tt))))))
+    (search (bucket_id_send, sendable, crosses) depth 20, (search (map_send, bucket_id_send, hashing_send, sendable, crosses) depth 20, (chain_sent _ BucketId.the_row (search sendable) bucket_id_send, (search sendable, tt))))
 
 entered_sent : IsSend (DenseMap.the_row Slot.the_row)
 entered_sent = declared_send (DenseMap.the_type Slot.the_row)
-    (search (slot_send, sendable, crosses) depth 20, (search sendable, (search sendable, (search (map_send, slot_send, hashing_send, sendable, crosses) depth 20, (chain_sent _ Slot.the_row (search sendable) slot_send, (search sendable, tt))))))
+    (search (slot_send, sendable, crosses) depth 20, (search (map_send, slot_send, hashing_send, sendable, crosses) depth 20, (chain_sent _ Slot.the_row (search sendable) slot_send, (search sendable, tt))))
 
 slots_sent : IsSend Slots.the_row
 slots_sent = declared_send Slots.the_type (search (numbers_sent, sendable), (search (entered_sent, sendable), tt))

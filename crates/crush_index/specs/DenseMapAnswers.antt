@@ -1,5 +1,5 @@
--- What is told of numbers most of which are near to 0, or to the first that came.
-use Rattle.std.specs.Prelude.{◌≡◌, ℕ, ◌-◌, List, Option, None, if◌then◌else◌, nat_eq, nat_lt, get_or}
+-- What is told of numbers most of which are near to 0.
+use Rattle.std.specs.Prelude.{◌≡◌, ℕ, List, Option, None, if◌then◌else◌, nat_eq, get_or}
 use Rattle.std.specs.Option.{option_or}
 use Rattle.indexmap.specs.IndexMap.{IndexMap, get, hasher_of}
 use Rattle.crush_index.specs.Chains.{chain_answer}
@@ -7,13 +7,9 @@ use Rattle.crush_index.specs.declared.chain.Chain.{Chain}
 use Rattle.crush_index.specs.declared.hashing.Hashing.{Hashing}
 use Rattle.crush_index.specs.declared.dense_map.DenseMap.{DenseMap}
 
--- what an entry has, nothing past the last
+-- the entry of a number, none past the last
 abbrev pub entry_at : {T : Type 0} → List (Option T) → ℕ → Option T
 entry_at entries n = get_or entries n None
-
--- the entry of a number in a table whose first number is the base, none below it
-abbrev pub near_at : {T : Type 0} → List (Option T) → ℕ → ℕ → Option T
-near_at entries base n = if nat_lt n base then None else entry_at entries (n - base)
 
 -- what is kept of a number by itself, or, where nothing is, in a link
 abbrev pub far_at : {T S : Type 0} → IndexMap ℕ T S → Chain ℕ T → ℕ → Option T
@@ -21,7 +17,7 @@ far_at far late n = option_or (get nat_eq far n) (chain_answer (nat_eq n) late)
 
 -- what is kept of a number: its entry, or, where that is empty, what is kept further off
 unfoldable pub answer_at : {T : Type 0} → DenseMap T → ℕ → Option T
-answer_at dense_map n = option_or (near_at dense_map.near.items dense_map.base n) (far_at dense_map.far dense_map.late n)
+answer_at dense_map n = option_or (entry_at dense_map.near.items n) (far_at dense_map.far dense_map.late n)
 
 -- the same of each number as before
 abbrev pub DenseMapSame : {T : Type 0} → DenseMap T → DenseMap T → Type 0

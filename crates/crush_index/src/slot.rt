@@ -11,20 +11,12 @@ pub(crate) enum Among {
     Slot(BucketId),
 }
 
-impl Among {
-    /// The number of the slot, or 0.
-    pub(crate) fn slot(self) -> u32 {
-        match self {
-            Among::Roots | Among::Unplaced => 0,
-            Among::Slot(slot) => slot.distance(),
-        }
-    }
-}
-
 /// What is kept of an item.
 #[derive(Clone, Copy)]
 pub(crate) struct Entry {
     pub(crate) among: Among,
+    /// Where the slot is probably kept.
+    pub(crate) slot_hint: u32,
     /// Which of them it probably is, from 0.
     pub(crate) hint: u32,
 }
