@@ -115,7 +115,7 @@ def made_faults():
 
 def edit_faults():
     """The must-fail edits whose names have no function of their crate, by which they are found, but for those of `{}`."""
-    for folder in sorted(TOP.glob("crates/*/must-fail")):
+    for folder in sorted([*TOP.glob("crates/*/must-fail"), *TOP.glob("crates/*/wrong")]):
         sources = "".join(path.read_text() for path in (folder.parent / "src").rglob("*.rt"))
         functions = set(re.findall(r"\bfn (\w+)", sources))
         for path in sorted(folder.glob("*.edit")):
