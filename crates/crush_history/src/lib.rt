@@ -4,6 +4,8 @@
 #![tactic(auto)]
 
 mod call;
+mod ceph;
+mod device;
 mod entry;
 mod history;
 mod law;
@@ -13,6 +15,8 @@ mod refused;
 mod script;
 
 pub use call::{Call, Edits, Reply};
+pub use ceph::{push_ceph_heading, push_ceph_line};
+pub use device::device_named;
 pub use entry::{Entry, Slip, count_changes, is_change};
 pub use history::{history_text, operator_name, write_entry};
 pub use law::{runs_keep_lawful, same_count_is_same_table, turns_are_history};

@@ -16,7 +16,8 @@ use Rattle.crush_script.specs.declared.command.Placing.{Placing}
 use Rattle.crush_script.specs.declared.command.LineFault.{LineFault}
 use Rattle.crush_script.specs.declared.command.LineFault.TheVariants.{BadLine, NoSuchCommand}
 use Rattle.crush_text.specs.Flow.{◌>>=◌}
-use Rattle.crush_script.specs.Words.{pair_of, can_add, count_of, device_named}
+use Rattle.crush_history.specs.Said.{device_named}
+use Rattle.crush_script.specs.Words.{pair_of, can_add, count_of}
 
 -- what was read, and the words behind it
 pub record Read (X : Type 0) : Type 0 where

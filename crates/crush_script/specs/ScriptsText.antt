@@ -10,7 +10,7 @@ use Rattle.crush_history.specs.declared.call.Call.TheVariants.{One, Batch, Guard
 use Rattle.crush_history.specs.Script.{ScriptData, call_count}
 use Rattle.crush_history.specs.HistoryText.{edit_text, names_of}
 use Rattle.crush_script.specs.Lines.{length_to_section}
-use Rattle.crush_script.specs.Printed.{IsSaid}
+use Rattle.crush_history.specs.Said.{IsSaid}
 use Rattle.crush_script.specs.Job.{IsJob, JobData}
 
 -- a line for an edit, and of a batch one before its edits and one behind them

@@ -1,11 +1,9 @@
--- What one word of a command says: a pair, a device's name, or a number of changes.
-use Rattle.std.specs.Prelude.{ℕ, ◌+◌, ◌==◌, Bool, not, ◌&&◌, ◌||◌, List, length, take, drop, slice_index, codes, bytes_eq, nat_le, nat_lt, Option, Some, None, if◌then◌else◌}
+-- What one word of a command says: a pair, or a number of changes.
+use Rattle.std.specs.Prelude.{ℕ, ◌+◌, ◌==◌, Bool, not, ◌&&◌, List, length, take, drop, nat_le, nat_lt, Option, Some, None, if◌then◌else◌}
 use Rattle.std.specs.List.{list_all, position_or_len}
 use Rattle.std.specs.Char.{is_ascii_digit}
 use Rattle.std.specs.Str.Parse.{digits_value}
 use Rattle.crush_units.specs.Name.{is_name}
-use Rattle.crush_units.specs.Weight.{are_digits}
-use Rattle.crush_units.specs.Id.{device_from}
 use Rattle.crush_units.specs.declared.limits.TheConstants.{MOST_ENTRIES, MOST_PAIRS}
 use Rattle.crush_edits.specs.declared.location.Pair.{Pair}
 
@@ -19,16 +17,6 @@ pair_of word = record { kind = take (equals_at word) word; name = drop (equals_a
 -- there is room for the pair, and its two parts are names, so that the word has one `=`
 abbrev pub can_add : List Pair → Pair → Bool
 can_add l p = nat_lt (length l) MOST_PAIRS && (is_name p.kind && is_name p.name)
-
--- 1 to 10 digits, the first of which is no 0 where there is another
-abbrev pub is_plain : List ℕ → Bool
-is_plain digits = are_digits 10 digits && (length digits == 1 || not (slice_index digits 0 == 48))
-
--- the id of the device `osd.N`, which is N
-abbrev pub device_named : List ℕ → Option ℕ
-device_named name =
-    if bytes_eq (take 4 name) (codes "osd.") && is_plain (drop 4 name) then device_from (digits_value 10 (drop 4 name))
-    else None
 
 -- a number of changes: digits, however many, of a value that a history can have
 abbrev pub is_count : List ℕ → Bool

@@ -5,8 +5,9 @@ ghost use Rattle.crush_script.specs.ReadsAs.{ReadsAs, ReadsAndLeaves};
 ghost use Rattle.crush_script.specs.Command.{command, operator, name_at, weight_at, end_at, with_pair, location_at, placing_at, located_at, one_name_at, two_names_at, weighed_at, keyword_of, edit_to_place, edit_of, edit_at, begin_at, count_at};
 
 use crate::line::{LineWords, place_of};
-use crate::word::{count_of, device_named};
+use crate::word::count_of;
 use crush_edits::{Edit, Location, LocationFault};
+use crush_history::device_named;
 use crush_units::{DeviceId, Name, NameFault, Weight};
 use std::alloc::Global;
 

@@ -16,4 +16,4 @@ pub use fault::JobFault;
 pub use job::{Job, read_job};
 pub use law::{printed_is_read, scripts_are_read_back};
 pub use line::{LineWords, line_feeds, map_part};
-pub use word::{count_of, cut_pair, device_named};
+pub use word::{count_of, cut_pair};

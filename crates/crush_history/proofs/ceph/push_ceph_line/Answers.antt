@@ -1,9 +1,9 @@
 use Rattle.std.proofs.Common.{◌++◌, codes}
 use Rattle.std.proofs.lemmas.Result.{on_ok_weaker}
 use Rattle.crush_history.specs.HistoryText.{edit_text}
-use Rattle.crush_reasons.specs.Ceph.{assent}
-use Rattle.crush_reasons.proofs.Lines.{three_pushed}
-use Rattle.crush_reasons.proofs.ceph.push_ceph_line.Goals as goal
+use Rattle.crush_history.specs.Ceph.{assent}
+use Rattle.crush_history.proofs.Pushed.{three_pushed}
+use Rattle.crush_history.proofs.ceph.push_ceph_line.Goals as goal
 
 pub returns : goal.returns
 returns c =
