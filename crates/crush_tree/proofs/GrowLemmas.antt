@@ -1,5 +1,5 @@
 -- A place that grows: what becomes of the forest.
-use Rattle.std.proofs.Common.{◌≡◌, ℕ, ◌*◌, ◌<◌, ◌≤◌, Bool, true, false, [], ap, sym, subst, ◌∙◌, refl, arith, eqb-true, Option, Some, None, Result, Ok, Err, Vec, vec_capacity, ⊎_elim, ◌⊎◌, inl, inr}
+use Rattle.std.proofs.Common.{◌≡◌, ℕ, ◌*◌, ◌+◌, ◌<◌, ◌≤◌, Bool, true, false, [], ap, sym, subst, ◌∙◌, refl, arith, eqb-true, Option, Some, None, Result, Ok, Err, Vec, vec_capacity, ⊎_elim, ◌⊎◌, inl, inr}
 use Rattle.crush_model.specs.Forest.{ForestData, rows_of, IsSound}
 use Rattle.crush_model.specs.Items.{Items}
 use Rattle.crush_model.specs.Stands.{Stands}
@@ -27,6 +27,7 @@ pub record IsEnlarged {A Z : Type 0} (p : Place) (f g : ForestData) (out : Vec (
   pub enough : count_at p f ≤ vec_capacity out
   pub full : vec_capacity out ≤ count_at p f
   pub half : 3 * vec_capacity out < 2 * memory
+  pub most : 2 * memory ≤ 3 * vec_capacity out + 2
 
 abbrev pub IsGrownAt : {A Z E : Type 0} → Place → ForestData → ForestData → Result (Option (Vec (Node A) Z)) E → Type 0
 IsGrownAt p f g (Err e) = g ≡ f
@@ -51,6 +52,7 @@ grown_bucket b f g t u (Ok (Some out)) sound there same is grown =
       enough = omega (arith, it.enough, counted);
       full = omega (arith, it.full, it.capacity, counted);
       half = it.half;
+      most = it.most;
     }
 
 pub grown_roots : {A Z E : Type 0} (f : ForestData) (old new : Vec (Node A) Z) (r : Result (Option (Vec (Node A) Z)) E) → f.roots ≡ items_of old.items → f.root_capacity ≡ vec_capacity old → IsGrown old new r
@@ -68,6 +70,7 @@ grown_roots f old new (Ok (Some out)) items memory grown = record {
   enough = omega (arith, grown.some.2, ap count items, count-items_of old.items, old.ok.0, old.ok.1);
   full = omega (arith, grown.some.2, grown.some.3, ap count items, count-items_of old.items, old.ok.0);
   half = grown.some.4;
+  most = grown.some.5;
 }
 
 pub grown_unplaced : {A Z E : Type 0} (f : ForestData) (old new : Vec (Node A) Z) (r : Result (Option (Vec (Node A) Z)) E) → f.unplaced ≡ items_of old.items → f.unplaced_capacity ≡ vec_capacity old → IsGrown old new r
@@ -85,6 +88,7 @@ grown_unplaced f old new (Ok (Some out)) items memory grown = record {
   enough = omega (arith, grown.some.2, ap count items, count-items_of old.items, old.ok.0, old.ok.1);
   full = omega (arith, grown.some.2, grown.some.3, ap count items, count-items_of old.items, old.ok.0);
   half = grown.some.4;
+  most = grown.some.5;
 }
 
 -- THE FOREST stays sound
@@ -119,6 +123,7 @@ grows p f g (Err e) sound there grown = record {
   full = tt;
   moved = tt;
   half = tt;
+  most = tt;
   none = tt;
   err = grown;
 }
@@ -131,6 +136,7 @@ grows p f g (Ok None) sound there grown = record {
   full = tt;
   moved = tt;
   half = tt;
+  most = tt;
   none = grown.0;
   err = tt;
 }
@@ -150,6 +156,7 @@ grows p f g (Ok (Some out)) sound there grown =
       full = omega (arith, old, grown.full, grown.capacity);
       moved = subst (λ m. Rehouses p m f g out) (sym now) it;
       half = omega (arith, grown.half, grown.capacity, now);
+      most = omega (arith, grown.most, grown.capacity, now);
       none = tt;
       err = tt;
     }

@@ -1,5 +1,5 @@
 -- A place of a forest whose items are moved into other memory.
-use Rattle.std.specs.Prelude.{◌≡◌, ◌*◌, ◌-◌, ◌<◌, ◌≤◌, ℕ, [], true, false, List, Option, Result, OnErr, OnOk, IfNone, IfOk, IfSome, Vec, vec_capacity}
+use Rattle.std.specs.Prelude.{◌≡◌, ◌*◌, ◌+◌, ◌-◌, ◌<◌, ◌≤◌, ℕ, [], true, false, List, Option, Result, OnErr, OnOk, IfNone, IfOk, IfSome, Vec, vec_capacity}
 use Rattle.crush_model.specs.Forest.{ForestData, rows_of}
 use Rattle.crush_model.specs.Stands.{Stands}
 use Rattle.crush_model.specs.Table.{Row}
@@ -53,5 +53,6 @@ pub record Grows {A Z E : Type 0} (p : Place) (old new : ForestData) (answer : R
   pub full : IfOk answer (λ it. IfSome it (λ before. room_at old p ≡ 0))
   pub moved : IfOk answer (λ it. IfSome it (λ before. Rehouses p (capacity new p) old new before))
   pub half : IfOk answer (λ it. IfSome it (λ before. 3 * capacity old p < 2 * capacity new p))
+  pub most : IfOk answer (λ it. IfSome it (λ before. 2 * capacity new p ≤ 3 * capacity old p + 2))
   pub none : IfOk answer (λ it. IfNone it (new ≡ old))
   pub err : OnErr answer (new ≡ old)

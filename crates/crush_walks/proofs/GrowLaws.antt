@@ -36,6 +36,7 @@ bucket_grown h w e old new (Ok (Some out)) same grown = (
     enough = omega (arith, grown.some.2, count-items_of old.items, old.ok.0, old.ok.1, ap (λ (d : BucketData). count d.kids) same);
     full = omega (arith, grown.some.3, count-items_of old.items, old.ok.0, ap (λ (d : BucketData). count d.kids) same, ap (λ (d : BucketData). d.capacity) same);
     half = grown.some.4;
+    most = grown.some.5;
   },
 )
 

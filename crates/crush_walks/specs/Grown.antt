@@ -1,5 +1,5 @@
 -- A bucket, or a list of items, that is full and gets more memory, with the memory before handed out.
-use Rattle.std.specs.Prelude.{◌≡◌, ℕ, ◌*◌, ◌<◌, ◌≤◌, [], Option, Some, None, Result, Ok, Err, IfNone, IfOk, IfSome, OnErr, Vec, vec_capacity, vec_len}
+use Rattle.std.specs.Prelude.{◌≡◌, ℕ, ◌*◌, ◌+◌, ◌<◌, ◌≤◌, [], Option, Some, None, Result, Ok, Err, IfNone, IfOk, IfSome, OnErr, Vec, vec_capacity, vec_len}
 use Rattle.crush_units.specs.declared.id.ItemId.TheVariants.{Bucket}
 use Rattle.crush_model.specs.Items.{Items, none, device, bucket}
 use Rattle.crush_nodes.specs.Ops.{part_of}
@@ -11,7 +11,7 @@ use Rattle.crush_walks.specs.Swapping.{first_as_bucket}
 -- old became new, which has room for one item more: it had it, or it was full, what it held moved into memory half as large again, and the answer is the memory before; an error leaves it as it was
 pub record IsGrown {X Z E : Type 0} (old new : Vec X Z) (answer : Result (Option (Vec X Z)) E) : Type 0 where
   pub none : IfOk answer (λ it. IfNone it ((new ≡ old) × (vec_len old < vec_capacity old)))
-  pub some : IfOk answer (λ it. IfSome it (λ before. (new.items ≡ old.items) × (before.items ≡ []) × (vec_capacity before ≡ vec_capacity old) × (vec_capacity old ≤ vec_len old) × (3 * vec_capacity before < 2 * vec_capacity new)))
+  pub some : IfOk answer (λ it. IfSome it (λ before. (new.items ≡ old.items) × (before.items ≡ []) × (vec_capacity before ≡ vec_capacity old) × (vec_capacity old ≤ vec_len old) × (3 * vec_capacity before < 2 * vec_capacity new) × (2 * vec_capacity new ≤ 3 * vec_capacity before + 2)))
   pub err : OnErr answer (new ≡ old)
 
 -- the first of the items is a bucket
@@ -27,6 +27,7 @@ pub record IsLarger {A Z : Type 0} (x : Items) (m : ℕ) (out : Vec (Node A) Z) 
   pub enough : count (first_as_bucket x).kids ≤ vec_capacity out
   pub full : (first_as_bucket x).capacity ≤ count (first_as_bucket x).kids
   pub half : 3 * vec_capacity out < 2 * m
+  pub most : 2 * m ≤ 3 * vec_capacity out + 2
 
 -- the bucket x became y: its vector has grown, as above
 abbrev pub IsGrownBucket : {A Z E : Type 0} → Items → Items → Result (Option (Vec (Node A) Z)) E → Type 0
