@@ -158,7 +158,7 @@ impl ItemId {
         }
     }
 
-    /// Whether both ids are equal, and so are ids of the same item.
+    /// Whether both are the id of the same item.
     pub fn is_same(self, other: ItemId) -> bool
         ensures value { result ≡ same_id self other }
         ensures exact { IsTrue result ↔ (self ≡ other) }

@@ -1,5 +1,5 @@
-//! The text of a name. A text of up to 30 bytes is stored in the value itself, so that most names
-//! need no memory from an allocator.
+//! The text of a name. A text of up to 30 bytes is stored in the value itself, so that it needs no
+//! memory from an allocator.
 
 ghost use Rattle.std.specs.Prelude.{◌≡◌, ◌≤◌, ◌<◌, IfOk, IfErr, OnErr, length};
 ghost use Rattle.std.specs.Str.{IsUtf8};

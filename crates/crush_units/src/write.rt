@@ -48,8 +48,8 @@ pub fn put<W: Write>(out: &mut W, bytes: &[u8]) -> Result<(), WriteFault>
     Ok(())
 }
 
-/// Writes the parts to `out`, one after the other, as [`put`] does. If it fails, then with `Write`,
-/// and a prefix of the joined parts that isn't the whole has been written.
+/// Writes the parts to `out`, one after the other, as [`put`] writes its bytes. If this fails, the
+/// fault is `Write`, and a prefix of the joined parts that isn't the whole has been written.
 pub fn put_all<W: Write>(out: &mut W, parts: &[&[u8]]) -> Result<(), WriteFault>
     ensures writes { Writes result (W.contents out.old) (W.contents out.new)
         (flat_map (λ part. part.now) parts.now) }
