@@ -19,14 +19,15 @@ pub fn sums_are_those_of_items()
     ensures ends { (t : List Row) → Lawful t → ClimbEnds t }
 {}
 
-/// The law that reading gives equal results on tables that are the same. They are the same if they
-/// have the same rows in whatever order, and each bucket's items in the same order. If one of
-/// the tables is lawful, so is the other.
+/// The law that reading gives equal results on a lawful table and on each table that is the same,
+/// which is lawful too. Two tables are the same if they have the same rows in whatever order, and
+/// the items of each bucket in the same order.
 pub fn same_tables_are_read_alike()
     ensures { SameIsAlike }
 {}
 
-/// The law that each of these changes takes tables that are the same to tables that are the same.
+/// The law that each of these changes, made to two lawful tables that are the same, results in
+/// tables that are the same.
 pub fn changes_keep_same()
     ensures weight { (i : ItemId) (w : ℕ) → KeepsSame (set_weight i w) }
     ensures subtree { (b w : ℕ) → KeepsSame (set_subtree b w) }
