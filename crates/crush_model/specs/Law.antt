@@ -74,7 +74,7 @@ pub record AreFreeIds (t : List Row) (n : ℕ) (ids : List ℕ) : Type 0 where
   pub unused : All (λ k. member k (used_ids t) ≡ false) ids
   pub once : (k : ℕ) → count_by (λ u. u == k) ids ≤ 1
 
--- the first n free ids are free ids, if there are no more used ids and n together than bucket ids
+-- the first n free ids are in range, unused and distinct, if the number of used ids plus n is at most the number of bucket ids, 2^31
 abbrev pub FreeIdsAreFree : Type 0
 FreeIdsAreFree = (t : List Row) (n : ℕ) → length (used_ids t) + n ≤ FARTHEST_BUCKET_ID
     → AreFreeIds t n (free_ids t n)

@@ -1,5 +1,5 @@
-//! Laws about tables. Each is the contract of a function that does nothing. Proofs cite these laws,
-//! and no program calls the functions.
+//! Laws about tables. Each law is stated as the contract of a function that does nothing, so no
+//! program needs to call these functions.
 
 ghost use Rattle.std.specs.Prelude.{◌≡◌, ◌↔◌, ℕ, List, Option, ◌++◌, true};
 ghost use Rattle.crush_units.specs.declared.id.ItemId.{ItemId};
@@ -69,14 +69,14 @@ pub fn placed_rows_keep_their_form()
     ensures device { PlacedDeviceKeepsForm }
 {}
 
-/// The law that moving an item with all below it changes just the item's own row: the row gets
-/// another parent and becomes the last.
+/// The law that moving an item of a lawful table with all items below it changes just the item's
+/// own row: the row gets another parent and becomes the last.
 pub fn moves_are_of_one_row()
     ensures { (t : List Row) → Lawful t → Relocates t }
 {}
 
-/// The law that moving a device and giving it another weight changes just the device's own row: the
-/// row gets another parent and weight and becomes the last.
+/// The law that moving a device of a lawful table and giving it another weight changes just the
+/// device's own row: the row gets another parent and weight and becomes the last.
 pub fn moves_of_devices_are_of_one_row()
     ensures { (t : List Row) → Lawful t → RelocatesDevice t }
 {}
@@ -89,7 +89,7 @@ pub fn free_ids_are_free()
 {}
 
 /// The law that the tests for sums and for the number of items have equal results on tables that
-/// are the same.
+/// are the same. For the sums no id may be in a table twice.
 pub fn tests_are_alike()
     ensures sums { HeavyIsAlike }
     ensures room { RoomIsAlike }
@@ -111,7 +111,7 @@ pub fn counts_add()
     ensures { (t u : List Row) → AddsRows t u }
 {}
 
-/// The law that a table is lawful if and only if it passes the test [`is_lawful`], which computes.
+/// The law that a table is lawful if and only if it passes the test `is_lawful`, which computes.
 pub fn lawful_is_what_passes()
     ensures { (t : List Row) → (is_lawful t ≡ true) ↔ Lawful t }
 {}
