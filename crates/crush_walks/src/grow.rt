@@ -33,7 +33,8 @@ pub fn grow_in<A: Allocator + Clone, W: Way>(
     change_at(items, way, &ItemId::Bucket(place), Grow)
 }
 
-/// Like [`grow_in`], but for a vector of items that no bucket holds.
+/// Ensures that a vector of items has room for one more item, as [`grow_in`] does for a bucket,
+/// with the same results.
 pub fn grow_all<A: Allocator + Clone>(
     items: &mut Vec<Node<A>, A>,
 ) -> Result<Option<Vec<Node<A>, A>>, AllocError>
