@@ -1,4 +1,4 @@
--- A bucket that grows: what becomes of it, and of the items.
+-- A bucket whose memory grows: how the bucket and the items change.
 use Rattle.std.proofs.Common.{◌≡◌, ℕ, ap, sym, subst, ◌∙◌, arith, Option, Some, None, Result, Ok, Err, Vec, vec_capacity}
 use Rattle.crush_units.specs.declared.id.ItemId.TheVariants.{Bucket}
 use Rattle.crush_model.specs.Items.{BucketData, HeaderData, Items, none, bucket}
@@ -18,7 +18,7 @@ use Rattle.crush_walks.proofs.RehouseLaws.{rehoused, room_of_bucket, StoresUpTo-
 pub bucket_taken : (b : ℕ) (t : Items) → count_of_id (Bucket b) t ≡ 1 → IsBucket (part_of (Bucket b) t)
 bucket_taken b t one = one_taken IsBucket (Bucket b) t one (λ d here. absurd (omega (arith, here))) (λ h w m k here gone. tt)
 
--- THE BUCKET d, which e stands for, with the vector of its items before and after
+-- THE BUCKET d, which is e as plain data, with the vector of its items before and after
 pub bucket_grown : {A Z E : Type 0} (h : HeaderData) (w : ℕ) (e : BucketData) (old new : Vec (Node A) Z) (r : Result (Option (Vec (Node A) Z)) E)
     → record { header = h; weight = w; capacity = vec_capacity old; kids = items_of old.items } ≡ e → IsGrown old new r
     → IsGrownBucket (bucket e.header e.weight e.capacity e.kids none) (bucket h w (vec_capacity new) (items_of new.items) none) r

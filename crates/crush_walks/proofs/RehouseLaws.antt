@@ -1,4 +1,4 @@
--- A bucket whose items are moved into other memory: what becomes of the items.
+-- A bucket whose items move to another vector: how the items change.
 use Rattle.std.proofs.Common.{◌≡◌, ℕ, ◌+◌, ◌-◌, ◌≤◌, Bool, true, false, ap, sym, ◌∙◌, refl, arith, eqb-true}
 use Rattle.std.specs.Prelude.{◌==◌, if◌then◌else◌}
 use Rattle.crush_units.specs.declared.id.ItemId.{ItemId}
@@ -28,7 +28,7 @@ with_capacity-absent b m none e = refl
 with_capacity-absent b m (device d r) e = ap (device d) (with_capacity-absent b m r (omega (arith, e)))
 with_capacity-absent b m (bucket h w n k r) e = λ j. bucket h w (pick_no (h.id == b) m n (omega (arith, e)) j) (with_capacity-absent b m k (omega (arith, e)) j) (with_capacity-absent b m r (omega (arith, e)) j)
 
--- NOTHING BUT MEMORY: the items are the same but for it, and so are weights, sums and how many there are
+-- ONLY MEMORY CHANGES: the items are otherwise the same, and so are weights, sums and counts
 pub without_capacity-with_capacity : (b m : ℕ) (t : Items) → without_capacity (with_capacity b m t) ≡ without_capacity t
 without_capacity-with_capacity b m none = refl
 without_capacity-with_capacity b m (device d r) = ap (device d) (without_capacity-with_capacity b m r)
@@ -54,7 +54,7 @@ count-with_capacity b m none = refl
 count-with_capacity b m (device d r) = ap (λ z. 1 + z) (count-with_capacity b m r)
 count-with_capacity b m (bucket h w n k r) = ap (λ z. 1 + z) (count-with_capacity b m r)
 
--- THE CHANGE: what comes of the bucket makes of the items those with its memory
+-- THE CHANGE: with the changed bucket in place of the old one, the items are those with its new capacity
 rehoused_taken : (b m : ℕ) (t : Items) → count_of_id (Bucket b) t ≡ 1 → with_own_capacity m (part_of (Bucket b) t) ≡ with_capacity b m (part_of (Bucket b) t)
 rehoused_taken b m t one = one_taken (λ x. with_own_capacity m x ≡ with_capacity b m x) (Bucket b) t one
     (λ d here. absurd (omega (arith, here)))
@@ -74,7 +74,7 @@ held_up_to m none le = absurd le
 held_up_to m (device d r) le = absurd le
 held_up_to m (bucket h w n k r) le = le
 
--- TWICE: of two memories the last stays, and with the first one the items are what they were
+-- TWICE: the second of two capacities replaces the first, and with the original capacity the items are the same as before
 last_capacity : (c : Bool) (m n o : ℕ) → (if c then m else (if c then n else o)) ≡ (if c then m else o)
 last_capacity true m n o = refl
 last_capacity false m n o = refl
@@ -97,7 +97,7 @@ with_capacity-own b t one =
 pub rehoused_back : (b m : ℕ) (t : Items) → count_of_id (Bucket b) t ≡ 1 → with_capacity b (bucket_in b t).capacity (with_capacity b m t) ≡ t
 rehoused_back b m t one = with_capacity-twice b (bucket_in b t).capacity m t ∙ with_capacity-own b t one
 
--- WHAT IS READ of the bucket then: its new memory, and as many items
+-- WHAT IS READ of the bucket afterwards: its new capacity, and as many items as before
 parts_device : (c : Bool) (b m : ℕ) (d : LeafData) (x y : Items) → x ≡ with_capacity b m y → (if c then device d x else x) ≡ with_capacity b m (if c then device d y else y)
 parts_device true b m d x y e = ap (device d) e
 parts_device false b m d x y e = e
@@ -129,7 +129,7 @@ count_of_id-with_capacity b m i none = refl
 count_of_id-with_capacity b m i (device d r) = ap (λ z. one_if (same_id (Device d.id) i) + z) (count_of_id-with_capacity b m i r)
 count_of_id-with_capacity b m i (bucket h w n k r) = λ j. one_if (same_id (Bucket h.id) i) + (count_of_id-with_capacity b m i k j + count_of_id-with_capacity b m i r j)
 
--- ROOM: a bucket has it for as many as its memory has more than it holds, and another bucket's is what it was
+-- ROOM: a bucket's room is its capacity less the number of its items, and the room of another bucket doesn't change
 pub room_of_bucket : (b : ℕ) (t : Items) → count_of_id (Bucket b) t ≡ 1 → bucket_room b t ≡ (bucket_in b t).capacity - count (bucket_in b t).kids
 room_of_bucket b t one =
     let a = taken_bucket b t one in

@@ -1,4 +1,4 @@
-//! Setting classes.
+//! Setting the class of a device.
 
 ghost use Rattle.std.specs.Prelude.{◌≡◌};
 ghost use Rattle.crush_units.specs.declared.id.ItemId.TheVariants.{Device};
@@ -14,7 +14,7 @@ use crush_nodes::way::Way;
 use crush_units::{DeviceId, ItemId, Name};
 use std::alloc::Allocator;
 
-/// Gives a device another class, or none, and hands out the old one.
+/// Gives a device another class, or none, and returns the old class. `way` leads to the device.
 pub fn set_class_in<A: Allocator, W: Way>(
     items: &mut [Node<A>],
     way: &W,

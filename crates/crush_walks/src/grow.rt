@@ -1,4 +1,5 @@
-//! More memory for items, with the memory before handed out, so that it can be taken back.
+//! Growing the memory of items in a way that can be undone: the old vector is returned, and
+//! `rehouse` moves the items back to it without allocating.
 
 ghost use Rattle.std.specs.Prelude.{◌∷◌, []};
 ghost use Rattle.crush_units.specs.declared.id.ItemId.TheVariants.{Bucket as BucketItem};
@@ -15,8 +16,11 @@ use crush_nodes::way::Way;
 use crush_units::{BucketId, ItemId};
 use std::alloc::{AllocError, Allocator};
 
-/// Makes room for one more item in a bucket: where it is full, its items move into memory half as
-/// large again, and the memory before is handed out.
+/// Ensures that a bucket has room for one more item. If it is full, moves its items to a vector
+/// with more than 1.5 times the capacity, and returns the old vector, now empty, so that the growth
+/// can be undone. Returns `Ok(None)` and changes nothing if the bucket has room. Fails with
+/// `AllocError` if memory can't be allocated, and then nothing has changed. `way` leads to the
+/// bucket.
 pub fn grow_in<A: Allocator + Clone, W: Way>(
     items: &mut [Node<A>],
     way: &W,
@@ -29,7 +33,8 @@ pub fn grow_in<A: Allocator + Clone, W: Way>(
     change_at(items, way, &ItemId::Bucket(place), Grow)
 }
 
-/// Makes room for one more item among all that stand together.
+/// Ensures that a vector of items has room for one more item, as [`grow_in`] does for a bucket,
+/// with the same results.
 pub fn grow_all<A: Allocator + Clone>(
     items: &mut Vec<Node<A>, A>,
 ) -> Result<Option<Vec<Node<A>, A>>, AllocError>
@@ -43,7 +48,8 @@ pub fn grow_all<A: Allocator + Clone>(
     Ok(Some(rehouse_all(items, larger)))
 }
 
-/// Room for one more item in a bucket; it hands out the memory before, where it took more.
+/// A change that ensures room for one more item in a bucket. Returns the old vector if the items
+/// moved to a larger one.
 #[derive(Drop)]
 struct Grow;
 

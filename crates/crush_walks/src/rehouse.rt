@@ -1,4 +1,4 @@
-//! Items moved into other memory.
+//! Moving items to another vector, without allocating.
 
 ghost use Rattle.std.specs.Prelude.{◌≡◌, ◌+◌, ◌≤◌, [], ◌++◌, vec_capacity, vec_len};
 ghost use Rattle.crush_units.specs.declared.id.ItemId.TheVariants.{Bucket as BucketItem};
@@ -17,8 +17,9 @@ use crush_units::{BucketId, ItemId};
 use std::alloc::Allocator;
 use std::mem;
 
-/// Moves the items of a bucket into an empty vector with memory for them, and hands out the one in
-/// which they were.
+/// Moves the items of a bucket, in order, to `given`, an empty vector with enough capacity, which
+/// becomes the bucket's. Returns the old vector, now empty. A second call with the old vector
+/// undoes the first. `way` leads to the bucket.
 pub fn rehouse_in<A: Allocator, W: Way>(
     items: &mut [Node<A>],
     way: &W,
@@ -39,8 +40,8 @@ pub fn rehouse_in<A: Allocator, W: Way>(
     change_at(items, way, &ItemId::Bucket(place), Rehouse { items: given })
 }
 
-/// Moves all items into an empty vector with memory for them, which takes the place of the one in
-/// which they were; this is handed out.
+/// Moves all items, in order, to `given`, an empty vector with enough capacity, which takes the
+/// place of `items`. Returns the old vector, now empty.
 pub fn rehouse_all<A: Allocator>(
     items: &mut Vec<Node<A>, A>,
     mut given: Vec<Node<A>, A>,
@@ -56,6 +57,7 @@ pub fn rehouse_all<A: Allocator>(
     mem::replace(items, given)
 }
 
+/// Appends all items of `from` to `to`, which has room for them.
 fn move_all<A: Allocator>(from: &mut Vec<Node<A>, A>, to: &mut Vec<Node<A>, A>)
     requires { vec_len to.old + vec_len from.old ≤ vec_capacity to.old }
     ensures items { to.new.items ≡ to.old.items ++ from.old.items }
@@ -68,7 +70,7 @@ fn move_all<A: Allocator>(from: &mut Vec<Node<A>, A>, to: &mut Vec<Node<A>, A>)
     }
 }
 
-/// The items of a bucket moved into an empty vector; it hands out the one in which they were.
+/// A change that moves the items of a bucket to an empty vector. Returns the old vector, now empty.
 #[derive(Drop)]
 struct Rehouse<A: Allocator> {
     items: Vec<Node<A>, A>,

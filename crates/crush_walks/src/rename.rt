@@ -1,4 +1,4 @@
-//! New names.
+//! Renaming an item.
 
 ghost use Rattle.std.specs.Prelude.{◌≡◌, Some};
 ghost use Rattle.crush_walks.specs.Named.{name_in, with_name};
@@ -13,7 +13,7 @@ use crush_nodes::way::Way;
 use crush_units::{ItemId, Name};
 use std::alloc::Allocator;
 
-/// Gives an item another name, and hands out the old one.
+/// Gives an item another name, and returns the old name. `way` leads to the item.
 pub fn rename_in<A: Allocator, W: Way>(
     items: &mut [Node<A>],
     way: &W,

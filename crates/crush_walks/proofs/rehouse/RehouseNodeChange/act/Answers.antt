@@ -25,7 +25,7 @@ rehouse_all-requires g c =
 became : (m n : ℕ) (kids : Items) (d e : BucketData) → d ≡ e → n ≡ m → kids ≡ d.kids → bucket d.header d.weight n kids none ≡ with_own_capacity m (bucket e.header e.weight e.capacity e.kids none)
 became m n kids d e same memory kept = λ j. bucket ((same j).header) ((same j).weight) (memory j) ((kept ∙ ap (λ (z : BucketData). z.kids) same) j) none
 
--- and what is handed out
+-- and what is returned
 rehoused : {A Z : Type 0} (m n : ℕ) (kids : Items) (d e : BucketData) (out : Vec (Node A) Z) → d ≡ e → n ≡ m → kids ≡ d.kids → out.items ≡ [] → vec_capacity out ≡ d.capacity → count d.kids ≤ d.capacity
     → IsRehoused m (bucket e.header e.weight e.capacity e.kids none) (bucket d.header d.weight n kids none) out
 rehoused m n kids d e out same memory kept empty held fits = record {
