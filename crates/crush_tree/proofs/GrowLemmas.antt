@@ -112,7 +112,7 @@ same_place-eq Unplaced (AtBucket b) e = absurd (let no : false ≡ true = e in c
 same_place-eq Unplaced Root e = absurd (let no : false ≡ true = e in cc)
 same_place-eq Unplaced Unplaced e = refl
 
--- GROWN: what holds of the forest f, and of what is handed out
+-- GROWN: what holds of the forest f after the call, and of the vector that is returned
 pub grows : {A Z E : Type 0} (p : Place) (f g : ForestData) (r : Result (Option (Vec (Node A) Z)) E) → IsSound f → is_place (rows_of f) p ≡ true → IsGrownAt p f g r → Grows p f g r
 grows p f g (Err e) sound there grown = record {
   stands = λ t s. subst (λ z. Stands z t) (sym grown) s;
@@ -161,6 +161,6 @@ grows p f g (Ok (Some out)) sound there grown =
       err = tt;
     }
 
--- the same, told of the value and used at the fields
+-- The same, stated for the value v that contracts see, from what holds of the equal forest f of the fields.
 pub grows_at : {A Z E : Type 0} (p q : Place) (f v g : ForestData) (r : Result (Option (Vec (Node A) Z)) E) → f ≡ v → p ≡ q → IsSound f → is_place (rows_of v) p ≡ true → IsGrownAt q f g r → Grows p v g r
 grows_at p q f v g r e at sound there grown = subst (λ w. Grows p w g r) e (subst (λ s. Grows s f g r) (sym at) (grows q f g r sound ((λ j. is_place (rows_of (e j)) (sym at j)) ∙ there) grown))

@@ -108,7 +108,7 @@ rehoused_there Unplaced m f sound there = refl
 bare_kept : (p : Place) (m : ℕ) (f : ForestData) → forest_without_capacity (forest_with_capacity p m f) ≡ forest_without_capacity f
 bare_kept p m f = λ j. record { roots = roots_bare p m f j; unplaced = without_capacity (unplaced_kept p m f j); root_capacity = 0; unplaced_capacity = 0 }
 
--- REHOUSED: what holds of the forest f, and of the memory that is handed out
+-- REHOUSED: what holds of the forest f after the call, and of the vector that is returned
 pub rehouses : {A Z : Type 0} (p : Place) (m : ℕ) (f g : ForestData) (out : Vec (Node A) Z) → IsSound f → is_place (rows_of f) p ≡ true → g ≡ forest_with_capacity p m f
     → out.items ≡ [] → vec_capacity out ≡ capacity f p → count_at p f ≤ vec_capacity out → Rehouses p m f g out
 rehouses p m f g out sound there is empty memory enough =
@@ -135,7 +135,7 @@ rehouses p m f g out sound there is empty memory enough =
 pub rehoused_twice : {A Z : Type 0} {p : Place} {m : ℕ} {f g h : ForestData} {out last : Vec (Node A) Z} → Rehouses p m f g out → Rehouses p (vec_capacity out) g h last → h ≡ f
 rehoused_twice first second = second.is ∙ sym first.back
 
--- the same, told of the value and used at the fields
+-- The same, stated for the value v that contracts see, from what holds of the equal forest f of the fields.
 pub rehouses_at : {A Z : Type 0} (p q : Place) (m : ℕ) (f v g : ForestData) (out : Vec (Node A) Z) → f ≡ v → p ≡ q → IsSound f → is_place (rows_of v) p ≡ true → g ≡ forest_with_capacity q m f
     → out.items ≡ [] → vec_capacity out ≡ capacity f q → count_at q f ≤ vec_capacity out → Rehouses p m v g out
 rehouses_at p q m f v g out e at sound there is empty memory enough =
@@ -157,6 +157,6 @@ led_to knows p b f v t e at sound same there known =
       stored = subst (StoresUpTo HEAVIEST_BUCKET) (sym same) (StoresUpTo-right HEAVIEST_BUCKET f.unplaced f.roots (StoresUpTo-lawful (all_items f) sound.sums sound.lawful));
     }
 
--- as many items as stand there, told of the value and used at the fields
+-- The vector has memory for the items of the place, for the forest f of the fields, from what is required of v, the equal value that contracts see.
 pub enough_at : (p q : Place) (f v : ForestData) (m : ℕ) → f ≡ v → p ≡ q → count_at p v ≤ m → count_at q f ≤ m
 enough_at p q f v m e at enough = subst (λ n. n ≤ m) (λ j. count_at (at j) (sym e j)) enough

@@ -1,4 +1,4 @@
--- A place of a forest whose items are moved into other memory.
+-- The items of a place are moved into other memory.
 use Rattle.std.specs.Prelude.{◌≡◌, ◌*◌, ◌+◌, ◌-◌, ◌<◌, ◌≤◌, ℕ, [], true, false, List, Option, Result, OnErr, OnOk, IfNone, IfOk, IfSome, Vec, vec_capacity}
 use Rattle.crush_model.specs.Forest.{ForestData, rows_of}
 use Rattle.crush_model.specs.Stands.{Stands}
@@ -13,25 +13,25 @@ use Rattle.crush_walks.specs.Swapping.{bucket_in}
 use Rattle.crush_tree.specs.Memory.{capacity}
 use Rattle.crush_tree.specs.Sameness.{IsSameForest}
 
--- the forest with memory for so many items at a place
+-- The forest with memory for m items at a place, and nothing else changed.
 abbrev pub forest_with_capacity : Place → ℕ → ForestData → ForestData
 forest_with_capacity (AtBucket b) m f = record f { roots = with_capacity b m f.roots }
 forest_with_capacity Root m f = record f { root_capacity = m }
 forest_with_capacity Unplaced m f = record f { unplaced_capacity = m }
 
--- how many items stand at a place
+-- How many items are at a place.
 abbrev pub count_at : Place → ForestData → ℕ
 count_at (AtBucket b) f = count (bucket_in b f.roots).kids
 count_at Root f = count f.roots
 count_at Unplaced f = count f.unplaced
 
--- CAN REHOUSE: the place is there, and the vector is empty, with memory for the items that stand there
+-- The items of the place p can be moved into the given vector: the place exists, and the vector is empty and has memory for the items at the place.
 pub record CanRehouse {A Z : Type 0} (p : Place) (given : Vec (Node A) Z) (f : ForestData) : Type 0 where
   pub there : is_place (rows_of f) p ≡ true
   pub empty : given.items ≡ []
   pub enough : count_at p f ≤ vec_capacity given
 
--- REHOUSES: the items of the place stand in memory for m, and nothing else has changed; the answer is the memory in which they stood, empty, and with it the forest would be what it was
+-- The items of the place p are now in memory for m items, and nothing else has changed. The answer is the vector in which they were, now empty. With that vector the items can be moved back, and the forest would then be exactly what it was.
 pub record Rehouses {A Z : Type 0} (p : Place) (m : ℕ) (old new : ForestData) (answer : Vec (Node A) Z) : Type 0 where
   pub stands : (t : List Row) → Stands old t → Stands new t
   pub same : IsSameForest new old
@@ -43,7 +43,7 @@ pub record Rehouses {A Z : Type 0} (p : Place) (m : ℕ) (old new : ForestData) 
   pub room : room_at new p ≡ m - count_at p old
   pub rooms : (q : Place) → same_place q p ≡ false → room_at new q ≡ room_at old q
 
--- GROWS: the place has room for one item more, and nothing else has changed; where it was full, its items stand in memory half as large again, and the answer is that in which they stood, as above; where it was not, and after an error, the forest is what it was
+-- After an Ok the place p has room for one more item; items and rows are the same, and no place has less room. If the answer is Ok with a vector, the place was full; its items were moved as `Rehouses` says, to more than 1.5 times the memory, and the vector is the one in which they were. If the answer is Ok without a vector, or an Err, nothing has changed.
 pub record Grows {A Z E : Type 0} (p : Place) (old new : ForestData) (answer : Result (Option (Vec (Node A) Z)) E) : Type 0 where
   pub stands : (t : List Row) → Stands old t → Stands new t
   pub same : IsSameForest new old

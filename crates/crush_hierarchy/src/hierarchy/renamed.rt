@@ -1,4 +1,4 @@
-//! New names, and old ones that come back without memory.
+//! Gives items other names, and gives them their old names back without allocating.
 
 ghost use Rattle.std.specs.Prelude.{◌≡◌};
 ghost use Rattle.crush_tree.specs.Exact.{forest_with_name};
@@ -10,7 +10,7 @@ use crush_index::{Index, NameBack};
 use crush_units::{ItemId, Name};
 use std::alloc::{AllocError, Allocator, Global};
 
-/// A name that an item had, and what the index needs as it comes back.
+/// The old name of an item that was given another, with what the index needs to restore it.
 #[derive(Drop)]
 pub struct OldName<A: Allocator> {
     name: Name<A>,
@@ -18,8 +18,9 @@ pub struct OldName<A: Allocator> {
 }
 
 impl<A: Allocator> Hierarchy<A> {
-    /// Gives an item a name that no other item has, so that [`Hierarchy::restore_name`] gives it the
-    /// old one again.
+    /// Gives an item another name, and returns the old one, with which [`Hierarchy::restore_name`]
+    /// undoes the call. The item must exist, and no other item may have the new name. Returns an
+    /// error if memory can't be allocated; then nothing changes.
     pub fn replace_name(&mut self, id: ItemId, name: Name<A>) -> Result<OldName<A>, AllocError>
         requires { CanRename id name self.old }
         ensures { ReplacesName id name self.old self.new result }
@@ -38,7 +39,8 @@ impl<A: Allocator> Hierarchy<A> {
         }
     }
 
-    /// Gives an item the name again that it had. It takes no memory.
+    /// Gives an item its old name back, which undoes [`Hierarchy::replace_name`]. The item must
+    /// exist, and no other item may have the old name. Allocates nothing.
     pub fn restore_name(&mut self, id: ItemId, old: OldName<A>)
         requires { CanRestoreName id old self.old }
         ensures { self.new ≡ forest_with_name id old.name self.old }
@@ -57,8 +59,8 @@ impl<A: Allocator> Hierarchy<A> {
     }
 }
 
-/// Tells the index of the new name, unless it is the item's own, and makes what the old one needs to
-/// come back.
+/// Replaces an item's name in the index, unless the new name is the item's own. Returns what the
+/// index needs to restore the old name.
 fn tell_new_name<A: Allocator>(
     index: &mut Index,
     id: ItemId,

@@ -1,4 +1,4 @@
-//! Places whose items move into other memory, and back.
+//! Moves the items of a place into other memory, and back.
 
 ghost use Rattle.std.specs.Prelude.{◌≡◌, true, vec_capacity};
 ghost use Rattle.crush_model.specs.Forest.{rows_of};
@@ -15,8 +15,9 @@ use crush_walks::rehouse::{rehouse_all, rehouse_in};
 use std::alloc::{AllocError, Allocator};
 
 impl<A: Allocator> Forest<A> {
-    /// Moves the items of a place into an empty vector with memory for them, and hands out the one
-    /// in which they stood; a second call with it takes the first back.
+    /// Moves the items of a place into the vector `given`, and returns the vector in which they
+    /// were, now empty. The place must exist. `given` must be empty, and have memory for all items
+    /// of the place. A second call with the returned vector undoes the first.
     pub fn rehouse(&mut self, place: Place, given: Vec<Node<A>, A>) -> Vec<Node<A>, A>
         requires { CanRehouse place given self.old }
         ensures { Rehouses place (vec_capacity given) self.old self.new result }
@@ -42,8 +43,11 @@ impl<A: Allocator> Forest<A> {
 }
 
 impl<A: Allocator + Clone> Forest<A> {
-    /// Makes room for one more item at a place that is there: where it is full, its items move into
-    /// memory half as large again, and the one in which they stood is handed out.
+    /// Makes room for one more item at a place that exists, so that the growth can be undone. If
+    /// the place is full, moves its items to a vector with more than 1.5 times the capacity, and
+    /// returns the old vector for [`Forest::rehouse`]. `Ok(None)` means that the place had room,
+    /// and that nothing has changed. Returns an error if memory can't be allocated; then nothing
+    /// changes.
     pub fn grow(&mut self, place: Place) -> Result<Option<Vec<Node<A>, A>>, AllocError>
         requires { is_place (rows_of self.old) place ≡ true }
         ensures { Grows place self.old self.new result }

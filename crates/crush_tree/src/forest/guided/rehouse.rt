@@ -1,4 +1,4 @@
-//! Memory of places, by a guide.
+//! Moves the items of a place into other memory, with a guide.
 
 ghost use Rattle.std.specs.Prelude.{◌≡◌, true, vec_capacity};
 ghost use Rattle.crush_model.specs.Forest.{rows_of};
@@ -16,7 +16,8 @@ use crush_units::ItemId;
 use std::alloc::{AllocError, Allocator};
 
 impl<A: Allocator> Forest<A> {
-    /// [`Forest::rehouse`] by a guide.
+    /// Moves the items of a place into the vector `given` and returns their old vector, as
+    /// [`Forest::rehouse`] does, with a guide.
     pub fn rehouse_by<G: Guide>(
         &mut self,
         guide: &G,
@@ -38,7 +39,8 @@ impl<A: Allocator> Forest<A> {
 }
 
 impl<A: Allocator + Clone> Forest<A> {
-    /// [`Forest::grow`] by a guide.
+    /// Makes room for one more item at a place so that it can be undone, as [`Forest::grow`] does,
+    /// with a guide.
     pub fn grow_by<G: Guide>(
         &mut self,
         guide: &G,
