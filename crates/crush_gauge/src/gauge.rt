@@ -1,4 +1,4 @@
-//! The gauge: one shared word that is made of the pair of a history.
+//! The gauge: one shared word that encodes the pair of a history.
 
 ghost use Rattle.std.specs.Prelude.{◌≡◌, ℕ, ◌<◌, ◌≤◌, ◌++◌, ◌∷◌, [], IfOk, vec_len, length};
 ghost use Rattle.std.specs.List.{All};

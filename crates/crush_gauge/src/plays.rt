@@ -1,12 +1,12 @@
 //! The rule that every step on the word keeps, and what each kind of step does to a seat's view.
-//! The types here are used in contracts alone.
+//! The types here have no data: the code of a step names one of them for the step's contract.
 
 use crate::view::{Law, View};
 use atomic_table::{Join, Play, Split, TableRule};
 use std::marker::{Brand, PhantomData};
 
-/// The rule of the word: there is one history, and the word is made of its pair. The key of the
-/// table is the weight at the opening.
+/// The rule of the word: there is one history, and the word encodes its pair. The key of the table
+/// is the weight at the opening.
 pub struct Rule<P> {
     of: PhantomData<P>,
 }
@@ -56,7 +56,7 @@ impl<O, E, M: Picks<E>> Play<(), View<O, E>> for Publish<M> {
     ghost then = { published M.picked };
 }
 
-/// A load that reads: the seat has then seen the whole history, and the word is made of its pair.
+/// A load that reads: the seat has then seen the whole history, and the word encodes its pair.
 pub(crate) struct Look<P> {
     of: PhantomData<P>,
 }
