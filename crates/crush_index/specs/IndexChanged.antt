@@ -32,7 +32,7 @@ pub record ForgetsName (name : List ℕ) (old new : Index) : Type 0 where
   pub gone : answers new ≡ without_name name (answers old)
   pub hashing : hashings new ≡ hashings old
 
--- on success the row was added; after an error all answers are as before, except those for the row's name and ids, of which nothing is said
+-- on success the row was added; after an error all answers are as before, except for the row's name and ids, of which nothing is said
 pub record InsertsRow {X E : Type 0} (r : Row) (old new : Index) (answer : Result X E) : Type 0 where
   pub ok : OnOk answer (answers new ≡ with_row r (answers old))
   pub err : OnErr answer (without_rows (r ∷ []) (answers new) ≡ without_rows (r ∷ []) (answers old))

@@ -18,7 +18,7 @@ bucket_in slots s = unwrap_or (option_map (λ (k : Slot). k.bucket) (answer_at s
 abbrev pub kept_in : DenseMap Slot → ℕ → Option Entry
 kept_in slots s = option_and_then (λ (k : Slot). k.kept) (answer_at slots s)
 
--- INVERSE: each bucket is the bucket of its slot, and each slot is the slot of its bucket; if slots has something for the slot of a bucket, then numbers has something for the bucket
+-- INVERSE: each bucket is the bucket of its slot, and each slot is the slot of its bucket; if slots stores something for the slot of a bucket, then numbers stores the slot of that bucket
 pub record AreInverse (numbers : DenseMap ℕ) (slots : DenseMap Slot) : Type 0 where
   pub bucket : (b : ℕ) → bucket_in slots (slot_in numbers b) ≡ b
   pub slot : (s : ℕ) → slot_in numbers (bucket_in slots s) ≡ s
