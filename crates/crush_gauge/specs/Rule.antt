@@ -65,7 +65,7 @@ module _ {O E : Type 0} where
   grown es (Book k) = Book (known k.opening (k.seen ++ es))
   grown es (Reader k) = Reader k
 
-  -- the first view after a join with the second, a reader's view: the book keeps its history, a reader has the longer one; both histories are noted as mine and other, until the next load compares them
+  -- the first view after it was joined with the second, a reader's view. The book keeps its history, and a reader has the longer one. Both histories are noted as mine and other, until the next load. Any other pair of views leaves the first one as it is.
   abbrev pub joined : View O E → View O E → View O E
   joined (Book k) (Reader j) = Book record { opening = k.opening; seen = k.seen; mine = k.seen; other = j.seen }
   joined (Reader k) (Reader j) = Reader record { opening = k.opening; seen = longer k.seen j.seen; mine = k.seen; other = j.seen }
@@ -85,7 +85,7 @@ module _ {O E : Type 0} where
     Opens [] n = ⊥
     Opens (o ∷ os) n = IsLawful o [] × (changes o [] ≡ 0) × (weight o [] ≡ n)
 
-    -- a seat knows a part of the history b after the opening o: what it has seen is lawful and a prefix of b, and both histories of its last join are prefixes of what it has seen
+    -- what a seat knows of the history b after the opening o. It knows this opening. What it has seen is lawful and a prefix of b. Both histories that it has noted are prefixes of what it has seen.
     pub record Knows (o : O) (b : List E) (k : Known O E) : Type 0 where
       pub opening : k.opening ≡ o
       pub lawful : IsLawful o k.seen
@@ -93,14 +93,14 @@ module _ {O E : Type 0} where
       pub mine : IsPrefix k.mine k.seen
       pub other : IsPrefix k.other k.seen
 
-    -- what the rule says of the view of the seat id: it isn't fresh; a spent view is free; the book's view is that of the seat numbered book, and has the whole history b; a reader's view has a prefix of it
+    -- what the rule says of the view of the seat numbered id. It isn't fresh. Of a spent view nothing more is said. The book's view is that of the seat numbered book, and has seen the whole history b. A reader's view has seen a prefix of b.
     abbrev pub Fits : O → ℕ → List E → ℕ → View O E → Type 0
     Fits o book b id Fresh = ⊥
     Fits o book b id Spent = Unit {0}
     Fits o book b id (Book k) = (id ≡ book) × (k.seen ≡ b) × Knows o b k
     Fits o book b id (Reader k) = Knows o b k
 
-    -- after the opening o there is one lawful history, all, and the only word of the table is its word; the view of each seat fits: the seat numbered book has seen all, and each reader a prefix of it
+    -- the table after the opening o. There is one lawful history, `all`, and the only word of the table is its word. The view of each seat fits this history, with the seat numbered `book` as the book's.
     pub record Kept (o : O) (s : State (Unit {0}) (View O E)) : Type 0 where
       pub book : ℕ
       pub all : List E
@@ -117,7 +117,7 @@ module _ {O E : Type 0} where
     abbrev pub Holds : ℕ → State (Unit {0}) (View O E) → Type 0
     Holds n s = IsFresh n s ⊎ ((o : O) × Kept o s)
 
-    -- a reader's load that returns r: there is a lawful history h, which begins with what the reader had seen; the reader has now seen h, and r is the word of h; nothing is said of other views
+    -- a load of a reader that returns r. There is a lawful history h, which begins with what the reader had seen. The reader has now seen h, and r is the word of h. Nothing is said of other views.
     abbrev pub LooksAs : View O E → ℕ → View O E → Type 0
     LooksAs Fresh r w = Unit {0}
     LooksAs Spent r w = Unit {0}
@@ -128,21 +128,21 @@ module _ {O E : Type 0} where
     abbrev pub looked : Step (Unit {0}) → Me (Unit {0}) (View O E) → ℕ → Me (Unit {0}) (View O E) → Type 0
     looked st m r m' = (m'.1 ≡ m.1) × LooksAs m.0 r m'.0
 
-    -- a reading with the result c and x: there is a lawful history h, which begins with what the reader had seen; the reader has now seen h, which has c changes and the weight x; nothing is said of other views
+    -- a reading that returns c and x. There is a lawful history h, which begins with what the reader had seen. The reader has now seen h, which has c changes and the weight x. Nothing is said of other views.
     abbrev pub Reads : View O E → ℕ → ℕ → View O E → Type 0
     Reads Fresh c x w = Unit {0}
     Reads Spent c x w = Unit {0}
     Reads (Book k) c x w = Unit {0}
     Reads (Reader k) c x w = (h : List E) × (w ≡ Reader (known k.opening h)) × IsPrefix k.seen h × IsLawful k.opening h × (c ≡ changes k.opening h) × (x ≡ weight k.opening h)
 
-    -- the entries es may follow what the book's seat has seen: the history with them is lawful, and has c changes and the weight x; no entries may follow another view
+    -- the entries es may follow what the book's seat has seen. The history with them is lawful, and has c changes and the weight x. No entries may follow any other view.
     abbrev pub Follows : View O E → List E → ℕ → ℕ → Type 0
     Follows Fresh es c x = ⊥
     Follows Spent es c x = ⊥
     Follows (Book k) es c x = IsLawful k.opening (k.seen ++ es) × (changes k.opening (k.seen ++ es) ≡ c) × (weight k.opening (k.seen ++ es) ≡ x)
     Follows (Reader k) es c x = ⊥
 
-    -- a load after a join: what the seat has seen is lawful and unchanged, both histories of the join are prefixes of it, and they are no longer noted; nothing is said of fresh and spent views
+    -- a load after a join. What the seat has seen is unchanged and lawful. Both noted histories are prefixes of it, and are no longer noted. Nothing is said of fresh and spent views.
     abbrev pub LearnsAs : View O E → View O E → Type 0
     LearnsAs Fresh w = Unit {0}
     LearnsAs Spent w = Unit {0}
@@ -153,7 +153,7 @@ module _ {O E : Type 0} where
     abbrev pub learned : Step (Unit {0}) → Me (Unit {0}) (View O E) → ℕ → Me (Unit {0}) (View O E) → Type 0
     learned st m r m' = (m'.1 ≡ m.1) × LearnsAs m.0 m'.0
 
-    -- a seat has learned from a note with a reader's view: the book's history is unchanged, lawful, and begins with the note's; a reader has one of both histories, which is lawful and begins with both; nothing is said of other views
+    -- a seat has learned from a note, which has a reader's view. The book's history is unchanged and lawful, and begins with the note's history. A reader has one of both histories, which is lawful and begins with both. Nothing is said of other views.
     abbrev pub Learns : View O E → View O E → View O E → Type 0
     Learns (Book k) (Reader j) w = (w ≡ Book (known k.opening k.seen)) × IsLawful k.opening k.seen × IsPrefix j.seen k.seen
     Learns (Reader k) (Reader j) w = (h : List E) × (w ≡ Reader (known k.opening h)) × ((h ≡ k.seen) ⊎ (h ≡ j.seen)) × IsLawful k.opening h × IsPrefix k.seen h × IsPrefix j.seen h
