@@ -1,10 +1,12 @@
-//! The rule of the word, and what each kind of step does to a seat's view.
+//! The rule that every step on the word keeps, and what each kind of step does to a seat's view.
+//! The types here have no data: the code of a step names one of them for the step's contract.
 
 use crate::view::{Law, View};
 use atomic_table::{Join, Play, Split, TableRule};
 use std::marker::{Brand, PhantomData};
 
-/// There is one history, and the word has its pair. The key is the weight at the opening.
+/// The rule of the word: there is one history, and the word encodes its pair. The key of the table
+/// is the weight at the opening.
 pub struct Rule<P> {
     of: PhantomData<P>,
 }
@@ -18,7 +20,8 @@ impl<O, E, P: Law<O, E>> TableRule<(), View<O, E>, u64> for Rule<P> {
     ghost first = { λ weight. Fresh };
 }
 
-/// What contracts alone see of a step, picked by the proof of the call: an opening, or entries.
+/// The opening or the entries of a step, which exist in contracts alone. The proof of the call
+/// picks them.
 pub(crate) trait Picks<T> {
     ghost use Rattle.std.specs.Prelude.{List};
 
@@ -31,6 +34,7 @@ impl<T> Picks<T> for Brand {
     ghost picked = { [] };
 }
 
+/// The first load: the fresh seat becomes the book's seat, with the opening.
 pub(crate) struct Begin<M> {
     of: PhantomData<M>,
 }
@@ -41,6 +45,7 @@ impl<O, E, M: Picks<O>> Play<(), View<O, E>> for Begin<M> {
     ghost then = { begun M.picked };
 }
 
+/// A store: the book's history gets more entries.
 pub(crate) struct Publish<M> {
     of: PhantomData<M>,
 }
@@ -51,7 +56,7 @@ impl<O, E, M: Picks<E>> Play<(), View<O, E>> for Publish<M> {
     ghost then = { published M.picked };
 }
 
-/// The whole history is seen, and its pair found.
+/// A load that reads: the seat has then seen the whole history, and the word encodes its pair.
 pub(crate) struct Look<P> {
     of: PhantomData<P>,
 }
@@ -62,7 +67,7 @@ impl<O, E, P: Law<O, E>> Play<(), View<O, E>> for Look<P> {
     ghost then = { looked P.legal P.changes P.weight };
 }
 
-/// The histories that were joined last begin what the seat has seen.
+/// A load after a join: both histories of the join are then prefixes of what the seat has seen.
 pub(crate) struct Compare<P> {
     of: PhantomData<P>,
 }
@@ -73,7 +78,7 @@ impl<O, E, P: Law<O, E>> Play<(), View<O, E>> for Compare<P> {
     ghost then = { learned P.legal P.changes P.weight };
 }
 
-/// A copy of the history, for another seat.
+/// A split of a seat: a new seat that reads gets a copy of the history.
 pub(crate) struct Divide;
 
 impl<O, E> Split<View<O, E>> for Divide {
@@ -84,7 +89,7 @@ impl<O, E> Split<View<O, E>> for Divide {
     ghost right = { copied };
 }
 
-/// Two histories become one, and the second seat is spent.
+/// A join of two seats: the first keeps the longer history, or the book's, and the second is spent.
 pub(crate) struct Merge;
 
 impl<O, E> Join<View<O, E>> for Merge {

@@ -1,4 +1,4 @@
--- What is kept of keys in a table or in links, after one went, and after something else was kept of one.
+-- What a hash map and a chain together answer for each key, after one key was removed, and after one got another value.
 use Rattle.std.proofs.Common.{◌≡◌, ◌⊎◌, inl, inr, ⊎_elim, ℕ, nat_eq, Bool, true, false, List, ap, sym, subst, ◌∙◌, refl, true≢false}
 use Rattle.std.specs.Prelude.{◌&&◌, ◌||◌, if◌then◌else◌, Option, Some, None, IsSome, is_some, bytes_eq}
 use Rattle.std.specs.Cmp.{IsEquivalence, nat_eq_equiv}
@@ -22,7 +22,7 @@ has : {X : Type 0} (o : Option X) → IsSome o → (x : X) × (o ≡ Some x)
 has None some = absurd (true≢false (sym some))
 has (Some x) some = (x, refl)
 
--- in the table, or in a link
+-- the value of a key in the hash map, or, if there is none, in the chain
 abbrev pub told : {K T S : Type 0} → (K → K → Bool) → IndexMap K T S → Chain K T → K → Option T
 told eq table late q = option_or (get eq table q) (chain_answer (eq q) late)
 

@@ -1,4 +1,4 @@
--- What a copy of a map or of a set tells: a clone, or one into which all was inserted while it was empty.
+-- What a copy of a map or of a set answers: a clone, or an empty one into which all entries were inserted.
 use Rattle.std.proofs.Common.{◌≡◌, ℕ, nat_eq, refl, List, [], ◌∷◌, ap, sym, subst, ◌∙◌}
 use Rattle.std.specs.Prelude.{◌||◌}
 use Rattle.std.specs.Cmp.{nat_eq_equiv}
@@ -19,7 +19,7 @@ pub set_copied : {S : Type 0} (none copy far : IndexSet ℕ S) (xs : List ℕ) �
 set_copied none copy far xs empty same made k =
     made.0 k ∙ ap (λ ks. list_any (nat_eq k) ks || list_any (nat_eq k) xs) empty ∙ ap (list_any (nat_eq k)) same
 
--- entries each of which is the same are the same
+-- two lists whose entries are equal one by one are equal
 pub cloned : {K V : Type 0} (xs ys : List (K × V)) → AllZip (λ p q. (q.0 ≡ p.0) × (q.1 ≡ p.1)) xs ys → ys ≡ xs
 cloned [] [] h = refl
 cloned [] (y ∷ ys) h = absurd h

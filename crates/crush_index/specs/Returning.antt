@@ -1,4 +1,4 @@
--- What an item needs to come back to an index without memory.
+-- What is needed to restore an item to an index even if memory runs out.
 use Rattle.std.specs.Prelude.{◌≡◌, ℕ, [], ◌∷◌, Option, Bool, true, false, length}
 use Rattle.crush_model.specs.ItemRows.{rows}
 use Rattle.crush_model.specs.Table.{Row, is_device}
@@ -10,16 +10,16 @@ use Rattle.crush_index.specs.declared.index.back.PlaceBack.{PlaceBack}
 use Rattle.crush_index.specs.declared.index.back.PlaceBack.TheVariants.{Device, Bucket}
 use Rattle.crush_index.specs.declared.index.back.WayBack.{WayBack}
 
--- no item is below it
+-- no item is below the node: its own row is all of its rows
 abbrev pub IsAlone : {A : _} → Node A → Type 0
 IsAlone x = (p : Option ℕ) → rows p (items_of (x ∷ [])) ≡ own_row p x ∷ []
 
--- whether memory is for the place of a device
+-- whether the memory is for the place of a device, not of a bucket
 abbrev pub is_for_device : PlaceBack → Bool
 is_for_device (Device e) = true
 is_for_device (Bucket n s) = false
 
--- WAY BACK: the name is the row's, and there is memory for its place and for each id that it uses
+-- WAY BACK: the name is the row's name, the memory for its place is of the row's kind, and there is memory for as many ids as the row uses
 pub record IsWayBack (r : Row) (way : WayBack) : Type 0 where
   pub name : way.name.name ≡ r.name
   pub place : is_for_device way.place ≡ is_device r

@@ -1,4 +1,4 @@
-//! What is kept where a table lacks memory.
+//! A linked list for entries that are restored to a table when no memory is left for it to grow.
 
 ghost use Rattle.std.specs.Prelude.{◌≡◌, Bool, IfOk, is_some};
 ghost use Rattle.std.specs.Option.{option_map};
@@ -7,8 +7,9 @@ ghost use Rattle.crush_index.specs.Chains.{chain_answer, chain_with, chain_witho
 use std::alloc::{AllocError, Global};
 use std::mem::replace;
 
-/// Tells the keys that it looks for from others.
+/// Decides which stored keys match a key that is looked for.
 pub(crate) trait Finds<K> {
+    /// Whether a stored key matches.
     ghost finds: { Self → K → Bool };
 
     fn finds(&self, key: &K) -> bool
@@ -25,8 +26,9 @@ impl Finds<u32> for u32 {
     }
 }
 
-/// What is kept of keys, each in a link of its own, whose memory was ready before: mostly none.
-/// It is searched link by link.
+/// A linked list of keys with their values. The memory of each link was allocated in advance, so
+/// that an entry can be added when no memory is left. The list is nearly always empty, and is
+/// searched link by link.
 pub(crate) enum Chain<K: Drop, V: Drop> {
     End,
     Link {
@@ -36,7 +38,7 @@ pub(crate) enum Chain<K: Drop, V: Drop> {
     },
 }
 
-/// Memory for one link.
+/// The memory for one link, allocated in advance.
 pub(crate) type Spare<K, V> = Box<Chain<K, V>>;
 
 impl<K: Drop, V: Drop> Drop for Chain<K, V> {
@@ -54,11 +56,13 @@ impl<K: Drop, V: Drop> Drop for Chain<K, V> {
     }
 }
 
+/// Allocates the memory for one link.
 pub(crate) fn spare<K: Drop, V: Drop>(alloc: Global) -> Result<Spare<K, V>, AllocError> {
     Ok(Box::new(alloc, Chain::End)?)
 }
 
 impl<K: Drop, V: Copy + Drop> Chain<K, V> {
+    /// Returns the value of the first key that matches.
     pub(crate) fn get<Q: Finds<K>>(&self, sought: &Q) -> Option<V>
         ensures { result ≡ chain_answer (Q.finds sought.now) self.now }
     {
@@ -96,7 +100,7 @@ impl<K: Drop, V: Copy + Drop> Chain<K, V> {
         }
     }
 
-    /// Another value for a key that is there; whether it is.
+    /// Replaces the value of the first key that matches, and returns whether there is one.
     pub(crate) fn set<Q: Finds<K>>(&mut self, sought: &Q, value: V) -> bool
         ensures there { result ≡ is_some (chain_answer (Q.finds sought.now) self.old) }
         ensures with { self.new ≡ chain_with (Q.finds sought.now) value self.old }
@@ -118,6 +122,7 @@ impl<K: Drop, V: Copy + Drop> Chain<K, V> {
         }
     }
 
+    /// Removes all links whose keys match.
     pub(crate) fn remove<Q: Finds<K>>(&mut self, sought: &Q)
         ensures { self.new ≡ chain_without (Q.finds sought.now) self.old }
     {
@@ -135,7 +140,7 @@ impl<K: Drop, V: Copy + Drop> Chain<K, V> {
         }
     }
 
-    /// It takes no memory.
+    /// Adds a link before the first one, in the memory of `spare`.
     pub(crate) fn push(&mut self, spare: Spare<K, V>, key: K, value: V)
         ensures { Pushes key value self.old self.new }
     {

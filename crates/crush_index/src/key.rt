@@ -1,4 +1,4 @@
-//! Names as keys, each with its digest.
+//! The keys of the table of names: a name with its digest.
 
 ghost use Rattle.std.specs.Prelude.{◌≡◌};
 ghost use Rattle.std.specs.Cmp.Rules.{comparing, hashing as hashed};
@@ -14,8 +14,8 @@ use std::alloc::{AllocError, Global};
 use std::hash::{BuildHasher, Hash, Hasher};
 use std::marker::Model;
 
-/// A name with its digest, so that a copy of the index hashes no name anew; a table hashes the
-/// digest alone.
+/// A name with its digest, which is the SipHash of its bytes. The table of names hashes the digest
+/// alone, so that a copy of the index hashes no name again.
 #[derive(Drop)]
 pub(crate) struct Key {
     machine: Global,
@@ -32,6 +32,7 @@ impl Model for Key {
 }
 
 impl Key {
+    /// Returns the key of a name.
     pub(crate) fn of(machine: Global, name: Name<Global>, hashing: &Hashing) -> Key
         ensures { result ≡ key_of hashing.now name }
     {
@@ -81,7 +82,7 @@ impl Hash for Key {
     }
 }
 
-/// The bytes of a name that is looked for, with their digest.
+/// A key to look for: the bytes of a name, borrowed, with their digest.
 #[derive(Clone, Copy)]
 pub(crate) struct Sought<'a> {
     digest: u64,
@@ -89,6 +90,7 @@ pub(crate) struct Sought<'a> {
 }
 
 impl<'a> Sought<'a> {
+    /// Returns the key to look for, given the bytes of a name.
     pub(crate) fn of(bytes: &'a [u8], hashing: &Hashing) -> Sought<'a>
         ensures { sought_key result ≡ key_of hashing.now bytes.now }
     {
@@ -143,7 +145,8 @@ impl<'a> Finds<Key> for Sought<'a> {
     }
 }
 
-/// Written at once: [`Name`] is hashed byte by byte, in some five times as long.
+/// Returns the SipHash of a name. It writes all bytes at once, since [`Name`] would be hashed byte
+/// by byte, which takes about five times as long.
 #[tactic(auto, unfolding(crate::specs::Keys::digest))]
 fn digest(name: &[u8], hashing: &Hashing) -> u64
     ensures { result ≡ digest hashing.now name.now }

@@ -1,4 +1,4 @@
-//! The ids of names.
+//! The table of names: which item has a name.
 
 ghost use Rattle.std.specs.Prelude.{◌≡◌, true, false, Some, None, List, ℕ, ◌++◌, ◌∷◌, [], bytes_eq, IfOk, IsSome};
 ghost use Rattle.crush_model.specs.Table.{Row, is_named, name_of};
@@ -14,13 +14,13 @@ use crush_units::{ItemId, Name};
 use indexmap::IndexMap;
 use std::alloc::{AllocError, Global};
 
-/// The id of each name.
+/// The id of the item that has each name.
 #[derive(Drop)]
 pub(crate) struct Names {
     machine: Global,
     hashing: Hashing,
     ids: IndexMap<Key, ItemId, IdentityHashing>,
-    /// Of names that came back where memory lacked.
+    /// The names that were restored when no memory was left for `ids` to grow.
     late: Chain<Key, ItemId>,
 }
 
@@ -77,7 +77,8 @@ impl Names {
         self.late.remove(&sought);
     }
 
-    /// As [`Names::insert`], but where memory lacks, into memory that was ready.
+    /// Inserts as [`Names::insert`] does, but without an error: if memory runs out, it uses
+    /// `spare`.
     pub(crate) fn restore(&mut self, name: Name<Global>, id: ItemId, spare: Spare<Key, ItemId>)
         ensures answers { AnswersOne self.old self.new name (Some id) }
         ensures hashing { names_hashing self.new ≡ names_hashing self.old }
@@ -89,6 +90,8 @@ impl Names {
         }
     }
 
+    /// Exchanges the ids of two names: `first` is that of `a` before the call, `second` that of
+    /// `b`.
     pub(crate) fn exchange(&mut self, a: &[u8], b: &[u8], first: ItemId, second: ItemId)
         requires first { id_answer self.old a.now ≡ Some first }
         requires second { id_answer self.old b.now ≡ Some second }
@@ -99,7 +102,7 @@ impl Names {
         self.set(a, second);
     }
 
-    /// Another id for a name that has one.
+    /// Replaces the id of a name that has one.
     fn set(&mut self, name: &[u8], id: ItemId)
         requires { IsSome (id_answer self.old name.now) }
         ensures answers { AnswersOne self.old self.new name.now (Some id) }

@@ -1,4 +1,4 @@
-//! Which ids buckets and class ids use.
+//! The set of used ids: the ids of buckets and their class ids.
 
 ghost use Rattle.std.specs.Prelude.{◌≡◌, ◌+◌, ◌*◌, ◌/◌, ◌≤◌, ◌<◌, ◌==◌, if◌then◌else◌, ℕ, false, OnOk, IfOk, IfSome, IfNone, length, slice_index, nat_eq, true};
 ghost use Rattle.indexmap.specs.IndexSet.{contains, hasher_of};
@@ -12,17 +12,20 @@ use crush_units::limits::FARTHEST_BUCKET_ID;
 use indexmap::IndexSet;
 use std::alloc::{AllocError, Global};
 
-/// How many ids have a bit, the nearest free ones among them: a map uses at most 17 for each of
-/// 4,096 buckets, and an edit wants at most 16 more.
+/// How many ids have a bit, counted from 0. They are enough to include the free ids that are
+/// nearest to 0: a map uses at most 17 ids for each of its 4,096 buckets, and an edit needs at most
+/// 16 more.
 const NEAR: u32 = 69696;
 
-/// The used ids, as distances below 0: near ones as bits of words, so that the first free one is
-/// found word by word, others by themselves. Words stay.
+/// The set of used ids, as distances below 0.
+///
+/// Ids below [`NEAR`] are bits of words, so that the first free id is found word by word. Other ids
+/// are in a hash set. The words are never removed.
 #[derive(Drop)]
 pub(crate) struct UsedIds {
     words: Vec<u64>,
     far: IndexSet<u32, Hashing>,
-    /// Those that came back where memory lacked.
+    /// The ids that were restored when no memory was left for `words` or `far` to grow.
     late: Chain<u32, ()>,
     ghost few: { length words.items ≤ 1089 },
 }
@@ -52,12 +55,14 @@ impl UsedIds {
         Ok(UsedIds { words, far, late })
     }
 
+    /// Whether an id is used.
     pub(crate) fn has(&self, id: u32) -> bool
         ensures { result ≡ used_answer self.now id }
     {
         self.has_bit(id) || self.late.get(&id).is_some()
     }
 
+    /// Whether an id is in `words` or `far`, without looking into `late`.
     fn has_bit(&self, id: u32) -> bool
         ensures { result ≡ bit_answer self.now.words.items self.now.far id }
     {
@@ -81,7 +86,8 @@ impl UsedIds {
         Ok(())
     }
 
-    /// As [`UsedIds::insert`], but where memory lacks, into memory that was ready.
+    /// Inserts as [`UsedIds::insert`] does, but without an error: if memory runs out, it uses
+    /// `spare`.
     pub(crate) fn restore(&mut self, id: u32, spare: Spare<u32, ()>)
         ensures answers { UsesOne self.old self.new id true }
         ensures hashing { used_hashing self.new ≡ used_hashing self.old }
@@ -99,6 +105,8 @@ impl UsedIds {
         self.late.remove(&id);
     }
 
+    /// Returns the least id from `least` on that isn't used, or `None` if all that a bucket can
+    /// have are used.
     pub(crate) fn first_free(&self, least: u32) -> Option<u32>
         ensures some { IfSome result (IsFirstFree self.now least) }
         ensures none { IfNone result (AreAllUsed self.now least) }
@@ -111,7 +119,8 @@ impl UsedIds {
         None
     }
 
-    /// An id before which all from `least` on are in use: mostly the first one that is free.
+    /// Returns an id from `least` on such that all ids between are used: usually the first free
+    /// one.
     fn first_clear(&self, least: u32) -> u32
         ensures least { least ≤ result }
         ensures used { (k : ℕ) → least ≤ k → k < result → used_answer self.now k ≡ true }
@@ -155,6 +164,7 @@ fn copy_far(far: &IndexSet<u32, Hashing>) -> Result<IndexSet<u32, Hashing>, Allo
     Ok(copy)
 }
 
+/// Returns a word, or 0 past the last one.
 fn word_at(words: &[u64], place: usize) -> u64
     ensures { result ≡ slice_index words.now place }
 {
@@ -164,6 +174,7 @@ fn word_at(words: &[u64], place: usize) -> u64
     }
 }
 
+/// Appends words without bits until there is one at `place`.
 fn grow_to(words: &mut Vec<u64>, place: usize) -> Result<(), AllocError>
     requires within { place < 1089 }
     requires few { length words.old.items ≤ 1089 }
@@ -177,6 +188,7 @@ fn grow_to(words: &mut Vec<u64>, place: usize) -> Result<(), AllocError>
     Ok(())
 }
 
+/// Returns the lowest bit of the word at `place` whose id is at least `least`.
 fn first_bit(least: u32, place: usize) -> u32
     requires { least / 64 ≤ place }
     ensures within { result < 64 }

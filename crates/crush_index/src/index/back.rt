@@ -1,4 +1,5 @@
-//! Items and names that come back, into memory that was ready before they went.
+//! Restores removed names and items without an error, in memory that was allocated before they were
+//! removed. An undo can therefore not fail.
 
 ghost use Rattle.std.specs.Prelude.{◌≡◌, ◌+◌, ◌<◌, ◌∷◌, [], ℕ, Option, IfOk, length, true};
 ghost use Rattle.crush_model.specs.ItemRows.{device_row, bucket_row};
@@ -22,14 +23,15 @@ use crush_nodes::place::Place;
 use crush_units::{BucketId, ItemId, Name};
 use std::alloc::{AllocError, Allocator, Global};
 
-/// A name that comes back, with memory for it.
+/// A copy of a name, with the memory to restore it: created by [`Index::name_back`], used by
+/// [`Index::restore_name`].
 #[derive(Drop)]
 pub struct NameBack {
     name: Name<Global>,
     spare: Spare<Key, ItemId>,
 }
 
-/// Memory for the place of an item that comes back.
+/// The memory to restore the place of an item.
 #[derive(Drop)]
 pub(crate) enum PlaceBack {
     Device {
@@ -41,16 +43,20 @@ pub(crate) enum PlaceBack {
     },
 }
 
-/// What an item without items below it needs to come back.
+/// A copy of the name of an item that has no items below it, with the memory to restore that item:
+/// created by [`Index::way_back`], used by [`Index::restore_node`].
 #[derive(Drop)]
 pub struct WayBack {
     name: NameBack,
     place: PlaceBack,
+    /// One for the id of a bucket and one for each of its class ids; none for a device.
     ids: Vec<Spare<u32, ()>>,
 }
 
 impl Index {
-    /// What [`Index::restore_name`] needs.
+    /// Copies a name and allocates the memory with which [`Index::restore_name`] restores it.
+    ///
+    /// Call it before the name is removed. Returns an error if memory runs out.
     pub fn name_back<A: Allocator>(&self, name: &Name<A>) -> Result<NameBack, AllocError>
         ensures { IfOk result (λ back. back.name ≡ name.now) }
     {
@@ -59,7 +65,10 @@ impl Index {
         Ok(NameBack { name, spare })
     }
 
-    /// What [`Index::restore_node`] needs.
+    /// Allocates the memory with which [`Index::restore_node`] restores an item.
+    ///
+    /// Call it before the item is removed. It prepares for the item alone, not for items below it.
+    /// Returns an error if memory runs out.
     pub fn way_back<A: Allocator>(&self, node: &Node<A>) -> Result<WayBack, AllocError>
         ensures { IfOk result (λ way. (p : Option ℕ) → IsWayBack (own_row p node.now) way) }
     {
@@ -98,7 +107,8 @@ impl Index {
         })
     }
 
-    /// A name comes back to an item, as by [`Index::add_name`].
+    /// Gives a name to an item, as [`Index::add_name`] does, but without an error: if memory runs
+    /// out, the name is kept in the memory of `back`.
     pub fn restore_name(&mut self, back: NameBack, id: ItemId)
         ensures answers { answers self.new ≡ with_name back.name id (answers self.old) }
         ensures hashing { hashings self.new ≡ hashings self.old }
@@ -107,7 +117,13 @@ impl Index {
         self.names.restore(name, id, spare);
     }
 
-    /// An item without items below it comes back to a place, as by [`Index::insert_node`].
+    /// Adds an item that has no items below it as the last item of a place, as
+    /// [`Index::insert_node`] does, but without an error: if memory runs out, it uses the memory of
+    /// `way`.
+    ///
+    /// `hint` is the item's index among the items there, from 0; a wrong hint changes no answer.
+    /// `way` must be from [`Index::way_back`] for this item: its name is the item's, and it has
+    /// memory for the item's kind and for as many ids as the item uses.
     pub fn restore_node<A: Allocator>(
         &mut self,
         place: Place,
@@ -191,7 +207,7 @@ impl Index {
     }
 }
 
-/// One more than so many.
+/// Allocates `count + 1` links: for the id of a bucket and its `count` class ids.
 fn spares(machine: Global, count: usize) -> Result<Vec<Spare<u32, ()>>, AllocError>
     ensures { IfOk result (λ spares. length spares.items ≡ count + 1) }
 {
@@ -217,6 +233,7 @@ fn restore_ids<A: Allocator>(
     }
 }
 
+/// Marks an id as used, with the memory of one of `spares`.
 fn restore_id(used: &mut UsedIds, id: BucketId, spares: &mut Vec<Spare<u32, ()>>)
     requires { 0 < length spares.old.items }
     ensures answers { UsesOne used.old used.new id true }
