@@ -20,9 +20,9 @@ use std::alloc::{AllocError, Allocator};
 impl<A: Allocator> MapBuilder<A> {
     /// Adds a rule, for the statement `rule NAME { .. }`.
     ///
-    /// The map keeps the buckets that the rule takes by their ids. The caller guarantees
-    /// that no statement is incomplete, and that the rule's names and numbers have the form that the
-    /// text requires. If several errors apply, the first of these is returned:
+    /// The map keeps the buckets that the rule takes by their ids. The caller guarantees that no
+    /// statement is incomplete, and that the rule's names and numbers have the form that the text
+    /// requires. If several errors apply, the first of these is returned:
     ///
     /// - [`BuildFault::TooMany`] at the statement: there are 256 rules.
     /// - [`BuildFault::DuplicateName`] at the name: a rule has this name.
