@@ -128,8 +128,8 @@ fn write_move<W: Write>(name: &Name<Global>, at: &Location, out: &mut W) -> Resu
 
 /// Writes an edit as its command in a script, for example `reweight osd.1 0.50000`.
 ///
-/// Weights have five decimals. A device's id isn't written: a script takes it from the name `osd.N`. Fails
-/// only with [`WriteFault::Write`]; then a proper prefix may have been written.
+/// Weights have five decimals. A device's id isn't written: a script takes it from the name
+/// `osd.N`. Fails only with [`WriteFault::Write`]; then only a proper prefix has been written.
 pub fn write_edit<W: Write>(edit: &Edit, out: &mut W) -> Result<(), WriteFault>
     ensures writes { Writes result (W.contents out.old) (W.contents out.new) (edit_text edit.now) }
     ensures fault { IfErr result (λ fault. fault ≡ WriteFault.Write) }
