@@ -23,38 +23,38 @@ pub record Draft : Type 0 where
   pub adjusted : ℕ
 
 -- THE STEPS
--- before the first statement: no types, tunables, rules or items
+-- the draft before the first statement: no types, tunables, rules or items
 abbrev pub empty_draft : Draft
 empty_draft = record { setting = record { kinds = []; tunables = []; rules = [] }; table = []; pending = nothing; adjusted = 0 }
 
--- after a type is added, after the others
+-- the draft after a type is added at the end of the types
 abbrev pub with_kind : Draft → ℕ → List ℕ → Draft
 with_kind d number name = record d { setting = record d.setting { kinds = d.setting.kinds ++ record { number = number; name = name } ∷ [] } }
 
--- after a tunable is added, after the others
+-- the draft after a tunable is added at the end of the tunables
 abbrev pub with_tunable : Draft → List ℕ → ℕ → Draft
 with_tunable d name value = record d { setting = record d.setting { tunables = d.setting.tunables ++ record { name = name; value = value } ∷ [] } }
 
--- after a rule is added, after the others, in the form in which a map keeps it
+-- the draft after a rule, in the form in which a map keeps it, is added at the end of the rules
 abbrev pub add_rule : Draft → RuleData → Draft
 add_rule d r = record d { setting = record d.setting { rules = d.setting.rules ++ r ∷ [] } }
 
--- after a device is added: its row is appended, without a parent and with the weight 0
+-- the draft after a device is added: its row is appended, without a parent and with the weight 0
 abbrev pub with_device : Draft → ℕ → List ℕ → Option (List ℕ) → Draft
 with_device d id name class = record d { table = d.table ++ device_row None (record { id = id; name = name; weight = 0; class = class }) ∷ [] }
 
--- after a bucket has begun, with its type's number and its name
+-- the draft after a bucket has begun, with its type's number and its name
 abbrev pub begun_bucket : Draft → ℕ → List ℕ → Draft
 begun_bucket d kind name = record d { pending = begun kind name }
 
--- the incomplete bucket after it gets its id; a bucket that already has an id stays the same
+-- the incomplete bucket after it gets its id; a bucket that already has an id is unchanged
 abbrev pub pending_with_id : Pending → ℕ → Pending
 pending_with_id nothing b = nothing
 pending_with_id (begun kind name) b = numbered kind name b []
 pending_with_id (numbered kind name a class_ids) b = numbered kind name a class_ids
 pending_with_id (filling a) b = filling a
 
--- after the incomplete bucket gets its id
+-- the draft after the incomplete bucket gets its id
 abbrev pub with_id : Draft → ℕ → Draft
 with_id d b = record d { pending = pending_with_id d.pending b }
 
@@ -65,7 +65,7 @@ pending_with_class_id (begun kind name) c = begun kind name
 pending_with_class_id (numbered kind name b class_ids) c = numbered kind name b (class_ids ++ c ∷ [])
 pending_with_class_id (filling b) c = filling b
 
--- after the incomplete bucket gets one more class id, with this id and class
+-- the draft after the incomplete bucket gets one more class id, with this id and class
 abbrev pub with_class_id : Draft → ℕ → List ℕ → Draft
 with_class_id d b class = record d { pending = pending_with_class_id d.pending (record { id = b; class = class }) }
 
@@ -83,7 +83,7 @@ pending_with_alg (begun kind name) = begun kind name
 pending_with_alg (numbered kind name b class_ids) = filling b
 pending_with_alg (filling b) = filling b
 
--- after the incomplete bucket gets its algorithm: its row is appended to the table
+-- the draft after the incomplete bucket gets its algorithm: its row is appended to the table
 abbrev pub with_alg : Draft → Alg → Draft
 with_alg d alg = record d { table = d.table ++ pending_row d.pending alg; pending = pending_with_alg d.pending }
 
@@ -94,10 +94,10 @@ table_with_item (begun kind name) i w t = t
 table_with_item (numbered kind name b class_ids) i w t = t
 table_with_item (filling b) i w t = put_below b i w t
 
--- after an item is put into the bucket that is being filled; a written weight that differs from a bucket's sum is counted
+-- the draft after an item is put into the bucket that is being filled; a written weight that differs from a bucket's sum is counted
 abbrev pub with_next_item : Draft → ItemId → Option ℕ → Draft
 with_next_item d i w = record d { table = table_with_item d.pending i (weight_or_one w) d.table; adjusted = d.adjusted + adjustment d.table i w }
 
--- after the closing brace: no bucket is incomplete
+-- the draft after the closing brace: no bucket is incomplete
 abbrev pub with_end : Draft → Draft
 with_end d = record d { pending = nothing }

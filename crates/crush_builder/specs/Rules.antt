@@ -56,7 +56,7 @@ kept_step d Emit = emit
 abbrev pub kept_rule : Draft → Rule → RuleData
 kept_rule d r = record { name = r.name; id = r.id; kind = r.kind; min_size = r.min_size; max_size = r.max_size; steps = map (kept_step d) r.steps.items }
 
--- after the rule is added, after the others
+-- the draft after the rule is added at the end of the rules
 abbrev pub with_rule : Draft → Rule → Draft
 with_rule d r = add_rule d (kept_rule d r)
 
