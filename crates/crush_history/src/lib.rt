@@ -1,6 +1,9 @@
-//! A [`Call`] is what an operator wants of a map, a [`Reply`] its answer, an [`Entry`] both in a
-//! history. [`make_call`] makes one, `crush_editor` those of many operators, `crush_script` reads
-//! them.
+//! Calls on a map, their replies, and the history of both.
+//!
+//! A [`Call`] is one edit or one batch that an operator sends, a [`Reply`] is its result, and an
+//! [`Entry`] of a history has both. [`make_call`] makes one call on a map, and [`history_text`]
+//! prints a history. `crush_script` parses calls, and `crush_editor` makes the calls of many
+//! operators at the same time.
 #![tactic(auto)]
 
 mod call;
