@@ -43,7 +43,7 @@ pub record Rehouses {A Z : Type 0} (p : Place) (m : ℕ) (old new : ForestData) 
   pub room : room_at new p ≡ m - count_at p old
   pub rooms : (q : Place) → same_place q p ≡ false → room_at new q ≡ room_at old q
 
--- After an Ok the place p has room for one more item; items and rows are the same, and no place has less room. If the answer is Ok with a vector, the place was full; its items were moved as `Rehouses` says, to more than 1.5 times the memory, and the vector is the one in which they were. If the answer is Ok without a vector, or an Err, nothing has changed.
+-- After an Ok the place p has room for one more item; items and rows are the same, and no place has less room. If the answer is Ok with a vector, the place was full; its items were moved as `Rehouses` says, to 1.5 times the capacity, rounded down, plus one, and the vector is the one in which they were. If the answer is Ok without a vector, or an Err, nothing has changed.
 pub record Grows {A Z E : Type 0} (p : Place) (old new : ForestData) (answer : Result (Option (Vec (Node A) Z)) E) : Type 0 where
   pub stands : (t : List Row) → Stands old t → Stands new t
   pub same : IsSameForest new old

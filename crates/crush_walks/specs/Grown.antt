@@ -8,7 +8,7 @@ use Rattle.crush_nodes.specs.declared.node.Node.{Node}
 use Rattle.crush_walks.specs.Rehoused.{with_capacity, with_own_capacity}
 use Rattle.crush_walks.specs.Swapping.{first_as_bucket}
 
--- the vector `old` became `new`. If nothing is returned, then nothing changed and there was room for one more item. If a vector is returned, then `old` was full and `new` has the same items and more than 1.5 times the capacity, but not more than 1.5 times and one item; the returned vector is empty and has the old capacity. After an error nothing has changed
+-- the vector `old` became `new`. If nothing is returned, then nothing changed and there was room for one more item. If a vector is returned, then `old` was full and `new` has the same items and 1.5 times the capacity, rounded down, plus one; the returned vector is empty and has the old capacity. After an error nothing has changed
 pub record IsGrown {X Z E : Type 0} (old new : Vec X Z) (answer : Result (Option (Vec X Z)) E) : Type 0 where
   pub none : IfOk answer (λ it. IfNone it ((new ≡ old) × (vec_len old < vec_capacity old)))
   pub some : IfOk answer (λ it. IfSome it (λ before. (new.items ≡ old.items) × (before.items ≡ []) × (vec_capacity before ≡ vec_capacity old) × (vec_capacity old ≤ vec_len old) × (3 * vec_capacity before < 2 * vec_capacity new) × (2 * vec_capacity new ≤ 3 * vec_capacity before + 2)))
@@ -20,7 +20,7 @@ IsBucket none = ⊥
 IsBucket (device d rest) = ⊥
 IsBucket (bucket h w m kids rest) = Unit {0}
 
--- the returned vector `out` is empty and has the capacity of the bucket x, the first of some items, which was full; the new capacity m is more than 1.5 times the old one
+-- the returned vector `out` is empty and has the capacity of the bucket x, the first of some items, which was full; the new capacity m is 1.5 times the old one, rounded down, plus one
 pub record IsLarger {A Z : Type 0} (x : Items) (m : ℕ) (out : Vec (Node A) Z) : Type 0 where
   pub empty : out.items ≡ []
   pub capacity : vec_capacity out ≡ (first_as_bucket x).capacity

@@ -17,8 +17,8 @@ use crush_units::{BucketId, ItemId};
 use std::alloc::{AllocError, Allocator};
 
 /// Ensures that a bucket has room for one more item. If it is full, moves its items to a vector
-/// with more than 1.5 times the capacity, and returns the old vector, now empty, so that the growth
-/// can be undone. Returns `Ok(None)` and changes nothing if the bucket has room. Fails with
+/// with 1.5 times the capacity, rounded down, plus one, and returns the old vector, now empty, so
+/// that the growth can be undone. Returns `Ok(None)` and changes nothing if the bucket has room. Fails with
 /// `AllocError` if memory can't be allocated, and then nothing has changed. `way` leads to the
 /// bucket.
 pub fn grow_in<A: Allocator + Clone, W: Way>(
