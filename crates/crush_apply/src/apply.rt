@@ -31,7 +31,10 @@ use crush_edits::{Done, Edit, EditFault, Setting};
 use crush_hierarchy::Hierarchy;
 use std::alloc::Allocator;
 
-/// Applies an edit to a hierarchy that the setting fits, and returns what the edit has done.
+/// Applies an edit to a hierarchy, and returns what the edit has done.
+///
+/// The setting must fit the hierarchy: it is valid and has the types of all buckets, and the
+/// hierarchy has all buckets that its rules take. It still fits afterwards.
 ///
 /// Fails with `Refused` if the edit is refused; of several refusals it reports the one with the
 /// lowest number. Fails with `OutOfMemory` only if no refusal holds and the edit would change
@@ -106,7 +109,7 @@ pub(crate) fn recall_forms(requested: &Edit)
     }
 }
 
-/// Returns how an edit that brings a device treats one that is in a bucket already.
+/// Returns how an edit that puts a device treats one that is in a bucket already.
 fn if_placed(requested: &Edit) -> IfPlaced
     ensures insert { (d : ℕ) (n : List ℕ) (w : ℕ) (l : List Pair)
         → requested.now ≡ Insert d n w l → result ≡ Refuse }

@@ -23,8 +23,8 @@ use std::alloc::{AllocError, Allocator};
 
 /// Applies all edits of a batch, or none of them, and returns what they have done.
 ///
-/// There are at most 65,536 edits, and the setting fits the hierarchy. Each edit is applied to what
-/// the edits before it have left.
+/// There must be at most 65,536 edits, and the setting must fit the hierarchy, as for `apply_edit`.
+/// Each edit is applied to what the edits before it have left.
 ///
 /// Fails with `Refused` if an edit is refused, with the index of the first such edit, from 0. Fails
 /// with `OutOfMemory` if memory runs out first; then a refusal of that edit or of a later one goes

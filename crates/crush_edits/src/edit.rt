@@ -9,8 +9,9 @@ use std::alloc::{AllocError, Global};
 /// An edit of a map, as `ceph osd crush` makes it. The brackets name its command and, for most
 /// edits, Ceph's function.
 ///
-/// Items are named by `name`, `a`, `b` or `from`. `weight` is a weight for devices. `at` says where
-/// the item is to be put. `kind` is the name of a type.
+/// The fields `name`, `a`, `b` and `from` are names of items, `to` is the new name of a bucket,
+/// `kind` is the name of a type, and `class` is the name of a class. `weight` is the weight of a
+/// device, and `at` is where an item is to be put.
 #[derive(Debug, Drop)]
 pub enum Edit {
     /// Puts a device that is in no bucket into the bucket that the location leads to, with this
@@ -77,8 +78,8 @@ pub enum Edit {
         from: Name<Global>,
         to: Name<Global>,
     },
-    /// Sets the class of a device that has none; nothing changes if it has this class already
-    /// (`set-device-class`).
+    /// Sets the class of a device that has none. If the device has this class already, nothing
+    /// changes; if it has another one, the edit is refused (`set-device-class`).
     SetClass {
         name: Name<Global>,
         class: Name<Global>,

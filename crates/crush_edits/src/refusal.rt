@@ -1,4 +1,4 @@
-//! Why an edit or a batch isn't made, and what one that is made has done.
+//! The results of edits and batches: what was done, or why nothing was done.
 
 ghost use Rattle.std.specs.Prelude.{◌≡◌};
 ghost use Rattle.crush_edits.specs.Refusal.{refusal_name, refusal_number, refusal_error};
@@ -23,10 +23,10 @@ pub enum Refusal {
     NoPlace,
     /// The weight is above 2147483647 units, even if the edit wouldn't use it.
     WeightTooLarge,
-    /// The map has no item of this name. A rename is refused so if the map has neither name.
+    /// The map has no item of this name. `Rename` is refused with this if the map has neither name.
     NoSuchItem,
-    /// Another item has the name, or the device of this id has another name. A rename is refused so
-    /// if the map has both names, even if they are the same.
+    /// Another item has the name, or the device of this id has another name. `Rename` is refused
+    /// with this if the map has both names, even if they are the same.
     NameTaken,
     /// The device that is to be inserted is already in a bucket.
     AlreadyPlaced,
@@ -160,7 +160,7 @@ impl Display for Refusal {
 
 impl std::error::Error for Refusal {}
 
-/// What an edit has done that was not refused.
+/// What an edit has done, if it was not refused.
 #[derive(Clone, Copy, Debug, PartialEq, Eq)]
 pub struct Done {
     /// Whether the edit changed the map.
@@ -169,7 +169,7 @@ pub struct Done {
     pub made: u16,
 }
 
-/// What a batch has done of which no edit was refused.
+/// What a batch has done, if none of its edits was refused.
 #[derive(Clone, Copy, Debug, PartialEq, Eq)]
 pub struct Dones {
     /// The number of edits in the batch.

@@ -24,7 +24,7 @@ pub struct Rule {
 /// A step of a rule.
 #[derive(Debug, Drop)]
 pub enum Step {
-    /// Starts from the bucket of this name, with only its devices of a class if one is given.
+    /// Starts from the bucket of this name; if a class is given, only with its devices of the class.
     Take(Name<Global>, Option<Name<Global>>),
     /// Chooses items of a type.
     Choose {

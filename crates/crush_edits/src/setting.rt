@@ -33,7 +33,7 @@ pub struct KeptRule {
 /// A step of a rule as a map keeps it. Except for `Take`, the variants are those of `Step`.
 #[derive(Debug, Drop)]
 pub enum KeptStep {
-    /// Starts from the bucket of this id, with only its devices of a class if one is given.
+    /// Starts from the bucket of this id; if a class is given, only with its devices of the class.
     Take(BucketId, Option<Name<Global>>),
     Choose {
         leaf: bool,

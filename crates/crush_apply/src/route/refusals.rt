@@ -36,7 +36,7 @@ pub(crate) fn check_location(setting: &Setting, at: &Location) -> Result<(), Ref
     Ok(())
 }
 
-/// Makes the tests of an edit that puts a device which come before those of the route.
+/// Refuses an edit that puts a device, by the tests that come before those of the route.
 pub(crate) fn check_device<A: Allocator>(
     hierarchy: &Hierarchy<A>,
     setting: &Setting,

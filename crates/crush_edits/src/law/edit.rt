@@ -11,7 +11,7 @@ pub fn edits_keep_lawful()
     ensures made { MadeAreBuckets }
 {}
 
-/// A batch reports how many edits it has, or the index of one of its edits, which is refused.
+/// A batch reports how many edits it has. If it is refused, it reports the index of one of them.
 pub fn batches_count_their_edits()
     ensures counts { BatchCounts }
     ensures stops { BatchStops }
