@@ -24,7 +24,8 @@ pub struct Rule {
 /// A step of a rule.
 #[derive(Debug, Drop)]
 pub enum Step {
-    /// Starts from the bucket of this name; if a class is given, only with its devices of the class.
+    /// Starts from the bucket of this name. If a class is given, only the bucket's devices of that
+    /// class count.
     Take(Name<Global>, Option<Name<Global>>),
     /// Chooses items of a type.
     Choose {

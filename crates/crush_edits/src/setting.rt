@@ -33,7 +33,8 @@ pub struct KeptRule {
 /// A step of a rule as a map keeps it. Except for `Take`, the variants are those of `Step`.
 #[derive(Debug, Drop)]
 pub enum KeptStep {
-    /// Starts from the bucket of this id; if a class is given, only with its devices of the class.
+    /// Starts from the bucket of this id. If a class is given, only the bucket's devices of that
+    /// class count.
     Take(BucketId, Option<Name<Global>>),
     Choose {
         leaf: bool,
