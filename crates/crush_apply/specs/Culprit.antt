@@ -43,25 +43,25 @@ put_culprit s t n l WrongType = unwrap_or (end_name t (stops s l)) n
 put_culprit s t n l Loop = unwrap_or (end_name t (stops s l)) n
 put_culprit s t n l r = n
 
--- FOR A SWAP: the second name if only the second is no item's, or only the second is a device's; otherwise the first
+-- FOR A SWAP: for NoSuchItem the second name if the first is an item's; for NotABucket the second name if the first isn't a device's; otherwise the first name
 abbrev pub swap_culprit : List Row → List ℕ → List ℕ → Refusal → List ℕ
 swap_culprit t a b NoSuchItem = if is_named t a then b else a
 swap_culprit t a b NotABucket = if is_a_device (id_named t a) then a else b
 swap_culprit t a b r = a
 
--- FOR A NEW BUCKET: its type if that is unknown or type 0, otherwise its name
+-- FOR A NEW BUCKET: its type if the refusal is NoSuchType or WrongType, otherwise its name
 abbrev pub bucket_culprit : List ℕ → List ℕ → Refusal → List ℕ
 bucket_culprit n kind NoSuchType = kind
 bucket_culprit n kind WrongType = kind
 bucket_culprit n kind r = n
 
--- FOR A RENAME: the new name if an item has it, otherwise the old name
+-- FOR A RENAME: the new name if the refusal is NameTaken or AlreadyRenamed, otherwise the old name
 abbrev pub name_culprit : List ℕ → List ℕ → Refusal → List ℕ
 name_culprit from to NameTaken = to
 name_culprit from to AlreadyRenamed = to
 name_culprit from to r = from
 
--- THE NAME that a refusal of the edit is about; for the edits not named above it is the name of their item
+-- THE NAME that a refusal of the edit is about; for an edit of a weight, a class or a removal it is the name of the item
 abbrev pub culprit : SettingData → List Row → Edit → Refusal → List ℕ
 culprit s t (Insert d n w l) r = put_culprit s t n l r
 culprit s t (CreateOrMove d n w l) r = put_culprit s t n l r
