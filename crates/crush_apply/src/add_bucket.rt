@@ -1,4 +1,4 @@
-//! A new bucket that no other holds.
+//! Applies `AddBucket`: creates an empty bucket at the root.
 
 ghost use Rattle.std.specs.Prelude.{◌≡◌, List, Some, [], ◌∷◌, IfOk, IfErr};
 ghost use Rattle.crush_model.specs.Table.{Row, free_ids};
@@ -20,6 +20,7 @@ use crush_units::limits::MOST_BUCKETS;
 use crush_units::{BucketId, Name, TypeId};
 use std::alloc::{Allocator, Global};
 
+/// Returns the number of the new bucket's type, or the refusal of the edit.
 fn check_add<A: Allocator>(
     hierarchy: &Hierarchy<A>,
     setting: &Setting,
@@ -46,6 +47,7 @@ fn check_add<A: Allocator>(
     Ok(number)
 }
 
+/// Returns the unused bucket id that is nearest to 0.
 fn first_free<A: Allocator>(hierarchy: &Hierarchy<A>) -> BucketId
     ensures { (t : List Row) → Stands hierarchy.now t → free_ids t 1 ≡ result ∷ [] }
 {

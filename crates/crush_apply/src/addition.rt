@@ -1,4 +1,4 @@
-//! Items that come to a place, and how they go again.
+//! Adds new items to a place of the hierarchy, and removes them again when a batch is undone.
 
 ghost use Rattle.std.specs.Prelude.{◌≡◌, ◌∷◌, [], IfOk};
 ghost use Rattle.crush_model.specs.Forest.{ForestData};
@@ -11,17 +11,18 @@ use crush_tree::{Node, Place};
 use crush_units::ItemId;
 use std::alloc::{AllocError, Allocator};
 
-/// What came last to a place, or room for it.
+/// An item that was added at the end of a place's items, or only room that was made for one.
 #[derive(Drop)]
 pub(crate) struct Addition<A: Allocator> {
     pub(crate) place: Place,
-    /// `None` of room alone.
+    /// The item, or `None` if only room was made.
     pub(crate) item: Option<ItemId>,
-    /// In which the items of the place were, where that was full.
+    /// The vector that held the items of the place before, if it was full and a larger one has
+    /// replaced it.
     pub(crate) memory: Option<Vec<Node<A>, A>>,
 }
 
-/// Puts a new item last at a place that takes it.
+/// Adds a new item at the end of a place's items. After an error the hierarchy is unchanged.
 pub(crate) fn bring<A: Allocator + Clone>(
     hierarchy: &mut Hierarchy<A>,
     place: Place,
@@ -45,7 +46,7 @@ pub(crate) fn bring<A: Allocator + Clone>(
     })
 }
 
-/// What came goes, and the place has its own memory again.
+/// Undoes an addition: removes the item, and gives the place its old vector back.
 pub(crate) fn send_back<A: Allocator>(hierarchy: &mut Hierarchy<A>, addition: Addition<A>)
     requires { CanGo addition hierarchy.old }
     ensures { (f : ForestData) → Goes addition hierarchy.old f → hierarchy.new ≡ f }
