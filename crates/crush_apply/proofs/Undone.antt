@@ -13,7 +13,7 @@ use Rattle.crush_nodes.specs.declared.node.Node.{Node}
 use Rattle.crush_nodes.specs.declared.place.Place.{Place}
 use Rattle.crush_tree.specs.declared.forest.stand.Stand.{Stand}
 use Rattle.crush_tree.specs.Changed.{Detaches}
-use Rattle.crush_tree.specs.Rehoused.{Grows}
+use Rattle.crush_tree.specs.BufferReplaced.{GrowsBuffer}
 use Rattle.crush_tree.specs.Moves.{IsStand, forest_without}
 use Rattle.crush_hierarchy.specs.Placed.{Adds, Puts}
 use Rattle.crush_apply.specs.declared.addition.Addition.{Addition}
@@ -31,7 +31,7 @@ noted_stood f g i b w s own sound at is puts =
     })
 
 -- THE LOG ENTRY of a place that was enlarged
-pub noted_memory : {A E : Type 0} (p : Place) (m : Option (Vec (Node A) A)) (f g : ForestData) → Grows {E = E} p f g (Ok m) → GetsAnyMemory p m g f
+pub noted_memory : {A E : Type 0} (p : Place) (m : Option (Vec (Node A) A)) (f g : ForestData) → GrowsBuffer {E = E} p f g (Ok m) → GetsAnyMemory p m g f
 noted_memory p None f g grown = grown.none
 noted_memory p (Some items) f g grown = record { can = grown.moved.again; is = grown.moved.back }
 
@@ -40,7 +40,7 @@ pub noted_item : (f g : ForestData) (i j : ItemId) → i ≡ j → is_there (row
 noted_item f g i j is there left = subst (λ z. Leaves z g f) (sym is) (record { there = there; is = left })
 
 -- what adding an item promises if the place was enlarged before
-pub grown_adds : {A X Y E F : Type 0} (p : Place) (n : Items) (f h g : ForestData) (m : Option (Vec (Node A) A)) (x : X) (y : Y) → Grows {E = E} p f h (Ok m) → Adds {E = F} p n h g (Ok x) → Adds {E = F} p n f g (Ok y)
+pub grown_adds : {A X Y E F : Type 0} (p : Place) (n : Items) (f h g : ForestData) (m : Option (Vec (Node A) A)) (x : X) (y : Y) → GrowsBuffer {E = E} p f h (Ok m) → Adds {E = F} p n h g (Ok x) → Adds {E = F} p n f g (Ok y)
 grown_adds p n f h g m x y grown adds = record {
   stands = λ t st. adds.stands t (grown.stands t st);
   rooms = λ q. omega (arith, adds.rooms q, grown.rooms q);

@@ -16,7 +16,7 @@ use Rattle.crush_edits.specs.LawPut.{IsApart}
 use Rattle.crush_edits.specs.Put.{NewData, with_ids, put}
 use Rattle.crush_edits.specs.Stops.{StopData}
 use Rattle.crush_apply.specs.declared.addition.Addition.{Addition}
-use Rattle.crush_apply.specs.UndoSteps.{Goes}
+use Rattle.crush_apply.specs.UndoSteps.{UndoesAddition}
 
 -- the place of the receiver: a bucket, or the root if there is none
 abbrev pub place_at : Option ℕ → Place
@@ -51,5 +51,5 @@ pub record MakesRoom {A E : Type 0} (more : List Row → List Row) (which : List
   pub next : IfOk answer (λ z. (t : List Row) → Stands old t → which t ≡ Some z.0)
   pub stands : OnOk answer ((t : List Row) → Stands old t → Stands new (t ++ more t))
   pub room : IfOk answer (λ z. 0 < room_at new (AtBucket z.0))
-  pub goes : IfOk answer (λ z. Goes z.1 new old)
+  pub goes : IfOk answer (λ z. UndoesAddition z.1 new old)
   pub unchanged : OnErr answer (new ≡ old)

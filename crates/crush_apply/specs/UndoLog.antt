@@ -10,9 +10,9 @@ use Rattle.crush_tree.specs.Required.{CanGiveWeights, CanSwap}
 use Rattle.crush_tree.specs.Exact.{forest_swapped, forest_with_class, forest_with_name, forest_with_weight, forest_with_weights}
 use Rattle.crush_tree.specs.Runs.{weights_of}
 use Rattle.crush_hierarchy.specs.Naming.{CanRestoreName}
-use Rattle.crush_hierarchy.specs.Taking.{forest_restored, CanRestore}
+use Rattle.crush_hierarchy.specs.Removing.{forest_restored, CanRestore}
 use Rattle.crush_hierarchy.specs.declared.hierarchy.renamed.OldName.{OldName}
-use Rattle.crush_hierarchy.specs.declared.hierarchy.taken.Taken.{Taken}
+use Rattle.crush_hierarchy.specs.declared.hierarchy.removed_item.RemovedItem.{RemovedItem}
 use Rattle.crush_edits.specs.declared.refusal.Done.{Done}
 use Rattle.crush_edits.specs.declared.refusal.EditFault.{EditFault}
 use Rattle.crush_edits.specs.declared.refusal.EditFault.TheVariants.{OutOfMemory}
@@ -20,7 +20,7 @@ use Rattle.crush_edits.specs.Answer.{Answer}
 use Rattle.crush_apply.specs.declared.undo_log.Undo.{Undo}
 use Rattle.crush_apply.specs.declared.undo_log.Undo.TheVariants.{Weight, Class, Weights, Exchange, Removed, Renamed, Arrived, Moved}
 use Rattle.crush_apply.specs.Answered.{AnswersAs, Makes}
-use Rattle.crush_apply.specs.UndoSteps.{Goes, Returns}
+use Rattle.crush_apply.specs.UndoSteps.{UndoesAddition, Returns}
 
 -- giving the device d of the forest g the weight w gives f; d is in a bucket, w is in range, and so are the sums afterwards
 pub record GivesWeight (d w : ℕ) (g f : ForestData) : Type 0 where
@@ -45,9 +45,9 @@ pub record GivesSwap (a b : ℕ) (g f : ForestData) : Type 0 where
   pub is : f ≡ forest_swapped a b g
 
 -- putting the removed item back into the forest g gives f
-pub record ComesBack {A : Type 0} (taken : Taken A) (g f : ForestData) : Type 0 where
-  pub can : CanRestore taken g
-  pub is : f ≡ forest_restored taken g
+pub record ComesBack {A : Type 0} (removed : RemovedItem A) (g f : ForestData) : Type 0 where
+  pub can : CanRestore removed g
+  pub is : f ≡ forest_restored removed g
 
 -- giving the bucket b of the forest g its old name back gives f
 pub record GivesName {A : Type 0} (b : ℕ) (old : OldName A) (g f : ForestData) : Type 0 where
@@ -60,9 +60,9 @@ Undoes (Weight d w) g f = GivesWeight d w g f
 Undoes (Class d class) g f = GivesClass d class g f
 Undoes (Weights b runs) g f = GivesWeights b (weights_of runs.items) g f
 Undoes (Exchange a b) g f = GivesSwap a b g f
-Undoes (Removed taken) g f = ComesBack taken g f
+Undoes (Removed removed) g f = ComesBack removed g f
 Undoes (Renamed b old) g f = GivesName b old g f
-Undoes (Arrived addition) g f = Goes addition g f
+Undoes (Arrived addition) g f = UndoesAddition addition g f
 Undoes (Moved old_stand addition) g f = Returns old_stand addition g f
 
 -- the same if there may be nothing to undo: then g is f

@@ -6,14 +6,14 @@ use Rattle.crush_model.specs.Table.{is_there}
 use Rattle.crush_nodes.specs.declared.node.Node.{Node}
 use Rattle.crush_nodes.specs.declared.place.Place.{Place}
 use Rattle.crush_tree.specs.Moves.{forest_without}
-use Rattle.crush_tree.specs.Rehoused.{forest_with_capacity, CanRehouse}
+use Rattle.crush_tree.specs.BufferReplaced.{forest_with_capacity, CanReplaceBuffer}
 use Rattle.crush_hierarchy.specs.Back.{item_moved_back, CanMoveBack}
 use Rattle.crush_apply.specs.declared.addition.Addition.{Addition}
 use Rattle.crush_apply.specs.declared.old_stand.OldStand.{OldStand}
 
 -- giving the place p of the forest g another vector for its items gives f
 pub record GetsMemory {A : Type 0} (p : Place) (items : Vec (Node A) A) (g f : ForestData) : Type 0 where
-  pub can : CanRehouse p items g
+  pub can : CanReplaceBuffer p items g
   pub is : f ≡ forest_with_capacity p (vec_capacity items) g
 
 -- removing the item i from the forest g gives f
@@ -37,7 +37,7 @@ LeavesAny None g f = g ≡ f
 LeavesAny (Some i) g f = Leaves i g f
 
 -- undoing an addition in the forest g gives f: first the item is removed, then the place gets its old vector back
-pub record Goes {A : Type 0} (c : Addition A) (g f : ForestData) : Type 0 where
+pub record UndoesAddition {A : Type 0} (c : Addition A) (g f : ForestData) : Type 0 where
   pub without : ForestData
   pub leaves : LeavesAny c.item g without
   pub memory : GetsAnyMemory c.place c.memory without f
@@ -46,7 +46,7 @@ pub record Goes {A : Type 0} (c : Addition A) (g f : ForestData) : Type 0 where
 pub record Returns {A : Type 0} (s : OldStand) (c : Addition A) (g f : ForestData) : Type 0 where
   pub stood : ForestData
   pub back : GoesBack s g stood
-  pub goes : Goes c stood f
+  pub goes : UndoesAddition c stood f
 
 -- the place p of the forest g can get the vector m, if there is one
 abbrev pub CanGetMemory : {A : Type 0} → Place → Option (Vec (Node A) A) → ForestData → Type 0
@@ -57,8 +57,8 @@ abbrev pub CanLeave : Option ItemId → ForestData → Type 0
 CanLeave i g = (f : ForestData) × LeavesAny i g f
 
 -- the addition can be undone in the forest g
-abbrev pub CanGo : {A : Type 0} → Addition A → ForestData → Type 0
-CanGo c g = (f : ForestData) × Goes c g f
+abbrev pub CanUndoAddition : {A : Type 0} → Addition A → ForestData → Type 0
+CanUndoAddition c g = (f : ForestData) × UndoesAddition c g f
 
 -- the moved item can be put back in the forest g
 abbrev pub CanGoBack : OldStand → ForestData → Type 0

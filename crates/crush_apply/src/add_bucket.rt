@@ -10,7 +10,7 @@ ghost use Rattle.crush_edits.specs.Fits.{Fits};
 ghost use Rattle.crush_apply.specs.Alone.{CanAddBucket};
 ghost use Rattle.crush_apply.specs.UndoLog.{AnswersLogged};
 
-use crate::addition::bring;
+use crate::addition::add_logged;
 use crate::route::empty_bucket;
 use crate::undo_log::Undo;
 use crush_edits::{Done, EditFault, Refusal, Setting};
@@ -74,7 +74,7 @@ pub(crate) fn add_bucket<A: Allocator + Clone>(
     let number = check_add(hierarchy, setting, name, kind)?;
     let id = first_free(hierarchy);
     let node = empty_bucket(hierarchy.allocator(), id, number, name)?;
-    let addition = bring(hierarchy, Place::Root, node)?;
+    let addition = add_logged(hierarchy, Place::Root, node)?;
     let done = Done {
         changed: true,
         made: 1,

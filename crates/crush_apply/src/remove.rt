@@ -8,7 +8,7 @@ ghost use Rattle.crush_model.specs.Stands.{Stands};
 ghost use Rattle.crush_edits.specs.declared.edit.Edit.TheVariants.{Remove};
 ghost use Rattle.crush_edits.specs.Edit.{edit, refusal};
 ghost use Rattle.crush_edits.specs.Making.{holds_items};
-ghost use Rattle.crush_hierarchy.specs.Taking.{StandsAlone};
+ghost use Rattle.crush_hierarchy.specs.Removing.{StandsAlone};
 ghost use Rattle.crush_apply.specs.Alone.{CanRemove};
 ghost use Rattle.crush_apply.specs.UndoLog.{AnswersLoggedIf};
 
@@ -75,8 +75,8 @@ pub(crate) fn remove<A: Allocator>(
         made: 0,
     };
     if logged {
-        let taken = hierarchy.take(id)?;
-        return Ok((done, Some(Undo::Removed { taken })));
+        let removed = hierarchy.remove_logged(id)?;
+        return Ok((done, Some(Undo::Removed { removed })));
     }
     let Some(_) = hierarchy.detach(id) else {
         unreachable!()

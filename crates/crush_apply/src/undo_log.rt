@@ -4,10 +4,10 @@ ghost use Rattle.std.specs.Prelude.{◌≡◌};
 ghost use Rattle.crush_model.specs.Forest.{ForestData};
 ghost use Rattle.crush_apply.specs.UndoLog.{done_alone, Undoes, RollsBack, CanUndo, CanRollBack};
 
-use crate::addition::{Addition, send_back};
+use crate::addition::{Addition, undo_addition};
 use crate::old_stand::{OldStand, move_back};
 use crush_edits::{Done, EditFault};
-use crush_hierarchy::{Hierarchy, OldName, Taken};
+use crush_hierarchy::{Hierarchy, OldName, RemovedItem};
 use crush_tree::WeightRun;
 use crush_units::{BucketId, DeviceId, ItemId, Name, Weight};
 use std::alloc::Allocator;
@@ -37,7 +37,7 @@ pub(crate) enum Undo<A: Allocator> {
     },
     /// The removed item is put back.
     Removed {
-        taken: Taken<A>,
+        removed: RemovedItem<A>,
     },
     /// The bucket gets its old name back.
     Renamed {
@@ -81,15 +81,15 @@ fn undo_one<A: Allocator>(hierarchy: &mut Hierarchy<A>, undo: Undo<A>)
         }
         Undo::Weights { bucket, runs } => hierarchy.give_weights(bucket, runs),
         Undo::Exchange { first, second } => hierarchy.swap(first, second),
-        Undo::Removed { taken } => hierarchy.restore(taken),
+        Undo::Removed { removed } => hierarchy.restore(removed),
         Undo::Renamed { bucket, old } => hierarchy.restore_name(ItemId::Bucket(bucket), old),
-        Undo::Arrived { addition } => send_back(hierarchy, addition),
+        Undo::Arrived { addition } => undo_addition(hierarchy, addition),
         Undo::Moved {
             old_stand,
             addition,
         } => {
             move_back(hierarchy, old_stand);
-            send_back(hierarchy, addition);
+            undo_addition(hierarchy, addition);
         }
     }
 }

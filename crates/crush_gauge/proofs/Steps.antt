@@ -8,7 +8,7 @@ use Rattle.atomic_table.specs.Table.{State, Me, step, keeps, stepped, opening, A
 use Rattle.atomic_table.proofs.Lists.{at_set, at_snoc, set_again}
 use Rattle.crush_gauge.specs.declared.view.View.{View}
 use Rattle.crush_gauge.specs.declared.view.View.TheVariants.{Fresh, Spent, Book, Reader}
-use Rattle.crush_gauge.specs.Rule.{known, Opens, IsReader, IsBook, IsEither, IsSameKind, copied, grown, longer, joined, word, IsLawful, Knows, Fits, Kept, LooksAs, looked, Follows, LearnsAs, Learns, Reads, learned, published, begun, IsFresh, Holds}
+use Rattle.crush_gauge.specs.Rule.{known, Opens, IsReader, IsBook, IsEither, IsSameKind, copied, grown, longer, joined, word, IsLawful, Knows, Fits, Kept, LooksAs, loaded, Follows, LearnsAs, Learns, Reads, learned, published, begun, IsFresh, Holds}
 use Rattle.std.proofs.lemmas.Bool.Decides.{nat_tests}
 use Rattle.crush_gauge.proofs.Prefixes.{prefix_self, prefix_trans, prefix_shorter}
 
@@ -78,7 +78,7 @@ module _ {O E : Type 0} (legal : O → List E → Type 0) (changes weight : O �
     each = fits_set o r.book r.all (set s.views id v) other Spent (λ j u _ e. fits_set o r.book r.all s.views id v (λ i y _ e'. r.each i y e') fit j u e) tt;
   }
 
-  looks : (o : O) (slots id : ℕ) (v : View O E) (c : List (ℕ × Unit {0})) → IsReader v → Allows (Keep o) slots id (v, c) 0 (λ n. n) (looked legal changes weight (step slots 0 0 0 none) (v, c))
+  looks : (o : O) (slots id : ℕ) (v : View O E) (c : List (ℕ × Unit {0})) → IsReader v → Allows (Keep o) slots id (v, c) 0 (λ n. n) (loaded legal changes weight (step slots 0 0 0 none) (v, c))
   looks o slots id Fresh c unfit _ _ _ _ _ = absurd unfit
   looks o slots id Spent c unfit _ _ _ _ _ = absurd unfit
   looks o slots id (Book k) c unfit _ _ _ _ _ = absurd unfit
@@ -326,8 +326,8 @@ module _ {O E : Type 0} (legal : O → List E → Type 0) (changes weight : O �
   wider_join n id v other w both end real each s h at apart there = let k = has_opening n s id v h at real in inr (k.0, each k.0 s k.1 at apart there)
 
   -- THE STEPS, each with the views of its seats
-  pub a_reader_looks : (n slots id : ℕ) (v : View O E) (c : List (ℕ × Unit {0})) → IsReader v → Allows (Holds legal changes weight n) slots id (v, c) 0 (λ x. x) (looked legal changes weight (step slots 0 0 0 none) (v, c))
-  a_reader_looks n slots id v c reads = wider_step n slots id (v, c) 0 (λ x. x) (looked legal changes weight (step slots 0 0 0 none) (v, c)) (not_fresh v (reader_either v reads)) (λ o. looks legal changes weight o slots id v c reads)
+  pub a_reader_looks : (n slots id : ℕ) (v : View O E) (c : List (ℕ × Unit {0})) → IsReader v → Allows (Holds legal changes weight n) slots id (v, c) 0 (λ x. x) (loaded legal changes weight (step slots 0 0 0 none) (v, c))
+  a_reader_looks n slots id v c reads = wider_step n slots id (v, c) 0 (λ x. x) (loaded legal changes weight (step slots 0 0 0 none) (v, c)) (not_fresh v (reader_either v reads)) (λ o. looks legal changes weight o slots id v c reads)
 
   pub a_book_publishes : (n slots id word x y : ℕ) (v : View O E) (c : List (ℕ × Unit {0})) (es : List E) → Follows legal changes weight v es x y → word ≡ x * 8796093022208 + y
       → Allows (Holds legal changes weight n) slots id (v, c) 0 (λ _. word) (λ _. published es (step slots 0 word 0 none) (v, c) word)

@@ -125,8 +125,8 @@ module _ {O E : Type 0} where
     LooksAs (Reader k) r w = (h : List E) × (w ≡ Reader (known k.opening h)) × IsPrefix k.seen h × IsLawful k.opening h × (r ≡ word k.opening h)
 
     -- the step of a reading: the slots of the seat are unchanged, and its view is as LooksAs says
-    abbrev pub looked : Step (Unit {0}) → Me (Unit {0}) (View O E) → ℕ → Me (Unit {0}) (View O E) → Type 0
-    looked st m r m' = (m'.1 ≡ m.1) × LooksAs m.0 r m'.0
+    abbrev pub loaded : Step (Unit {0}) → Me (Unit {0}) (View O E) → ℕ → Me (Unit {0}) (View O E) → Type 0
+    loaded st m r m' = (m'.1 ≡ m.1) × LooksAs m.0 r m'.0
 
     -- a reading that returns c and x. There is a lawful history h, which begins with what the reader had seen. The reader has now seen h, which has c changes and the weight x. Nothing is said of other views.
     abbrev pub Reads : View O E → ℕ → ℕ → View O E → Type 0

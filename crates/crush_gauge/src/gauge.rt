@@ -6,8 +6,8 @@ ghost use Rattle.crush_gauge.specs.declared.view.View.TheVariants.{Book, Reader}
 ghost use Rattle.crush_gauge.specs.Rule.{known, opened, copied, IsEither, IsSameKind, IsLawful, Opens, Follows, Reads, Learns, grown};
 ghost use Rattle.crush_gauge.specs.Held.{held, copy_of};
 
+use crate::ghost_steps::{Begin, ChoosesGhost, Compare, Load, Merge, Publish, Rule, SplitOff};
 use crate::limits::CHANGE;
-use crate::plays::{Begin, Compare, Divide, Look, Merge, Picks, Publish, Rule};
 use crate::seat::{BookSeat, Note, ReadSeat};
 use crate::view::{Law, View};
 use crate::watcher::Watcher;
@@ -66,12 +66,12 @@ impl<O, E, P: Law<O, E>> Gauge<O, E, P> {
     }
 
     /// Turns the first seat of the table into the book's seat, with the opening that `M` picks.
-    fn begin<M: Picks<O>>(&self, first: Seat<(), View<O, E>>, weight: u64) -> BookSeat<O, E>
+    fn begin<M: ChoosesGhost<O>>(&self, first: Seat<(), View<O, E>>, weight: u64) -> BookSeat<O, E>
         requires gauge { first.table_id ≡ self.now.table.shared.table_id }
         requires key { self.now.table.shared.key ≡ weight }
         requires fresh { first.me ≡ (View.Fresh, []) }
-        requires opens { Opens P.legal P.changes P.weight M.picked weight }
-        ensures { result ≡ held first.table_id (opened M.picked) }
+        requires opens { Opens P.legal P.changes P.weight M.chosen weight }
+        ensures { result ≡ held first.table_id (opened M.chosen) }
     {
         let mut seat = first;
         self.table.shared.load::<Begin<M>>(&mut seat, 0);
@@ -107,7 +107,7 @@ impl<O, E, P: Law<O, E>> Gauge<O, E, P> {
         ensures note { result ≡ held seat.old.table_id (copied seat.old.me.0) }
     {
         Note {
-            seat: self.table.shared.split_seat::<Divide>(seat),
+            seat: self.table.shared.split_seat::<SplitOff>(seat),
         }
     }
 
@@ -127,11 +127,11 @@ impl<O, E, P: Law<O, E>> Gauge<O, E, P> {
         self.publish_as::<Brand>(book, changes, weight)
     }
 
-    fn publish_as<M: Picks<E>>(&self, book: &mut BookSeat<O, E>, changes: u64, weight: u64)
+    fn publish_as<M: ChoosesGhost<E>>(&self, book: &mut BookSeat<O, E>, changes: u64, weight: u64)
         requires gauge { book.old.table ≡ self.now.table.shared.table_id }
-        requires follows { Follows P.legal P.changes P.weight book.old.view M.picked changes
+        requires follows { Follows P.legal P.changes P.weight book.old.view M.chosen changes
             weight }
-        ensures { book.new ≡ held book.old.table (grown M.picked book.old.view) }
+        ensures { book.new ≡ held book.old.table (grown M.chosen book.old.view) }
     {
         let word = changes * CHANGE + weight;
         self.table
@@ -149,7 +149,7 @@ impl<O, E, P: Law<O, E>> Gauge<O, E, P> {
         ensures reads { Reads P.legal P.changes P.weight seat.old.view result.changes result.weight
             seat.new.view }
     {
-        let word = self.table.shared.load::<Look<P>>(&mut seat.seat, 0);
+        let word = self.table.shared.load::<Load<P>>(&mut seat.seat, 0);
         Reading {
             changes: word / CHANGE,
             weight: word % CHANGE,

@@ -10,8 +10,8 @@
 #![tactic(auto)]
 
 mod gauge;
+mod ghost_steps;
 pub mod limits;
-mod plays;
 mod seat;
 mod view;
 mod watcher;

@@ -13,7 +13,7 @@ use Rattle.crush_index.specs.Hashings.{hashings}
 use Rattle.crush_index.specs.IndexAnswers.{Answers, answers, with_name, without_name}
 use Rattle.crush_index.specs.NamesAnswers.{id_answer}
 use Rattle.crush_index.specs.declared.index.Index.{Index}
-use Rattle.crush_index.specs.declared.index.back.NameBack.{NameBack}
+use Rattle.crush_index.specs.declared.index.restore.NameMemory.{NameMemory}
 use Rattle.crush_hierarchy.specs.declared.hierarchy.renamed.OldName.{OldName}
 
 -- What an index answers after the item i has the name instead of its own one: the name leads to i, and its own name to no item. If an item had the name already, the answers are the old ones.
@@ -21,7 +21,7 @@ abbrev pub answers_named : ItemId → List ℕ → List ℕ → Index → Answer
 answers_named i own name index = if is_some (id_answer index.names name) then answers index else without_name own (with_name name i (answers index))
 
 -- After an Ok the index answers as after the renaming of the item i from `own` to `name`, and the answer can restore the name `own`. After an Err the index answers as before. In both cases it hashes as before.
-pub record TellsName {E : Type 0} (i : ItemId) (name own : List ℕ) (old new : Index) (answer : Result NameBack E) : Type 0 where
+pub record TellsName {E : Type 0} (i : ItemId) (name own : List ℕ) (old new : Index) (answer : Result NameMemory E) : Type 0 where
   pub ok : OnOk answer (answers new ≡ answers_named i own name old)
   pub back : IfOk answer (λ back. back.name ≡ own)
   pub err : OnErr answer (answers new ≡ answers old)

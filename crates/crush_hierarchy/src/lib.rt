@@ -7,4 +7,4 @@
 mod hierarchy;
 
 pub use crush_index::Hashing;
-pub use hierarchy::{Hierarchy, OldName, Taken};
+pub use hierarchy::{Hierarchy, OldName, RemovedItem};

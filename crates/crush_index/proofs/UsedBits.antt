@@ -31,9 +31,9 @@ module _ (used : UsedIds) (least place : ℕ) (within : place < 1089) (before : 
   -- an id of the word whose bit is set is used
   used_here : (k : ℕ) → k / 64 ≡ place → bit_at (get_or used.words.items place 0) (k % 64) ≡ 1 → used_answer used k ≡ true
   used_here k e one =
-      ap (λ b. (if b then bit_at (get_or used.words.items (k / 64) 0) (k % 64) == 1 else contains nat_eq used.far k) || is_some (chain_answer (nat_eq k) used.late)) (below k near_ids (omega (arith, e, within)))
-      ∙ ap (λ z. (bit_at (get_or used.words.items z 0) (k % 64) == 1) || is_some (chain_answer (nat_eq k) used.late)) e
-      ∙ ap (λ z. (z == 1) || is_some (chain_answer (nat_eq k) used.late)) one
+      ap (λ b. (if b then bit_at (get_or used.words.items (k / 64) 0) (k % 64) == 1 else contains nat_eq used.sparse k) || is_some (chain_answer (nat_eq k) used.overflow)) (below k near_ids (omega (arith, e, within)))
+      ∙ ap (λ z. (bit_at (get_or used.words.items z 0) (k % 64) == 1) || is_some (chain_answer (nat_eq k) used.overflow)) e
+      ∙ ap (λ z. (z == 1) || is_some (chain_answer (nat_eq k) used.overflow)) one
 
   pub searched_word : (from : ℕ) → ((i : ℕ) → i < 64 → least ≤ 64 * place + i → from ≤ i) → ((i : ℕ) → from ≤ i → i < 64 → bit_at (get_or used.words.items place 0) i ≡ 1) → Searched used least (place + 1)
   searched_word from each full k low high = ⊎_elim

@@ -12,12 +12,12 @@ abbrev pub entry_at : {T : Type 0} → List (Option T) → ℕ → Option T
 entry_at entries n = get_or entries n None
 
 -- the value of a number in the hash map, or, if there is none, the value in the chain
-abbrev pub far_at : {T S : Type 0} → IndexMap ℕ T S → Chain ℕ T → ℕ → Option T
-far_at far late n = option_or (get nat_eq far n) (chain_answer (nat_eq n) late)
+abbrev pub sparse_at : {T S : Type 0} → IndexMap ℕ T S → Chain ℕ T → ℕ → Option T
+sparse_at sparse overflow n = option_or (get nat_eq sparse n) (chain_answer (nat_eq n) overflow)
 
 -- the value of a number: its entry in the vector, or, if that is empty, its value in the hash map or in the chain
 unfoldable pub answer_at : {T : Type 0} → DenseMap T → ℕ → Option T
-answer_at dense_map n = option_or (entry_at dense_map.near.items n) (far_at dense_map.far dense_map.late n)
+answer_at dense_map n = option_or (entry_at dense_map.dense.items n) (sparse_at dense_map.sparse dense_map.overflow n)
 
 -- each number has the same value as before
 abbrev pub DenseMapSame : {T : Type 0} → DenseMap T → DenseMap T → Type 0
@@ -29,4 +29,4 @@ DenseMapWith old new number o = (n : ℕ) → answer_at new n ≡ (if nat_eq num
 
 -- how the hash map hashes its numbers
 abbrev pub numbered_hashing : {T : Type 0} → DenseMap T → Hashing
-numbered_hashing dense_map = hasher_of dense_map.far
+numbered_hashing dense_map = hasher_of dense_map.sparse

@@ -4,8 +4,8 @@ use Rattle.crush_index.specs.DenseMapAnswers.{DenseMapSame, DenseMapWith, number
 use Rattle.crush_index.specs.declared.dense_map.DenseMap.{DenseMap}
 
 -- on success the number has this value, and each other number the same as before; after an error each number has the same value as before; the hashing is the same in both cases
-pub record Inserts {T X E : Type 0} (number : ℕ) (kept : T) (old new : DenseMap T) (answer : Result X E) : Type 0 where
-  pub ok : OnOk answer (DenseMapWith old new number (Some kept))
+pub record Inserts {T X E : Type 0} (number : ℕ) (value : T) (old new : DenseMap T) (answer : Result X E) : Type 0 where
+  pub ok : OnOk answer (DenseMapWith old new number (Some value))
   pub err : OnErr answer (DenseMapSame old new)
   pub hashing : numbered_hashing new ≡ numbered_hashing old
 

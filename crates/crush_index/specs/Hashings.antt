@@ -15,7 +15,7 @@ names_hashing names = names.hashing
 
 -- the hashing of the used ids
 abbrev pub used_hashing : UsedIds → Hashing
-used_hashing used = set_hasher_of used.far
+used_hashing used = set_hasher_of used.sparse
 
 -- the hashings of the places: one for the numbers of devices, and those for buckets
 pub record PlacesHashings : Type 0 where

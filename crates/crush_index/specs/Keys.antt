@@ -8,7 +8,7 @@ use Rattle.std.proofs.Common.{rules}
 use Rattle.crush_index.specs.Hashed.{first_state, at_once}
 use Rattle.crush_index.specs.declared.digests.IdentityHasher.{IdentityHasher}
 use Rattle.crush_index.specs.declared.hashing.Hashing.{Hashing}
-use Rattle.crush_index.specs.declared.key.Sought.{Sought}
+use Rattle.crush_index.specs.declared.key.LookupKey.{LookupKey}
 
 -- the digest of a name: the SipHash of its bytes
 unfoldable pub digest : Hashing → List ℕ → ℕ
@@ -19,8 +19,8 @@ abbrev pub key_of : Hashing → List ℕ → ℕ × List ℕ
 key_of h name = (digest h name, name)
 
 -- the key that is looked for: its digest and the borrowed bytes
-abbrev pub sought_key : Sought → ℕ × List ℕ
-sought_key sought = (sought.digest, sought.bytes.now)
+abbrev pub lookup_key : LookupKey → ℕ × List ℕ
+lookup_key lookup = (lookup.digest, lookup.bytes.now)
 
 -- whether two keys have the same digest and the same bytes
 abbrev pub same_key : ℕ × List ℕ → ℕ × List ℕ → Bool

@@ -10,7 +10,7 @@ use Rattle.crush_index.specs.declared.names.Names.{Names}
 
 -- the id of a name in the hash map, or, if there is none, the id in the chain
 abbrev pub id_answer : Names → List ℕ → Option ItemId
-id_answer names n = option_or (get same_key names.ids (key_of names.hashing n)) (chain_answer (same_key (key_of names.hashing n)) names.late)
+id_answer names n = option_or (get same_key names.ids (key_of names.hashing n)) (chain_answer (same_key (key_of names.hashing n)) names.overflow)
 
 -- NAMES OF A TABLE: each name has the id of the table's item with this name, and none if there is no such item
 abbrev pub AreNamesOf : List Row → Names → Type 0

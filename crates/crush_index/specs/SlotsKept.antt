@@ -15,8 +15,8 @@ abbrev pub bucket_in : DenseMap Slot → ℕ → ℕ
 bucket_in slots s = unwrap_or (option_map (λ (k : Slot). k.bucket) (answer_at slots s)) s
 
 -- the entry of the bucket that has a slot, or none
-abbrev pub kept_in : DenseMap Slot → ℕ → Option Entry
-kept_in slots s = option_and_then (λ (k : Slot). k.kept) (answer_at slots s)
+abbrev pub entry_in : DenseMap Slot → ℕ → Option Entry
+entry_in slots s = option_and_then (λ (k : Slot). k.entry) (answer_at slots s)
 
 -- INVERSE: each bucket is the bucket of its slot, and each slot is the slot of its bucket; if slots stores something for the slot of a bucket, then numbers stores the slot of that bucket
 pub record AreInverse (numbers : DenseMap ℕ) (slots : DenseMap Slot) : Type 0 where

@@ -8,7 +8,7 @@ use Rattle.crush_index.specs.declared.used.UsedIds.{UsedIds}
 
 -- whether an id is used: by its bit or in the hash set, or else in the chain
 abbrev pub used_answer : UsedIds → ℕ → Bool
-used_answer used k = bit_answer used.words.items used.far k || is_some (chain_answer (nat_eq k) used.late)
+used_answer used k = bit_answer used.words.items used.sparse k || is_some (chain_answer (nat_eq k) used.overflow)
 
 -- USED IDS OF A TABLE: an id is used if and only if the table uses it
 abbrev pub AreUsedIn : List Row → UsedIds → Type 0

@@ -8,20 +8,20 @@ use std::alloc::{AllocError, Global};
 use std::mem::replace;
 
 /// Decides which stored keys match a key that is looked for.
-pub(crate) trait Finds<K> {
+pub(crate) trait KeyMatch<K> {
     /// Whether a stored key matches.
-    ghost finds: { Self → K → Bool };
+    ghost matches: { Self → K → Bool };
 
-    fn finds(&self, key: &K) -> bool
-        ensures { result ≡ finds self.now key.now };
+    fn matches(&self, key: &K) -> bool
+        ensures { result ≡ matches self.now key.now };
 }
 
-impl Finds<u32> for u32 {
+impl KeyMatch<u32> for u32 {
     ghost use Rattle.std.specs.Prelude.{nat_eq};
 
-    ghost finds = { nat_eq };
+    ghost matches = { nat_eq };
 
-    fn finds(&self, key: &u32) -> bool {
+    fn matches(&self, key: &u32) -> bool {
         *self == *key
     }
 }
@@ -63,8 +63,8 @@ pub(crate) fn spare<K: Drop, V: Drop>(alloc: Global) -> Result<Spare<K, V>, Allo
 
 impl<K: Drop, V: Copy + Drop> Chain<K, V> {
     /// Returns the value of the first key that matches.
-    pub(crate) fn get<Q: Finds<K>>(&self, sought: &Q) -> Option<V>
-        ensures { result ≡ chain_answer (Q.finds sought.now) self.now }
+    pub(crate) fn get<Q: KeyMatch<K>>(&self, lookup: &Q) -> Option<V>
+        ensures { result ≡ chain_answer (Q.matches lookup.now) self.now }
     {
         let mut rest = self;
         while let Chain::Link {
@@ -73,7 +73,7 @@ impl<K: Drop, V: Copy + Drop> Chain<K, V> {
             rest: next,
         } = rest
         {
-            if sought.finds(key) {
+            if lookup.matches(key) {
                 return Some(*value);
             }
             rest = next;
@@ -101,30 +101,30 @@ impl<K: Drop, V: Copy + Drop> Chain<K, V> {
     }
 
     /// Replaces the value of the first key that matches, and returns whether there is one.
-    pub(crate) fn set<Q: Finds<K>>(&mut self, sought: &Q, value: V) -> bool
-        ensures there { result ≡ is_some (chain_answer (Q.finds sought.now) self.old) }
-        ensures with { self.new ≡ chain_with (Q.finds sought.now) value self.old }
+    pub(crate) fn set<Q: KeyMatch<K>>(&mut self, lookup: &Q, value: V) -> bool
+        ensures there { result ≡ is_some (chain_answer (Q.matches lookup.now) self.old) }
+        ensures with { self.new ≡ chain_with (Q.matches lookup.now) value self.old }
     {
         match self {
             Chain::End => false,
             Chain::Link {
                 key,
-                value: kept,
+                value: current,
                 rest,
             } => {
-                if sought.finds(key) {
-                    *kept = value;
+                if lookup.matches(key) {
+                    *current = value;
                     true
                 } else {
-                    rest.set(sought, value)
+                    rest.set(lookup, value)
                 }
             }
         }
     }
 
     /// Removes all links whose keys match.
-    pub(crate) fn remove<Q: Finds<K>>(&mut self, sought: &Q)
-        ensures { self.new ≡ chain_without (Q.finds sought.now) self.old }
+    pub(crate) fn remove<Q: KeyMatch<K>>(&mut self, lookup: &Q)
+        ensures { self.new ≡ chain_without (Q.matches lookup.now) self.old }
     {
         if let Chain::Link {
             key,
@@ -132,8 +132,8 @@ impl<K: Drop, V: Copy + Drop> Chain<K, V> {
             rest,
         } = self
         {
-            rest.remove(sought);
-            if sought.finds(key) {
+            rest.remove(lookup);
+            if lookup.matches(key) {
                 let rest = replace(rest.as_mut(), Chain::End);
                 *self = rest;
             }

@@ -23,5 +23,5 @@ mod used;
 mod word;
 
 pub use hashing::Hashing;
-pub use index::{Index, NameBack, WayBack};
+pub use index::{Index, NameMemory, RestoreMemory};
 pub use places::Places;

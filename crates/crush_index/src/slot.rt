@@ -5,7 +5,7 @@ use crush_units::BucketId;
 
 /// The place of an item, which names a bucket by its slot.
 #[derive(Clone, Copy)]
-pub(crate) enum Among {
+pub(crate) enum SlotParent {
     /// The buckets that no bucket holds.
     Roots,
     /// The devices that no bucket holds.
@@ -17,8 +17,8 @@ pub(crate) enum Among {
 /// What the index stores of an item.
 #[derive(Clone, Copy)]
 pub(crate) struct Entry {
-    pub(crate) among: Among,
-    /// Where the slot in `among` is probably stored: looked at first and never trusted.
+    pub(crate) parent: SlotParent,
+    /// Where the slot in `parent` is probably stored: looked at first and never trusted.
     pub(crate) slot_hint: u32,
     /// The item's probable index among its siblings, from 0: looked at first and never trusted.
     pub(crate) hint: u32,
@@ -28,5 +28,5 @@ pub(crate) struct Entry {
 #[derive(Clone, Copy)]
 pub(crate) struct Slot {
     pub(crate) bucket: BucketId,
-    pub(crate) kept: Option<Entry>,
+    pub(crate) entry: Option<Entry>,
 }

@@ -19,7 +19,7 @@ use Rattle.crush_text.specs.Form.{filling, at, Form, done, word}
 use Rattle.crush_text.specs.Grammar.{item_weight_line, weighed_item, weightless_item, item_line, item_or_brace, line_forms}
 use Rattle.crush_text.specs.Tests.{is_weight_for, word_for}
 use Rattle.crush_text.specs.Flow.{◌>>=◌, placed, arrive, Reaches}
-use Rattle.crush_text.specs.Reads.{own_weight, unless_heavy, and_rest, next_of, next_at, word_at, line_at, FailsIn}
+use Rattle.crush_text.specs.Reads.{parsed_weight, unless_heavy, and_rest, next_of, next_at, word_at, line_at, FailsIn}
 use Rattle.crush_text.specs.ReadsLines.{Adds, LineGoes}
 use Rattle.crush_text.proofs.Reached.{reaches_word, reaches_on, key_taken}
 
@@ -28,7 +28,7 @@ abbrev with_weight : Draft → ItemId → Result ℕ TextFaultKind → Result �
 with_weight d i r = r >>= λ x. if is_too_heavy (with_next_item d i (Some x)).table then Err SumTooLarge else Ok x
 
 -- a weight's word is judged before it is put into the bucket, and then with it
-own_then : (d : Draft) (i : ItemId) (w : List ℕ) → word_for d (weight i) w ≡ with_weight d i (own_weight d i w)
+own_then : (d : Draft) (i : ItemId) (w : List ℕ) → word_for d (weight i) w ≡ with_weight d i (parsed_weight d i w)
 own_then d i w = by_tests (is_brace_word w) (not (is_weight_for i (weight_of_text w)))
   where
     by_tests : (a b : Bool) → cond a (Err Unexpected) (cond b (Err BadWeight) (cond (is_too_heavy (with_next_item d i (Some (units w))).table) (Err SumTooLarge) (Ok (units w)))) ≡ with_weight d i (cond a (Err Unexpected) (cond b (Err BadWeight) (Ok (units w))))
@@ -189,20 +189,20 @@ pub weight_err : (d : Draft) (i : ItemId) (t : Text) (f : TextFault) → next_at
 weight_err d i t f h = inr (form_err d (weight i) _ t f h)
 
 -- one that is at fault
-pub weight_fault : (d : Draft) (i : ItemId) (t rest : Text) (w : Word) (f : TextFault) → next_at t ≡ Ok (w, rest) → Err f ≡ placed w.place (own_weight d i w.text) → FailsIn f d (item_weight_line d i) t
+pub weight_fault : (d : Draft) (i : ItemId) (t rest : Text) (w : Word) (f : TextFault) → next_at t ≡ Ok (w, rest) → Err f ≡ placed w.place (parsed_weight d i w.text) → FailsIn f d (item_weight_line d i) t
 weight_fault d i t rest w f n e = inr (
     form_goes d (weight i) (λ x. done (at (filling true) (with_next_item d i (Some x)))) t rest w n ∙ ap (λ q. placed w.place q >>= λ x. line_at d (done (at (filling true) (with_next_item d i (Some x)))) rest) (own_then d i w.text)
-    ∙ ap (λ q. q >>= λ x. line_at d (done (at (filling true) (with_next_item d i (Some x)))) rest) (told_err w.place f (own_weight d i w.text) _ e)
+    ∙ ap (λ q. q >>= λ x. line_at d (done (at (filling true) (with_next_item d i (Some x)))) rest) (told_err w.place f (parsed_weight d i w.text) _ e)
     )
 
 -- one with which the item is put into the bucket
-pub weight_reads : (d : Draft) (i : ItemId) (t rest : Text) (w : Word) (x : ℕ) (r : Result (Unit {0}) TextFault) (b : BuilderData) → next_at t ≡ Ok (w, rest) → Ok x ≡ placed w.place (own_weight d i w.text)
+pub weight_reads : (d : Draft) (i : ItemId) (t rest : Text) (w : Word) (x : ℕ) (r : Result (Unit {0}) TextFault) (b : BuilderData) → next_at t ≡ Ok (w, rest) → Ok x ≡ placed w.place (parsed_weight d i w.text)
     → Adds r b (with_next_item d i (Some x)) w.place (unless_heavy (with_next_item d i (Some x))) → LineGoes (λ _. filling true) r b rest d (item_weight_line d i) t
 unfolding line_at
 weight_reads d i t rest w x r b n e h =
     added d i (Some x) w.place rest r b (item_weight_line d i) t
     (form_goes d (weight i) (λ x. done (at (filling true) (with_next_item d i (Some x)))) t rest w n
-    ∙ ap (λ q. placed w.place q >>= λ y. line_at d (done (at (filling true) (with_next_item d i (Some y)))) rest) (own_then d i w.text ∙ ap (with_weight d i) (told_ok w.place x (own_weight d i w.text) e))
+    ∙ ap (λ q. placed w.place q >>= λ y. line_at d (done (at (filling true) (with_next_item d i (Some y)))) rest) (own_then d i w.text ∙ ap (with_weight d i) (told_ok w.place x (parsed_weight d i w.text) e))
     ∙ by_it (is_too_heavy (with_next_item d i (Some x)).table))
     reached h
   where
@@ -213,7 +213,7 @@ weight_reads d i t rest w x r b n e h =
     reached : is_too_heavy (with_next_item d i (Some x)).table ≡ false → Reaches w.place (arrive d t.words (item_weight_line d i)) t.words
     reached light =
         let told : Ok x ≡ placed w.place (word_for d (weight i) w.text) =
-        ap (λ c. placed w.place (if c then Err SumTooLarge else Ok x)) (sym light) ∙ ap (λ q. placed w.place q) (sym (own_then d i w.text ∙ ap (with_weight d i) (told_ok w.place x (own_weight d i w.text) e))) in
+        ap (λ c. placed w.place (if c then Err SumTooLarge else Ok x)) (sym light) ∙ ap (λ q. placed w.place q) (sym (own_then d i w.text ∙ ap (with_weight d i) (told_ok w.place x (parsed_weight d i w.text) e))) in
         reaches_word d (weight i) (λ y. done (at (filling true) (with_next_item d i (Some y)))) x t rest rest w.place (value_at d (weight i) x t rest w n told) (w.text, n)
 
 -- a line of the items by its first word

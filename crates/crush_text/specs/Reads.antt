@@ -55,8 +55,8 @@ abbrev pub then_on : Result (Progress × Text) TextFault → Result Draft TextFa
 then_on r = r >>= λ x. outcome (between x.0) x.1
 
 -- what a weight is for an item, before it is put into the bucket
-abbrev pub own_weight : Draft → ItemId → List ℕ → Result ℕ TextFaultKind
-own_weight d i w = unless (weight_tests d i w) (units w)
+abbrev pub parsed_weight : Draft → ItemId → List ℕ → Result ℕ TextFaultKind
+parsed_weight d i w = unless (weight_tests d i w) (units w)
 
 -- what comes of an item with which the map is this one
 abbrev pub unless_heavy : Draft → Result Draft TextFaultKind

@@ -11,6 +11,7 @@ ghost use Rattle.crush_text.specs.InTime.{IsFoundInTime};
 
 mod bucket;
 mod device;
+mod fault_without_memory;
 mod items;
 mod roles;
 mod rule;
@@ -18,11 +19,10 @@ mod statement;
 mod step;
 mod tunable;
 mod type_line;
-mod unbegun;
 mod word;
 
 use crate::fault::TextFault;
-use crate::reader::unbegun::unbegun;
+use crate::reader::fault_without_memory::fault_without_memory;
 use crush_builder::MapBuilder;
 use crush_map::{CrushMap, Hashing};
 use crush_units::Reader;
@@ -34,7 +34,7 @@ use std::alloc::{Allocator, Global};
 struct MapReader<'a, A: Allocator> {
     text: Reader<'a>,
     builder: MapBuilder<A>,
-    machine: Global,
+    global: Global,
 }
 
 /// Reads the text of a map, as `crushtool` prints it.
@@ -60,7 +60,7 @@ pub fn read_map(alloc: Global, text: &[u8]) -> Result<(CrushMap<Global>, u32), T
 /// memory, all else in the allocator's; for a stranger's text names and ids are hashed with drawn
 /// keys.
 pub fn read_map_in<A: Allocator + Clone>(
-    machine: Global,
+    global: Global,
     hashing: Hashing,
     alloc: A,
     text: &[u8],
@@ -75,13 +75,13 @@ pub fn read_map_in<A: Allocator + Clone>(
     ensures memory { IfErr result (IsFoundInTime text.now) }
 {
     let mut words = Reader::new(text);
-    let Ok(builder) = MapBuilder::with_hashing(machine, hashing, alloc) else {
-        return Err(unbegun(&mut words));
+    let Ok(builder) = MapBuilder::with_hashing(global, hashing, alloc) else {
+        return Err(fault_without_memory(&mut words));
     };
     let mut reader = MapReader {
         text: words,
         builder,
-        machine,
+        global,
     };
     reader.statements()?;
     let adjusted = reader.builder.adjusted();

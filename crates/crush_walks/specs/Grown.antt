@@ -5,7 +5,7 @@ use Rattle.crush_model.specs.Items.{Items, none, device, bucket}
 use Rattle.crush_nodes.specs.Ops.{part_of}
 use Rattle.crush_nodes.specs.Room.{bucket_room, count}
 use Rattle.crush_nodes.specs.declared.node.Node.{Node}
-use Rattle.crush_walks.specs.Rehoused.{with_capacity, with_own_capacity}
+use Rattle.crush_walks.specs.BufferReplaced.{with_capacity, with_own_capacity}
 use Rattle.crush_walks.specs.Swapping.{first_as_bucket}
 
 -- the vector `old` became `new`. If nothing is returned, then nothing changed and there was room for one more item. If a vector is returned, then `old` was full and `new` has the same items and 1.5 times the capacity, rounded down, plus one; the returned vector is empty and has the old capacity. After an error nothing has changed

@@ -1,7 +1,7 @@
 //! Walks that change items and the sums of the buckets above them, and tests whether those sums
 //! stay in range. `crush_tree` calls them.
 //!
-//! At each level a walk enters the item that a [`Way`](crush_nodes::way::Way) names. Read
+//! At each level a walk enters the item that a [`Descent`](crush_nodes::way::Way) names. Read
 //! [`change`] first: it has the walk that applies a change to one item, which most others use.
 #![tactic(auto)]
 
@@ -11,11 +11,11 @@ pub mod change;
 pub mod classes;
 pub mod detach;
 pub mod fit;
-pub mod grow;
+pub mod grow_buffer;
 pub mod item;
 pub mod moved;
-pub mod rehouse;
 pub mod rename;
+pub mod replace_buffer;
 pub mod runs;
 pub mod subtree;
 pub mod swap;

@@ -24,7 +24,7 @@ impl<A: Allocator> MapBuilder<A> {
     pub(super) fn kind_fault(&self, number: TypeId, name: &[u8]) -> Option<BuildFault>
         ensures { (d : Draft) → IsDraft self.now d → result ≡ kind_fault d number name.now }
     {
-        taken(
+        duplicate_or_full(
             self.has_kind_number(number),
             self.has_kind_name(name),
             self.is_full_of_kinds(),
@@ -34,13 +34,13 @@ impl<A: Allocator> MapBuilder<A> {
     pub(super) fn tunable_fault(&self, name: &[u8]) -> Option<BuildFault>
         ensures { (d : Draft) → IsDraft self.now d → result ≡ tunable_fault d name.now }
     {
-        taken(false, self.has_tunable(name), self.is_full_of_tunables())
+        duplicate_or_full(false, self.has_tunable(name), self.is_full_of_tunables())
     }
 
     pub(super) fn device_fault(&self, id: DeviceId, name: &[u8]) -> Option<BuildFault>
         ensures { (d : Draft) → IsDraft self.now d → result ≡ device_fault d id name.now }
     {
-        taken(
+        duplicate_or_full(
             self.has_device(id),
             self.has_name(name),
             self.is_full_of_devices(),
@@ -65,7 +65,7 @@ impl<A: Allocator> MapBuilder<A> {
     pub(super) fn class_id_fault(&self, id: BucketId, class: &[u8]) -> Option<BuildFault>
         ensures { (d : Draft) → IsDraft self.now d → result ≡ class_id_fault d id class.now }
     {
-        taken(
+        duplicate_or_full(
             self.has_bucket_id(id),
             self.has_class(class),
             self.is_full_of_class_ids(),
@@ -141,7 +141,7 @@ impl<A: Allocator> MapBuilder<A> {
 
 /// Returns the first fault of a new id and name: the id is taken, the name is taken, the map is
 /// full.
-fn taken(id: bool, name: bool, full: bool) -> Option<BuildFault>
+fn duplicate_or_full(id: bool, name: bool, full: bool) -> Option<BuildFault>
     ensures { result ≡ first_fault
         ((DuplicateId, id) ∷ ((DuplicateName, name) ∷ ((TooMany, full) ∷ []))) }
 {

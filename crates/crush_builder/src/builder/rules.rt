@@ -163,8 +163,8 @@ impl<A: Allocator> MapBuilder<A> {
         ensures { IfOk result (λ kept. (d : Draft) → IsDraft self.now d
             → rule_data kept ≡ kept_rule d rule.now) }
     {
-        let name = rule.name.try_copy(self.machine)?;
-        let kind = rule.kind.try_copy(self.machine)?;
+        let name = rule.name.try_copy(self.global)?;
+        let kind = rule.kind.try_copy(self.global)?;
         let steps = self.kept_steps(&rule.steps)?;
         Ok(KeptRule {
             name,
@@ -184,7 +184,7 @@ impl<A: Allocator> MapBuilder<A> {
         ensures { IfOk result (λ kept. (d : Draft) → IsDraft self.now d
             → map step_data kept.items ≡ map (kept_step d) steps.now) }
     {
-        let mut kept = Vec::new(self.machine);
+        let mut kept = Vec::new(self.global);
         for step in steps {
             let step = self.kept_step(step)?;
             kept.push(step)?;
@@ -205,7 +205,7 @@ impl<A: Allocator> MapBuilder<A> {
                     unreachable!()
                 };
                 let class = match class {
-                    Some(class) => Some(class.try_copy(self.machine)?),
+                    Some(class) => Some(class.try_copy(self.global)?),
                     None => None,
                 };
                 Ok(KeptStep::Take(bucket, class))
@@ -219,9 +219,9 @@ impl<A: Allocator> MapBuilder<A> {
                 leaf: *leaf,
                 firstn: *firstn,
                 count: *count,
-                kind: kind.try_copy(self.machine)?,
+                kind: kind.try_copy(self.global)?,
             }),
-            Step::Set(word, value) => Ok(KeptStep::Set(word.try_copy(self.machine)?, *value)),
+            Step::Set(word, value) => Ok(KeptStep::Set(word.try_copy(self.global)?, *value)),
             Step::Emit => Ok(KeptStep::Emit),
         }
     }

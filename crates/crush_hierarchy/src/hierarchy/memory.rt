@@ -3,7 +3,7 @@
 ghost use Rattle.std.specs.Prelude.{◌≡◌, true, vec_capacity};
 ghost use Rattle.crush_model.specs.Forest.{rows_of};
 ghost use Rattle.crush_tree.specs.Ops.{is_place};
-ghost use Rattle.crush_tree.specs.Rehoused.{CanRehouse, Grows, Rehouses};
+ghost use Rattle.crush_tree.specs.BufferReplaced.{CanReplaceBuffer, GrowsBuffer, ReplacesBuffer};
 
 use super::Hierarchy;
 use crush_tree::{Node, Place};
@@ -13,11 +13,13 @@ impl<A: Allocator> Hierarchy<A> {
     /// Moves the items of a place into the vector `given`, and returns the vector in which they
     /// were, now empty. The place must exist. `given` must be empty, and have memory for all items
     /// of the place. A second call with the returned vector undoes the first. Allocates nothing.
-    pub fn rehouse(&mut self, place: Place, given: Vec<Node<A>, A>) -> Vec<Node<A>, A>
-        requires { CanRehouse place given self.old }
-        ensures { Rehouses place (vec_capacity given) self.old self.new result }
+    pub fn replace_buffer(&mut self, place: Place, given: Vec<Node<A>, A>) -> Vec<Node<A>, A>
+        requires { CanReplaceBuffer place given self.old }
+        ensures { ReplacesBuffer place (vec_capacity given) self.old self.new result }
     {
-        let before = self.forest.rehouse_by(self.index.places(), place, given);
+        let before = self
+            .forest
+            .replace_buffer_by(self.index.places(), place, given);
         self.forest.recall_invariant();
         before
     }
@@ -26,14 +28,14 @@ impl<A: Allocator> Hierarchy<A> {
 impl<A: Allocator + Clone> Hierarchy<A> {
     /// Makes room for one more item at a place that exists, so that the growth can be undone. If
     /// the place is full, moves its items to a vector with 1.5 times the capacity, rounded down,
-    /// plus one, and returns the old vector for [`Hierarchy::rehouse`]. `Ok(None)` means that the
+    /// plus one, and returns the old vector for [`Hierarchy::replace_buffer`]. `Ok(None)` means that the
     /// place had room, and that nothing has changed. Returns an error if memory can't be allocated;
     /// then nothing changes.
-    pub fn grow(&mut self, place: Place) -> Result<Option<Vec<Node<A>, A>>, AllocError>
+    pub fn grow_buffer(&mut self, place: Place) -> Result<Option<Vec<Node<A>, A>>, AllocError>
         requires { is_place (rows_of self.old) place ≡ true }
-        ensures { Grows place self.old self.new result }
+        ensures { GrowsBuffer place self.old self.new result }
     {
-        let done = self.forest.grow_by(self.index.places(), place);
+        let done = self.forest.grow_buffer_by(self.index.places(), place);
         self.forest.recall_invariant();
         done
     }

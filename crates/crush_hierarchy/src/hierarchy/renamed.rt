@@ -6,7 +6,7 @@ ghost use Rattle.crush_tree.specs.Required.{CanRename};
 ghost use Rattle.crush_hierarchy.specs.Naming.{CanRestoreName, ReplacesName, TellsName};
 
 use super::Hierarchy;
-use crush_index::{Index, NameBack};
+use crush_index::{Index, NameMemory};
 use crush_units::{ItemId, Name};
 use std::alloc::{AllocError, Allocator, Global};
 
@@ -14,7 +14,7 @@ use std::alloc::{AllocError, Allocator, Global};
 #[derive(Drop)]
 pub struct OldName<A: Allocator> {
     name: Name<A>,
-    back: NameBack,
+    back: NameMemory,
 }
 
 impl<A: Allocator> Hierarchy<A> {
@@ -27,7 +27,7 @@ impl<A: Allocator> Hierarchy<A> {
     {
         let id = &id;
         self.forest.recall_invariant();
-        let copy = name.try_copy(self.machine)?;
+        let copy = name.try_copy(self.global)?;
         let old = self.forest.rename_by(self.index.places(), *id, name);
         self.forest.recall_invariant();
         match tell_new_name(&mut self.index, *id, copy, &old) {
@@ -66,10 +66,10 @@ fn tell_new_name<A: Allocator>(
     id: ItemId,
     name: Name<Global>,
     old: &Name<A>,
-) -> Result<NameBack, AllocError>
+) -> Result<NameMemory, AllocError>
     ensures { TellsName id name old.now index.old index.new result }
 {
-    let back = index.name_back(old)?;
+    let back = index.name_memory(old)?;
     if index.id_of(name.as_bytes()).is_none() {
         index.add_name(name, id)?;
         index.forget_name(old.as_bytes());

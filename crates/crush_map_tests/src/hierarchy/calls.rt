@@ -4,7 +4,7 @@ use super::asks::{fits_attach, fits_move, fits_swap, has_item};
 use super::comes::{put_bucket, put_placed, put_root, put_unplaced};
 use super::items::{bucket, bucket_item, device, device_item, name};
 use super::puts::{
-    exchange, give_name, grow, grow_and_back, make_room, put_device, weigh, weigh_all,
+    exchange, give_name, grow_and_back, grow_buffer, make_room, put_device, weigh, weigh_all,
 };
 use crush_hierarchy::{Hashing, Hierarchy};
 use crush_tree::Node;
@@ -263,8 +263,8 @@ fn grows_and_back(rt: &impl Abort, hierarchy: &mut Hierarchy<Global>) -> bool {
     let h1 = bucket(rt, 2);
     grow_and_back(hierarchy, h1) == Some(4)
         && holds_all(rt, hierarchy)
-        && grow(hierarchy, h1) == Some(2)
-        && grow(hierarchy, h1).is_none()
+        && grow_buffer(hierarchy, h1) == Some(2)
+        && grow_buffer(hierarchy, h1).is_none()
         && holds_all(rt, hierarchy)
         && sums_up(hierarchy, 4, 3, 163840)
 }

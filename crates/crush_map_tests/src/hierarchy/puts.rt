@@ -135,11 +135,11 @@ pub(super) fn exchange(hierarchy: &mut Hierarchy<Global>, first: &[u8], second: 
 }
 
 /// For how many a bucket had memory before it grew; `None` where it had room.
-pub(super) fn grow(hierarchy: &mut Hierarchy<Global>, bucket: BucketId) -> Option<usize> {
+pub(super) fn grow_buffer(hierarchy: &mut Hierarchy<Global>, bucket: BucketId) -> Option<usize> {
     if !has_item(hierarchy, &ItemId::Bucket(bucket)) {
         return None;
     }
-    match hierarchy.grow(Place::Bucket(bucket)) {
+    match hierarchy.grow_buffer(Place::Bucket(bucket)) {
         Ok(Some(before)) => {
             let had = before.capacity();
             drop(before);
@@ -155,9 +155,9 @@ pub(super) fn grow_and_back(hierarchy: &mut Hierarchy<Global>, bucket: BucketId)
     if !has_item(hierarchy, &ItemId::Bucket(bucket)) {
         return None;
     }
-    match hierarchy.grow(Place::Bucket(bucket)) {
+    match hierarchy.grow_buffer(Place::Bucket(bucket)) {
         Ok(Some(before)) => {
-            let after = hierarchy.rehouse(Place::Bucket(bucket), before);
+            let after = hierarchy.replace_buffer(Place::Bucket(bucket), before);
             let had = after.capacity();
             drop(after);
             Some(had)

@@ -171,10 +171,10 @@ pub(super) fn grows_and_back<A: Allocator + Clone>(
     if !has_item(forest, &ItemId::Bucket(bucket)) {
         return false;
     }
-    match forest.grow(Place::Bucket(bucket)) {
+    match forest.grow_buffer(Place::Bucket(bucket)) {
         Ok(Some(before)) => {
             let is_before = before.capacity() == had;
-            let after = forest.rehouse(Place::Bucket(bucket), before);
+            let after = forest.replace_buffer(Place::Bucket(bucket), before);
             let is_after = after.capacity() == has && after.is_empty();
             drop(after);
             is_before && is_after

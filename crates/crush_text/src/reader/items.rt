@@ -10,7 +10,7 @@ ghost use Rattle.crush_text.specs.Grammar.{item_line, item_weight_line, line_for
 ghost use Rattle.crush_text.specs.Flow.{between, placed};
 ghost use Rattle.crush_text.specs.Tests.{word_for};
 ghost use Rattle.crush_text.specs.Room.{IsFreeItem};
-ghost use Rattle.crush_text.specs.Reads.{own_weight};
+ghost use Rattle.crush_text.specs.Reads.{parsed_weight};
 ghost use Rattle.crush_text.specs.ReadsWords.{ReadsValue, AnyDraft};
 ghost use Rattle.crush_text.specs.ReadsLines.{IsAmid, behind_item, ReadsLine, ReadsOn, CanTake, PutsItem};
 
@@ -68,7 +68,7 @@ impl<'a, A: Allocator + Clone> MapReader<'a, A> {
             self.old self.new result }
     {
         let word = next_word(&mut self.text)?;
-        let weight = own_weight(word, &item)?;
+        let weight = parsed_weight(word, &item)?;
         add_item(word, item, Some(weight), &mut self.builder)
     }
 }
@@ -91,9 +91,9 @@ fn add_item<A: Allocator>(
 }
 
 /// A device's is at most 2147483647 units.
-fn own_weight(word: PlacedWord<'_>, item: &ItemId) -> Result<Weight, TextFault>
+fn parsed_weight(word: PlacedWord<'_>, item: &ItemId) -> Result<Weight, TextFault>
     ensures weighs { (d : Draft)
-        → result ≡ placed word.entry.place (own_weight d item.now word.entry.text.now) }
+        → result ≡ placed word.entry.place (parsed_weight d item.now word.entry.text.now) }
     ensures light { IfOk result (λ w. is_heavy_device item.now (Some w) ≡ false) }
 {
     if word.is_brace() {

@@ -54,7 +54,7 @@ impl<'a, A: Allocator> MapReader<'a, A> {
         let kind = read_word(&mut self.text)?;
         let min_size = read_size(&mut self.text, b"min_size")?;
         let max_size = read_size(&mut self.text, b"max_size")?;
-        own_head(name, id, kind, (min_size, max_size), self.machine)
+        rule_head_values(name, id, kind, (min_size, max_size), self.global)
     }
 
     /// Answers the place of the closing brace.
@@ -113,12 +113,12 @@ impl<'a, A: Allocator> MapReader<'a, A> {
 }
 
 /// The sizes are the least and the largest.
-fn own_head(
+fn rule_head_values(
     name: PlacedWord<'_>,
     id: u32,
     kind: PlacedWord<'_>,
     sizes: (Option<u32>, Option<u32>),
-    machine: Global,
+    global: Global,
 ) -> Result<Rule, TextFault>
     requires name { IsName name.text.now }
     requires id { id ≤ LARGEST_RULE_NUMBER }
@@ -131,15 +131,15 @@ fn own_head(
     ensures memory { IfErr result
         (λ f. IsOutOfMemory f × ((f.place ≡ name.entry.place) ⊎ (f.place ≡ kind.entry.place))) }
 {
-    let name = name.own_name(machine)?;
-    let kind = kind.own_name(machine)?;
+    let name = name.owned_name(global)?;
+    let kind = kind.owned_name(global)?;
     Ok(Rule {
         name,
         id,
         kind,
         min_size: sizes.0,
         max_size: sizes.1,
-        steps: Vec::new(machine),
+        steps: Vec::new(global),
     })
 }
 

@@ -43,7 +43,7 @@ impl<'a, A: Allocator> MapReader<'a, A> {
             FirstOfStep::Take => self.take(),
             FirstOfStep::Choose { leaf } => self.choose(leaf),
             FirstOfStep::Set(word) => {
-                let name = word.own_name(self.machine)?;
+                let name = word.owned_name(self.global)?;
                 read_set(&mut self.text, name)
             }
             FirstOfStep::Emit => Ok(Step::Emit),
@@ -55,12 +55,12 @@ impl<'a, A: Allocator> MapReader<'a, A> {
         ensures { GivesStep take_step self.old self.new result }
     {
         let bucket = self.taken_bucket()?;
-        let bucket = bucket.own_name(self.machine)?;
+        let bucket = bucket.owned_name(self.global)?;
         if !self.text.take_key(b"class") {
             return Ok(Step::Take(bucket, None));
         }
         let class = read_word(&mut self.text)?;
-        let class = class.own_name(self.machine)?;
+        let class = class.owned_name(self.global)?;
         Ok(Step::Take(bucket, Some(class)))
     }
 
@@ -72,7 +72,7 @@ impl<'a, A: Allocator> MapReader<'a, A> {
         let count = read_count(&mut self.text)?;
         read_key(&mut self.text, b"type")?;
         let kind = self.step_type()?;
-        let kind = kind.own_name(self.machine)?;
+        let kind = kind.owned_name(self.global)?;
         Ok(Step::Choose {
             leaf,
             firstn,

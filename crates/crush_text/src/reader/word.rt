@@ -76,13 +76,13 @@ impl<'a> PlacedWord<'a> {
         self.is(b"{") || self.is(b"}")
     }
 
-    pub(crate) fn own_name(self, machine: Global) -> Result<Name<Global>, TextFault>
+    pub(crate) fn owned_name(self, global: Global) -> Result<Name<Global>, TextFault>
         requires { IsName self.text.now }
         ensures name { IfOk result (λ name. name ≡ self.entry.text.now) }
         ensures memory { IfErr result
             (λ f. f ≡ record { kind = OutOfMemory; place = self.entry.place }) }
     {
-        match Name::read(machine, self.text) {
+        match Name::read(global, self.text) {
             Ok(name) => Ok(name),
             Err(_) => Err(self.fault(TextFaultKind::OutOfMemory)),
         }
