@@ -17,6 +17,6 @@ pub record IsTextOutOfMemory (text : List ℕ) (fault : TextFault) : Type 0 wher
   pub memory : IsOutOfMemory fault
   pub told : IsFoundInTime text fault
 
--- the fault is either a flaw of the text, or it says that memory ran out
+-- the fault is a flaw of the text, or it says that memory ran out, each as above
 abbrev pub IsTextFault : List ℕ → TextFault → Type 0
 IsTextFault text fault = IsNoMap text fault ⊎ IsTextOutOfMemory text fault

@@ -1,5 +1,5 @@
 //! Laws: commands and scripts that are printed are read back as the same. These functions do
-//! nothing when they are called: the contract of each is a law, and its proof shows it.
+//! nothing when they are called: the contract of each is a law, which is proved.
 
 ghost use Rattle.crush_script.specs.Printed.{PrintedIsRead, ReadIsSaid};
 ghost use Rattle.crush_script.specs.ScriptsText.{JobsAreReadBack, MapTextsHaveNoSection, ReadScriptsAreSuch};
