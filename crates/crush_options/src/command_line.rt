@@ -1,4 +1,4 @@
-//! The command line.
+//! Reads the command line with `clap`, and has the text of the help.
 
 ghost use Rattle.std.specs.Prelude.{◌≡◌, ◌≤◌, IfErr, IfOk, None, Some, codes, false, length, map, option_map, true};
 ghost use Rattle.clap.specs.Words.{all_of, app_of, fault_of, first_of, found_of, kind_of, one_of, rows_of, rule_of, with_rule};
@@ -13,11 +13,11 @@ use std::convert::AsStr;
 
 const ABOUT: &str = "Edits the hierarchy of a CRUSH map by the scripts of its operators";
 
-/// The toolchain is that of the proofs, as `rt version` prints it.
+/// The program's version, with the toolchain that checked the proofs, as `rt version` prints it.
 const VERSION: &str = "0.1.0 (rattle-kit-13f logic dac8208d650f15bf)";
 
-/// The help beside the flags, of which `docs/manual.py` makes the manual page. Its lines have at
-/// most 80 columns, which leaves 55 for the text of a flag.
+/// The part of the help after the list of flags. `docs/manual.py` makes the manual page from the
+/// help. Its lines have at most 80 columns, which leaves 55 columns for the text of a flag.
 const MORE: &str = "\
 A job is the text of a CRUSH map, in the form of `crushtool --decompile`, and
 behind it the scripts of up to 16 operators, each a line `%operator NAME` and
@@ -126,12 +126,12 @@ const JSON_LINES: &str = "error: --json doesn't go with --as-ceph\n";
 
 const JSON_NAMES: &str = "error: --json and --since don't go with --by-name\n";
 
-/// As many as a job has operators.
+/// The most files with scripts on one command line: as many as a job may have operators.
 const MOST_SCRIPTS: usize = 16;
 
 const MANY_SCRIPTS: &str = "error: at most 16 times --script\n";
 
-/// A flag `--NAME`.
+/// A flag `--NAME`, without a value.
 fn flag<'a>(alloc: Global, name: &'a str, help: &'a str) -> Arg<'a>
     ensures rule { rule_of result ≡ flag name.entry.now }
     ensures own { result.global ≡ false }
@@ -142,7 +142,7 @@ fn flag<'a>(alloc: Global, name: &'a str, help: &'a str) -> Arg<'a>
         .help(help)
 }
 
-/// An option `--NAME VALUE`, which can stand once.
+/// An option `--NAME VALUE`, which can be given once.
 fn option<'a>(alloc: Global, name: &'a str, value: &'a str, help: &'a str) -> Arg<'a>
     ensures rule { rule_of result ≡ option name.entry.now }
     ensures own { result.global ≡ false }
@@ -248,7 +248,7 @@ fn refused(alloc: Global, text: &str) -> OptionsFault
     }
 }
 
-/// What the words say of what is printed.
+/// The words of a command line that decide what is printed.
 #[derive(Clone, Copy)]
 struct Said<'a> {
     tree: bool,
@@ -308,7 +308,7 @@ fn have_type_alone(said: Said<'_>) -> bool
     said.down_to.is_some() && !said.tree
 }
 
-/// The error line of words that don't go together.
+/// Returns the error line of words that can't be given together, or `None` if they can.
 fn complaint(said: Said<'_>) -> Option<&'static str>
     ensures { option_map (λ text. text.now) result ≡ complaint (said_data said.entry) }
 {
@@ -468,7 +468,7 @@ fn options_of(alloc: Global, matches: &ArgMatches<'_>) -> Result<Options, Option
     })
 }
 
-/// An error of `clap`, with its text.
+/// Returns the fault for an error of `clap`, with the error's text.
 fn fault_of(alloc: Global, error: &Error) -> OptionsFault
     ensures { IsFaultOf (kind_of error.now) result }
 {
@@ -482,8 +482,12 @@ fn fault_of(alloc: Global, error: &Error) -> OptionsFault
     }
 }
 
-/// Reads the words of a command line behind the program's name, in any order, by the rules that the
-/// help prints. Each word is one of the program's or refused: none is ignored.
+/// Reads the words of a command line, without the program's name, by the rules that the help shows.
+///
+/// The words may be in any order, and none is ignored: a word that isn't the program's is refused.
+/// Fails with [`OptionsFault::Help`] if a word asks for the help or the version, with
+/// [`OptionsFault::Refused`] if a word is wrong or words can't be given together, and with
+/// [`OptionsFault::Memory`] if memory runs out.
 pub fn options<S: AsStr>(alloc: Global, words: &[S]) -> Result<Options, OptionsFault>
     ensures asked { IfOk result (IsAsked (map S.text words.now)) }
     ensures fault { IfErr result (IsFaultIn (map S.text words.now)) }

@@ -1,4 +1,4 @@
-//! What the words of a line in a section say.
+//! Parses the words of a line of a section: a command, `begin`, `commit` or `%operator NAME`.
 
 ghost use Rattle.std.specs.Prelude.{◌≡◌};
 ghost use Rattle.crush_script.specs.ReadsAs.{ReadsAs, ReadsAndLeaves};
@@ -11,7 +11,7 @@ use crush_history::device_named;
 use crush_units::{DeviceId, Name, NameFault, Weight};
 use std::alloc::Global;
 
-/// Why a line says nothing.
+/// Why a line can't be parsed.
 #[derive(Clone, Copy)]
 pub(crate) enum LineFault {
     BadLine,
@@ -19,13 +19,13 @@ pub(crate) enum LineFault {
     OutOfMemory,
 }
 
-/// What a line says that begins no section.
+/// A parsed line of a section, other than the `%operator` line that begins the section.
 #[derive(Drop)]
 pub(crate) enum Command {
-    /// There are no words.
+    /// The line has no words.
     Nothing,
     Edit(Edit),
-    /// It may name the number of changes that its operator has seen.
+    /// `begin`, or `begin at N` with the number N of changes that the batch is for.
     Begin(Option<u32>),
     Commit,
 }
@@ -168,7 +168,7 @@ impl LineWords<'_> {
         }
     }
 
-    /// The value, where no word is left.
+    /// Returns the value if no word is left; otherwise the line is a [`LineFault::BadLine`].
     #[tactic(auto, unfolding(crate::specs::Command::end_at))]
     fn end<T: Drop>(&mut self, value: T) -> Result<T, LineFault>
         ensures { ReadsAs result (end_at value self.old) }
@@ -179,7 +179,7 @@ impl LineWords<'_> {
         }
     }
 
-    /// Takes all words that are left.
+    /// Reads all words that are left, each as a pair `TYPE=NAME`.
     #[tactic(auto, unfolding(crate::specs::Command::location_at, crate::specs::Command::with_pairs))]
     fn location(&mut self, alloc: Global) -> Result<Location, LineFault>
         ensures { ReadsAs result (location_at self.old) }

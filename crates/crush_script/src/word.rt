@@ -1,4 +1,4 @@
-//! What one word of a command says.
+//! Reads single words of a command: a device's name, a number of changes, a pair.
 
 ghost use Rattle.std.specs.Prelude.{◌≡◌};
 ghost use Rattle.crush_script.specs.Words.{count_of, pair_of};
@@ -6,8 +6,10 @@ ghost use Rattle.crush_script.specs.Words.{count_of, pair_of};
 use crate::line::place_of;
 use crush_units::limits::MOST_ENTRIES;
 
-/// The number of changes that digits write, however many they are, where a history can have so
-/// many.
+/// Reads a number of changes, as in `begin at N`.
+///
+/// The word is one or more digits, and leading zeros are allowed. Returns `None` if it isn't, or if
+/// its value is above 65,536, the most changes that a history can have.
 pub fn count_of(digits: &[u8]) -> Option<u32>
     ensures { result ≡ count_of digits.now }
 {
@@ -28,7 +30,9 @@ pub fn count_of(digits: &[u8]) -> Option<u32>
     Some(value as u32)
 }
 
-/// The two parts of a word `TYPE=NAME`, of which the second is empty where there is no `=`.
+/// Splits a word `TYPE=NAME` at its first `=`, and returns the bytes before it and after it.
+///
+/// Without `=` the first part is the whole word, and the second is empty. Neither part is checked.
 pub fn cut_pair(word: &[u8]) -> (&[u8], &[u8])
     ensures kind { result.0.now ≡ (pair_of word.now).kind }
     ensures name { result.1.now ≡ (pair_of word.now).name }
