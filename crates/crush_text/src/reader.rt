@@ -1,4 +1,5 @@
-//! Reads the text of a map.
+//! The reader of a map's text. Each submodule reads one kind of statement or of line; `statement`
+//! calls the others.
 
 ghost use Rattle.std.specs.Prelude.{◌≡◌, ℕ, List, IfOk, IfErr};
 ghost use Rattle.crush_edits.specs.Setting.{SettingData};
@@ -28,8 +29,8 @@ use crush_map::{CrushMap, Hashing};
 use crush_units::Reader;
 use std::alloc::{Allocator, Global};
 
-/// What is left to read, and the map of what stood before it. A method reads what it is called
-/// after.
+/// The rest of the text, and the builder with the map read so far. A method reads the part of the
+/// text that it is named after, and returns the first fault in it.
 #[derive(Drop)]
 struct MapReader<'a, A: Allocator> {
     text: Reader<'a>,
@@ -37,12 +38,16 @@ struct MapReader<'a, A: Allocator> {
     global: Global,
 }
 
-/// Reads the text of a map, as `crushtool` prints it.
+/// Reads the text of a map in the form that `crushtool` prints, and returns the map.
 ///
-/// The second value counts the items that are buckets and whose weight in the text wasn't the sum
-/// over the devices below them; the map has the sum. Refused as [`TextFaultKind::LeftOut`] are
-/// weight sets (`choose_args`), the steps of MSR rules (`choosemsr`) and the positions of items
-/// (`pos`). docs/FORMATS.md has the grammar, docs/RULES.md each fault with its place.
+/// The second value counts the buckets that the text lists as an item with a weight other than the
+/// sum of the devices below them. The map has the sum.
+///
+/// If the text isn't a map, it fails with the text's first fault; if memory runs out before one is
+/// found, it fails with `OutOfMemory`. Three parts of Ceph's grammar are not supported, and fail
+/// with [`TextFaultKind::LeftOut`]: weight sets (`choose_args`), the steps of MSR rules
+/// (`choosemsr`) and the positions of items (`pos`). docs/FORMATS.md has the grammar, and
+/// docs/RULES.md has each fault with its place.
 pub fn read_map(alloc: Global, text: &[u8]) -> Result<(CrushMap<Global>, u32), TextFault>
     ensures map { IfOk result (λ m. (t : List Row)
         × IsMapText text.now m.0.setting t m.1 × Stands m.0.forest t) }
@@ -56,9 +61,9 @@ pub fn read_map(alloc: Global, text: &[u8]) -> Result<(CrushMap<Global>, u32), T
     read_map_in(alloc, Hashing::plain(), alloc, text)
 }
 
-/// Reads the text of a map, as [`read_map`] does. Types, tunables and rules are in the machine's
-/// memory, all else in the allocator's; for a stranger's text names and ids are hashed with drawn
-/// keys.
+/// Reads the text of a map as [`read_map`] does, but with a given allocator and hashing. The types,
+/// tunables and rules of the map are in the machine's memory, and the rest is in the memory of
+/// `alloc`. Pass a `hashing` with random keys if the text comes from somebody who isn't trusted.
 pub fn read_map_in<A: Allocator + Clone>(
     global: Global,
     hashing: Hashing,

@@ -1,4 +1,4 @@
-//! The fault of a text where memory runs out even for an empty map.
+//! The fault of a text if there isn't enough memory even for an empty map.
 
 ghost use Rattle.std.specs.Prelude.{◌≡◌};
 ghost use Rattle.crush_text.specs.ReadsStatements.{FailsText, FailsFirst, opens_alone};
@@ -8,7 +8,8 @@ use crate::reader::statement::{comes_first, is_out_of_place};
 use crate::reader::word::{PlacedWord, memory_at};
 use crush_units::{Reader, Token};
 
-/// The fault of the first word, or out of memory there or at the end of the text.
+/// Returns the fault of the text's first word. If this word has no fault, or the text has no words,
+/// returns out of memory at the word or at the end of the text.
 pub(crate) fn fault_without_memory(reader: &mut Reader<'_>) -> TextFault
     ensures { FailsText result reader.old }
 {
@@ -22,7 +23,8 @@ pub(crate) fn fault_without_memory(reader: &mut Reader<'_>) -> TextFault
     }
 }
 
-/// Before the first type no word opens a bucket.
+/// Returns the fault of the text's first word, or out of memory if it has none. No type is declared
+/// yet, so no word begins a bucket.
 fn unopened(word: PlacedWord<'_>) -> TextFault
     ensures { FailsFirst result word.entry.place word.entry.text.now }
 {
@@ -37,6 +39,7 @@ fn unopened(word: PlacedWord<'_>) -> TextFault
     }
 }
 
+/// Whether the word begins a statement without a declared type.
 fn opens_alone(word: PlacedWord<'_>) -> bool
     ensures { result ≡ opens_alone word.entry.text.now }
 {
