@@ -1,7 +1,11 @@
-//! An example for a program that uses the library: two operators edit the map of standard input at
-//! once, each in a thread of its own, by calls of their own and then by one plan, of which each
-//! step is made once, by whoever comes first. The output is the same in whichever order the two
-//! came.
+//! An example of a program with threads that uses the library. Two operators edit the map of
+//! standard input at the same time, each in a thread of its own. First each operator makes its own
+//! calls ([`at_once`]). Then both work through one plan ([`plan`]): each step is made once, by
+//! whichever operator is first. The output is the same in whatever order the calls are made.
+//!
+//! A *call* is an edit or a batch of edits. An *editor* owns the map and makes one call at a time.
+//! Each operator has a *seat* at the editor. The *history* has an entry for each call, with its
+//! reply.
 #![tactic(auto)]
 
 ghost use Rattle.std.specs.Prelude.{◌<◌, ◌^◌, length};
@@ -25,6 +29,7 @@ mod plan;
 mod together;
 
 fn main(rt: HostRuntime) -> anyhow::Result<()> {
+    // Each operator's own calls, made at the same time.
     let first = first_calls(rt.alloc())?;
     let second = second_calls(rt.alloc())?;
     let map = read_input(&rt)?;
@@ -34,8 +39,10 @@ fn main(rt: HostRuntime) -> anyhow::Result<()> {
         map,
         history,
     } = closed;
+    // One plan for both operators, which begins with the map that their calls left.
     let steps = steps(rt.alloc())?;
     let followed = follow_at_once(&rt, rt.alloc(), map, steps.as_slice())?;
+    // The map after both, the history of the calls, the last reading, and the history of the plan.
     write_map(rt.alloc(), &followed.map, &mut rt.stdout())?;
     print_part(&rt, history.as_slice(), 0, b"first")?;
     print_part(&rt, history.as_slice(), 1, b"second")?;
@@ -43,13 +50,14 @@ fn main(rt: HostRuntime) -> anyhow::Result<()> {
     print_changes(&rt, followed.history.as_slice())
 }
 
+/// Reads the text of a map from standard input.
 fn read_input(rt: &HostRuntime) -> anyhow::Result<CrushMap<Global>> {
     let text = io::read_to_string(rt.alloc(), rt.stdin())?;
     let (map, _adjusted) = read_map(rt.alloc(), text.as_bytes())?;
     Ok(map)
 }
 
-/// Two devices get new weights.
+/// The calls of the first operator: two devices get new weights.
 fn first_calls(alloc: Global) -> anyhow::Result<Vec<Call>> {
     let mut calls = Vec::new(alloc);
     calls.push(Call::One(reweight(alloc, b"osd.0", "2")?))?;
@@ -57,7 +65,8 @@ fn first_calls(alloc: Global) -> anyhow::Result<Vec<Call>> {
     Ok(calls)
 }
 
-/// A device is added, and a removal is refused.
+/// The calls of the second operator: a device is added to the host h2, and then h2 is to be
+/// removed. The removal is refused, because h2 isn't empty.
 fn second_calls(alloc: Global) -> anyhow::Result<Vec<Call>> {
     let mut calls = Vec::new(alloc);
     calls.push(Call::One(add(alloc, 3, b"osd.3", b"h2")?))?;
@@ -65,7 +74,8 @@ fn second_calls(alloc: Global) -> anyhow::Result<Vec<Call>> {
     Ok(calls)
 }
 
-/// A device moves to a host by two edits, of which the second needs the first.
+/// The plan: a device is removed, and then added to another host. The second step needs the first,
+/// because a device that is in a bucket can't be added.
 fn steps(alloc: Global) -> anyhow::Result<Vec<Edit>> {
     let mut steps = Vec::new(alloc);
     steps.push(remove(alloc, b"osd.3")?)?;
@@ -73,6 +83,7 @@ fn steps(alloc: Global) -> anyhow::Result<Vec<Edit>> {
     Ok(steps)
 }
 
+/// The edit that sets the weight of a device, written as a decimal number.
 fn reweight(alloc: Global, device: &[u8], weight: &str) -> anyhow::Result<Edit> {
     Ok(Edit::Reweight {
         name: Name::read(alloc, device)?,
@@ -80,6 +91,7 @@ fn reweight(alloc: Global, device: &[u8], weight: &str) -> anyhow::Result<Edit> 
     })
 }
 
+/// The edit that adds a device of weight 1 to a host.
 fn add(alloc: Global, id: i32, name: &[u8], host: &[u8]) -> anyhow::Result<Edit> {
     let mut at = Location::new(alloc);
     at.push(b"host", host)?;
@@ -91,14 +103,15 @@ fn add(alloc: Global, id: i32, name: &[u8], host: &[u8]) -> anyhow::Result<Edit>
     })
 }
 
+/// The edit that removes a device, or a bucket that is empty.
 fn remove(alloc: Global, item: &[u8]) -> anyhow::Result<Edit> {
     Ok(Edit::Remove {
         name: Name::read(alloc, item)?,
     })
 }
 
-/// Prints the entries of one operator, numbered among themselves: the calls between them differ
-/// from run to run.
+/// Prints the entries of one operator, numbered from 1. Their numbers in the whole history aren't
+/// printed, because these differ from run to run.
 fn print_part(
     rt: &HostRuntime,
     history: &[Entry],
@@ -115,7 +128,8 @@ fn print_part(
     Ok(())
 }
 
-/// Prints the changes, numbered among themselves: who made each differs from run to run.
+/// Prints the entries that changed the map, numbered from 1. The operator isn't printed, because it
+/// differs from run to run which operator made which change.
 fn print_changes(rt: &HostRuntime, history: &[Entry]) -> anyhow::Result<()> {
     let mut number = 0u32;
     for entry in history {
@@ -133,6 +147,7 @@ fn print_changes(rt: &HostRuntime, history: &[Entry]) -> anyhow::Result<()> {
     Ok(())
 }
 
+/// Prints a reading: the number of changes so far, and the weight of all placed devices, in units.
 fn print_reading(rt: &HostRuntime, reading: Reading) -> anyhow::Result<()> {
     println!(rt; "# changes {} weight {}", reading.changes, reading.weight)?;
     Ok(())

@@ -1,4 +1,4 @@
-//! The most buckets of a map, each in the one before, on the main thread and on another.
+//! As many buckets as a map can have, each in the one before it, on the main thread and on another.
 
 use super::alike::copy_of;
 use super::items::{Item, bucket, bucket_item, node, node_with};
@@ -23,7 +23,7 @@ fn links(rt: &(impl Abort + AllocGlobal)) -> Node<Global> {
     item
 }
 
-/// The buckets are held by one another before they come to the forest.
+/// A forest with a chain of buckets, which was put together before it was added to the forest.
 fn chain(rt: &(impl Abort + AllocGlobal)) -> Forest<Global> {
     let mut forest = Forest::new(rt.alloc(), rt.alloc());
     put(&mut forest, Place::Root, links(rt)).expect(rt, "a place");
