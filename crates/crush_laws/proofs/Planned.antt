@@ -21,13 +21,13 @@ use Rattle.crush_history.specs.HistoryText.{edit_text}
 use Rattle.crush_history.specs.History.{Counted, EntryData, counted_after, edit_outcome, entry_on, is_change, later, turn, turns_from, untouched}
 use Rattle.crush_script.specs.Command.{command, end_at, name_at, operator}
 use Rattle.crush_script.specs.Lines.{begins_section, length_to_section, line_words, lines, map_part, section_line, section_part, without_comment, words_between_blanks}
-use Rattle.crush_script.specs.Printed.{IsSaid}
+use Rattle.crush_history.specs.Said.{IsSaid}
 use Rattle.crush_script.specs.ScriptsText.{ends_line}
 use Rattle.crush_script.specs.Sections.{SectionsData, no_sections, with_line, with_lines, without_batch}
 use Rattle.crush_script.proofs.MapTexts.{map_texts_have_no_section}
 use Rattle.crush_script.proofs.PrintedLaws.{name_word, printed_is_read}
 use Rattle.crush_script.proofs.PrintedWords.{IsWord, line_words-joined}
-use Rattle.crush_reasons.specs.Ceph.{ceph_heading}
+use Rattle.crush_history.specs.Ceph.{ceph_heading}
 use Rattle.crush_names.specs.Aside.{aside_text}
 use Rattle.crush_plan.specs.Leads.{Leads}
 use Rattle.crush_plan.specs.Part.{IsAllowed}
