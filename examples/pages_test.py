@@ -3,12 +3,13 @@
 
     python3 examples/pages_test.py crates/crushedit/out/crushedit
 
-Of README.md and docs/OPERATING.md each block of a console is run in a folder of its own, in which map.txt is the map of
-examples/maps/class-3.job: the lines behind `$ `, and what stands below each is what it has to print. A line of two
-dots, perhaps with words behind it, stands for any lines. A block of Python, whose first line is a comment with its
-name, is a file of that name there. Blocks that call `make` aren't run. The outputs of
-docs/FORMATS.md come of the commands of SHOWN, and README's table of statuses has the line of each command of ENDS in the
-row of its status. Then it is looked whether README's script makes its map and tells of it in one order of operators,
+Each console block of README.md and docs/OPERATING.md is run in a folder of its own, in which map.txt and
+examples/map.txt are the file examples/map.txt that README links: the lines after `$ ` are the commands, and the lines
+below each are what it has to print. A block of bash that is followed by "It prints:" and a block of text is run in the
+same way. A line of two dots, perhaps with words after them, stands for any lines. A block of Python, whose first line is
+a comment with its name, is a file of that name there. Blocks that call `make` aren't run. The outputs of
+docs/FORMATS.md come from the commands of SHOWN, and README's table of statuses has the line of each command of ENDS in
+the row of its status. Then it is looked whether README's script makes its map and tells of it in one order of operators,
 maps that `crushtool` printed differ at most by the order of their buckets when they are printed here, `make try` shows
 what changes, bash completes what is typed (completed.py), and the archive has the pages that an operator reads. Prints a line for each block and each of these, and
 ends with status 1 where one prints something else, or isn't so.
@@ -27,7 +28,8 @@ from completed import completion_faults
 TOP = pathlib.Path(__file__).resolve().parent.parent
 PAGES = ["README.md", "docs/OPERATING.md"]
 MAPS = TOP / "examples/maps"
-MAP = (MAPS / "class-3.job").read_text().partition("%")[0]
+FIRST_MAP = "examples/map.txt"
+MAP = (TOP / FIRST_MAP).read_text()
 # What FORMATS.md shows: the heading, and the commands whose output stands below it, in blocks in this order. In map.txt
 # is the map of examples/example.txt, in old.txt one that `crushtool` 16 printed.
 SHOWN = {
@@ -74,6 +76,14 @@ def steps_of(block):
         lines = step.splitlines(keepends=True)
         count = next(number for number, line in enumerate(lines, 1) if not line.endswith("\\\n"))
         yield "".join(lines[:count]), "".join(lines[count:])
+
+
+def examples_of(text):
+    """The examples of a page, in its order: each a list of commands, each with what it has to print."""
+    console, typed = r"^```console\n(?P<console>.*?)^```$", r"^```bash\n(?P<bash>.*?)^```\n\nIt prints:\n\n```text\n(?P<text>.*?)^```$"
+    for block in re.finditer(rf"(?ms){console}|{typed}", text):
+        if "$ make " not in (block["console"] or ""):
+            yield list(steps_of(block["console"])) if block["console"] else [(block["bash"], block["text"])]
 
 
 def scripts_of(text):
@@ -165,6 +175,11 @@ def shown_in_turn(_program, _folder):
     return len(runs) > 1 and all(" --in-turn " in run for run in runs)
 
 
+def first_map_is_linked(_program, _folder):
+    """The examples are run with the file that README links."""
+    return f"]({FIRST_MAP})" in (TOP / "README.md").read_text()
+
+
 def tried_is_short(_program, _folder):
     """What `make try` runs, whose own map would be 110 lines."""
     ran = subprocess.run(["make", "-n", "try"], cwd=TOP, capture_output=True, text=True)
@@ -185,24 +200,22 @@ def main():
         environment = {**os.environ, "PATH": f"{folder}:{os.environ['PATH']}", "LC_ALL": "C.UTF-8"}
         for page in PAGES:
             text = (TOP / page).read_text()
-            for number, block in enumerate(re.findall(r"(?ms)^```console\n(.*?)^```$", text), 1):
-                if "$ make " in block:
-                    continue
+            for number, steps in enumerate(examples_of(text), 1):
                 here = os.path.join(folder, f"{pathlib.Path(page).stem}{number}")
-                os.mkdir(here)
-                for name, own in [("map.txt", MAP), *scripts_of(text)]:
+                os.makedirs(os.path.join(here, "examples"))
+                for name, own in [("map.txt", MAP), (FIRST_MAP, MAP), *scripts_of(text)]:
                     pathlib.Path(here, name).write_text(own)
-                for command, shown in steps_of(block):
+                for command, shown in steps:
                     ran = run_in(here, command, environment)
                     if not is_shown(ran.stdout, shown):
-                        print(f"{page}, block {number}: {command}prints\n{ran.stdout}and not\n{shown}")
+                        print(f"{page}, example {number}: {command}prints\n{ran.stdout}and not\n{shown}")
                         failed = True
-                print(f"{page}, block {number}: run")
+                print(f"{page}, example {number}: run")
         for test in (shown_faults, status_faults, order_faults, completion_faults):
             faults = list(test(folder, environment))
             print("\n".join([*faults, f"{test.__name__}: {len(faults)}"]))
             failed |= bool(faults)
-        for test in (shown_in_turn, tried_is_short, archive_has_pages):
+        for test in (shown_in_turn, first_map_is_linked, tried_is_short, archive_has_pages):
             is_so = test(program, os.path.join(folder, "archive"))
             print(f"{test.__name__}: {'so' if is_so else 'NOT so'}")
             failed |= not is_so
