@@ -74,7 +74,9 @@ def steps_of(block):
     """The commands of a block, each with what it has to print."""
     for step in re.split(r"(?m)^\$ ", block)[1:]:
         lines = step.splitlines(keepends=True)
-        count = next(number for number, line in enumerate(lines, 1) if not line.endswith("\\\n"))
+        # A command goes on after a backslash, and up to the END of a text that it has behind it.
+        last = (lambda line: line == "END\n") if "<<'END'" in lines[0] else (lambda line: not line.endswith("\\\n"))
+        count = next(number for number, line in enumerate(lines, 1) if last(line))
         yield "".join(lines[:count]), "".join(lines[count:])
 
 
