@@ -3,12 +3,11 @@
 
     python3 examples/pages_test.py crates/crushedit/out/crushedit
 
-Each console block of README.md and docs/OPERATING.md is run in a folder of its own, in which map.txt and
-examples/map.txt are the file examples/map.txt that README links: the lines after `$ ` are the commands, and the lines
-below each are what it has to print. A block of bash that is followed by "It prints:" and a block of text is run in the
-same way. A line of two dots, perhaps with words after them, stands for any lines. A block of Python, whose first line is
-a comment with its name, is a file of that name there. Blocks that call `make` aren't run. The outputs of
-docs/FORMATS.md come from the commands of SHOWN, and README's table of statuses has the line of each command of ENDS in
+Each console block of the pages of PAGES is run in a folder of its own, in which map.txt is the page's map, and examples/
+is that of the repository: the lines after `$ ` are the commands, and the lines below each are what it has to print. A
+block of bash that is followed by "It prints:" and a block of text is run in the same way. A line of two dots, perhaps
+with words after them, stands for any lines. A block of Python, whose first line is a comment with its name, is a file of
+that name there. Blocks that call `make` aren't run. README's table of statuses has the line of each command of ENDS in
 the row of its status. Then it is looked whether README's script makes its map and tells of it in one order of operators,
 maps that `crushtool` printed differ at most by the order of their buckets when they are printed here, `make try` shows
 what changes, bash completes what is typed (completed.py), and the archive has the pages that an operator reads. Prints a line for each block and each of these, and
@@ -26,30 +25,10 @@ sys.dont_write_bytecode = True
 from completed import completion_faults
 
 TOP = pathlib.Path(__file__).resolve().parent.parent
-PAGES = ["README.md", "docs/OPERATING.md"]
+FIRST_MAP, SMALL_MAP = "examples/map.txt", "examples/example.txt"
+# The map of each page's examples, which the page links.
+PAGES = {"README.md": FIRST_MAP, "docs/OPERATING.md": FIRST_MAP, "docs/FORMATS.md": SMALL_MAP}
 MAPS = TOP / "examples/maps"
-FIRST_MAP = "examples/map.txt"
-MAP = (TOP / FIRST_MAP).read_text()
-# What FORMATS.md shows: the heading, and the commands whose output stands below it, in blocks in this order. In map.txt
-# is the map of examples/example.txt, in old.txt one that `crushtool` 16 printed.
-SHOWN = {
-    "The tree": ["crushedit --tree --no-history map.txt"],
-    "What has changed": [
-        "sed 's/take default/take h2/' map.txt > before.txt; (cat map.txt; echo '%operator a'; echo rename-bucket h1 node1;"
-        " echo move osd.0 host=h2; echo add osd.3 1 host=h3 rack=r1) | crushedit --no-history --since before.txt"
-    ],
-    "A plan": [
-        "sed 's/total_tries 50/total_tries 51/; s/^device 0 osd.0/& class ssd/; s/id -2/id -9/' map.txt > wanted.txt;"
-        " crushedit --to wanted.txt map.txt"
-    ],
-    "History lines": [
-        "(sed 's/^device 2 .*/&\\ndevice 9 osd.9/' map.txt; echo '%operator alice'; echo reweight osd.0 0.5; echo reweight osd.9 1;"
-        " echo begin; echo add-bucket h9 host; echo move h9 root=default; echo commit; echo '%operator bob'; echo begin;"
-        " echo rm h9; echo rm default; echo commit; echo begin at 1; echo set-device-class ssd osd.0; echo commit)"
-        " | crushedit --in-turn | grep '^# [0-9]'"
-    ],
-    "Reasons": ["sed 's/host h2/hots h2/' map.txt | crushedit --explain", "crushedit --explain old.txt > new.txt"],
-}
 # How runs end, with the status and the line on standard error that README's table has. Of status 4, which takes a system
 # that refuses memory or threads, bench/refused_memory.py looks at the lines.
 ENDS = [
@@ -107,21 +86,9 @@ def run_in(here, command, environment, stdout=None):
 def example_folder(folder, name):
     here = pathlib.Path(folder, name)
     here.mkdir()
-    (here / "map.txt").write_text((TOP / "examples/example.txt").read_text())
+    (here / "map.txt").write_text((TOP / SMALL_MAP).read_text())
     (here / "old.txt").write_text((MAPS / "class-100-v16.job").read_text().partition("%")[0])
     return here
-
-
-def shown_faults(folder, environment):
-    """Which outputs FORMATS.md shows that aren't printed."""
-    here, text = example_folder(folder, "shown"), (TOP / "docs/FORMATS.md").read_text()
-    for heading, commands in SHOWN.items():
-        section = re.search(rf"(?ms)^#+ {heading}\n(.*?)(?:^#+ |\Z)", re.sub(r"(?m)^# ", "\0# ", text))[1].replace("\0", "")
-        blocks = re.findall(r"(?ms)^```\n(.*?)^```$", section)
-        for command, shown in zip(commands, blocks, strict=True):
-            printed = run_in(here, command, environment).stdout
-            if not is_shown(printed, shown):
-                yield f"docs/FORMATS.md, {heading}: {command}\nprints\n{printed}and not\n{shown}"
 
 
 def has_line(cell, line):
@@ -177,9 +144,9 @@ def shown_in_turn(_program, _folder):
     return len(runs) > 1 and all(" --in-turn " in run for run in runs)
 
 
-def first_map_is_linked(_program, _folder):
-    """The examples are run with the file that README links."""
-    return f"]({FIRST_MAP})" in (TOP / "README.md").read_text()
+def maps_are_linked(_program, _folder):
+    """The examples of each page are run with a file that the page links."""
+    return all(f"]({'../' * page.count('/')}{map_file})" in (TOP / page).read_text() for page, map_file in PAGES.items())
 
 
 def tried_is_short(_program, _folder):
@@ -200,12 +167,13 @@ def main():
     with tempfile.TemporaryDirectory() as folder:
         os.symlink(program, os.path.join(folder, "crushedit"))
         environment = {**os.environ, "PATH": f"{folder}:{os.environ['PATH']}", "LC_ALL": "C.UTF-8"}
-        for page in PAGES:
+        for page, map_file in PAGES.items():
             text = (TOP / page).read_text()
             for number, steps in enumerate(examples_of(text), 1):
                 here = os.path.join(folder, f"{pathlib.Path(page).stem}{number}")
-                os.makedirs(os.path.join(here, "examples"))
-                for name, own in [("map.txt", MAP), (FIRST_MAP, MAP), *scripts_of(text)]:
+                os.mkdir(here)
+                os.symlink(TOP / "examples", os.path.join(here, "examples"))
+                for name, own in [("map.txt", (TOP / map_file).read_text()), *scripts_of(text)]:
                     pathlib.Path(here, name).write_text(own)
                 for command, shown in steps:
                     ran = run_in(here, command, environment)
@@ -213,11 +181,11 @@ def main():
                         print(f"{page}, example {number}: {command}prints\n{ran.stdout}and not\n{shown}")
                         failed = True
                 print(f"{page}, example {number}: run")
-        for test in (shown_faults, status_faults, order_faults, completion_faults):
+        for test in (status_faults, order_faults, completion_faults):
             faults = list(test(folder, environment))
             print("\n".join([*faults, f"{test.__name__}: {len(faults)}"]))
             failed |= bool(faults)
-        for test in (shown_in_turn, first_map_is_linked, tried_is_short, archive_has_pages):
+        for test in (shown_in_turn, maps_are_linked, tried_is_short, archive_has_pages):
             is_so = test(program, os.path.join(folder, "archive"))
             print(f"{test.__name__}: {'so' if is_so else 'NOT so'}")
             failed |= not is_so
