@@ -443,13 +443,15 @@ const HELP: &[&str] = &[
     "\n    add-bucket NAME TYPE ",
     "\n    rename-bucket NAME NAME ",
     "\n    begin, commit ",
-    "\n    0    the run was done",
-    "\n    1    the input is no job, or MAP, NAME or TYPE none",
+    "\n    0    the job was run",
+    "\n    1    the job, MAP, NAME or TYPE is invalid",
     "\n    2    the command line is refused",
-    "\n    3    a file can't be opened, or reading or writing failed",
+    "\n    3    a file can't be opened, or a read or a write failed",
     "\n    4    out of memory",
     "\n    5    --strict or --no-make ended the run",
     "\n    6    with --exit-code",
+    " --since map -s alice map\n",
+    " --to wanted map\n",
 ];
 
 fn told(rt: &(impl Abort + AllocGlobal), words: &[&str]) -> String {
@@ -484,7 +486,7 @@ fn help_and_the_version_are_told(rt: HostRuntime) {
     assert!(rt;
         has_all(help.as_str(), HELP)
             && has_short_lines(help.as_str())
-            && version.as_str().starts_with("crushedit 0.1.0 (rattle-kit-")
+            && version.as_str().starts_with("crushedit 0.2.0 (rattle-kit-")
     );
     drop(version);
     drop(help);
