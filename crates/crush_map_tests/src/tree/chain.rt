@@ -13,7 +13,9 @@ use std::thread;
 const MOST: u32 = 4096;
 
 /// The buckets of the forest on another thread. Before a node is attached its buckets are compared
-/// with one another, so that the most of them take a hundred seconds where a test isn't proved.
+
+/// How many buckets the forest on another thread has. Attaching a node compares its buckets with one
+/// another, so a test with the most buckets takes 100 seconds if it isn't proved.
 const FEW: u32 = 512;
 
 fn link(rt: &(impl Abort + AllocGlobal), distance: u32, item: Node<Global>) -> Node<Global> {
