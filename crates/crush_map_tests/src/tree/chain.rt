@@ -12,8 +12,6 @@ use std::thread;
 /// The most buckets of a map.
 const MOST: u32 = 4096;
 
-/// The buckets of the forest on another thread. Before a node is attached its buckets are compared
-
 /// How many buckets the forest on another thread has. Attaching a node compares its buckets with one
 /// another, so a test with the most buckets takes 100 seconds if it isn't proved.
 const FEW: u32 = 512;
