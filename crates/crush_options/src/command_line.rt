@@ -17,7 +17,7 @@ const ABOUT: &str =
 /// The program's version, with the toolchain that checked the proofs, as `rt version` prints it.
 const VERSION: &str = "0.2.0 (rattle-kit-13f logic dac8208d650f15bf)";
 
-/// The part of the help after the list of flags. `docs/manual.py` makes the manual page from the
+/// The part of the help after the list of flags. `tools/manual.py` makes the manual page from the
 /// help. Its lines have at most 80 columns, which leaves 55 columns for the text of a flag.
 const MORE: &str = "\
 A job is the text of a CRUSH map, as `crushtool -d` prints it, followed by the

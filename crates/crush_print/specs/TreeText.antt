@@ -1,4 +1,4 @@
--- The text of the tree of a map. docs/FORMATS.md has the same in words.
+-- The text of the tree of a map. docs/user/FORMATS.md has the same in words.
 use Rattle.std.specs.Prelude.{◌≡◌, ℕ, ◌*◌, ◌-◌, List, [], ◌∷◌, ◌++◌, length, min, max, replicate, codes, flat_map, unwrap_or}
 use Rattle.crush_units.specs.declared.id.ItemId.{ItemId}
 use Rattle.crush_units.specs.declared.id.ItemId.TheVariants.{Device, Bucket}
