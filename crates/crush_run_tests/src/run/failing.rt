@@ -23,7 +23,7 @@ const WAYS: [Failing; 2] = [
         is_for_good: false,
     },
     Failing {
-        kind: ErrorKind::SecondMap,
+        kind: ErrorKind::Other,
         is_for_good: true,
     },
 ];

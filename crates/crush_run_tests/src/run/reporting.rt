@@ -85,7 +85,7 @@ struct Closed;
 
 impl Write for Closed {
     fn write(&mut self, _bytes: &[u8]) -> io::Result<usize> {
-        Err(ErrorKind::SecondMap.into())
+        Err(ErrorKind::Other.into())
     }
 
     fn flush(&mut self) -> io::Result<()> {
