@@ -1,9 +1,9 @@
 #!/usr/bin/env python3
 """Looks whether what docs/ and README.md name is there.
 
-Each name in backticks has to stand in the crates: a function, a type, a definition, a clause, a file or an edit that
-must fail, or be a job of examples/; but of the pages of WORDS_OF_TEXTS, which name words of jobs and of Ceph beside
-them. Each link leads to a file, and to a heading of it. ADDING.md lists the files that an addition touches: each has to
+Each name in backticks has to be declared in the crates of the product: a function, a type, a definition, a clause, a
+file or an edit that must fail, or be a job of examples/. A name of a test counts on a line that names a crate of tests.
+Pages of WORDS_OF_TEXTS, which name words of jobs and of Ceph too, are left out. Each link leads to a file, and to a heading of it. ADDING.md lists the files that an addition touches: each has to
 be there, and each file of src/, specs/ and proofs/ that names all variants of an enum of ADDED, or all words of a row
 of NAMED, has to stand in its section. Each public function that may answer one of several faults, or fails and is lent
 what it changes, has a clause that says which and what is left, by the names that PROVED.md tells, or is told there to
@@ -19,7 +19,7 @@ import subprocess
 import sys
 
 sys.dont_write_bytecode = True
-from sources import COMMAND_LINE, MADE, PAGES, PROGRAMS, TOP, WORDS_OF_TEXTS  # noqa: E402
+from sources import COMMAND_LINE, LINKED, PAGES, PROGRAMS, TOP, WORDS_OF_TEXTS  # noqa: E402
 from sources import contracts, crate_files, fields_of_records, files_below, known_words, quoted, sections_of, variants  # noqa: E402
 from told import told_faults  # noqa: E402
 
@@ -133,7 +133,7 @@ def call_faults():
     """Which calls have no clause that says which of several faults is told, or what is left, and aren't told of in PROVED.md."""
     section = sections_of("PROVED.md")["Each public call"]
     sources, named, waiting = "".join(path.read_text() for path in crate_files()), set(quoted(section)), set()
-    without, records = set(quoted(re.search(r"(?m)^Without such a clause.*$", section)[0])), fields_of_records()
+    without, records = set(quoted(section.partition("### Calls without such a clause")[2])), fields_of_records()
     for _, name, text in contracts():
         fault, head = told_of(text), re.split(r"\bensures\b|\brequires\b", text)[0]
         body = re.search(rf"pub enum {fault}(?:Kind)?\b[^{{]*\{{(.*?)\n\}}", sources, re.S) if fault else None
@@ -189,26 +189,26 @@ def room_faults():
 
 
 def main():
-    words = known_words()
+    words, of_tests = known_words(), known_words(of_tests=True)
     files = {str(path.relative_to(TOP)) for path in files_below(TOP)}
     faults = []
     for page in PAGES:
+        blocks = " ".join(re.findall(r"```.*?```", page.read_text(), flags=re.S))
         text = re.sub(r"```.*?```", "", page.read_text(), flags=re.S)
         if page.name in WORDS_OF_TEXTS:
             continue
-        for name in quoted(text):
-            if re.search(r"\b[A-Z]{4,}\b", name.replace("_", " ")):
-                continue  # capitals stand for any name
-            if FILE.match(name):
-                if not any(f"/{file}".endswith("/" + name.strip("/")) for file in files):
-                    faults.append(f"{page.name}: no file {name}")
-            elif NAME.match(name):
-                for part in re.findall(r"[A-Za-z_][A-Za-z0-9_]*", name):
-                    if part not in words:
-                        faults.append(f"{page.name}: nothing is named {name}")
-                        break
+        for line in text.splitlines():
+            known = words | set(re.findall(r"\w+", blocks)) | (of_tests if re.search(r"`crush_\w+_tests`", line) else set())
+            for name in quoted(line):
+                if re.search(r"\b[A-Z]{4,}\b", name.replace("_", " ")):
+                    continue  # capitals stand for any name
+                if FILE.match(name):
+                    if not any(f"/{file}".endswith("/" + name.strip("/")) for file in files):
+                        faults.append(f"{page.name}: no file {name}")
+                elif NAME.match(name) and not set(re.findall(r"[A-Za-z_]\w*", name)) <= known:
+                    faults.append(f"{page.name}: nothing is named {name}")
     faults += [f"crates/README.md: {fault}" for fault in room_faults()]
-    for page in [*PAGES, MADE, TOP / "examples/README.md", TOP / "crates/README.md"]:
+    for page in [*PAGES, *LINKED]:
         faults += link_faults(page)
     faults += [f"ADDING.md: {fault}" for fault in adding_faults()]
     faults += [f"PROVED.md: {fault}" for fault in call_faults()]

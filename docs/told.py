@@ -134,13 +134,21 @@ def trust_faults():
 
 
 def clause_faults():
-    """Which clauses the pages tell, in brackets behind calls, that these don't have."""
-    records, clauses = fields_of_records(), {}
-    for _, name, text in contracts():
+    """Which clauses the pages tell that the calls don't have, in brackets behind calls or as of PROVED.md, and which calls crates don't have."""
+    records, clauses, by_crate = fields_of_records(), {}, {}
+    for crate, name, text in contracts():
         there = set(re.findall(r"\bensures (\w+) \{", text))
+        by_crate[crate, name] = set(there)
         there.update(*(records.get(record, ()) for record in re.findall(r"\bensures (?:\w+ )?\{ (\w+)", text)))
         for called in {name, name.split("::")[-1]}:
             clauses.setdefault(called, set()).update(there)
+    carried = re.compile(r"`([\w:]+)` in `(crush_\w+)`(?:, clauses? ((?:`\w+`(?:, | and )?)+))?")
+    for call, crate, named in carried.findall((TOP / "docs/PROVED.md").read_text()):
+        if (crate, call) not in by_crate and not any(it[0] == crate and it[1].startswith(f"{call}::") for it in by_crate):
+            yield f"PROVED.md: {crate} has no public call {call}"
+        for clause in quoted(named):
+            if clause not in by_crate.get((crate, call), ()):
+                yield f"PROVED.md: {call} of {crate} has no clause {clause}"
     told = re.compile(r"((?:`[\w:]+`, )*`[\w:]+`)(?:, clauses? |: )((?:`\w+`(?:, | and )?)+)(?::|$)")
     for page in sorted((TOP / "docs").glob("*.md")):
         for inside in re.findall(r"\(([^()]+)\)", page.read_text()):
