@@ -6,9 +6,11 @@ import re
 
 TOP = pathlib.Path(__file__).resolve().parent.parent
 MADE = TOP / "docs/SIGNATURES.md"
-PAGES = sorted(set((TOP / "docs").glob("*.md")) - {MADE}) + [TOP / "README.md", TOP / "bench/README.md"]
+# The page for contributors, with a section for each kind of addition.
+CONTRIBUTING = TOP / "CONTRIBUTING.md"
+PAGES = sorted(set((TOP / "docs").glob("*.md")) - {MADE}) + [TOP / "README.md", CONTRIBUTING, TOP / "bench/README.md"]
 # Pages of which only the links are looked at.
-LINKED = [MADE, TOP / "bench/RESULTS.md", TOP / "crates/README.md", TOP / "examples/README.md"]
+LINKED = [MADE, TOP / "SECURITY.md", TOP / "bench/RESULTS.md", TOP / "crates/README.md", TOP / "examples/README.md"]
 # Crates that are programs: nobody calls a function of theirs.
 PROGRAMS = {path.parent.parent.name for path in TOP.glob("crates/*/src/main.rt")}
 # The words of the command line, the help and the version.

@@ -88,7 +88,7 @@ def number_faults():
     if f"`crates/crush_edits/proofs/Worked` has {count} such lines" not in (TOP / "docs/MODEL.md").read_text():
         yield f"MODEL.md: there are {count} worked lines"
     trials = len(re.findall(r"(?m)^python3 (?:-B )?bench/", (TOP / ".ci/run").read_text()))
-    for page, form in (("docs/WORKING.md", "{} scripts of [bench/]"), ("bench/README.md", "The gate runs {} of them.")):
+    for page, form in (("CONTRIBUTING.md", "{} scripts of [bench/]"), ("bench/README.md", "The gate runs {} of them.")):
         if form.format(NUMBERS[trials]) not in (TOP / page).read_text():
             yield f"{page}: the gate runs {trials} scripts of bench/"
 
