@@ -3,9 +3,10 @@
 RULES.md has a row for each variant of the enums of ROWS, and for each limit with its value, and a sentence for each,
 which is the one of SENTENCES; and the sentences of runs and those with names. MODEL.md tells how many worked lines
 there are, the pages of the gate how many trials it runs, edits.md which refusals the tests of an edit may tell. In
-PROVED.md what is trusted has each crate that isn't of this repository, and what is unsafe is told. A clause that a page
-tells of calls is one of each; CALLING.md shows lines of a program, and tells which traits faults and values have. FORMATS.md has a line for each word of the help, README.md a row for each status. Names of
-refusals and faults stand in the crates, also on pages of WORDS_OF_TEXTS.
+PROVED.md what is trusted has each crate that isn't of this repository, and what is unsafe is told; each call there is
+of the crate that it names. A clause that a page tells of calls is one of each. CALLING.md and editor.md show lines of
+programs, and CALLING.md tells which traits faults and values have. FORMATS.md has a line for each word of the help,
+README.md a row for each status. Names of refusals and faults stand in the crates, also on pages of WORDS_OF_TEXTS.
 """
 import re
 
@@ -160,19 +161,47 @@ def clause_faults():
                             yield f"{page.name}: {call} has no clause {clause}"
 
 
+def plain_lines(text):
+    """The lines of code of a text, without comments, contracts and blank lines."""
+    lines, is_clause = [], False
+    for line in text.splitlines():
+        word = line.strip()
+        if not word or word.startswith(("//", "ghost ")):
+            continue
+        if word.startswith(("ensures", "requires")):
+            is_clause = True
+        elif is_clause and (word == "{" or re.match(r"\{ \S.*[^}] \},$", word)):
+            is_clause = False
+        if not is_clause:
+            lines.append(line.rstrip())
+        is_clause = is_clause and not word.endswith(";")
+    return "\n" + "\n".join(lines) + "\n"
+
+
+def shown_faults():
+    """Whether the lines of code that CALLING.md and editor.md show stand so in the program that is named above them; `..` leaves lines out."""
+    for name in ("CALLING.md", "editor.md"):
+        page = (TOP / "docs" / name).read_text()
+        for found in re.finditer(r"(?s)```rust\n(.*?)```", page):
+            file = re.findall(r"`(crates/crush_[\w/]+\.rt)`", page[: found.start()])[-1]
+            program = plain_lines((TOP / file).read_text())
+            for part in re.split(r"(?m)^ *\.\.\n", found[1]):
+                if plain_lines(part) not in program:
+                    yield f"{name}: {file} has other lines"
+
+
 def caller_faults():
-    """Whether the lines of CALLING.md are those of the program that it names, and which faults and values lack what it says they have."""
-    page, program = (TOP / "docs/CALLING.md").read_text(), (TOP / "crates/crush_one_edit/src/main.rt").read_text()
-    head, body = re.search(r"(?s)```rust\n(.*?)```", page)[1].split("    ensures ..\n")
-    for part in (head, body):
-        if part not in program:
-            yield "CALLING.md: crush_one_edit has other lines"
-    surface = (TOP / "docs/SIGNATURES.md").read_text()
-    for name, rest in re.findall(r"(?ms)^pub (?:enum|struct) (\w+)(.*?)(?=^(?:pub|impl|///|```))", surface):
-        traits = re.findall(r"\w+", rest.partition("// ")[2])
-        for trait, has in (("Error", "Fault" in name or name == "Refusal"), ("Display", name in {"Weight", "Name"} or re.search("[a-z]Id$", name))):
-            if has and trait not in traits and name not in {"ShadowId", "TypeId"}:
-                yield f"CALLING.md: {name} has no {trait}"
+    """Which faults and values lack a trait that CALLING.md says they have."""
+    surface, traits = (TOP / "docs/SIGNATURES.md").read_text(), []
+    for line in surface.splitlines():
+        if re.match("// +", line) and (traits or line.startswith("// traits: ")):
+            traits += re.findall(r"\w+", line)
+        elif found := re.match(r"pub (?:enum|struct) (\w+)", line):
+            name = found[1]
+            for trait, has in (("Error", "Fault" in name or name == "Refusal"), ("Display", name in {"Weight", "Name"} or re.search("[a-z]Id$", name))):
+                if has and trait not in traits and name not in {"ShadowId", "TypeId"}:
+                    yield f"CALLING.md: {name} has no {trait}"
+            traits = []
 
 
 def word_faults():
@@ -202,5 +231,5 @@ def told_faults():
     """All of these, each with its page."""
     yield from (f"RULES.md: {fault}" for of in (rule_faults, sentence_faults, run_sentence_faults, named_sentence_faults) for fault in of())
     yield from (f"PROVED.md: {fault}" for fault in trust_faults())
-    for of in (number_faults, met_faults, clause_faults, caller_faults, word_faults, name_faults):
+    for of in (number_faults, met_faults, clause_faults, shown_faults, caller_faults, word_faults, name_faults):
         yield from of()
