@@ -10,7 +10,7 @@
 #   make manual    writes the manual page out of the help, which `make check` compares
 #   make tables    writes what the last `make check` took into CONTRIBUTING.md
 #   make recipe    installs below out/, and tries there the recipe for operators and what its pages show
-#   make trials    tries that program with jobs of chance, little memory and stack, and streams that fail
+#   make trials    tries that program with sessions of a shell, jobs of chance, little memory and stack, and streams that fail
 #   make monitor   as root: that program, the recipe, --to and --as-ceph beside a monitor of Ceph 18, which is fetched below out/
 #   make clean     removes what the checks kept, and out/
 
@@ -67,6 +67,7 @@ recipe: $(PROGRAM)
 	python3 examples/pages_test.py out/tried/usr/bin/crushedit
 
 trials: $(PROGRAM)
+	python3 bench/runs.py $(PROGRAM)
 	python3 bench/against_reference.py $(PROGRAM) 1000
 	python3 bench/plans.py $(PROGRAM) 1000
 	python3 bench/documents.py $(PROGRAM) 1000

@@ -1,15 +1,22 @@
-"""Runs crushedit with little address space and with little stack, and prints how it ends where.
+"""Runs crushedit with little address space and with little stack, and prints how each run ends.
 
     python3 bench/limits.py crates/crushedit/out/crushedit [--space FROM TO STEP] [--stack FROM TO STEP]
     python3 bench/limits.py crates/crushedit/out/crushedit --fits 1024
 
-The numbers are kB, as `ulimit -v` and `ulimit -s` take them. The jobs are the example map with an edit, a nest of
-4,096 buckets with an edit of the device in the innermost, and the maps of two operators, each at once and with
---in-turn. A line for each run of limits under which a job ends alike: with status 0 and the whole output, with
-another status and its line, by a signal, or in the loader (127) before the program begins. Then, by stack alone, each
-kind of edit at the foot of such a nest, whose innermost bucket holds two, and two batches that are taken back, of
-weights below all of it and of what moves and comes. With --fits, as in the gate, only whether each of these is made
-with so much stack: status 1 where one isn't.
+The numbers are kB, as `ulimit -v` and `ulimit -s` take them. A run may end with status 0 and the whole output, with
+another status and its line on standard error, by a signal, or in the loader (status 127) before the program begins. The
+script prints one line for each range of limits within which a job ends alike, and how many bytes a run wrote that did not
+end with status 0.
+
+1. With both limits: the example map with an edit, a nest of 4,096 buckets with an edit of the device in the innermost
+   one, and the maps of two operators, each at once and with --in-turn.
+2. With little stack: each kind of edit at the foot of such a nest, whose innermost bucket holds two, and batches that
+   are rolled back. `--edits` runs these alone.
+3. With little stack: the forms of output that look at the whole nest, or compare it with another map. `--forms` runs
+   these alone.
+
+With `--fits KB`, as in the gate, the script only looks whether each edit of part 2 succeeds with so much stack, and ends
+with status 1 if one doesn't.
 """
 
 import argparse
@@ -35,6 +42,13 @@ EDITS = [
     "begin\nmove osd.0 rack=right\nadd osd.2 1.0 rack=left\nrm left\ncommit",
 ]
 
+# Forms of output that walk through a whole nest; OTHER is the map that they compare with.
+OTHER = "other"
+FORMS = [
+    ["--tree"], ["--tree", "--under", "b1"], ["--tree", "--down-to", "rack"], ["--since", OTHER], ["--tree", "--since", OTHER],
+    ["--since", OTHER, "--by-name"], ["--json"], ["--json", "--since", OTHER],
+]
+
 
 def fork():
     """Buckets in one another, as many as there may be, the innermost of which holds two with a device each."""
@@ -49,20 +63,22 @@ def fork():
 
 
 def ending(words, job, kind, limit):
+    """How a run of these words ends under a limit, in the folder of the job."""
     def limited():
         resource.setrlimit(kind, (limit * 1024, limit * 1024))
 
     with open(job, "rb") as stdin:
         try:
-            run = subprocess.run(words, stdin=stdin, capture_output=True, preexec_fn=limited, timeout=120)
+            run = subprocess.run(words, stdin=stdin, capture_output=True, preexec_fn=limited, timeout=120,
+                                 cwd=os.path.dirname(job))
         except subprocess.TimeoutExpired:
             return "takes more than 120 s"
         except OSError:
             return "isn't started"
-    if run.returncode < 0:
-        return f"signal {-run.returncode}"
-    told = run.stderr.decode(errors="replace").strip().splitlines()[-1:]
     written = f", {len(run.stdout)} bytes written" if run.returncode and run.stdout else ""
+    if run.returncode < 0:
+        return f"signal {-run.returncode}{written}"
+    told = run.stderr.decode(errors="replace").strip().splitlines()[-1:]
     return f"status {run.returncode}{written}" + (f", {told[0][-60:]}" if told else "")
 
 
@@ -96,6 +112,18 @@ def misfits(program, folder, stack):
                 yield f"{' '.join([name, *flags])}: {how}"
 
 
+def endings_of(program, folder, name, text, forms, kinds):
+    """The lines to print of a job: how it ends in each of the forms, under limits of each of these kinds."""
+    job = os.path.join(folder, "job")
+    with open(job, "w") as out:
+        out.write(text)
+    for flags in forms:
+        for shown, kind, (first, last, step) in kinds:
+            endings = ((limit, ending([program, *flags], job, kind, limit)) for limit in range(first, last + 1, step))
+            for begin, end, how in ranges(endings):
+                yield f"{name:34} {' '.join(flags):10} {shown} {begin:>6} to {end:>6}: {how}"
+
+
 def main():
     parser = argparse.ArgumentParser(description=__doc__.splitlines()[0])
     parser.add_argument("program")
@@ -103,6 +131,7 @@ def main():
     parser.add_argument("--stack", type=int, nargs=3, default=[64, 4096, 32])
     parser.add_argument("--jobs", nargs="+", choices=list(JOBS), default=list(JOBS))
     parser.add_argument("--edits", action="store_true", help="only the edits at the foot of a nest")
+    parser.add_argument("--forms", action="store_true", help="only the forms of output that look at a whole nest")
     parser.add_argument("--fits", type=int, metavar="KB", help="only whether each of these edits is made with so much stack")
     options = parser.parse_args()
     program = os.path.abspath(options.program)
@@ -113,19 +142,21 @@ def main():
         sys.exit(bool(found))
     space = "ulimit -v", resource.RLIMIT_AS, options.space
     stack = "ulimit -s", resource.RLIMIT_STACK, options.stack
-    jobs = [] if options.edits else [(name, JOBS[name], (space, stack)) for name in options.jobs]
-    jobs += [(name, text, (stack,)) for name, text in edits_at_the_foot()]
+    both = [[], ["--in-turn"]]
+    runs = []
+    if not options.edits and not options.forms:
+        runs += [(name, JOBS[name], both, (space, stack)) for name in options.jobs]
+    if not options.forms:
+        runs += [(name, text, both, (stack,)) for name, text in edits_at_the_foot()]
+    if not options.edits:
+        edited = "\n".join([*fork(), OPERATOR, "reweight osd.0 2.0"]) + "\n"
+        runs.append(("nest, edited", edited, [[*form, "--no-history"] for form in FORMS], (stack,)))
     with tempfile.TemporaryDirectory() as folder:
-        for name, text, kinds in jobs:
-            job = os.path.join(folder, "job")
-            with open(job, "w") as out:
-                out.write(text)
-            for flags in ([], ["--in-turn"]):
-                for shown, kind, (first, last, step) in kinds:
-                    limits = range(first, last + 1, step)
-                    ways = ((limit, ending([program, *flags], job, kind, limit)) for limit in limits)
-                    for begin, end, how in ranges(ways):
-                        print(f"{name:34} {' '.join(flags):10} {shown} {begin:>6} to {end:>6}: {how}", flush=True)
+        with open(os.path.join(folder, OTHER), "w") as out:
+            out.write("\n".join(fork()) + "\n")
+        for run in runs:
+            for line in endings_of(program, folder, *run):
+                print(line, flush=True)
 
 
 if __name__ == "__main__":

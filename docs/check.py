@@ -78,7 +78,7 @@ def link_faults(page):
 
 def example_faults():
     """Which jobs and folders the index of the examples doesn't name."""
-    named = set(quoted((TOP / "examples/README.md").read_text()))
+    named = set(quoted(re.sub(r"```.*?```", "", (TOP / "examples/README.md").read_text(), flags=re.S)))
     for job in sorted([*(TOP / "examples").glob("*.job"), *(TOP / "examples/worked").glob("*.job")]):
         if not {job.name, job.stem} & named:
             yield f"{job.name} isn't named"

@@ -17,6 +17,7 @@ import re
 import sys
 import time
 
+CRATES = pathlib.Path(__file__).resolve().parent.parent / "crates.txt"
 PAGE = pathlib.Path(__file__).resolve().parent.parent / "CONTRIBUTING.md"
 BEGIN, END = "<!-- made by docs/costs.py -->\n", "<!-- end -->\n"
 WHATS = ("proof", "tests", "edits")
@@ -42,7 +43,8 @@ def what_of(words):
     if "--crate-name" not in words:
         return None
     crate = words[words.index("--crate-name") + 1]
-    return crate, "tests" if "--test" in words else "edits" if words[1] == "check" else "proof"
+    is_edit = words[1] == "check" and "-o" not in words  # with -o it is a program's proof
+    return crate, "tests" if "--test" in words else "edits" if is_edit else "proof"
 
 
 def look(root, spent):
@@ -70,6 +72,23 @@ def watch(root, log):
         time.sleep(1)
 
 
+def longest_chain(sums):
+    """The crates of the longest chain, lowest first, and its seconds: each waits for the proof of the one before it."""
+    lines = [line for line in CRATES.read_text().splitlines() if line and not line.startswith("#")]
+    stands_on = {line.split(":")[0].strip(): line.split(":")[1].split() for line in lines}
+    chains = {}
+
+    def chain_to(crate):
+        if crate not in chains:
+            below = max((chain_to(it) for it in stands_on[crate] if it in stands_on), default=(0, []))
+            chains[crate] = below[0] + sums[crate]["proof"], [*below[1], crate]
+        return chains[crate]
+
+    # Its tests are proved beside a crate, so a chain ends with the longer of the two.
+    ends = {it: (chain_to(it)[0] - sums[it]["proof"] + max(sums[it]["proof"], sums[it]["tests"]), chain_to(it)[1]) for it in stands_on}
+    return max(ends.values())
+
+
 def table(log):
     sums = collections.defaultdict(collections.Counter)
     for name, what, seconds in re.findall(r"(?m)^(crush\w+) (proof|tests|edits) (\d+)$", log):
@@ -81,6 +100,8 @@ def table(log):
     lines = [f"{'crate':<22}{'proof':>7}{'tests':>7}{'edits':>7}{'all':>7}"]
     for name, row in [*rows, ("all", total)]:
         lines.append(f"{name:<22}" + "".join(f"{row[what] or '':>7}" for what in WHATS) + f"{sum(row.values()):>7}")
+    seconds, crates = longest_chain(sums)
+    lines += ["", f"longest chain: {seconds}, {' '.join(crates)}"]
     return "```\n" + "".join(line + "\n" for line in lines) + "```\n"
 
 

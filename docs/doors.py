@@ -25,7 +25,7 @@ OFFERED = {
     "crush_index": {"Hashing::keyed"},
     "crush_builder": {"MapBuilder::is_idle", "MapBuilder::is_begun", "MapBuilder::is_numbered", "MapBuilder::is_filling"},
     "crush_tree": {
-        "Forest::can_attach", "Forest::attach", "Forest::grow", "Forest::rehouse", "Forest::set_weight", "Forest::set_subtree", "Forest::fits_weight", "Forest::fits_subtree",
+        "Forest::can_attach", "Forest::attach", "Forest::grow_buffer", "Forest::replace_buffer", "Forest::set_weight", "Forest::set_subtree", "Forest::fits_weight", "Forest::fits_subtree",
         "Forest::weight_by", "Forest::set_weight_by", "Forest::set_subtree_by", "Forest::fits_weight_by", "Forest::fits_subtree_by",
     },
     "crush_map": {

@@ -1,8 +1,8 @@
 #!/usr/bin/env python3
-"""Writes the manual page docs/crushedit.1 out of the help of crates/crush_options/src/command_line.rt.
+"""Writes the manual page docs/crushedit.1 from the help in crates/crush_options/src/command_line.rt.
 
-The help's paragraphs, lists of two columns and samples become those of the page, and what stands below in END
-comes behind them. With --check nothing is written, and the status is 1 where the page has other bytes.
+The help's paragraphs, lists of two columns and samples become those of the page. END follows them. With --check nothing
+is written, and the status is 1 if the page has other bytes.
 """
 import pathlib
 import re
@@ -11,45 +11,59 @@ import sys
 TOP = pathlib.Path(__file__).resolve().parent.parent
 SOURCE = TOP / "crates/crush_options/src/command_line.rt"
 PAGE = TOP / "docs/crushedit.1"
-# A sample, and what else an operator must know who doesn't have the other pages at hand.
-END = r""".SH EXAMPLES
+# What else an operator must know who doesn't have the other pages at hand.
+END = r""".SH "FROM A CLUSTER AND BACK"
 .nf
 ceph osd getcrushmap \-o map.bin
 crushtool \-d map.bin \-o map.txt
-{ cat map.txt; printf '%%operator alice\enreweight osd.2 1.0\en'; } > job.txt
-crushedit \-\-strict job.txt > new.txt
-diff <(crushedit map.txt) new.txt
+echo 'reweight osd.2 1.0' > alice
+crushedit \-\-in\-turn \-\-strict \-\-no\-make \-\-explain \-s alice map.txt > new.txt
+crushedit \-\-in\-turn \-\-strict \-\-no\-make \-\-explain \-\-since map.txt \-s alice map.txt
+crushtool \-c new.txt \-o raw.bin
+crushtool \-i raw.bin \-\-reweight \-o new.bin
 .fi
 .PP
+The last step is
+.BR "ceph osd setcrushmap \-i new.bin " \fIVERSION\fR,
+with the number that
+.B getcrushmap
+has printed.
+From then on data moves.
 .BR crushedit\-recipe (1)
-does these steps and those behind them.
+does all steps but the last one, and checks each of them.
 .SH WEIGHTS
-They are in TiB by Ceph's custom, and rounded to 65536ths, where Ceph cuts.
+Weights are in TiB, as is usual with Ceph.
+They are rounded to 65536ths of 1.0, where Ceph cuts them off.
 .BR 4T ", " .5 " and " \-1
 are no weights.
-.B adjusted
-is told of maps of Ceph 18 with buckets above 256 that others hold, since
-.BR crushtool (8)
-prints them by a float of 32 bits.
-.SH CAVEATS
-It touches no cluster: the map that was taken before is the way back.
 .PP
-An empty text is a map: where a file is empty or a step before failed,
+.B adjusted
+is printed for maps of Ceph 18 in which a bucket above 256 is in another bucket, because
+.BR crushtool (8)
+prints their weights by a float of 32 bits.
+.SH CAVEATS
+.B crushedit
+never contacts a cluster.
+Keep the map that you took from it: it is the way back.
+.PP
+An empty text is a map.
+If a file is empty, or a step before has failed,
 .B crushedit
 prints the empty map and ends with status 0.
-So does
+The same happens with
 .BR "crushedit map.txt > map.txt" ,
-since the shell empties the file first.
+because the shell empties the file first.
 .PP
-A name of a bucket that isn't in the map is no error in a location: the bucket is made, which
-.B made
-tells.
+A text that was cut is a smaller map, and a job that was cut is a shorter job.
+Compare the last lines.
 .PP
-A new device has no class, so that no rule of a class finds it, until
+A location creates buckets that aren't in the map, so a mistyped name creates a bucket.
+.B \-\-no\-make
+stops such a run.
+.PP
+A new device has no class, and no rule for a class finds it, until
 .B set\-device\-class
 gives it one.
-.PP
-A text that was cut is a smaller map, and a job that was cut a job: compare the last lines.
 .SH "SEE ALSO"
 .BR crushedit\-recipe (1),
 .BR crushtool (8),
@@ -59,7 +73,7 @@ A text that was cut is a smaller map, and a job that was cut a job: compare the 
 
 def constant(source, name):
     """The text of a constant."""
-    text = re.search(rf'(?s)const {name}: &str = "(.*?)(?<!\\)";', source).group(1)
+    text = re.search(rf'(?s)const {name}: &str =\s+"(.*?)(?<!\\)";', source).group(1)
     return text.removeprefix("\\\n")
 
 

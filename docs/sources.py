@@ -111,7 +111,8 @@ def variants(name, enum):
 def sections_of(page, level="##"):
     """The sections of a page of docs/, or of one that a path names, by their titles, at this level of headings."""
     sections = re.split(rf"(?m)^(?={level} )", (TOP / "docs" / page).read_text())
-    sections = [re.split(rf"(?m)^(?=#{{1,{len(level) - 1}}} )", section)[0] for section in sections]
+    # A line of a block of code may begin with one `#`.
+    sections = [re.split(r"(?m)^(?=## )", section)[0] if level == "###" else section for section in sections]
     return {section.split("\n", 1)[0].removeprefix(level).strip(): section for section in sections if section.startswith(f"{level} ")}
 
 

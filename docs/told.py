@@ -5,7 +5,7 @@ which is the one of SENTENCES; and the sentences of runs and those with names. M
 there are, the pages of the gate how many trials it runs, edits.md which refusals the tests of an edit may tell. In
 PROVED.md what is trusted has each crate that isn't of this repository, and what is unsafe is told; each call there is
 of the crate that it names. A clause that a page tells of calls is one of each. CALLING.md and editor.md show lines of
-programs, and CALLING.md tells which traits faults and values have. FORMATS.md has a line for each word of the help,
+programs, and CALLING.md tells which traits faults and values have. FORMATS.md has a heading for each word of the help,
 README.md a row for each status. Names of refusals and faults stand in the crates, also on pages of WORDS_OF_TEXTS.
 """
 import re
@@ -18,7 +18,7 @@ SENTENCES = "crush_reasons/specs/Sentences.antt"
 SAID = {("text",): "Faults of a text", ("job",): "Faults of a job", ("refusal", "stale"): "Refusals"}
 # A fault of the text that a job has, whose sentence is the text's.
 NO_SENTENCE = {"Text"}
-NUMBERS = "no one two three four five six seven eight nine ten eleven twelve".split()
+NUMBERS = "no one two three four five six seven eight nine ten eleven twelve thirteen fourteen fifteen sixteen".split()
 
 
 def rule_faults():
@@ -79,10 +79,10 @@ def number_faults():
     """Which numbers of the pages aren't those of the crates: of limits and of worked lines."""
     text = (TOP / "crates/crush_units/src/limits.rt").read_text()
     limits = {name: int(value) for name, value in re.findall(r"(?m)^pub const (\w+): \w+ = (\d+);", text)}
-    for line in re.findall(r"(?m)^- .*$", sections_of("RULES.md")["Limits"]):
+    for line in re.findall(r"(?m)^\| `.*$", sections_of("RULES.md")["Limits"]):
         numbers = {int(number.replace(",", "")) for number in re.findall(r"(?<![\d.,])\d[\d,]*(?![\d.,]*\d)", line)}
         for name in quoted(line):
-            if name in limits and limits[name] not in numbers and not ("one more" in line and limits[name] - 1 in numbers):
+            if name in limits and limits[name] not in numbers:
                 yield f"RULES.md: {name} is {limits[name]}"
     worked = "".join(path.read_text() for path in (TOP / "crates/crush_edits/proofs/Worked").glob("*.antt"))
     count = len(re.findall(r"(?m)^\w+ : ", worked))
@@ -208,10 +208,12 @@ def word_faults():
     """Which words of the command line FORMATS.md doesn't tell of, or tells of that aren't there."""
     source = (TOP / COMMAND_LINE).read_text()
     there = {*re.findall(r'\b(?:flag|option)\(alloc, "([a-z-]+)"', source), *re.findall(r'\.long\("([a-z-]+)"\)', source)}
-    told = {name for line in re.findall(r"(?m)^- .*$", sections_of("FORMATS.md")["The command line"])
-            for name in re.findall(r"^- .*?(?=: |$)", line) for name in re.findall(r"`--([a-z-]+)", name)}
+    section = sections_of("FORMATS.md")["The command line"]
+    told = {name for head in re.findall(r"(?m)^### .*$", section) for name in re.findall(r"`--([a-z-]+)", head)}
+    # The one word that is called by its letter.
+    told |= {name for head, name in re.findall(r"(?ms)^### `(-[a-z] [A-Z]+)`\n.*?`--([a-z-]+) [A-Z]+`", section)}
     for name in sorted((there | {"help", "version"}) ^ told):
-        yield f"FORMATS.md: {'no line for' if name in there else 'there is no'} --{name}"
+        yield f"FORMATS.md: {'no heading for' if name in there else 'there is no'} --{name}"
     helped = set(re.findall(r"(?m)^    (\d)    ", source[source.index("Exit status:") :]))
     for status in sorted(helped ^ set(re.findall(r"(?m)^\| (\d) \|", (TOP / "README.md").read_text()))):
         yield f"README.md: {'no row for' if status in helped else 'the help tells no'} status {status}"

@@ -3,12 +3,12 @@
 
     python3 examples/pages_test.py crates/crushedit/out/crushedit
 
-Of README.md and docs/OPERATING.md each block of a console is run in a folder of its own, in which map.txt is the map of
-examples/maps/class-3.job: the lines behind `$ `, and what stands below each is what it has to print. A line of two
-dots, perhaps with words behind it, stands for any lines. A block of Python, whose first line is a comment with its
-name, is a file of that name there. Blocks that call `make` aren't run. The outputs of
-docs/FORMATS.md come of the commands of SHOWN, and README's table of statuses has the line of each command of ENDS in the
-row of its status. Then it is looked whether README's script makes its map and tells of it in one order of operators,
+Each console block of the pages of PAGES is run in a folder of its own, in which map.txt is the page's map, and examples/
+is that of the repository: the lines after `$ ` are the commands, and the lines below each are what it has to print. A
+block of bash that is followed by "It prints:" and a block of text is run in the same way. A line of two dots, perhaps
+with words after them, stands for any lines. A block of Python, whose first line is a comment with its name, is a file of
+that name there. Blocks that call `make` aren't run. README's table of statuses has the line of each command of ENDS in
+the row of its status. Then it is looked whether README's script makes its map and tells of it in one order of operators,
 maps that `crushtool` printed differ at most by the order of their buckets when they are printed here, `make try` shows
 what changes, bash completes what is typed (completed.py), and the archive has the pages that an operator reads. Prints a line for each block and each of these, and
 ends with status 1 where one prints something else, or isn't so.
@@ -25,29 +25,10 @@ sys.dont_write_bytecode = True
 from completed import completion_faults
 
 TOP = pathlib.Path(__file__).resolve().parent.parent
-PAGES = ["README.md", "docs/OPERATING.md"]
+FIRST_MAP, SMALL_MAP = "examples/map.txt", "examples/example.txt"
+# The map of each page's examples, which the page links.
+PAGES = {"README.md": FIRST_MAP, "docs/OPERATING.md": FIRST_MAP, "docs/FORMATS.md": SMALL_MAP}
 MAPS = TOP / "examples/maps"
-MAP = (MAPS / "class-3.job").read_text().partition("%")[0]
-# What FORMATS.md shows: the heading, and the commands whose output stands below it, in blocks in this order. In map.txt
-# is the map of examples/example.txt, in old.txt one that `crushtool` 16 printed.
-SHOWN = {
-    "The tree": ["crushedit --tree --no-history map.txt"],
-    "What has changed": [
-        "sed 's/take default/take h2/' map.txt > before.txt; (cat map.txt; echo '%operator a'; echo rename-bucket h1 node1;"
-        " echo move osd.0 host=h2; echo add osd.3 1 host=h3 rack=r1) | crushedit --no-history --since before.txt"
-    ],
-    "A plan": [
-        "sed 's/total_tries 50/total_tries 51/; s/^device 0 osd.0/& class ssd/; s/id -2/id -9/' map.txt > wanted.txt;"
-        " crushedit --to wanted.txt map.txt"
-    ],
-    "History lines": [
-        "(sed 's/^device 2 .*/&\\ndevice 9 osd.9/' map.txt; echo '%operator alice'; echo reweight osd.0 0.5; echo reweight osd.9 1;"
-        " echo begin; echo add-bucket h9 host; echo move h9 root=default; echo commit; echo '%operator bob'; echo begin;"
-        " echo rm h9; echo rm default; echo commit; echo begin at 1; echo set-device-class ssd osd.0; echo commit)"
-        " | crushedit --in-turn | grep '^# [0-9]'"
-    ],
-    "Reasons": ["sed 's/host h2/hots h2/' map.txt | crushedit --explain", "crushedit --explain old.txt > new.txt"],
-}
 # How runs end, with the status and the line on standard error that README's table has. Of status 4, which takes a system
 # that refuses memory or threads, bench/refused_memory.py looks at the lines.
 ENDS = [
@@ -72,8 +53,18 @@ def steps_of(block):
     """The commands of a block, each with what it has to print."""
     for step in re.split(r"(?m)^\$ ", block)[1:]:
         lines = step.splitlines(keepends=True)
-        count = next(number for number, line in enumerate(lines, 1) if not line.endswith("\\\n"))
+        # A command goes on after a backslash, and up to the END of a text that it has behind it.
+        last = (lambda line: line == "END\n") if "<<'END'" in lines[0] else (lambda line: not line.endswith("\\\n"))
+        count = next(number for number, line in enumerate(lines, 1) if last(line))
         yield "".join(lines[:count]), "".join(lines[count:])
+
+
+def examples_of(text):
+    """The examples of a page, in its order: each a list of commands, each with what it has to print."""
+    console, typed = r"^```console\n(?P<console>.*?)^```$", r"^```bash\n(?P<bash>.*?)^```\n\nIt prints:\n\n```text\n(?P<text>.*?)^```$"
+    for block in re.finditer(rf"(?ms){console}|{typed}", text):
+        if "$ make " not in (block["console"] or ""):
+            yield list(steps_of(block["console"])) if block["console"] else [(block["bash"], block["text"])]
 
 
 def scripts_of(text):
@@ -95,21 +86,9 @@ def run_in(here, command, environment, stdout=None):
 def example_folder(folder, name):
     here = pathlib.Path(folder, name)
     here.mkdir()
-    (here / "map.txt").write_text((TOP / "examples/example.txt").read_text())
+    (here / "map.txt").write_text((TOP / SMALL_MAP).read_text())
     (here / "old.txt").write_text((MAPS / "class-100-v16.job").read_text().partition("%")[0])
     return here
-
-
-def shown_faults(folder, environment):
-    """Which outputs FORMATS.md shows that aren't printed."""
-    here, text = example_folder(folder, "shown"), (TOP / "docs/FORMATS.md").read_text()
-    for heading, commands in SHOWN.items():
-        section = re.search(rf"(?ms)^#+ {heading}\n(.*?)(?:^#+ |\Z)", re.sub(r"(?m)^# ", "\0# ", text))[1].replace("\0", "")
-        blocks = re.findall(r"(?ms)^```\n(.*?)^```$", section)
-        for command, shown in zip(commands, blocks, strict=True):
-            printed = run_in(here, command, environment).stdout
-            if not is_shown(printed, shown):
-                yield f"docs/FORMATS.md, {heading}: {command}\nprints\n{printed}and not\n{shown}"
 
 
 def has_line(cell, line):
@@ -165,6 +144,11 @@ def shown_in_turn(_program, _folder):
     return len(runs) > 1 and all(" --in-turn " in run for run in runs)
 
 
+def maps_are_linked(_program, _folder):
+    """The examples of each page are run with a file that the page links."""
+    return all(f"]({'../' * page.count('/')}{map_file})" in (TOP / page).read_text() for page, map_file in PAGES.items())
+
+
 def tried_is_short(_program, _folder):
     """What `make try` runs, whose own map would be 110 lines."""
     ran = subprocess.run(["make", "-n", "try"], cwd=TOP, capture_output=True, text=True)
@@ -183,26 +167,25 @@ def main():
     with tempfile.TemporaryDirectory() as folder:
         os.symlink(program, os.path.join(folder, "crushedit"))
         environment = {**os.environ, "PATH": f"{folder}:{os.environ['PATH']}", "LC_ALL": "C.UTF-8"}
-        for page in PAGES:
+        for page, map_file in PAGES.items():
             text = (TOP / page).read_text()
-            for number, block in enumerate(re.findall(r"(?ms)^```console\n(.*?)^```$", text), 1):
-                if "$ make " in block:
-                    continue
+            for number, steps in enumerate(examples_of(text), 1):
                 here = os.path.join(folder, f"{pathlib.Path(page).stem}{number}")
                 os.mkdir(here)
-                for name, own in [("map.txt", MAP), *scripts_of(text)]:
+                os.symlink(TOP / "examples", os.path.join(here, "examples"))
+                for name, own in [("map.txt", (TOP / map_file).read_text()), *scripts_of(text)]:
                     pathlib.Path(here, name).write_text(own)
-                for command, shown in steps_of(block):
+                for command, shown in steps:
                     ran = run_in(here, command, environment)
                     if not is_shown(ran.stdout, shown):
-                        print(f"{page}, block {number}: {command}prints\n{ran.stdout}and not\n{shown}")
+                        print(f"{page}, example {number}: {command}prints\n{ran.stdout}and not\n{shown}")
                         failed = True
-                print(f"{page}, block {number}: run")
-        for test in (shown_faults, status_faults, order_faults, completion_faults):
+                print(f"{page}, example {number}: run")
+        for test in (status_faults, order_faults, completion_faults):
             faults = list(test(folder, environment))
             print("\n".join([*faults, f"{test.__name__}: {len(faults)}"]))
             failed |= bool(faults)
-        for test in (shown_in_turn, tried_is_short, archive_has_pages):
+        for test in (shown_in_turn, maps_are_linked, tried_is_short, archive_has_pages):
             is_so = test(program, os.path.join(folder, "archive"))
             print(f"{test.__name__}: {'so' if is_so else 'NOT so'}")
             failed |= not is_so

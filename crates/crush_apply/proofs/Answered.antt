@@ -1,4 +1,4 @@
--- What is answered, by the way in which a call ends.
+-- That the result of a call is right (AnswersAs), for each way in which a call can end.
 use Rattle.std.proofs.Common.{◌≡◌, ℕ, Bool, true, false, List, ap, sym, subst, ◌∙◌, refl}
 use Rattle.std.specs.Prelude.{not, length, Result, Ok, Err, IsErrAnd}
 use Rattle.crush_model.specs.Table.{Row}
@@ -53,12 +53,12 @@ when_lacking a f g (Err e) h same changes = record {
   still = tt;
 }
 
--- an Err that is passed on
+-- an error that is passed on
 pub when_passed : (a : List Row → Answer) (f g : ForestData) (e : EditFault) (x : Result Done EditFault) → IsErrAnd x (λ z. z ≡ e) → AnswersAs a f g (Err e) → AnswersAs a f g x
 when_passed a f g e (Ok d) h told = elim h [ ]
 when_passed a f g e (Err z) h told = subst (λ y. AnswersAs a f g (Err y)) (sym h) told
 
--- what is promised where a call may be out of memory, by what is promised else
+-- AnswersAs implies the weaker Makes
 pub makes_so : (a : List Row → Answer) (f g : ForestData) (x : Result Done EditFault) → AnswersAs a f g x → Makes a f g x
 makes_so a f g x told = record { done = told.done; refused = told.refused; unchanged = told.unchanged }
 
@@ -66,11 +66,11 @@ pub makes_passed : (a : List Row → Answer) (f g : ForestData) (e : EditFault) 
 makes_passed a f g e (Ok d) h told = elim h [ ]
 makes_passed a f g e (Err z) h told = subst (λ y. Makes a f g (Err y)) (sym h) told
 
--- an answer that is another's
+-- equal results are right alike
 pub when_is : (a : List Row → Answer) (f g : ForestData) (x y : Result Done EditFault) → y ≡ x → AnswersAs a f g x → AnswersAs a f g y
 when_is a f g x y is told = subst (AnswersAs a f g) (sym is) told
 
--- what the table answers alike
+-- the same if two edits give the same for each table
 pub when_same : (a b : List Row → Answer) (f g : ForestData) (x : Result Done EditFault) → ((t : List Row) → Stands f t → a t ≡ b t) → AnswersAs b f g x → AnswersAs a f g x
 when_same a b f g (Ok d) same told = record {
   done = λ t st. subst (λ z. IsDone (Stands g) z d) (sym (same t st)) (told.done t st);
@@ -87,7 +87,7 @@ when_same a b f g (Err e) same told = record {
   still = told.still;
 }
 
--- THE LAST ANSWER, where only the table after can refuse
+-- THE LAST ANSWER: only NoRoom and SumTooLarge are still possible
 pub last_no_room : (t : List Row) (a : After) → has_too_many a.table ≡ true → last_answer t a ≡ refused NoRoom
 last_no_room t a many = rw many refl
 
@@ -97,7 +97,7 @@ last_too_heavy t a few heavy = rw (few, heavy) refl
 pub last_made : (t : List Row) (a : After) → has_too_many a.table ≡ false → is_too_heavy a.table ≡ false → (b : _) → same_table t a.table ≡ b → last_answer t a ≡ done (not b) a.made a.table
 last_made t a few light b same = rw (few, light) (ap (λ z. done (not z) a.made a.table) same)
 
--- where the row r is put, and another table comes of it
+-- putting the row r at the destination is what the edit gives, unless it is refused, and it changes the table
 pub record IsPut (t : List Row) (a : Answer) (r : Row) (to : DestinationData) : Type 0 where
   pub leads : Leads t to
   pub told : a ≡ last_answer t (put_after t r to.stops)
@@ -112,7 +112,7 @@ put_too_heavy {t = t} {r = r} {to = to} p few heavy = p.told ∙ last_too_heavy 
 pub put_made : {t : List Row} {a : Answer} {r : Row} {to : DestinationData} → IsPut t a r to → has_too_many (put t r to.stops) ≡ false → is_too_heavy (put t r to.stops) ≡ false → a ≡ done true to.fresh (put t r to.stops)
 put_made {t = t} {r = r} {to = to} p few light = p.told ∙ last_made t (put_after t r to.stops) few light false p.other ∙ ap (λ k. done true k (put t r to.stops)) (sym p.leads.fresh)
 
--- the same by what the two tests of a call answer: whether room lacks, and whether the sums fit
+-- the same, from the results of the two tests in the code: whether room is lacking, and whether sums fit
 pub from_not : (b c : Bool) → b ≡ not c → b ≡ false → c ≡ true
 from_not b true e f = refl
 from_not b false e f = absurd cc
@@ -129,7 +129,7 @@ pub both_pass : {t : List Row} {a : Answer} {r : Row} {to : DestinationData} {la
     → (has_too_many (put t r to.stops) ≡ false → fits ≡ not (is_too_heavy (put t r to.stops))) → fits ≡ true → a ≡ done true to.fresh (put t r to.stops)
 both_pass {t = t} {r = r} {to = to} {fits = fits} p is few test fit = let room = sym is ∙ few in put_made p room (from_yes fits (is_too_heavy (put t r to.stops)) (test room) fit)
 
--- which row is put, told by what comes of it
+-- putting two rows is the same if it gives the same table
 pub put_same : (t : List Row) (x y : Row) (to : DestinationData) → Leads t to → put t x to.stops ≡ put t y to.stops → same_table t (put t x to.stops) ≡ false → IsPut t (last_answer t (put_after t x to.stops)) y to
 put_same t x y to leads same other = record {
   leads = leads;
@@ -137,6 +137,6 @@ put_same t x y to leads same other = record {
   other = ap (same_table t) (sym same) ∙ other;
 }
 
--- nothing is done
+-- the edit changes nothing
 pub last_kept : (t : List Row) → Lawful t → last_answer t (kept t) ≡ done false 0 t
 last_kept t lawful = last_made t (kept t) (lawful_room t lawful) (lawful_light t lawful) true (table_refl t)

@@ -1,4 +1,4 @@
--- The tests of an edit that puts a device, asked group by group.
+-- The tests of an edit that puts a device, made group by group.
 use Rattle.std.proofs.Common.{◌≡◌, ℕ, Bool, true, false, List, [], ◌∷◌, ◌++◌, ap, ◌∙◌}
 use Rattle.std.specs.Prelude.{if◌then◌else◌, Some, None, bytes_eq}
 use Rattle.std.specs.List.{count_by}
@@ -26,7 +26,7 @@ use Rattle.crush_apply.proofs.Answered.{last_kept}
 use Rattle.crush_apply.proofs.Passed.{device_passes, location_nothing}
 use Rattle.crush_edits.proofs.Edits.{not_heavy}
 
--- a test that doesn't hold leaves it to the next
+-- if the first test doesn't hold, the other tests decide
 next_test : (r : Refusal) (b : Bool) (qs : List (Refusal × Bool)) → b ≡ false → first_refusal ((r, b) ∷ qs) ≡ first_refusal qs
 next_test r b qs e = ap (λ z. if z then Some r else first_refusal qs) e
 
@@ -69,7 +69,7 @@ module _ (s : SettingData) (t : List Row) (d : ℕ) (n : List ℕ) (w : ℕ) (l 
   pub put_last : (a : After) → first_refusal (located_device_tests s t d n w l) ≡ None → first_refusal (end_tests t (stops s l)) ≡ None → first_refusal (device_put_tests s t d n w l a) ≡ last_refusal a
   put_last a e f = group_passes device (ends ++ last_tests a) e ∙ group_passes ends (last_tests a) f
 
-  -- where the device isn't held it is put
+  -- if the device isn't held, it is put
   module _ (e : first_refusal (located_device_tests s t d n w l) ≡ None) (f : first_refusal (end_tests t (stops s l)) ≡ None) (free : held t (Device d) (stops s l) ≡ false) where
     pub move_answer : edit s t (CreateOrMove d n w l) ≡ last_answer t (put_after t (edited_device t d n (kept_weight t d w)) (stops s l))
     move_answer = let a = after_create_or_move s t d n w l in ap (λ o. answer o t a) (put_last a e f) ∙ ap (λ b. last_answer t (if b then kept t else put_after t (edited_device t d n (kept_weight t d w)) (stops s l))) free
@@ -77,13 +77,13 @@ module _ (s : SettingData) (t : List Row) (d : ℕ) (n : List ℕ) (w : ℕ) (l 
     pub update_answer : edit s t (Update d n w l) ≡ last_answer t (put_after t (edited_device t d n w) (stops s l))
     update_answer = let a = after_update s t d n w l in ap (λ o. answer o t a) (put_last a e f) ∙ ap (λ b. last_answer t (if b then kept (set_weight (Device d) w t) else put_after t (edited_device t d n w) (stops s l))) free
 
-  -- where it is held it stays
+  -- if the device is held, nothing changes
   pub held_answer : first_refusal (located_device_tests s t d n w l) ≡ None → first_refusal (end_tests t (stops s l)) ≡ None → held t (Device d) (stops s l) ≡ true → Lawful t → edit s t (CreateOrMove d n w l) ≡ done false 0 t
   held_answer e f there lawful =
       let a = after_create_or_move s t d n w l in
       ap (λ o. answer o t a) (put_last a e f) ∙ ap (λ b. last_answer t (if b then kept t else put_after t (edited_device t d n (kept_weight t d w)) (stops s l))) there ∙ last_kept t lawful
 
-  -- BOTH: the location passes, and the device can come
+  -- BOTH: the location has passed its tests, and the device can be put there
   pub located : first_refusal (located_device_tests s t d n w l) ≡ None → first_refusal (location_tests s l) ≡ None
   located e = location_nothing s l (device_passes s t d n w l e).location
 

@@ -1,4 +1,4 @@
--- What the table answers where a device gets a class, and where it loses one.
+-- What SetClass and RemoveClass give for the table.
 use Rattle.std.proofs.Common.{◌≡◌, ℕ, List, true, false, not, refl, ap, ◌∙◌}
 use Rattle.std.specs.Prelude.{Option, Some, None, is_some, bytes_eq}
 use Rattle.std.specs.Option.{option_eq}
@@ -18,13 +18,13 @@ use Rattle.crush_apply.specs.Alone.{HasClass}
 use Rattle.crush_apply.proofs.Found.{there_by_name}
 
 module _ (s : SettingData) (t : List Row) (n : List ℕ) (d : ℕ) (l : Lawful t) where
-  -- the class that is there is set again
+  -- setting the class that the device has changes nothing
   stays : (c : Option (List ℕ)) → HasClass t n c d → done (not (same_table t (set_class (Device d) c t))) 0 (set_class (Device d) c t) ≡ done false 0 t
   stays c has =
       let kept : set_class (Device d) c t ≡ t = class_kept (Device d) c t l (there_by_name t n (Device d) has.named) has.class in
       (λ k. done (not (same_table t (kept k))) 0 (kept k)) ∙ ap (λ b. done (not b) 0 t) (table_refl t)
 
-  -- another
+  -- setting another class changes the table
   becomes : (c k : Option (List ℕ)) → HasClass t n k d → option_eq bytes_eq k c ≡ false → done (not (same_table t (set_class (Device d) c t))) 0 (set_class (Device d) c t) ≡ done true 0 (set_class (Device d) c t)
   becomes c k has other =
       ap (λ b. done (not b) 0 (set_class (Device d) c t)) (class_changes t (Device d) c l (there_by_name t n (Device d) has.named) ∙ ap (λ o. option_eq bytes_eq o c) has.class ∙ other)

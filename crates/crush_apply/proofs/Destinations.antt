@@ -1,4 +1,4 @@
--- New buckets that are attached, and what comes into the lowest of them.
+-- New buckets that are added to a forest, and the item that is put into the lowest of them.
 use Rattle.std.proofs.Common.{◌≡◌, ℕ, zero, suc, ◌+◌, ◌<◌, ◌≤◌, true, List, [], ◌∷◌, ◌++◌, length, take, get_or, ap, sym, subst, ◌∙◌, refl, arith, false, eq-eqb, append-nil, ⊎_elim}
 use Rattle.std.specs.Prelude.{Option, Some, None, IfSome, All, Result, Ok, Err, IfOk, OnOk, ◌==◌, if◌then◌else◌}
 use Rattle.std.specs.List.{prefix_len}
@@ -45,7 +45,7 @@ stops-take l zero xs = refl
 stops-take l (suc k) [] = refl
 stops-take l (suc k) (x ∷ xs) = ap (λ z. stop_data l x ∷ z) (stops-take l k xs)
 
--- a new root is a bucket
+-- items that are all buckets, put into new buckets, are again all buckets at the top level
 buckets-boxes : (m : ℕ) (n : Items) (ns : List NewData) → OnlyBuckets n → OnlyBuckets (boxes m n ns)
 buckets-boxes m n [] o = o
 buckets-boxes m n (x ∷ ns) o = buckets-boxes m (bucket (new_header x) (weight_sum n) m n none) ns tt
@@ -55,7 +55,7 @@ placed_boxes None m n [] b next = absurd cc
 placed_boxes None m n (x ∷ ns) b next = buckets-boxes m (bucket (new_header x) (weight_sum n) m n none) ns tt
 placed_boxes (Some c) m n ns b next = tt
 
--- the lowest has room for one
+-- new buckets around an item leave a bucket of the item at least as much room
 room-boxes : (b m : ℕ) (n : Items) (ns : List NewData) → bucket_room b n ≤ bucket_room b (boxes m n ns)
 room-boxes b m n [] = omega arith
 room-boxes b m n (x ∷ ns) = omega (arith, room-boxes b m (bucket (new_header x) (weight_sum n) m n none) ns)
@@ -73,21 +73,21 @@ lowest_room (i ∷ ids) (p ∷ ps) d h g =
     let own : ◌≡◌ {A = ℕ} (if i == i then 1 else 0) 1 = ap (λ b. if b then 1 else 0) (eq-eqb i i refl) in
     omega (arith, own, room-boxes i 1 (bucket (new_header n) 0 1 none none) (with_ids ids ps))
 
--- a new bucket is at no place that is there
+-- a new bucket is none of the places that the table has
 pub new_place : (t : List Row) (o : Option ℕ) (b : ℕ) → member b (used_ids t) ≡ false → is_place t (place_at o) ≡ true → same_place (AtBucket b) (place_at o) ≡ false
 new_place t None b unused there = refl
 new_place t (Some c) b unused there = ⊎_elim (λ p. absurd (let no : false ≡ true = sym (unused_fresh t b unused) ∙ ap (λ k. is_there t (Bucket k)) p.1 ∙ there in cc)) (λ p. p.0) (eqb_tells b c)
 
--- items keep their own room where they come
+-- items that are added keep their room
 pub room_kept : (f g : ForestData) (n : Items) (p q : Place) → room f p + room_in n p ≤ room g p + one_if (same_place p q) → same_place p q ≡ false → 0 < room_in n p → 0 < room g p
 room_kept f g n p q e other own = let no : one_if (same_place p q) ≡ 0 = ap one_if other in omega (arith, e, no, own)
 
--- what holds of all ids holds of the first
+-- a property of all ids holds for the first
 pub of_first : (P : ℕ → Type 0) (ids : List ℕ) (d : ℕ) → 0 < length ids → All P ids → P (get_or ids 0 d)
 of_first P [] d h all = absurd (omega (arith, h))
 of_first P (i ∷ ids) d h all = All-head P i ids all
 
--- what receives is there
+-- the receiver's place is in the table
 pub place_there : (t : List Row) (to : DestinationData) → Leads t to → is_place t (place_at to.receiver) ≡ true
 place_there t to leads = by_top to.receiver (subst (λ o. IfSome o (λ b. is_there t (Bucket b) ≡ true)) (sym leads.receiver) (receiver_there t to.stops)) where
   by_top : (o : Option ℕ) → IfSome o (λ b. is_there t (Bucket b) ≡ true) → is_place t (place_at o) ≡ true
@@ -102,7 +102,7 @@ nothing : {X : Type 0} (xs : List X) → length xs ≡ 0 → xs ≡ []
 nothing [] e = refl
 nothing (x ∷ xs) e = absurd (omega (arith, e))
 
--- what holds of a result that is there
+-- a property of an Ok result that implies another
 pub of_ok : {X E : Type 0} (P Q : X → Type 0) (x : Result X E) → ((v : X) → P v → Q v) → IfOk x P → IfOk x Q
 of_ok P Q (Ok v) h p = h v p
 of_ok P Q (Err e) h p = p
@@ -131,7 +131,7 @@ module _ (t : List Row) (l : List Pair) (xs : List Stop) (to : DestinationData) 
   pub next_is : (b : ℕ) → next_up (numbered t (stops_data l xs)) None ≡ Some b → next_place t to.stops ≡ Some b
   next_is b e = any_top (new_buckets t to.stops) (receiver t to.stops) b (ap (λ z. next_up (numbered t z) None) (sym fresh_are) ∙ e)
 
--- where none is new the item comes into what receives
+-- if no bucket is new, the item is put into the receiver
 module _ (t : List Row) (to : DestinationData) (leads : Leads t to) (none : to.fresh ≤ 0) where
   empty : fresh_stops t to.stops ≡ []
   empty = nothing (fresh_stops t to.stops) (omega (arith, leads.fresh, none))

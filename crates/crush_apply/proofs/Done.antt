@@ -1,4 +1,4 @@
--- A device's own row: where it stands, and what it weighs.
+-- A device's own row: its parent and its weight.
 use Rattle.std.proofs.Common.{◌≡◌, ℕ, ◌≤◌, false, List, [], ◌∷◌, sym, subst, refl}
 use Rattle.std.specs.Prelude.{Option, Some, None, is_some}
 use Rattle.std.specs.Option.{option_map}
@@ -12,7 +12,7 @@ use Rattle.crush_edits.specs.Put.{held, is_id}
 use Rattle.crush_edits.specs.Stops.{StopData}
 use Rattle.crush_edits.proofs.Tails.{row_form}
 
--- an item that stands in no bucket is held by none
+-- an item that is in no bucket isn't held by the bucket of the lowest stop
 pub unplaced_free : (t : List Row) (i : ItemId) (ps : List StopData) → is_placed t i ≡ false → held t i ps ≡ false
 unplaced_free t i [] h = refl
 unplaced_free t i (p ∷ ps) h = by_parent (parent_of t i) h where
@@ -20,7 +20,7 @@ unplaced_free t i (p ∷ ps) h = by_parent (parent_of t i) h where
   by_parent None e = refl
   by_parent (Some b) e = absurd cc
 
--- the own weight of a device is a device's
+-- the own weight of a device is in the range of devices' weights
 pub own_light : (t : List Row) (d v : ℕ) → Lawful t → Some v ≡ weight_of t (Device d) → v ≤ HEAVIEST_DEVICE
 own_light t d v lawful is = by_row (row_of t (Device d)) refl is where
   by_row : (o : Option Row) → row_of t (Device d) ≡ o → Some v ≡ option_map (item_weight t (Device d)) (option_map (λ (r : Row). r.weight) o) → v ≤ HEAVIEST_DEVICE

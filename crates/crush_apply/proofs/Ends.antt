@@ -1,4 +1,4 @@
--- The stops of which a loop has passed some: the next one decides, or there is none.
+-- The loop over the stops that looks for the end of the route: the next stop ends it, or doesn't, or no stop is left.
 use Rattle.std.proofs.Common.{◌≡◌, ℕ, suc, ◌+◌, ◌<◌, ◌≤◌, Bool, true, false, List, [], ◌∷◌, Option, length, take, drop, get_or, ap, sym, ◌∙◌, refl, arith}
 use Rattle.std.proofs.Math.Seq.{drop-cons}
 use Rattle.std.proofs.lemmas.List.{drop_all}
@@ -22,7 +22,7 @@ stops_at l xs k x h e =
     let next : suc k ≡ k + 1 = omega arith in
     ap (stops_data l) (drop-cons xs k x h) ∙ (λ j. stop_data l (sym e j) ∷ stops_data l (drop (next j) xs))
 
--- its name is that of an item, as the hierarchy tells it, or of none
+-- the table has the name of a stop if and only if the hierarchy finds an item by it
 pub found : (t : List Row) (m n : List ℕ) (o : Option ItemId) (b : Bool) → m ≡ n → o ≡ id_named t m → b ≡ is_some o → is_named t n ≡ b
 found t m n o b same is told = ap (is_named t) (sym same) ∙ ap is_some (sym is) ∙ sym told
 
@@ -32,7 +32,7 @@ one_taken x xs n =
     let one : length (x ∷ take n xs) ≡ 1 + length (take n xs) = omega arith in
     ap (λ m. length (take m (x ∷ xs))) next ∙ one
 
--- how many are fresh
+-- no stop is new if the table has the name of the next one
 pub fresh_here : (t : List Row) (l : List Pair) (xs : List Stop) (k : ℕ) (x : Stop) → k < length xs → x ≡ get_or xs k x → is_named t (pair_name l x.pair) ≡ true → length (fresh_stops t (stops_data l (drop k xs))) ≡ 0
 fresh_here t l xs k x h e named = ap (λ ps. length (fresh_stops t ps)) (stops_at l xs k x h e) ∙ rw named refl
 
@@ -42,7 +42,7 @@ fresh_later t l xs k x h e named = ap (λ ps. length (fresh_stops t ps)) (stops_
 pub fresh_end : (t : List Row) (l : List Pair) (xs : List Stop) (k : ℕ) → length xs ≤ k → length (fresh_stops t (stops_data l (drop k xs))) ≡ 0
 fresh_end t l xs k le = ap (λ zs. length (fresh_stops t (stops_data l zs))) (drop_all k xs le)
 
--- THE STOPS THAT ARE LEFT: they decide which of them ends the route, and add what is missing of the fresh ones
+-- THE INVARIANT of the loop: the stop that ends the route is among those that are left, and the new stops are those passed and those new among the stops that are left
 pub record Left (t : List Row) (l : List Pair) (xs : List Stop) (k : ℕ) : Type 0 where
   pub fresh : length (fresh_stops t (stops_data l xs)) ≡ k + length (fresh_stops t (stops_data l (drop k xs)))
   pub end : end_stop t (stops_data l xs) ≡ end_stop t (stops_data l (drop k xs))
@@ -53,11 +53,11 @@ left_later t l xs k x h e named left = record {
   end = left.end ∙ ap (end_stop t) (stops_at l xs k x h e) ∙ rw named refl;
 }
 
--- its tests, by what ends the route
+-- the tests of the end of a route, from the stop that ends it
 abbrev tests_at : List Row → Option StopData → List (Refusal × Bool)
 tests_at t o = (NotABucket, is_a_device (option_and_then (λ (p : StopData). id_named t p.name) o)) ∷ ((WrongType, meets (λ (p : StopData). meets (λ i. meets (λ k. not (k == p.kind)) (kind_of t i)) (id_named t p.name)) o) ∷ [])
 
--- an item of the next stop's name
+-- the table has the name of the next stop
 module _ (t : List Row) (l : List Pair) (xs : List Stop) (k : ℕ) (x : Stop) (i : ItemId) (h : k < length xs) (e : x ≡ get_or xs k x) (is : id_named t (pair_name l x.pair) ≡ Some i) (left : Left t l xs k) where
   named : is_named t (pair_name l x.pair) ≡ true
   named = ap is_some is

@@ -1,4 +1,4 @@
--- The first name that a test finds, looked for one after the other.
+-- The first name for which a test holds, as a loop finds it.
 use Rattle.std.proofs.Common.{◌≡◌, ℕ, suc, ◌+◌, ◌<◌, ◌≤◌, Bool, true, false, List, ◌∷◌, length, drop, get_or, ap, sym, ◌∙◌, refl, arith}
 use Rattle.std.specs.Prelude.{Option, Some, None, not, if◌then◌else◌, is_some, is_none}
 use Rattle.std.proofs.Math.Seq.{drop-cons}
@@ -15,7 +15,7 @@ next_of l k p h is =
     let next : suc k ≡ k + 1 = omega arith in
     drop-cons l k p h ∙ (λ j. sym is j ∷ drop (next j) l)
 
--- among pairs: the test of the next decides, or what is behind it does
+-- among pairs: either the test holds for the next pair, or the pairs after it decide
 module _ (test : Pair → List Pair → Bool) (name : Pair → List ℕ) (l : List Pair) (k : ℕ) (p : Pair) (h : k < length l) (is : p ≡ get_or l k p) where
   pub name_here : test p (drop (k + 1) l) ≡ true → first_name test name (drop k l) ≡ Some (name p)
   name_here e = ap (first_name test name) (next_of l k p h is) ∙ ap (λ b. if b then Some (name p) else first_name test name (drop (k + 1) l)) e
@@ -23,7 +23,7 @@ module _ (test : Pair → List Pair → Bool) (name : Pair → List ℕ) (l : Li
   pub name_later : test p (drop (k + 1) l) ≡ false → first_name test name (drop k l) ≡ first_name test name (drop (k + 1) l)
   name_later e = ap (first_name test name) (next_of l k p h is) ∙ ap (λ b. if b then Some (name p) else first_name test name (drop (k + 1) l)) e
 
--- whether a value is missing, as a call tells it
+-- whether a value is missing, from the result of a call
 pub none_told : {X : Type 0} (o : Option X) (b : Bool) → is_some o ≡ not b → is_none o ≡ b
 none_told None true e = refl
 none_told None false e = absurd cc

@@ -1,4 +1,4 @@
--- Sums and counts of tables with an item put.
+-- Sums and counts of the table after an item is put.
 use Rattle.std.proofs.Common.{◌≡◌, ℕ, ◌+◌, ◌<◌, ◌≤◌, Bool, true, false, List, [], ◌∷◌, ◌++◌, ap, sym, subst, ◌∙◌, arith}
 use Rattle.std.proofs.lemmas.Bool.Decides.{nat_tests}
 use Rattle.std.specs.Prelude.{Some, None, IfSome, ◌||◌, nat_lt, nat_le, not}
@@ -27,7 +27,7 @@ use Rattle.crush_apply.specs.Placed.{place_at}
 use Rattle.crush_apply.specs.Destination.{DestinationData, Leads}
 use Rattle.crush_apply.proofs.Destinations.{parent_of_place, placed_boxes}
 
--- COUNTS: of an item that is there, of a device that isn't
+-- COUNTS: for an item that the table has, and for a device that it doesn't have
 too_many : (d b e c k : ℕ) → e ≤ MOST_DEVICES → d ≡ e → b ≡ c + k → nat_lt MOST_BUCKETS (c + k) ≡ (nat_lt MOST_DEVICES d || nat_lt MOST_BUCKETS b)
 too_many d b e c k few same more = grind (arith, nat_tests)
 
@@ -45,16 +45,16 @@ lacks_room_new t to d fresh devices buckets l leads many gone counted_devices co
     let made : buckets + fresh ≡ bucket_count (put t (device_row None d) to.stops) = omega (arith, counts.1, many, leads.fresh, counted) in
     λ j. nat_lt MOST_DEVICES (more j) || nat_lt MOST_BUCKETS (made j)
 
--- what receives is apart from the item
+-- the receiver isn't part of the item
 pub receiver_apart : (t : List Row) (i : ItemId) (to : DestinationData) → Leads t to → IsApart t i to.stops → IfSome (parent_at (place_at to.receiver)) (λ b. is_part t i (Bucket b) ≡ false)
 receiver_apart t i to leads apart = subst (λ o. IfSome o (λ b. is_part t i (Bucket b) ≡ false)) (sym (parent_of_place to.receiver ∙ leads.receiver)) apart
 
--- what boxes store is small where the item's weight is
+-- the sums that nested new buckets store are in range if the item's weight is
 small-boxes : (m : ℕ) (n : Items) (ns : List NewData) → weight_sum n ≤ HEAVIEST_BUCKET → StoresUpTo HEAVIEST_BUCKET n → StoresUpTo HEAVIEST_BUCKET (boxes m n ns)
 small-boxes m n [] le s = s
 small-boxes m n (x ∷ ns) le s = small-boxes m (bucket (new_header x) (weight_sum n) m n none) ns (omega (arith, le)) (le, s, tt)
 
--- THE TEST of sums, told of the new buckets with the item in them
+-- THE TEST of sums, for the new buckets with the item in them
 module _ (t : List Row) (l : Lawful t) (to : DestinationData) (leads : Leads t to) where
   parent_is : receiver t to.stops ≡ parent_at (place_at to.receiver)
   parent_is = sym (parent_of_place to.receiver ∙ leads.receiver)
@@ -69,7 +69,7 @@ module _ (t : List Row) (l : Lawful t) (to : DestinationData) (leads : Leads t t
         apart = subst (λ q. OnceIds (u ++ rows q (route_boxes 1 n t to.stops))) parent_is once;
       }
 
-  -- what a test tells that speaks of all items that can come
+  -- the result of a test that holds for every item of this weight that could be put there
   told : (u : List Row) (n : Items) (v : List Row) (w : ℕ) (answer : Bool)
       → OnceIds (u ++ rows (receiver t to.stops) (route_boxes 1 n t to.stops)) × (is_too_heavy (u ++ rows (receiver t to.stops) (route_boxes 1 n t to.stops)) ≡ is_too_heavy v)
       → StoresSums n → StoresUpTo HEAVIEST_BUCKET n → weight_sum n ≤ HEAVIEST_BUCKET → weight_sum n ≡ w
@@ -79,7 +79,7 @@ module _ (t : List Row) (l : Lawful t) (to : DestinationData) (leads : Leads t t
       test (route_boxes 1 n t to.stops) (weight_sum-boxes 1 n (new_buckets t to.stops) ∙ is) (come u n both.0 sums small light)
       ∙ ap (λ q. not (is_too_heavy (u ++ rows q (route_boxes 1 n t to.stops)))) (sym parent_is) ∙ ap not both.1
 
-  -- an item as it is
+  -- an item with the weight that it has
   pub item_told : (i : ItemId) (r : Row) (n : Items) (w : ℕ) (answer : Bool) → row_of t i ≡ Some r → IsApart t i to.stops → has_too_many (put t r to.stops) ≡ false
       → IsOne n → Same (rows None n) (part i t) → StoresSums n → StoresUpTo HEAVIEST_BUCKET n → weight_sum n ≤ HEAVIEST_BUCKET → weight_sum n ≡ w
       → ((m : Items) → weight_sum m ≡ w → CanCome (table_without i t) (place_at to.receiver) m → answer ≡ not (is_too_heavy (table_without i t ++ rows (parent_at (place_at to.receiver)) m)))
@@ -105,14 +105,14 @@ module _ (t : List Row) (l : Lawful t) (to : DestinationData) (leads : Leads t t
       (boxed_device t to.stops l leads.route r w (ap (row_of t) own ∙ found) 1 (subst (λ j. IsApart t j to.stops) (sym own) apart) room d (subst (λ j. Same (rows None (device d none)) (part j t)) (sym own) whole)) in
       told (table_without i t) n (put t after to.stops) w answer both tt tt (omega (arith, light)) (omega arith) test
 
-  -- a device that isn't there
+  -- a device that the table doesn't have
   pub new_told : (d : LeafData) (w : ℕ) (answer : Bool) → is_there t (Device d.id) ≡ false → d.weight ≡ w → w ≤ HEAVIEST_DEVICE
       → ((m : Items) → weight_sum m ≡ w → CanCome t (place_at to.receiver) m → answer ≡ not (is_too_heavy (t ++ rows (parent_at (place_at to.receiver)) m)))
       → answer ≡ not (is_too_heavy (put t (device_row None d) to.stops))
   new_told d w answer gone is light test =
       told t (device d none) (put t (device_row None d) to.stops) w answer (boxed_new t to.stops l leads.route d gone 1) tt tt (omega (arith, is, light)) (omega (arith, is)) test
 
--- too many devices, or else as many buckets as there are
+-- if the table has as many devices as are allowed, one more is too many, whatever the number of buckets is
 pub full_of_devices : (d : ℕ) (b : Bool) → MOST_DEVICES ≤ d → nat_le MOST_DEVICES d ≡ (nat_lt MOST_DEVICES (d + 1) || b)
 full_of_devices d b h = let one : nat_le MOST_DEVICES d ≡ true = grind (arith, nat_tests) in let other : nat_lt MOST_DEVICES (d + 1) ≡ true = grind (arith, nat_tests) in one ∙ ap (λ z. z || b) (sym other)
 

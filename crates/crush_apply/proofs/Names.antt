@@ -1,4 +1,4 @@
--- What the table answers to a new name and to an exchange.
+-- What a rename and a swap give for the table.
 use Rattle.std.proofs.Common.{◌≡◌, ℕ, List, true, false, not, refl, ap, ◌∙◌}
 use Rattle.std.specs.Prelude.{None, ◌==◌, ◌||◌}
 use Rattle.crush_units.specs.declared.id.ItemId.TheVariants.{Bucket}
@@ -19,7 +19,7 @@ use Rattle.crush_edits.proofs.Edits.{some_row}
 use Rattle.crush_apply.specs.Alone.{CanRename, CanSwap}
 use Rattle.crush_apply.proofs.Found.{there_by_name}
 
--- A NEW NAME
+-- A RENAME
 can_rename : (s : SettingData) (t : List Row) (from to : List ℕ) (b : ℕ) → CanRename t from to b → refusal s t (Rename from to) ≡ None
 can_rename s t from to b c = rw (c.named, c.free) refl
 
@@ -33,7 +33,7 @@ rename_lawful t from to b l form c =
     let row = some_row t (Bucket b) (there_by_name t from (Bucket b) c.named) in
     Lawful-set_name (Bucket b) to t row.0 l row.1 form c.free
 
--- AN EXCHANGE
+-- A SWAP
 -- neither bucket is the other or holds it
 pub not_nested : (t : List Row) (a b : ℕ) → (same_id (Bucket a) (Bucket b) || is_below t a (Bucket b)) ≡ false → (same_id (Bucket b) (Bucket a) || is_below t b (Bucket a)) ≡ false → are_nested t a b ≡ false
 not_nested t a b down up =

@@ -1,4 +1,4 @@
--- What is known where tests have passed.
+-- What is known when tests have passed.
 use Rattle.std.proofs.Common.{◌≡◌, ℕ, ◌≤◌, false, List, length, refl}
 use Rattle.std.specs.Prelude.{◌==◌, Option, Some, None, IfSome}
 use Rattle.crush_units.specs.declared.id.ItemId.{ItemId}
@@ -17,7 +17,7 @@ use Rattle.crush_edits.specs.Stops.{StopData, stops, end_id}
 use Rattle.crush_edits.proofs.Order.{passed}
 use Rattle.crush_edits.proofs.Stops.{location_route}
 
--- a location that can be that of an edit
+-- a location that has passed its tests
 pub record LocationPasses (s : SettingData) (l : List Pair) : Type 0 where
   pub good : is_bad_location s l ≡ false
   pub known : has_no_kind s l ≡ false
@@ -29,7 +29,7 @@ location_passes s l h = let test = passed (location_tests s l) h in record { goo
 pub location_nothing : (s : SettingData) (l : List Pair) → LocationPasses s l → first_refusal (location_tests s l) ≡ None
 location_nothing s l p = rw (p.good, p.known, p.some) refl
 
--- a device that can come to it
+-- a device that has passed its tests, with its location
 pub record DevicePasses (s : SettingData) (t : List Row) (d : ℕ) (n : List ℕ) (w : ℕ) (l : List Pair) : Type 0 where
   pub other : names_it l n ≡ false
   pub location : LocationPasses s l
@@ -48,7 +48,7 @@ no_device_ends t ps h = by_end (end_id t ps) (passed (end_tests t ps) h NotABuck
   by_end None e = tt
   by_end (Some i) e = e
 
--- the stops of a location are a route of each table where no device ends it
+-- the stops of a location are a route in each table in which no device ends it
 pub route_of_tests : (s : SettingData) (u t : List Row) (l : List Pair) → Fits s u → IsLocation l → first_refusal (location_tests s l) ≡ None → first_refusal (end_tests u (stops s l)) ≡ None → first_refusal (end_tests t (stops s l)) ≡ None → IsRoute t (stops s l)
 route_of_tests s u t l fits form located ends_u ends_t =
     let passes = location_passes s l located in

@@ -1,4 +1,4 @@
--- What the table answers to the edits that bring a device, as one.
+-- What the three edits that put a device give for the table, as one edit with a parameter.
 use Rattle.std.proofs.Common.{◌≡◌, ℕ, ◌≤◌, true, false, List, sym, ◌∙◌, refl}
 use Rattle.std.specs.Prelude.{Some, None}
 use Rattle.crush_units.specs.declared.id.ItemId.TheVariants.{Device}
@@ -25,7 +25,7 @@ use Rattle.crush_apply.proofs.Done.{unplaced_free}
 use Rattle.crush_apply.proofs.Updates.{held_update}
 use Rattle.crush_apply.proofs.Weights.{refused_edit}
 
--- where no weight is set, a device that is held is left as it is
+-- an edit that doesn't set the weight changes nothing if the device is held
 pub left_alone : (s : SettingData) (t : List Row) (how : IfPlaced) (n : List ℕ) (w : ℕ) → (how ≡ SetWeight → ⊥) → stay_answer s t how n w ≡ done false 0 t
 left_alone s t Refuse n w other = refl
 left_alone s t KeepWeight n w other = refl
@@ -38,7 +38,7 @@ module _ (s : SettingData) (t : List Row) (d : ℕ) (n : List ℕ) (w : ℕ) (l 
   device_refused KeepWeight r e = refused_edit s t (CreateOrMove d n w l) r (put_device s t d n w l r (after_create_or_move s t d n w l) e)
   device_refused SetWeight r e = refused_edit s t (Update d n w l) r (put_device s t d n w l r (after_update s t d n w l) e)
 
-  -- refused since it stands in a bucket
+  -- refused because the device is in a bucket already
   pub barred : (how : IfPlaced) → first_refusal (located_device_tests s t d n w l) ≡ None → is_barred how t d ≡ true → edit s t (placing how d n w l) ≡ refused AlreadyPlaced
   barred Refuse e there = refused_edit s t (Insert d n w l) AlreadyPlaced (insert_placed s t d n w l (after_insert s t d n w l) e there)
   barred KeepWeight e there = absurd cc
@@ -51,13 +51,13 @@ module _ (s : SettingData) (t : List Row) (d : ℕ) (n : List ℕ) (w : ℕ) (l 
   end_refused SetWeight r e free f = refused_edit s t (Update d n w l) r (put_end s t d n w l r (after_update s t d n w l) e f)
 
   module _ (e : first_refusal (located_device_tests s t d n w l) ≡ None) (f : first_refusal (end_tests t (stops s l)) ≡ None) where
-    -- held
+    -- the device is held
     pub stays : (how : IfPlaced) → is_barred how t d ≡ false → is_taken t (Device d) n ≡ false → w ≤ HEAVIEST_DEVICE → held t (Device d) (stops s l) ≡ true → Lawful t → edit s t (placing how d n w l) ≡ stay_answer s t how n w
     stays Refuse free own light there lawful = absurd (let no : true ≡ false = sym there ∙ unplaced_free t (Device d) (stops s l) free in cc)
     stays KeepWeight free own light there lawful = held_answer s t d n w l e f there lawful
     stays SetWeight free own light there lawful = held_update s t d n w l lawful (λ a. put_last s t d n w l a e f) own light there
 
-    -- put
+    -- the device is put
     pub comes : (how : IfPlaced) → is_barred how t d ≡ false → held t (Device d) (stops s l) ≡ false → edit s t (placing how d n w l) ≡ last_answer t (put_after t (edited_device t d n (coming_weight how t d w)) (stops s l))
     comes Refuse free out = insert_answer s t d n w l e free f
     comes KeepWeight free out = move_answer s t d n w l e f out

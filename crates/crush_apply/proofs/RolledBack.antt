@@ -1,4 +1,4 @@
--- Edits that are taken back.
+-- Undoing edits.
 use Rattle.std.proofs.Common.{◌≡◌, ℕ, Bool, true, false, not, List, [], ◌∷◌, ◌++◌, ap, sym, subst, ◌∙◌, refl, arith, ⊎_elim, nat_eq, append-nil, true≢false}
 use Rattle.std.specs.Prelude.{◌&&◌, if◌then◌else◌, Option, Some, None, is_some, Result, Ok, Err, IsErrAnd}
 use Rattle.std.specs.Option.{option_map}
@@ -44,7 +44,7 @@ use Rattle.crush_apply.proofs.Answered.{makes_so, when_changed, when_done, when_
 use Rattle.crush_apply.proofs.Done.{own_light}
 use Rattle.crush_apply.proofs.Weights.{fitting, weight_stays, reweight_made}
 
--- A WEIGHT THAT IS SET AND SET BACK
+-- A WEIGHT THAT IS SET and then set back
 abbrev in_row : ItemId → ℕ → Row → Row
 in_row i v r = if same_id r.id i then record r { weight = v } else r
 
@@ -73,7 +73,7 @@ weight_back i v w (r ∷ t) d e = ⊎_elim
     ap (λ z. z ∷ set_weight i v (set_weight i w t)) head ∙ ap (λ z. r ∷ z) (weight_back i v w t (Distinct-tail r t d) later))
     (same_id_tells r.id i)
 
--- A WEIGHT THAT IS SET, whether or not it is another
+-- A WEIGHT THAT IS SET, whether or not it differs from the old one
 pub weight_set : (f g : ForestData) (d w v : ℕ) → ReplacesWeight d w f g (Some v) → (t : List Row) → Stands f t → is_placed t (Device d) ≡ true → Stands g (set_weight (Device d) w t)
 weight_set f g d w v r t st placed = ⊎_elim
     (λ same.
@@ -83,14 +83,14 @@ weight_set f g d w v r t st placed = ⊎_elim
     (λ other. r.stands other.1 t st)
     (eqb_tells v w)
 
--- WHAT IS NOTED of a weight: the table has it
+-- THE LOG ENTRY of a weight: the old weight is the one in the table
 own_of : (t : List Row) (d v : ℕ) → weight_of t (Device d) ≡ Some v → own_weight_of t (Device d) ≡ Some v
 own_of t d v is = by_own (own_weight_of t (Device d)) is where
   by_own : (o : Option ℕ) → option_map (item_weight t (Device d)) o ≡ Some v → o ≡ Some v
   by_own None e = absurd cc
   by_own (Some x) e = e
 
--- the weight that a device had gives the forest back
+-- setting the device's old weight again gives the old forest
 pub weight_given : (f g : ForestData) (d w v : ℕ) → IsSound f → is_placed (rows_of f) (Device d) ≡ true → ReplacesWeight d w f g (Some v) → GivesWeight d v g f
 weight_given f g d w v sound placed r =
     let t = rows_of f in
@@ -108,7 +108,7 @@ weight_given f g d w v sound placed r =
       is = r.back;
     }
 
--- what a call answers that notes it
+-- the result of a call that logs the weight
 pub when_noted : {A : Type 0} (f g : ForestData) (s : SettingData) (n : List ℕ) (w d v : ℕ) (b : Bool) → IsSound f → ((t : List Row) → Stands f t → CanReweight t n w d) → ReplacesWeight d w f g (Some v) → b ≡ not (nat_eq v w)
     → AnswersLogged {A = A} (λ t. edit s t (Reweight n w)) f g (Ok (record { changed = b; made = 0 }, Some (Weight d v)))
 when_noted f g s n w d v b sound can r is = record {
@@ -138,19 +138,19 @@ when_brought a f g d k undo is h undoes = subst (λ z. AnswersLogged a f g (Ok (
 pub when_unmoved : {A : Type 0} (a : List Row → Answer) (f : ForestData) → ((t : List Row) → Stands f t → IsDone (Stands f) (a t) (record { changed = false; made = 0 })) → AnswersLogged {A = A} a f f (Ok (record { changed = false; made = 0 }, None))
 when_unmoved a f h = record { answers = when_still a f 0 h; logged = refl }
 
--- what the table answers alike
+-- the same if two edits give the same for each table
 pub when_alike : {A : Type 0} (a b : List Row → Answer) (f g : ForestData) (x : Result (Done × Option (Undo A)) EditFault) → ((t : List Row) → Stands f t → a t ≡ b t) → AnswersLogged b f g x → AnswersLogged a f g x
 when_alike a b f g x same told = record { answers = when_same a b f g (done_alone x) same told.answers; logged = told.logged }
 
--- WHAT IS NOTED ONLY WHERE THAT IS WANTED: what is noted anyway
+-- LOGGED ONLY IF WANTED: a call that always logs
 pub noted_anyway : {A : Type 0} (logged takes : Bool) (a : List Row → Answer) (f g : ForestData) (x : Result (Done × Option (Undo A)) EditFault) → AnswersLogged a f g x → (x ≡ Err OutOfMemory → takes ≡ true) → AnswersLoggedIf logged takes a f g x
 noted_anyway logged takes a f g x told memory = record { makes = makes_so a f g (done_alone x) told.answers; exact = λ _. told.answers; back = λ _. told.logged; memory = λ _. memory }
 
--- what is made
+-- an edit that is done
 pub noted_if : {A : Type 0} (logged takes : Bool) (a : List Row → Answer) (f g : ForestData) (d : Done) (o : Option (Undo A)) → AnswersAs a f g (Ok d) → (logged ≡ true → UndoesAny o g f) → AnswersLoggedIf logged takes a f g (Ok (d, o))
 noted_if logged takes a f g d o told back = record { makes = makes_so a f g (Ok d) told; exact = λ _. told; back = back; memory = λ _ is. absurd cc }
 
--- and what isn't, since memory lacks for it
+-- an edit that isn't done, because there is no memory for the log entry
 pub noted_lacking : {A : Type 0} (logged takes : Bool) (a : List Row → Answer) (f g : ForestData) (x : Result (Done × Option (Undo A)) EditFault) → logged ≡ true → IsErrAnd x (λ e. e ≡ OutOfMemory) → g ≡ f → AnswersLoggedIf logged takes a f g x
 noted_lacking logged takes a f g (Ok z) wanted h same = elim h [ ]
 noted_lacking logged takes a f g (Err e) wanted h same = record {
@@ -160,12 +160,12 @@ noted_lacking logged takes a f g (Err e) wanted h same = record {
   memory = λ no. absurd (true≢false (sym wanted ∙ no));
 }
 
--- out of memory stays out of memory
+-- the result without the log entry is OutOfMemory only if the whole result is
 pub lacks_alone : {A : Type 0} (x : Result (Done × Option (Undo A)) EditFault) → done_alone x ≡ Err OutOfMemory → x ≡ Err OutOfMemory
 lacks_alone (Ok z) is = absurd cc
 lacks_alone (Err e) is = let same : e ≡ OutOfMemory = cc in ap Err same
 
--- WHAT IS NOTED of a class
+-- THE LOG ENTRY of a class
 pub class_given : (f g : ForestData) (d : ℕ) (c had : Option (List ℕ)) → IsSound f → is_there (rows_of f) (Device d) ≡ true → SetsClass d c f g had → GivesClass d had g f
 class_given f g d c had sound there r =
     let t = rows_of f in
@@ -176,7 +176,7 @@ class_given f g d c had sound there r =
       is = r.back;
     }
 
--- WHAT IS NOTED of weights below a bucket
+-- THE LOG ENTRY of the weights below a bucket
 pub weights_given : (f g : ForestData) (b w : ℕ) (ws : List ℕ) (change : _) → IsSound f → is_there (rows_of f) (Bucket b) ≡ true → ◌≡◌ {A = Option (List ℕ)} (Some ws) (weights_below b f) → ReplacesWeights b w f g (Some change) → GivesWeights b ws g f
 weights_given f g b w ws change sound there told r =
     let t = rows_of f in
@@ -192,17 +192,17 @@ weights_given f g b w ws change sound there told r =
       is = back;
     }
 
--- WHAT IS TAKEN BACK
+-- UNDOING a weight gives the old forest
 pub weight_taken_back : (g h f : ForestData) (d w : ℕ) (a : Option ℕ) → IsSound g → ReplacesWeight d w g h a → GivesWeight d w g f → h ≡ f
 weight_taken_back g h f d w None sound r back = absurd (let no : false ≡ true = r.fits (rows_of g) (stands_for_rows g sound) ∙ ap not back.fits in cc)
 weight_taken_back g h f d w (Some b) sound r back = r.is ∙ sym back.is
 
--- A LOG
+-- A LOG with one more entry at the end
 pub given_before : {A : Type 0} (log : List (Undo A)) (x : Undo A) (h g f : ForestData) → Undoes x h g → RollsBack log g f → RollsBack (log ++ x ∷ []) h f
 given_before [] x h g f one e = (h, refl, subst (Undoes x h) e one)
 given_before (y ∷ log) x h g f one rest = (rest.0, given_before log x h g rest.0 one rest.1, rest.2)
 
--- with what may be noted last
+-- the same with an entry that may be missing
 pub noted_last : {A : Type 0} (log : List (Undo A)) (o : Option (Undo A)) (h g f : ForestData) → UndoesAny o h g → RollsBack log g f → RollsBack (log ++ as_list o) h f
 noted_last log None h g f same back = subst (λ l. RollsBack l h f) (sym (append-nil log)) (subst (λ z. RollsBack log z f) (sym same) back)
 noted_last log (Some x) h g f one back = given_before log x h g f one back
@@ -211,6 +211,6 @@ last_given : {A : Type 0} (log : List (Undo A)) (x : Undo A) (h f : ForestData) 
 last_given [] x h f g = (f, subst (λ z. Undoes x z f) (sym g.1) g.2, refl)
 last_given (y ∷ log) x h f g = let r = last_given log x h g.0 g.1 in (r.0, r.1, (g.0, r.2, g.2))
 
--- without what is noted last
+-- undoing the last entry leaves the rest of the log
 pub popped : {A : Type 0} (log rest : List (Undo A)) (x : Undo A) (h f : ForestData) → log ≡ rest ++ x ∷ [] → RollsBack log h f → (g : ForestData) × Undoes x h g × RollsBack rest g f
 popped log rest x h f is back = last_given rest x h f (subst (λ l. RollsBack l h f) is back)

@@ -1,4 +1,4 @@
--- What the table answers where one row is taken out, and where an empty bucket comes.
+-- What removing one row and adding an empty bucket give for the table.
 use Rattle.std.proofs.Common.{◌≡◌, ℕ, ◌<◌, ◌≤◌, List, [], ◌∷◌, ◌++◌, true, false, not, refl, sym, ap, subst, ◌∙◌, arith, ⊎_elim}
 use Rattle.std.specs.Prelude.{None, ◌||◌, ◌==◌, nat_lt}
 use Rattle.std.proofs.lemmas.Bool.Decides.{eqb_tells}
@@ -25,8 +25,8 @@ use Rattle.crush_edits.proofs.Others.{holds_none, added_is_row, added_changes, a
 use Rattle.crush_apply.specs.Alone.{CanRemove, CanAddBucket}
 use Rattle.crush_apply.proofs.Found.{there_by_name}
 
--- A ROW TAKEN OUT
--- a device, or a bucket that holds nothing, is one row
+-- A ROW THAT IS REMOVED
+-- removing a device, or a bucket that holds no items, with everything below it removes just one row
 without_is : (t : List Row) (i : ItemId) → meets (holds_items t) (number_of i) ≡ false → table_without i t ≡ without_row i t
 without_is t (Device d) h = table_without-device t d
 without_is t (Bucket b) h = table_without-empty t b (holds_none t b h)
@@ -39,8 +39,8 @@ remove_done s t n i c =
     let other = other_without t i (there_by_name t n i c.named) in
     ap (λ r. answer r t (after s t (Remove n))) (can_remove s t n i c) ∙ rw c.named (ap (λ same. done (not same) 0 (without_row i t)) other) ∙ ap (done true 0) (sym (without_is t i c.empty))
 
--- A BUCKET MORE
--- there is room for it
+-- A BUCKET THAT IS ADDED
+-- there is room for the bucket
 few : (d b : ℕ) → d ≤ MOST_DEVICES → b ≤ MOST_BUCKETS → (nat_lt MOST_DEVICES d || nat_lt MOST_BUCKETS b) ≡ false
 few d b h k = grind (arith, nat_tests)
 
@@ -61,6 +61,6 @@ pub add_bucket_lawful : (s : SettingData) (t : List Row) (n kind : List ℕ) (k 
     Lawful (t ++ bucket_row None (new_header (record { id = b; kind = k; name = n })) ∷ [])
 add_bucket_lawful s t n kind k b l fits form c free = subst Lawful (added_is_row s t n kind k b c.known free) (added_lawful s t n kind k l fits c.known c.some form c.free (added_room s t n kind l c.room))
 
--- a type's number that was compared with 0
+-- a type number that the code has found not to be 0
 pub not_zero : (k n : ℕ) → n ≡ k → (n ≡ 0 → ⊥) → (k == 0) ≡ false
 not_zero k n is other = ⊎_elim (λ p. absurd (other (is ∙ p.1))) (λ p. p.0) (eqb_tells k 0)

@@ -1,4 +1,4 @@
--- The steps of a put: the new buckets added, and the item put into the lowest; or a new device that comes with them.
+-- The steps of a put: the new buckets are added and the item is put into the lowest; a new device is added together with them.
 use Rattle.std.proofs.Common.{◌≡◌, ℕ, ◌≤◌, true, false, List, ◌++◌, ap, sym, subst, refl, ◌∙◌, append_assoc}
 use Rattle.std.specs.Prelude.{Bool, if◌then◌else◌, Some, None, IfSome, is_some}
 use Rattle.crush_units.specs.declared.id.ItemId.{ItemId}
@@ -35,7 +35,7 @@ use Rattle.crush_apply.specs.Placed.{place_at, CanPut, CanPutNew}
 use Rattle.crush_apply.specs.Destination.{DestinationData, Leads}
 use Rattle.crush_apply.proofs.Destinations.{placed_boxes}
 
--- WHAT STANDS FOR A TABLE: an item is there as in the table, what is there without an item is so too
+-- A FOREST THAT REPRESENTS A TABLE has the items of the table, also after an item is removed from both
 pub stands_there : (g : ForestData) (u : List Row) (i : ItemId) → Stands g u → is_there u i ≡ true → is_there (rows_of g) i ≡ true
 stands_there g u i st there = is_there-same (rows_of g) u st.same.rows (stands_lawful g u st).ids i ∙ there
 
@@ -46,13 +46,13 @@ pub stands_left : (g : ForestData) (u : List Row) (i j : ItemId) → Stands g u 
 stands_left g u i j st there =
     times-is_there (table_without i (rows_of g)) j (subst (λ n. 1 ≤ n) (sym (reordered-count (λ (r : Row). same_id r.id j) (rows_without g u i st).rows)) (is_there-times (table_without i u) j there))
 
--- and the rows with an item that is put are lawful where the table after is
+-- the rows of the forest with an item that is put are lawful if the table after the put is
 pub placed_lawful : (g : ForestData) (u v n : List Row) (i : ItemId) → Stands g u → Same (table_without i u ++ n) v → Lawful v → Lawful (table_without i (rows_of g) ++ n)
 placed_lawful g u v n i st same lawful =
     let whole : Same (table_without i (rows_of g) ++ n) v = Same-trans (table_without i (rows_of g) ++ n) (table_without i u ++ n) v (Same-with n (table_without i (rows_of g)) (table_without i u) (rows_without g u i st)) same in
     Lawful-same v (table_without i (rows_of g) ++ n) (Same-sym (table_without i (rows_of g) ++ n) v whole) lawful
 
--- AN ITEM THAT IS THERE, with the weight that it has afterwards
+-- AN ITEM THAT THE TABLE HAS, with the weight that it gets
 module _ (t : List Row) (l : Lawful t) (i : ItemId) (to : DestinationData) (leads : Leads t to) (r : Row) (w : ℕ) (found : row_of t i ≡ Some r) (can : CanPut t r w to.stops) where
   own : r.id ≡ i
   own = row_id i t r found
@@ -85,7 +85,7 @@ module _ (t : List Row) (l : Lawful t) (i : ItemId) (to : DestinationData) (lead
       (subst (λ q. Same (table_without r.id (t ++ rows_made t to.stops) ++ rows q (device (record d { weight = w }) none)) (put t (record r { weight = w }) to.stops)) next
       (moves_device t to.stops l leads.route r w found_own can.apart can.room d (subst (λ j. Same (rows None (device d none)) (part j (t ++ rows_made t to.stops))) (sym own) whole)))
 
--- as it is
+-- the same with the weight that the item has
 module _ (t : List Row) (l : Lawful t) (i : ItemId) (to : DestinationData) (leads : Leads t to) (r : Row) (found : row_of t i ≡ Some r) (can : CanPut t r r.weight to.stops) where
   pub item_form : (b : ℕ) → IsRow (record r { parent = Some b })
   item_form = (form_stays r (row_form t l i r found)).0
@@ -97,12 +97,12 @@ module _ (t : List Row) (l : Lawful t) (i : ItemId) (to : DestinationData) (lead
       (subst (λ q. Same (table_without r.id (t ++ rows_made t to.stops) ++ rows q n) (put t r to.stops)) next
       (moves t to.stops l leads.route r n (ap (row_of t) own_id ∙ found) can.apart can.room one (subst (λ j. Same (rows None n) (part j (t ++ rows_made t to.stops))) (sym own_id) whole)))
 
--- A DEVICE THAT ISN'T THERE, in its new buckets
+-- A DEVICE THAT THE TABLE DOESN'T HAVE, in its new buckets
 module _ (t : List Row) (l : Lawful t) (to : DestinationData) (leads : Leads t to) (d : LeafData) (can : CanPutNew t d to.stops) where
   abbrev ns : List NewData
   ns = new_buckets t to.stops
 
-  -- what comes to the receiver
+  -- what is added to the receiver
   abbrev pub new_item : Items
   new_item = boxes 1 (device d none) ns
 
@@ -120,7 +120,7 @@ module _ (t : List Row) (l : Lawful t) (to : DestinationData) (leads : Leads t t
   pub new_fits : FitsPlace (place_at to.receiver) new_item
   new_fits = let next = route_next t to.stops leads.route in placed_boxes to.receiver 1 (device d none) ns next.0 (ap (next_up ns) leads.receiver ∙ next.1)
 
--- THE PART of a device is a device
+-- THE PART of a device, which is the device with everything below it, is just the device
 devices_if : (c : Bool) (d : LeafData) (s : Items) → OnlyDevices s → OnlyDevices (if c then device d s else s)
 devices_if true d s o = o
 devices_if false d s o = o

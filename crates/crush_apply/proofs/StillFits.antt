@@ -39,14 +39,14 @@ done_keeps s t u e c m k form is = by_refusal (refusal s t e) refl is where
   by_refusal (Some r) told is = absurd cc
   by_refusal None told is = let same : (after s t e).table ≡ u = cc in subst (Keeps s) same (edit_keeps s t e k form told)
 
--- the setting fits what was edited
+-- the setting fits the hierarchy after an edit that was done
 pub fits_after : (s : SettingData) (f g : ForestData) (e : Edit) (d : Done) → IsSound f → IsEdit e → Fits s (rows_of f) → ((t : List Row) → Stands f t → IsDone (Stands g) (edit s t e) d) → Fits s (rows_of g)
 fits_after s f g e d sound form fits made =
     let one = made (rows_of f) (stands_for_rows f sound) in
     let keeps : Keeps s one.0 = done_keeps s (rows_of f) one.0 e d.changed d.made (record { lawful = sound.lawful; fits = fits }) form one.1 in
     Fits-same s one.0 (rows_of g) keeps.lawful (Same-sym (rows_of g) one.0 one.2.same) keeps.fits
 
--- the setting fits what was to be edited, whatever was answered
+-- the setting fits the hierarchy after a call, whatever its result is
 pub fits_answered : (s : SettingData) (f g : ForestData) (e : Edit) (x : Result Done EditFault) → IsSound f → IsEdit e → Fits s (rows_of f) → IfOk x (λ d. (t : List Row) → Stands f t → IsDone (Stands g) (edit s t e) d) → OnErr x (g ≡ f) → Fits s (rows_of g)
 fits_answered s f g e (Ok d) sound form fits made same = fits_after s f g e d sound form fits made
 fits_answered s f g e (Err r) sound form fits made same = subst (λ (x : ForestData). Fits s (rows_of x)) (sym same) fits

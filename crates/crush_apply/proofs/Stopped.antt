@@ -1,4 +1,4 @@
--- Stops as the code has them, and as the table's definitions have them.
+-- The stops of a route in the code, and in the definitions about the table.
 use Rattle.std.proofs.Common.{◌≡◌, ℕ, zero, suc, ◌+◌, ◌<◌, List, [], ◌∷◌, ◌++◌, length, take, drop, get_or, ap, sym, ◌∙◌, refl, arith}
 use Rattle.std.specs.Prelude.{not, Some, None, All, fold, insert, nat_le, if◌then◌else◌}
 use Rattle.std.specs.List.{position_or_len}
@@ -17,12 +17,12 @@ name_at [] k d h = absurd (omega (arith, h))
 name_at (p ∷ l) zero d h = refl
 name_at (p ∷ l) (suc k) d h = name_at l k d (omega (arith, h))
 
--- the place of a stop, told by what is seen of each
+-- the position for a new stop is the same in the code and in the definitions
 place_seen : (l : List Pair) (k : ℕ) (xs : List Stop) → position_or_len (λ (q : Stop). nat_le k q.kind) xs ≡ position_or_len (λ (q : StopData). nat_le k q.kind) (stops_data l xs)
 place_seen l k [] = refl
 place_seen l k (x ∷ xs) = ap (λ n. if not (nat_le k x.kind) then 1 + n else 0) (place_seen l k xs)
 
--- a stop that is put among others, as it is seen
+-- inserting a stop in the code is inserting it in the definitions
 pub put_seen : (l : List Pair) (x : Stop) (xs : List Stop) → stops_data l (put_stop x xs) ≡ insert_stop (stop_data l x) (stops_data l xs)
 put_seen l x xs =
     let i = position_or_len (λ (q : Stop). nat_le x.kind q.kind) xs in
@@ -31,13 +31,13 @@ put_seen l x xs =
     ∙ ap (λ zs. take i (stops_data l xs) ++ stop_data l x ∷ zs) (sym (drop-map (stop_data l) i xs))
     ∙ ap (λ j. insert (stops_data l xs) j (stop_data l x)) (place_seen l x.kind xs)
 
--- one of a location's pairs more among them
+-- after a stop for a pair of the location is inserted, all stops are still for pairs of the location
 pub put_pairs : (l : List Pair) (x : Stop) (xs : List Stop) → IsPairOf l x → All (IsPairOf l) xs → All (IsPairOf l) (put_stop x xs)
 put_pairs l x xs h a =
     let i = position_or_len (λ (q : Stop). nat_le x.kind q.kind) xs in
     All-append (IsPairOf l) (take i xs) (x ∷ drop i xs) (All-take (IsPairOf l) i xs a) (All-cons (IsPairOf l) x (drop i xs) h (All-drop (IsPairOf l) i xs a))
 
--- a pair on the way through a location: what is left, and its stop
+-- the stops after one more pair of the location
 abbrev pub more : SettingData → List StopData → Pair → List StopData
 more s ps p = with_stop (kind_number s p.kind) p.name ps
 
@@ -46,7 +46,7 @@ left_one s l k d ps h =
     let next : k + 1 ≡ suc k = omega arith in
     ap (fold (more s) ps) (drop-cons l k d h) ∙ ap (λ j. fold (more s) (more s ps (get_or l k d)) (drop j l)) (sym next)
 
--- what is left adds what is missing, also behind the next pair: where its type is known, and where it isn't
+-- the invariant of the loop over a location: adding the stops of the pairs that are left gives the stops of the location
 abbrev pub Left : SettingData → List Pair → ℕ → List Stop → Type 0
 Left s l k xs = fold (more s) (stops_data l xs) (drop k l) ≡ stops s l
 

@@ -1,4 +1,4 @@
--- Names that stand twice in a location, looked for pair by pair.
+-- Names that occur twice in a location, as a loop over the pairs finds them.
 use Rattle.std.proofs.Common.{◌≡◌, ℕ, suc, ◌+◌, ◌-◌, ◌<◌, Bool, true, false, List, [], ◌∷◌, length, take, drop, get_or, ap, sym, ◌∙◌, refl, arith}
 use Rattle.std.specs.Prelude.{not, ◌&&◌, ◌||◌, map, bytes_eq}
 use Rattle.std.specs.List.{list_any}
@@ -9,14 +9,14 @@ use Rattle.crush_edits.specs.declared.location.Pair.{Pair}
 use Rattle.crush_model.specs.Tested.{are_apart}
 use Rattle.crush_edits.specs.Located.{has_twice}
 
--- to compare two names in the other order
+-- comparing two names in the other order gives the same result
 one_way : (m n : List ℕ) (a b : Bool) → bytes_eq m n ≡ a → bytes_eq n m ≡ b → a ≡ b
 one_way m n true true p q = refl
 one_way m n false false p q = refl
 one_way m n true false p q = absurd (let again : bytes_eq n m ≡ true = (bytes_eq-Decides n m).1 (sym ((bytes_eq-Decides m n).0 p)) in cc)
 one_way m n false true p q = absurd (let again : bytes_eq m n ≡ true = (bytes_eq-Decides m n).1 (sym ((bytes_eq-Decides n m).0 q)) in cc)
 
--- a name among those of pairs
+-- whether some pair has the name
 among : (f : Pair → List ℕ) (n : List ℕ) (l : List Pair) → list_any (λ (p : Pair). bytes_eq (f p) n) l ≡ list_any (bytes_eq n) (map f l)
 among f n [] = refl
 among f n (p ∷ l) =
@@ -28,7 +28,7 @@ at_drop f l k p h is =
     let next : k + 1 ≡ suc k = omega arith in
     ap (map f) (drop-cons l k p h) ∙ ap (λ q. f q ∷ map f (drop (suc k) l)) (sym is) ∙ ap (λ j. f p ∷ map f (drop j l)) (sym next)
 
--- whether a name stands twice, told by the first pair that is left
+-- whether a name occurs twice among the pairs that are left, from the first of them and the pairs after it
 twice_cons : (f : Pair → List ℕ) (l : List Pair) (k : ℕ) (p : Pair) (b : Bool) → k < length l → p ≡ get_or l k p → b ≡ list_any (λ (q : Pair). bytes_eq (f q) (f p)) (drop (k + 1) l) →
     has_twice (map f (drop k l)) ≡ not (not b && are_apart bytes_eq (map f (drop (k + 1) l)))
 twice_cons f l k p b h is requested =
@@ -40,6 +40,6 @@ twice_here f l k p b h is requested e = twice_cons f l k p b h is requested ∙ 
 pub twice_later : (f : Pair → List ℕ) (l : List Pair) (k : ℕ) (p : Pair) (b : Bool) → k < length l → p ≡ get_or l k p → b ≡ list_any (λ (q : Pair). bytes_eq (f q) (f p)) (drop (k + 1) l) → b ≡ false → has_twice (map f (drop k l)) ≡ has_twice (map f (drop (k + 1) l))
 twice_later f l k p b h is requested e = twice_cons f l k p b h is requested ∙ ap (λ c. not (not c && are_apart bytes_eq (map f (drop (k + 1) l)))) e
 
--- the pairs behind one, as a slice
+-- the pairs after one, as a slice
 pub later_pairs : (l : List Pair) (k : ℕ) → take (length l - k) (drop k l) ≡ drop k l
 later_pairs l k = ap (λ n. take n (drop k l)) (sym (length-drop k l)) ∙ take-length (drop k l)

@@ -1,4 +1,4 @@
--- What the table answers to an update.
+-- What Update gives for the table.
 use Rattle.std.proofs.Common.{◌≡◌, ℕ, ◌≤◌, Bool, true, false, List, [], ◌∷◌, ap, sym, refl, ◌∙◌, arith}
 use Rattle.std.proofs.lemmas.Bool.{not-false}
 use Rattle.std.proofs.lemmas.Bool.Decides.{nat_tests}
@@ -31,7 +31,7 @@ use Rattle.crush_edits.specs.Stops.{StopData, stops}
 use Rattle.crush_apply.specs.Answered.{last_refusal}
 use Rattle.crush_apply.proofs.Devices.{own_name}
 
--- what is held stands in a bucket
+-- an item that is held is in a bucket
 pub held_placed : (t : List Row) (i : ItemId) (ps : List StopData) → held t i ps ≡ true → is_placed t i ≡ true
 held_placed t i [] h = absurd cc
 held_placed t i (p ∷ ps) h = by_parent (parent_of t i) h where
@@ -45,7 +45,7 @@ placed_row t i h = by_row (row_of t i) h where
   by_row None e = absurd cc
   by_row (Some r) e = (r, refl)
 
--- the name of a row is named
+-- the name of a row finds some row
 named_row : (t : List Row) (i : ItemId) (r : Row) (n : List ℕ) → row_of t i ≡ Some r → bytes_eq r.name n ≡ true → is_some (row_named t n) ≡ true
 named_row [] i r n found same = absurd cc
 named_row (x ∷ t) i r n found same = by_name (bytes_eq x.name n) refl (same_id x.id i) found (λ f. named_row t i r n f same) where
@@ -54,7 +54,7 @@ named_row (x ∷ t) i r n found same = by_name (bytes_eq x.name n) refl (same_id
   by_name false e true f ih = absurd (let is : x ≡ r = cc in let no : false ≡ true = sym e ∙ ap (λ (y : Row). bytes_eq y.name n) is ∙ same in cc)
   by_name false e false f ih = ih f
 
--- a placed device has the name that isn't another's
+-- if a device is in a bucket, and the name isn't taken, then the name finds the device
 pub placed_named : (t : List Row) (d : ℕ) (n : List ℕ) → is_taken t (Device d) n ≡ false → is_placed t (Device d) ≡ true → id_named t n ≡ Some (Device d)
 placed_named t d n own placed =
     let row = placed_row t (Device d) placed in
@@ -75,7 +75,7 @@ same_room i w t =
 light_weight : (w : ℕ) → w ≤ HEAVIEST_DEVICE → is_heavy w ≡ false
 light_weight w h = grind (arith, nat_tests)
 
--- THE HELD DEVICE: the update is the device's new weight
+-- THE HELD DEVICE: Update gives what Reweight gives
 pub held_update : (s : SettingData) (t : List Row) (d : ℕ) (n : List ℕ) (w : ℕ) (l : List Pair) → Lawful t → ((a : After) → first_refusal (device_put_tests s t d n w l a) ≡ last_refusal a)
     → is_taken t (Device d) n ≡ false → w ≤ HEAVIEST_DEVICE → held t (Device d) (stops s l) ≡ true → edit s t (Update d n w l) ≡ edit s t (Reweight n w)
 held_update s t d n w l lawful last own light there =

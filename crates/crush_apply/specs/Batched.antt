@@ -1,4 +1,4 @@
--- What a batch answers, beside what the table answers.
+-- How the result of a call that applies a batch is related to what the batch gives for the table.
 use Rattle.std.specs.Prelude.{◌≡◌, ℕ, ◌*◌, ◌≤◌, List}
 use Rattle.crush_model.specs.Table.{Row}
 use Rattle.crush_model.specs.Forest.{ForestData}
@@ -8,15 +8,15 @@ use Rattle.crush_edits.specs.declared.edit.Edit.{Edit}
 use Rattle.crush_edits.specs.Setting.{SettingData}
 use Rattle.crush_edits.specs.Batch.{BatchAnswer, batch_done, batch, batch_from}
 
--- the table's answer is done with the same counts, and what was edited stands for its table
+-- the batch isn't refused, the counts d are those of what it did, and what was edited represents the table after it
 abbrev pub IsBatchDone : (List Row → Type 0) → BatchAnswer → Dones → Type 0
 IsBatchDone stands a d = (u : List Row) × (a ≡ batch_done d u) × stands u
 
--- for each table for which a hierarchy stood, what is left of the batch, on one for which it stands now, is the whole batch
+-- some of the edits es have been applied to the hierarchy f, which gave g and the counts d, and the edits in left remain: for every table that f represents, applying the rest to a table that g represents gives what the whole batch gives
 abbrev pub IsBegun : SettingData → List Edit → ForestData → List Edit → Dones → ForestData → Type 0
 IsBegun s es f left d g = (t : List Row) → Stands f t → (u : List Row) × (batch s t es ≡ batch_from s left d u) × Stands g u
 
--- so many edits are done
+-- the counts of k edits: k edits have been applied, at most k of them changed the table, and the number of created buckets is at most 65535 times k
 pub record AreDone (k : ℕ) (d : Dones) : Type 0 where
   pub edits : d.edits ≡ k
   pub changed : d.changed ≤ k

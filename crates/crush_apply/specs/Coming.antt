@@ -1,4 +1,4 @@
--- What is known of an item that is to come to a destination.
+-- When an item can be put at a destination, before the tests of room and of sums.
 use Rattle.std.specs.Prelude.{◌≡◌, ℕ, ◌≤◌, List, true, false, bytes_eq}
 use Rattle.std.specs.List.{count_by}
 use Rattle.crush_units.specs.declared.id.ItemId.{ItemId}
@@ -10,13 +10,13 @@ use Rattle.crush_edits.specs.Located.{is_taken}
 use Rattle.crush_edits.specs.Stops.{StopData}
 use Rattle.crush_apply.specs.Destination.{DestinationData, Leads}
 
--- the item i is there, and what receives is neither the item nor below it
+-- the table has the item i, the destination is the end of a route, and the bucket that receives is neither the item itself nor below it
 pub record CanMove (t : List Row) (i : ItemId) (to : DestinationData) : Type 0 where
   pub leads : Leads t to
   pub there : is_there t i ≡ true
   pub apart : IsApart t i to.stops
 
--- the device d of the name n and the weight w, there or not: id and name belong together or are new, and no stop has the name
+-- the device d, with the name n and the weight w, can be put at the destination, whether the table has it or not: no other item has the name, the device has no other name, no stop has the name, and the weight is in range
 pub record CanArrive (t : List Row) (d : ℕ) (n : List ℕ) (w : ℕ) (to : DestinationData) : Type 0 where
   pub leads : Leads t to
   pub own : is_taken t (Device d) n ≡ false

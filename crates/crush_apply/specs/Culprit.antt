@@ -1,4 +1,4 @@
--- Which of an edit's names a refusal is about.
+-- Which name in an edit a refusal of the edit is about.
 use Rattle.std.specs.Prelude.{ℕ, List, [], ◌∷◌, Option, Some, None, Bool, ◌||◌, if◌then◌else◌, is_none, unwrap_or, bytes_eq}
 use Rattle.std.specs.List.{list_any}
 use Rattle.std.specs.Option.{option_map, option_or}
@@ -13,28 +13,28 @@ use Rattle.crush_edits.specs.Located.{is_type_zero, names_it}
 use Rattle.crush_edits.specs.Setting.{SettingData, kind_number}
 use Rattle.crush_edits.specs.Stops.{StopData, stops, end_stop}
 
--- the name of the first pair of which a test holds, which also sees the pairs behind it
+-- the name of the first pair for which a test holds; the test also gets the pairs after that pair
 abbrev pub first_name : (Pair → List Pair → Bool) → (Pair → List ℕ) → List Pair → Option (List ℕ)
 first_name test name [] = None
 first_name test name (p ∷ l) = if test p l then Some (name p) else first_name test name l
 
--- the type is type 0, or a later pair has it too
+-- whether the pair's type is type 0, or a later pair has the same type
 abbrev pub is_wrong_type : SettingData → Pair → List Pair → Bool
 is_wrong_type s p l = is_type_zero s p || list_any (λ (q : Pair). bytes_eq q.kind p.kind) l
 
--- what makes a location bad: the first such type, else the first bucket's name that a later pair has too
+-- the name that makes a location bad: the first type name that is type 0's or that a later pair has too, otherwise the first bucket name that a later pair has too
 abbrev pub bad_name : SettingData → List Pair → Option (List ℕ)
 bad_name s l = option_or (first_name (is_wrong_type s) (λ (p : Pair). p.kind) l) (first_name (λ (p : Pair) l. names_it l p.name) (λ (p : Pair). p.name) l)
 
--- the first type that the setting doesn't have
+-- the first type name that the setting doesn't have
 abbrev pub unknown_type : SettingData → List Pair → Option (List ℕ)
 unknown_type s l = first_name (λ (p : Pair) l. is_none (kind_number s p.kind)) (λ (p : Pair). p.kind) l
 
--- the name at which a route ends
+-- the name of the item that ends the route
 abbrev pub end_name : List Row → List StopData → Option (List ℕ)
 end_name t ps = option_map (λ (p : StopData). p.name) (end_stop t ps)
 
--- OF AN ITEM THAT IS TO COME TO A LOCATION: the name there, else the item's
+-- FOR AN EDIT WITH A LOCATION: the name in the location that is at fault, otherwise the item's name
 abbrev pub put_culprit : SettingData → List Row → List ℕ → List Pair → Refusal → List ℕ
 put_culprit s t n l BadLocation = unwrap_or (bad_name s l) n
 put_culprit s t n l NoSuchType = unwrap_or (unknown_type s l) n
@@ -43,25 +43,25 @@ put_culprit s t n l WrongType = unwrap_or (end_name t (stops s l)) n
 put_culprit s t n l Loop = unwrap_or (end_name t (stops s l)) n
 put_culprit s t n l r = n
 
--- OF TWO BUCKETS: the second, where that alone isn't there or alone is a device
+-- FOR A SWAP: for NoSuchItem the second name if the first is an item's; for NotABucket the second name if the first isn't a device's; otherwise the first name
 abbrev pub swap_culprit : List Row → List ℕ → List ℕ → Refusal → List ℕ
 swap_culprit t a b NoSuchItem = if is_named t a then b else a
 swap_culprit t a b NotABucket = if is_a_device (id_named t a) then a else b
 swap_culprit t a b r = a
 
--- OF A NEW BUCKET: its type, where that isn't there or is type 0
+-- FOR A NEW BUCKET: its type if the refusal is NoSuchType or WrongType, otherwise its name
 abbrev pub bucket_culprit : List ℕ → List ℕ → Refusal → List ℕ
 bucket_culprit n kind NoSuchType = kind
 bucket_culprit n kind WrongType = kind
 bucket_culprit n kind r = n
 
--- OF A NEW NAME: that name, where it is there
+-- FOR A RENAME: the new name if the refusal is NameTaken or AlreadyRenamed, otherwise the old name
 abbrev pub name_culprit : List ℕ → List ℕ → Refusal → List ℕ
 name_culprit from to NameTaken = to
 name_culprit from to AlreadyRenamed = to
 name_culprit from to r = from
 
--- THE NAME that a refusal of the edit is about, and of each other edit the one item that it names
+-- THE NAME that a refusal of the edit is about; for an edit of a weight, a class or a removal it is the name of the item
 abbrev pub culprit : SettingData → List Row → Edit → Refusal → List ℕ
 culprit s t (Insert d n w l) r = put_culprit s t n l r
 culprit s t (CreateOrMove d n w l) r = put_culprit s t n l r

@@ -1,4 +1,4 @@
--- The destination at the end of a route, as contracts see it.
+-- The destination of a location, which is the end of its route, as contracts see it.
 use Rattle.std.specs.Prelude.{◌≡◌, ◌==◌, ℕ, List, [], ◌∷◌, Option, None, Bool, not, length}
 use Rattle.crush_units.specs.declared.id.ItemId.{ItemId}
 use Rattle.crush_units.specs.Id.{is_device_id}
@@ -10,23 +10,23 @@ use Rattle.crush_edits.specs.Located.{end_tests}
 use Rattle.crush_edits.specs.New.{IsRoute}
 use Rattle.crush_edits.specs.Stops.{StopData, fresh_stops, receiver}
 
--- the stops of a route, how many of them are buckets to be made, and what receives these, or the item where none is made
+-- the stops of a route, for how many of them a bucket is to be created, and the bucket that receives the new buckets, or the item if there are none; no receiver means the root
 pub record DestinationData : Type 0 where
   pub stops : List StopData
   pub fresh : ℕ
   pub receiver : Option ℕ
 
--- the tests of an item that ends a route at a pair of the type k
+-- the tests of an item i that ends a route, at a pair whose type has the number k: the item is a device; its type has another number
 abbrev pub end_item_tests : List Row → ℕ → ItemId → List (Refusal × Bool)
 end_item_tests t k i = (NotABucket, is_device_id i) ∷ ((WrongType, meets (λ n. not (n == k)) (kind_of t i)) ∷ [])
 
--- so many of the stops are buckets to be made, the bucket receives these, or the item, and no test of the end refuses
+-- a bucket is to be created for k of the stops, b is the receiver, if there is one, and no test of the end of the route holds
 pub record EndsAt (t : List Row) (ps : List StopData) (k : ℕ) (b : Option ℕ) : Type 0 where
   pub fresh : k ≡ length (fresh_stops t ps)
   pub receiver : b ≡ receiver t ps
   pub passes : first_refusal (end_tests t ps) ≡ None
 
--- a route leads to the destination
+-- the stops of the destination are a route, and its other parts are right for this table
 pub record Leads (t : List Row) (to : DestinationData) : Type 0 where
   pub route : IsRoute t to.stops
   pub fresh : to.fresh ≡ length (fresh_stops t to.stops)

@@ -1,4 +1,4 @@
--- The edits that bring a device, as one: by what they do with one that stands in a bucket.
+-- The three edits that put a device, as one edit with a parameter: how it treats a device that is in a bucket already.
 use Rattle.std.specs.Prelude.{ℕ, List, Bool, false}
 use Rattle.crush_units.specs.declared.id.ItemId.TheVariants.{Device}
 use Rattle.crush_model.specs.Table.{Row, is_placed}
@@ -12,25 +12,25 @@ use Rattle.crush_edits.specs.Setting.{SettingData}
 use Rattle.crush_apply.specs.declared.place.IfPlaced.{IfPlaced}
 use Rattle.crush_apply.specs.declared.place.IfPlaced.TheVariants.{Refuse, KeepWeight, SetWeight}
 
--- the edit
+-- the edit that the parameter selects
 abbrev pub placing : IfPlaced → ℕ → List ℕ → ℕ → List Pair → Edit
 placing Refuse d n w l = Insert d n w l
 placing KeepWeight d n w l = CreateOrMove d n w l
 placing SetWeight d n w l = Update d n w l
 
--- whether it refuses the device where that stands
+-- whether the edit refuses the device because it is in a bucket already
 abbrev pub is_barred : IfPlaced → List Row → ℕ → Bool
 is_barred Refuse t d = is_placed t (Device d)
 is_barred KeepWeight t d = false
 is_barred SetWeight t d = false
 
--- what it answers where the device is held
+-- what the edit gives if the bucket of the lowest stop holds the device: no change, or a new weight
 abbrev pub stay_answer : SettingData → List Row → IfPlaced → List ℕ → ℕ → Answer
 stay_answer s t Refuse n w = done false 0 t
 stay_answer s t KeepWeight n w = done false 0 t
 stay_answer s t SetWeight n w = edit s t (Reweight n w)
 
--- and the weight with which it puts it where it isn't
+-- the weight that the edit puts the device with otherwise
 abbrev pub coming_weight : IfPlaced → List Row → ℕ → ℕ → ℕ
 coming_weight Refuse t d w = w
 coming_weight KeepWeight t d w = kept_weight t d w

@@ -1,4 +1,4 @@
--- Batches that are made in place: what is noted of an edit, and what becomes of a forest where it is taken back.
+-- The undo log of a batch that is applied in place: what undoing one of its entries makes of a forest.
 use Rattle.std.specs.Prelude.{◌≡◌, ℕ, ◌≤◌, List, [], ◌∷◌, Option, Some, None, Result, Ok, Err, IfOk, Bool, true, false}
 use Rattle.crush_units.specs.declared.id.ItemId.TheVariants.{Device, Bucket}
 use Rattle.crush_units.specs.declared.limits.TheConstants.{HEAVIEST_DEVICE}
@@ -10,9 +10,9 @@ use Rattle.crush_tree.specs.Required.{CanGiveWeights, CanSwap}
 use Rattle.crush_tree.specs.Exact.{forest_swapped, forest_with_class, forest_with_name, forest_with_weight, forest_with_weights}
 use Rattle.crush_tree.specs.Runs.{weights_of}
 use Rattle.crush_hierarchy.specs.Naming.{CanRestoreName}
-use Rattle.crush_hierarchy.specs.Taking.{forest_restored, CanRestore}
+use Rattle.crush_hierarchy.specs.Removing.{forest_restored, CanRestore}
 use Rattle.crush_hierarchy.specs.declared.hierarchy.renamed.OldName.{OldName}
-use Rattle.crush_hierarchy.specs.declared.hierarchy.taken.Taken.{Taken}
+use Rattle.crush_hierarchy.specs.declared.hierarchy.removed_item.RemovedItem.{RemovedItem}
 use Rattle.crush_edits.specs.declared.refusal.Done.{Done}
 use Rattle.crush_edits.specs.declared.refusal.EditFault.{EditFault}
 use Rattle.crush_edits.specs.declared.refusal.EditFault.TheVariants.{OutOfMemory}
@@ -20,84 +20,85 @@ use Rattle.crush_edits.specs.Answer.{Answer}
 use Rattle.crush_apply.specs.declared.undo_log.Undo.{Undo}
 use Rattle.crush_apply.specs.declared.undo_log.Undo.TheVariants.{Weight, Class, Weights, Exchange, Removed, Renamed, Arrived, Moved}
 use Rattle.crush_apply.specs.Answered.{AnswersAs, Makes}
-use Rattle.crush_apply.specs.UndoSteps.{Goes, Returns}
+use Rattle.crush_apply.specs.UndoSteps.{UndoesAddition, Returns}
 
--- where the placed device d of the forest g gets the weight w, f comes of it, which is not too heavy
+-- giving the device d of the forest g the weight w gives f; d is in a bucket, w is in range, and so are the sums afterwards
 pub record GivesWeight (d w : ℕ) (g f : ForestData) : Type 0 where
   pub placed : is_placed (rows_of g) (Device d) ≡ true
   pub light : w ≤ HEAVIEST_DEVICE
   pub fits : is_too_heavy (set_weight (Device d) w (rows_of g)) ≡ false
   pub is : f ≡ forest_with_weight d w g
 
--- where the device d of the forest g gets the class, or none, f comes of it
+-- giving the device d of the forest g this class, or none, gives f
 pub record GivesClass (d : ℕ) (class : Option (List ℕ)) (g f : ForestData) : Type 0 where
   pub there : is_there (rows_of g) (Device d) ≡ true
   pub is : f ≡ forest_with_class d class g
 
--- where the devices below the bucket b of the forest g get the weights ws, f comes of it
+-- giving the devices below the bucket b of the forest g the weights ws gives f
 pub record GivesWeights (b : ℕ) (ws : List ℕ) (g f : ForestData) : Type 0 where
   pub can : CanGiveWeights b ws g
   pub is : f ≡ forest_with_weights b ws g
 
--- where two buckets of the forest g are exchanged again, f comes of it
+-- swapping the buckets a and b of the forest g gives f
 pub record GivesSwap (a b : ℕ) (g f : ForestData) : Type 0 where
   pub can : CanSwap a b g
   pub is : f ≡ forest_swapped a b g
 
--- where the item that was taken out comes back to the forest g, f comes of it
-pub record ComesBack {A : Type 0} (taken : Taken A) (g f : ForestData) : Type 0 where
-  pub can : CanRestore taken g
-  pub is : f ≡ forest_restored taken g
+-- putting the removed item back into the forest g gives f
+pub record ComesBack {A : Type 0} (removed : RemovedItem A) (g f : ForestData) : Type 0 where
+  pub can : CanRestore removed g
+  pub is : f ≡ forest_restored removed g
 
--- where the bucket b of the forest g gets the name that it had, f comes of it
+-- giving the bucket b of the forest g its old name back gives f
 pub record GivesName {A : Type 0} (b : ℕ) (old : OldName A) (g f : ForestData) : Type 0 where
   pub can : CanRestoreName (Bucket b) old g
   pub is : f ≡ forest_with_name (Bucket b) old.name g
 
--- where an edit that made g is taken back, f comes of it: the very forest, with its items in their order and its memory
+-- undoing the edit that made g gives exactly the forest f: the same items in the same order, with the same memory
 abbrev pub Undoes : {A : Type 0} → Undo A → ForestData → ForestData → Type 0
 Undoes (Weight d w) g f = GivesWeight d w g f
 Undoes (Class d class) g f = GivesClass d class g f
 Undoes (Weights b runs) g f = GivesWeights b (weights_of runs.items) g f
 Undoes (Exchange a b) g f = GivesSwap a b g f
-Undoes (Removed taken) g f = ComesBack taken g f
+Undoes (Removed removed) g f = ComesBack removed g f
 Undoes (Renamed b old) g f = GivesName b old g f
-Undoes (Arrived addition) g f = Goes addition g f
+Undoes (Arrived addition) g f = UndoesAddition addition g f
 Undoes (Moved old_stand addition) g f = Returns old_stand addition g f
 
--- the same of what may be noted: where nothing is, nothing has changed
+-- the same if there may be nothing to undo: then g is f
 abbrev pub UndoesAny : {A : Type 0} → Option (Undo A) → ForestData → ForestData → Type 0
 UndoesAny None g f = g ≡ f
 UndoesAny (Some undo) g f = Undoes undo g f
 
--- where all of a log are taken back, the last first
+-- undoing all entries of a log in the forest g gives f: the last entry of the list is undone first, the head of the list last
 abbrev pub RollsBack : {A : Type 0} → List (Undo A) → ForestData → ForestData → Type 0
 RollsBack [] g f = g ≡ f
 RollsBack (undo ∷ log) g f = (e : ForestData) × RollsBack log g e × Undoes undo e f
 
--- so it can be of the forest g
+-- the entry can be undone in the forest g
 abbrev pub CanUndo : {A : Type 0} → Undo A → ForestData → Type 0
 CanUndo undo g = (f : ForestData) × Undoes undo g f
 
+-- all entries of the log can be undone in the forest g
 abbrev pub CanRollBack : {A : Type 0} → List (Undo A) → ForestData → Type 0
 CanRollBack log g = (f : ForestData) × RollsBack log g f
 
--- what may be noted, as a list
+-- an entry that may be missing, as a list of one or none
 abbrev pub as_list : {A : Type 0} → Option (Undo A) → List (Undo A)
 as_list None = []
 as_list (Some undo) = undo ∷ []
 
--- what was done, without what takes it back
+-- the result of an edit, without what undoes it
 abbrev pub done_alone : {A : Type 0} → Result (Done × Option (Undo A)) EditFault → Result Done EditFault
 done_alone (Ok x) = Ok x.0
 done_alone (Err e) = Err e
 
--- the call answers what the table answers, and what it notes takes the forest g back to f
+-- the result x is right for what the edit gives (AnswersAs), and undoing the edit in g gives f
 pub record AnswersLogged {A : Type 0} (a : List Row → Answer) (f g : ForestData) (x : Result (Done × Option (Undo A)) EditFault) : Type 0 where
   pub answers : AnswersAs a f g (done_alone x)
   pub logged : IfOk x (λ z. UndoesAny z.1 g f)
 
--- the same of a call that notes only where that is wanted, and then may be out of memory whatever the table answers; where it isn't, only if it takes memory
+-- the same for a call that returns what undoes the edit only if logged is true. Then it may run out of memory whatever the edit gives. If logged is false, it runs out of memory only if takes is true
 pub record AnswersLoggedIf {A : Type 0} (logged takes : Bool) (a : List Row → Answer) (f g : ForestData) (x : Result (Done × Option (Undo A)) EditFault) : Type 0 where
   pub makes : Makes a f g (done_alone x)
   pub exact : logged ≡ false → AnswersAs a f g (done_alone x)

@@ -1,4 +1,4 @@
--- What came to a forest, what moved in it, and what becomes of it where they are taken back.
+-- What undoing an addition or a move makes of a forest.
 use Rattle.std.specs.Prelude.{◌≡◌, true, Option, Some, None, Vec, vec_capacity}
 use Rattle.crush_units.specs.declared.id.ItemId.{ItemId}
 use Rattle.crush_model.specs.Forest.{ForestData, rows_of}
@@ -6,56 +6,60 @@ use Rattle.crush_model.specs.Table.{is_there}
 use Rattle.crush_nodes.specs.declared.node.Node.{Node}
 use Rattle.crush_nodes.specs.declared.place.Place.{Place}
 use Rattle.crush_tree.specs.Moves.{forest_without}
-use Rattle.crush_tree.specs.Rehoused.{forest_with_capacity, CanRehouse}
+use Rattle.crush_tree.specs.BufferReplaced.{forest_with_capacity, CanReplaceBuffer}
 use Rattle.crush_hierarchy.specs.Back.{item_moved_back, CanMoveBack}
 use Rattle.crush_apply.specs.declared.addition.Addition.{Addition}
 use Rattle.crush_apply.specs.declared.old_stand.OldStand.{OldStand}
 
--- where the place of the forest g gets other memory, f comes of it
+-- giving the place p of the forest g another vector for its items gives f
 pub record GetsMemory {A : Type 0} (p : Place) (items : Vec (Node A) A) (g f : ForestData) : Type 0 where
-  pub can : CanRehouse p items g
+  pub can : CanReplaceBuffer p items g
   pub is : f ≡ forest_with_capacity p (vec_capacity items) g
 
--- where an item is taken out of the forest g, f comes of it
+-- removing the item i from the forest g gives f
 pub record Leaves (i : ItemId) (g f : ForestData) : Type 0 where
   pub there : is_there (rows_of g) i ≡ true
   pub is : f ≡ forest_without i g
 
--- where an item of the forest g is put back to where it stood, f comes of it
+-- putting a moved item of the forest g back to its old position, with its old weight, gives f
 pub record GoesBack (s : OldStand) (g f : ForestData) : Type 0 where
   pub can : CanMoveBack s.item s.stand.place s.stand.position (Some s.weight) g
   pub is : f ≡ item_moved_back s.item s.stand.place s.stand.position (Some s.weight) g
 
--- the same of memory and of an item that there may be: where there is none, nothing has changed
+-- GetsMemory if there is a vector; if there is none, g is f
 abbrev pub GetsAnyMemory : {A : Type 0} → Place → Option (Vec (Node A) A) → ForestData → ForestData → Type 0
 GetsAnyMemory p None g f = g ≡ f
 GetsAnyMemory p (Some items) g f = GetsMemory p items g f
 
+-- Leaves if there is an item; if there is none, g is f
 abbrev pub LeavesAny : Option ItemId → ForestData → ForestData → Type 0
 LeavesAny None g f = g ≡ f
 LeavesAny (Some i) g f = Leaves i g f
 
--- where what came to the forest g goes, first the item, then the memory, f comes of it
-pub record Goes {A : Type 0} (c : Addition A) (g f : ForestData) : Type 0 where
+-- undoing an addition in the forest g gives f: first the item is removed, then the place gets its old vector back
+pub record UndoesAddition {A : Type 0} (c : Addition A) (g f : ForestData) : Type 0 where
   pub without : ForestData
   pub leaves : LeavesAny c.item g without
   pub memory : GetsAnyMemory c.place c.memory without f
 
--- where an item of the forest g is put back, and what came before it moved goes, f comes of it
+-- undoing a move in the forest g gives f: first the item is put back, then what was added before the move is removed
 pub record Returns {A : Type 0} (s : OldStand) (c : Addition A) (g f : ForestData) : Type 0 where
   pub stood : ForestData
   pub back : GoesBack s g stood
-  pub goes : Goes c stood f
+  pub goes : UndoesAddition c stood f
 
--- so it can be of the forest g
+-- the place p of the forest g can get the vector m, if there is one
 abbrev pub CanGetMemory : {A : Type 0} → Place → Option (Vec (Node A) A) → ForestData → Type 0
 CanGetMemory p m g = (f : ForestData) × GetsAnyMemory p m g f
 
+-- the item i, if there is one, can be removed from the forest g
 abbrev pub CanLeave : Option ItemId → ForestData → Type 0
 CanLeave i g = (f : ForestData) × LeavesAny i g f
 
-abbrev pub CanGo : {A : Type 0} → Addition A → ForestData → Type 0
-CanGo c g = (f : ForestData) × Goes c g f
+-- the addition can be undone in the forest g
+abbrev pub CanUndoAddition : {A : Type 0} → Addition A → ForestData → Type 0
+CanUndoAddition c g = (f : ForestData) × UndoesAddition c g f
 
+-- the moved item can be put back in the forest g
 abbrev pub CanGoBack : OldStand → ForestData → Type 0
 CanGoBack s g = (f : ForestData) × GoesBack s g f

@@ -1,4 +1,4 @@
-//! A new bucket that no other holds.
+//! Applies `AddBucket`: creates an empty bucket at the root.
 
 ghost use Rattle.std.specs.Prelude.{◌≡◌, List, Some, [], ◌∷◌, IfOk, IfErr};
 ghost use Rattle.crush_model.specs.Table.{Row, free_ids};
@@ -10,7 +10,7 @@ ghost use Rattle.crush_edits.specs.Fits.{Fits};
 ghost use Rattle.crush_apply.specs.Alone.{CanAddBucket};
 ghost use Rattle.crush_apply.specs.UndoLog.{AnswersLogged};
 
-use crate::addition::bring;
+use crate::addition::add_logged;
 use crate::route::empty_bucket;
 use crate::undo_log::Undo;
 use crush_edits::{Done, EditFault, Refusal, Setting};
@@ -20,6 +20,7 @@ use crush_units::limits::MOST_BUCKETS;
 use crush_units::{BucketId, Name, TypeId};
 use std::alloc::{Allocator, Global};
 
+/// Returns the number of the new bucket's type, or the refusal of the edit.
 fn check_add<A: Allocator>(
     hierarchy: &Hierarchy<A>,
     setting: &Setting,
@@ -46,6 +47,7 @@ fn check_add<A: Allocator>(
     Ok(number)
 }
 
+/// Returns the unused bucket id that is nearest to 0.
 fn first_free<A: Allocator>(hierarchy: &Hierarchy<A>) -> BucketId
     ensures { (t : List Row) → Stands hierarchy.now t → free_ids t 1 ≡ result ∷ [] }
 {
@@ -72,7 +74,7 @@ pub(crate) fn add_bucket<A: Allocator + Clone>(
     let number = check_add(hierarchy, setting, name, kind)?;
     let id = first_free(hierarchy);
     let node = empty_bucket(hierarchy.allocator(), id, number, name)?;
-    let addition = bring(hierarchy, Place::Root, node)?;
+    let addition = add_logged(hierarchy, Place::Root, node)?;
     let done = Done {
         changed: true,
         made: 1,

@@ -1,41 +1,42 @@
-//! Items that come to a place, and how they go again.
+//! Adds new items to a place of the hierarchy, and removes them again when a batch is undone.
 
 ghost use Rattle.std.specs.Prelude.{◌≡◌, ◌∷◌, [], IfOk};
 ghost use Rattle.crush_model.specs.Forest.{ForestData};
 ghost use Rattle.crush_nodes.specs.Seen.{items_of};
 ghost use Rattle.crush_hierarchy.specs.Placed.{Adds, CanAdd};
-ghost use Rattle.crush_apply.specs.UndoSteps.{Goes, GetsAnyMemory, LeavesAny, CanGo, CanGetMemory, CanLeave};
+ghost use Rattle.crush_apply.specs.UndoSteps.{UndoesAddition, GetsAnyMemory, LeavesAny, CanUndoAddition, CanGetMemory, CanLeave};
 
 use crush_hierarchy::Hierarchy;
 use crush_tree::{Node, Place};
 use crush_units::ItemId;
 use std::alloc::{AllocError, Allocator};
 
-/// What came last to a place, or room for it.
+/// An item that was added at the end of a place's items, or only room that was made for one.
 #[derive(Drop)]
 pub(crate) struct Addition<A: Allocator> {
     pub(crate) place: Place,
-    /// `None` of room alone.
+    /// The item, or `None` if only room was made.
     pub(crate) item: Option<ItemId>,
-    /// In which the items of the place were, where that was full.
+    /// The vector that held the items of the place before, if it was full and a larger one has
+    /// replaced it.
     pub(crate) memory: Option<Vec<Node<A>, A>>,
 }
 
-/// Puts a new item last at a place that takes it.
-pub(crate) fn bring<A: Allocator + Clone>(
+/// Adds a new item at the end of a place's items. After an error the hierarchy is unchanged.
+pub(crate) fn add_logged<A: Allocator + Clone>(
     hierarchy: &mut Hierarchy<A>,
     place: Place,
     node: Node<A>,
 ) -> Result<Addition<A>, AllocError>
     requires { CanAdd place (items_of (node ∷ [])) hierarchy.old }
     ensures adds { Adds place (items_of (node ∷ [])) hierarchy.old hierarchy.new result }
-    ensures goes { IfOk result (λ addition. Goes addition hierarchy.new hierarchy.old) }
+    ensures goes { IfOk result (λ addition. UndoesAddition addition hierarchy.new hierarchy.old) }
 {
     let place = &place;
     let item = node.id();
-    let memory = hierarchy.grow(*place)?;
+    let memory = hierarchy.grow_buffer(*place)?;
     if let Err(failed) = hierarchy.add(*place, node) {
-        give_back(hierarchy, *place, memory);
+        restore_buffer(hierarchy, *place, memory);
         return Err(failed);
     }
     Ok(Addition {
@@ -45,21 +46,21 @@ pub(crate) fn bring<A: Allocator + Clone>(
     })
 }
 
-/// What came goes, and the place has its own memory again.
-pub(crate) fn send_back<A: Allocator>(hierarchy: &mut Hierarchy<A>, addition: Addition<A>)
-    requires { CanGo addition hierarchy.old }
-    ensures { (f : ForestData) → Goes addition hierarchy.old f → hierarchy.new ≡ f }
+/// Undoes an addition: removes the item, and gives the place its old vector back.
+pub(crate) fn undo_addition<A: Allocator>(hierarchy: &mut Hierarchy<A>, addition: Addition<A>)
+    requires { CanUndoAddition addition hierarchy.old }
+    ensures { (f : ForestData) → UndoesAddition addition hierarchy.old f → hierarchy.new ≡ f }
 {
     let Addition {
         place,
         item,
         memory,
     } = addition;
-    let_go(hierarchy, item);
-    give_back(hierarchy, place, memory);
+    detach_if_any(hierarchy, item);
+    restore_buffer(hierarchy, place, memory);
 }
 
-fn let_go<A: Allocator>(hierarchy: &mut Hierarchy<A>, item: Option<ItemId>)
+fn detach_if_any<A: Allocator>(hierarchy: &mut Hierarchy<A>, item: Option<ItemId>)
     requires { CanLeave item hierarchy.old }
     ensures { (f : ForestData) → LeavesAny item hierarchy.old f → hierarchy.new ≡ f }
 {
@@ -69,7 +70,7 @@ fn let_go<A: Allocator>(hierarchy: &mut Hierarchy<A>, item: Option<ItemId>)
     }
 }
 
-fn give_back<A: Allocator>(
+fn restore_buffer<A: Allocator>(
     hierarchy: &mut Hierarchy<A>,
     place: Place,
     memory: Option<Vec<Node<A>, A>>,
@@ -78,6 +79,6 @@ fn give_back<A: Allocator>(
     ensures { (f : ForestData) → GetsAnyMemory place memory hierarchy.old f → hierarchy.new ≡ f }
 {
     if let Some(items) = memory {
-        let _larger = hierarchy.rehouse(place, items);
+        let _larger = hierarchy.replace_buffer(place, items);
     }
 }

@@ -1,4 +1,4 @@
-//! One edit, of whichever kind.
+//! Applies one edit, of whichever kind, by the function for its kind.
 
 ghost use Rattle.std.specs.Prelude.{◌≡◌, ℕ, List, IfOk, OnErr, true, false};
 ghost use Rattle.crush_model.specs.Table.{Row};
@@ -31,8 +31,15 @@ use crush_edits::{Done, Edit, EditFault, Setting};
 use crush_hierarchy::Hierarchy;
 use std::alloc::Allocator;
 
-/// Makes the edit, or answers why not: of several refusals the one of least number, and out of
-/// memory only where nothing refuses an edit that would change something.
+/// Applies an edit to a hierarchy, and returns what the edit has done.
+///
+/// The setting must fit the hierarchy: it is valid and has the types of all buckets, and the
+/// hierarchy has all buckets that its rules take. It still fits afterwards.
+///
+/// Fails with `Refused` if the edit is refused; of several refusals it reports the one with the
+/// lowest number. Fails with `OutOfMemory` only if no refusal holds and the edit would change
+/// something, and never for `Reweight`, `ReweightSubtree`, `Swap`, `Remove` and `RemoveClass`. The
+/// hierarchy is unchanged after an error, and if the edit changes nothing.
 pub fn apply_edit<A: Allocator + Clone>(
     hierarchy: &mut Hierarchy<A>,
     setting: &Setting,
@@ -57,7 +64,9 @@ pub fn apply_edit<A: Allocator + Clone>(
     done_alone(make(hierarchy, setting, requested, false))
 }
 
-/// The invariants of the parts of an edit.
+/// Gives the proofs what the types of an edit's parts guarantee: ids in range and valid names.
+///
+/// It only reads each part once, and has no effect.
 pub(crate) fn recall_forms(requested: &Edit)
     ensures { IsEdit requested.now }
 {
@@ -100,6 +109,7 @@ pub(crate) fn recall_forms(requested: &Edit)
     }
 }
 
+/// Returns how an edit that puts a device treats one that is in a bucket already.
 fn if_placed(requested: &Edit) -> IfPlaced
     ensures insert { (d : ℕ) (n : List ℕ) (w : ℕ) (l : List Pair)
         → requested.now ≡ Insert d n w l → result ≡ Refuse }
@@ -115,7 +125,10 @@ fn if_placed(requested: &Edit) -> IfPlaced
     }
 }
 
-/// Where `logged`, out of memory may be for what takes the edit back.
+/// Applies an edit, and returns what undoes it.
+///
+/// Without `logged` it may return nothing that undoes the edit. With `logged` it may also run out
+/// of memory for that, even if the edit would be refused.
 pub(crate) fn make<A: Allocator + Clone>(
     hierarchy: &mut Hierarchy<A>,
     setting: &Setting,

@@ -1,4 +1,4 @@
-//! Several edits, all made or none.
+//! Applies a batch: all of its edits, or none.
 
 ghost use Rattle.std.specs.Prelude.{◌≡◌, ℕ, ◌+◌, ◌*◌, ◌<◌, ◌≤◌, ◌++◌, List, [], length, IfOk, OnOk, OnErr, vec_len, vec_capacity};
 ghost use Rattle.crush_units.specs.declared.limits.TheConstants.{MOST_EDITS};
@@ -21,11 +21,16 @@ use crush_edits::{BatchFault, Done, Dones, Edit, EditFault, Setting};
 use crush_hierarchy::Hierarchy;
 use std::alloc::{AllocError, Allocator};
 
-/// Makes all of the edits, at most 65,536, each on what the ones before it made, or none; a refusal
-/// comes with the index of its edit, from 0.
+/// Applies all edits of a batch, or none of them, and returns what they have done.
 ///
-/// They are made in place, and taken back where one isn't made. Out of memory may hide a later
-/// refusal.
+/// There must be at most 65,536 edits, and the setting must fit the hierarchy, as for `apply_edit`.
+/// Each edit is applied to what the edits before it have left.
+///
+/// Fails with `Refused` if an edit is refused, with the index of the first such edit, from 0. Fails
+/// with `OutOfMemory` if memory runs out first; then a refusal of that edit or of a later one goes
+/// unreported. The hierarchy is unchanged after an error.
+///
+/// The edits are applied in place. If one fails, those before it are undone, last first.
 pub fn apply_batch<A: Allocator + Clone>(
     hierarchy: &mut Hierarchy<A>,
     setting: &Setting,
@@ -68,7 +73,9 @@ fn new_log<A: Allocator + Clone>(
     Vec::with_capacity(hierarchy.allocator().clone()?, room)
 }
 
-/// What takes the last edit back isn't noted: behind it nothing is refused.
+/// Applies the edits in order until one fails, and logs what undoes each.
+///
+/// The last edit isn't logged: no edit follows it that could fail, so it is never undone.
 fn make_all<A: Allocator + Clone>(
     hierarchy: &mut Hierarchy<A>,
     setting: &Setting,
@@ -105,6 +112,7 @@ fn make_all<A: Allocator + Clone>(
     Ok(dones)
 }
 
+/// Applies one edit, and logs what undoes it if the log has room.
 fn apply_logged<A: Allocator + Clone>(
     hierarchy: &mut Hierarchy<A>,
     setting: &Setting,
@@ -133,6 +141,7 @@ fn apply_logged<A: Allocator + Clone>(
     Ok(done)
 }
 
+/// Appends an entry to the log, if there is one and the log has room. Never allocates.
 fn log_undo<A: Allocator>(log: &mut Vec<Undo<A>, A>, undo: Option<Undo<A>>)
     ensures items { vec_len log.old < vec_capacity log.old
         → log.new.items ≡ log.old.items ++ as_list undo }
@@ -147,6 +156,7 @@ fn log_undo<A: Allocator>(log: &mut Vec<Undo<A>, A>, undo: Option<Undo<A>>)
     }
 }
 
+/// Returns the counts of a batch after one more edit. The bounds keep the sums in range.
 fn with_done(dones: Dones, done: Done) -> Dones
     requires edits { dones.edits < MOST_EDITS }
     requires changed { dones.changed ≤ dones.edits }

@@ -1,4 +1,4 @@
-//! Classes that devices get and lose.
+//! Applies `SetClass` and `RemoveClass`, which change the class of a device.
 
 ghost use Rattle.std.specs.Prelude.{◌≡◌, ◌≢◌, List, Some, IfOk, IfErr, Err};
 ghost use Rattle.crush_units.specs.declared.id.ItemId.TheVariants.{Device as DeviceItem};
@@ -16,6 +16,7 @@ use crush_hierarchy::Hierarchy;
 use crush_units::{DeviceId, ItemId, Name};
 use std::alloc::{Allocator, Global};
 
+/// Returns the device whose class is to be removed, or the refusal of the edit.
 fn check_remove_class<A: Allocator>(
     hierarchy: &Hierarchy<A>,
     name: &Name<Global>,
@@ -34,7 +35,8 @@ fn check_remove_class<A: Allocator>(
     Ok(device)
 }
 
-/// `None` where the device has the class already.
+/// Returns the device that is to get the class, or `None` if it has that class already, or the
+/// refusal of the edit.
 fn check_set_class<A: Allocator>(
     hierarchy: &Hierarchy<A>,
     name: &Name<Global>,

@@ -1,4 +1,4 @@
-//! Which of an edit's names a refusal is about.
+//! Finds which name in an edit a refusal is about, so that a message can show it.
 
 ghost use Rattle.std.specs.Prelude.{◌≡◌, List};
 ghost use Rattle.crush_model.specs.Stands.{Stands};
@@ -12,8 +12,10 @@ use crush_hierarchy::Hierarchy;
 use crush_units::{ItemId, Name};
 use std::alloc::{Allocator, Global};
 
-/// The name that a refusal of the edit by this hierarchy is about: the type, bucket or other name
-/// that is at fault, else the item that is to be edited.
+/// Returns the name in an edit that a refusal of the edit is about.
+///
+/// It is the type, bucket or other name that is at fault. If there is none, it is the name of the
+/// item that the edit is for. `hierarchy` and `setting` are those for which the edit was refused.
 pub fn culprit<'a, A: Allocator>(
     hierarchy: &Hierarchy<A>,
     setting: &Setting,
@@ -39,6 +41,7 @@ pub fn culprit<'a, A: Allocator>(
     }
 }
 
+/// The culprit for an edit with a location.
 fn put_culprit<'a, A: Allocator>(
     hierarchy: &Hierarchy<A>,
     setting: &Setting,
@@ -63,6 +66,7 @@ fn put_culprit<'a, A: Allocator>(
     }
 }
 
+/// The culprit for a swap: the second name if only that is at fault, otherwise the first.
 fn swap_culprit<'a, A: Allocator>(
     hierarchy: &Hierarchy<A>,
     a: &'a Name<Global>,
@@ -95,6 +99,7 @@ fn is_device<A: Allocator>(hierarchy: &Hierarchy<A>, name: &Name<Global>) -> boo
     }
 }
 
+/// The culprit for a new bucket: its type if that is unknown or type 0, otherwise its name.
 fn bucket_culprit<'a>(
     name: &'a Name<Global>,
     kind: &'a Name<Global>,
@@ -108,6 +113,7 @@ fn bucket_culprit<'a>(
     }
 }
 
+/// The culprit for a rename: the new name if the map has it, otherwise the old one.
 fn name_culprit<'a>(
     from: &'a Name<Global>,
     to: &'a Name<Global>,

@@ -1,6 +1,8 @@
-//! Edits made on the hierarchy of a map: [`apply_edit`] makes one, [`apply_batch`] several or none.
-//! `specs/Answered.antt` and `specs/Batched.antt` say what a call promises of what `crush_edits`
-//! makes of the table.
+//! Applies edits to the hierarchy of a map: [`apply_edit`] applies one, [`apply_batch`] several or
+//! none. [`culprit`] finds the name that is to blame for a refusal. `crush_map` calls all three.
+//!
+//! What an edit does to the table of a map is defined in `crush_edits`; read its `specs/Edit.antt`
+//! first. `specs/Answered.antt` and `specs/Batched.antt` relate the results of calls to it.
 #![tactic(auto)]
 
 mod add_bucket;

@@ -1,4 +1,4 @@
-//! Items that move, and how they are put back.
+//! Moves items within the hierarchy, and moves them back when a batch is undone.
 
 ghost use Rattle.std.specs.Prelude.{◌≡◌};
 ghost use Rattle.crush_model.specs.Forest.{ForestData};
@@ -10,7 +10,7 @@ use crush_tree::Stand;
 use crush_units::{BucketId, ItemId, Weight};
 use std::alloc::Allocator;
 
-/// How an item stood before it moved.
+/// Where an item was before it moved, and its weight then.
 #[derive(Clone, Copy)]
 pub(crate) struct OldStand {
     item: ItemId,
@@ -18,8 +18,10 @@ pub(crate) struct OldStand {
     weight: Weight,
 }
 
-/// Moves an item last into a bucket that has room, without memory; a device gets the weight that is
-/// given.
+/// Moves an item to the end of a bucket's items, and returns where it was.
+///
+/// The bucket must have room, so that nothing is allocated. A device also gets the weight, if one
+/// is given.
 pub(crate) fn move_into<A: Allocator>(
     hierarchy: &mut Hierarchy<A>,
     id: ItemId,
@@ -40,6 +42,7 @@ pub(crate) fn move_into<A: Allocator>(
     }
 }
 
+/// Undoes [`move_into`]: puts the item back to its old position, with its old weight.
 pub(crate) fn move_back<A: Allocator>(hierarchy: &mut Hierarchy<A>, old_stand: OldStand)
     requires { CanGoBack old_stand hierarchy.old }
     ensures { (f : ForestData) → GoesBack old_stand hierarchy.old f → hierarchy.new ≡ f }

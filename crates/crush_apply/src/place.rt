@@ -1,4 +1,4 @@
-//! Devices that come to a location: `Insert`, `CreateOrMove` and `Update`.
+//! Applies the edits that put a device at a location: `Insert`, `CreateOrMove` and `Update`.
 
 ghost use Rattle.std.specs.Prelude.{◌≡◌, ◌≤◌, List};
 ghost use Rattle.crush_units.specs.declared.limits.TheConstants.{HEAVIEST_DEVICE};
@@ -20,17 +20,18 @@ use crush_hierarchy::Hierarchy;
 use crush_units::{DeviceId, ItemId, Weight};
 use std::alloc::Allocator;
 
-/// What becomes of a device that stands in a bucket.
+/// How an edit treats a device that is in a bucket already.
 #[derive(Clone, Copy)]
 pub(crate) enum IfPlaced {
-    /// `Insert`.
+    /// `Insert`: the edit is refused.
     Refuse,
-    /// `CreateOrMove`: it keeps its weight.
+    /// `CreateOrMove`: the device keeps its weight.
     KeepWeight,
-    /// `Update`: it gets the weight.
+    /// `Update`: the device gets the weight of the edit.
     SetWeight,
 }
 
+/// Applies one of the three edits, which `how` selects.
 pub(crate) fn place<A: Allocator + Clone>(
     hierarchy: &mut Hierarchy<A>,
     setting: &Setting,
@@ -56,6 +57,7 @@ pub(crate) fn place<A: Allocator + Clone>(
     place_device(hierarchy, &coming, &to)
 }
 
+/// Whether the edit is refused because the device is in a bucket already.
 fn is_barred<A: Allocator>(hierarchy: &Hierarchy<A>, how: IfPlaced, device: DeviceId) -> bool
     ensures { (t : List Row) → Stands hierarchy.now t → result ≡ is_barred how t device }
 {
@@ -66,6 +68,8 @@ fn is_barred<A: Allocator>(hierarchy: &Hierarchy<A>, how: IfPlaced, device: Devi
     }
 }
 
+/// Applies the edit to a device that the location's lowest bucket already holds: at most sets its
+/// weight.
 fn stay<A: Allocator>(
     hierarchy: &mut Hierarchy<A>,
     how: IfPlaced,
@@ -85,6 +89,7 @@ fn stay<A: Allocator>(
     Ok((done, None))
 }
 
+/// Returns the weight that the device gets at the location.
 fn coming_weight<A: Allocator>(
     hierarchy: &Hierarchy<A>,
     how: IfPlaced,
@@ -103,6 +108,7 @@ fn coming_weight<A: Allocator>(
     }
 }
 
+/// Returns the device's own weight if it is in a bucket, otherwise the given weight.
 fn kept_weight<A: Allocator>(hierarchy: &Hierarchy<A>, device: DeviceId, weight: Weight) -> Weight
     requires { weight ≤ HEAVIEST_DEVICE }
     ensures kept { (t : List Row) → Stands hierarchy.now t → result ≡ kept_weight t device weight }

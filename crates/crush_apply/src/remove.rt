@@ -1,4 +1,4 @@
-//! A device or an empty bucket that is taken out.
+//! Applies `Remove`: removes a device, or an empty bucket.
 
 ghost use Rattle.std.specs.Prelude.{◌≡◌, List, Some, IfOk, IfErr, true, false};
 ghost use Rattle.crush_units.specs.declared.id.ItemId.TheVariants.{Bucket};
@@ -8,7 +8,7 @@ ghost use Rattle.crush_model.specs.Stands.{Stands};
 ghost use Rattle.crush_edits.specs.declared.edit.Edit.TheVariants.{Remove};
 ghost use Rattle.crush_edits.specs.Edit.{edit, refusal};
 ghost use Rattle.crush_edits.specs.Making.{holds_items};
-ghost use Rattle.crush_hierarchy.specs.Taking.{StandsAlone};
+ghost use Rattle.crush_hierarchy.specs.Removing.{StandsAlone};
 ghost use Rattle.crush_apply.specs.Alone.{CanRemove};
 ghost use Rattle.crush_apply.specs.UndoLog.{AnswersLoggedIf};
 
@@ -30,6 +30,7 @@ fn holds_items<A: Allocator>(hierarchy: &Hierarchy<A>, bucket: BucketId) -> bool
     !items.is_empty()
 }
 
+/// Returns the item that is to be removed, or the refusal of the edit.
 fn check_remove<A: Allocator>(
     hierarchy: &Hierarchy<A>,
     setting: &Setting,
@@ -57,6 +58,7 @@ fn check_remove<A: Allocator>(
     Ok(id)
 }
 
+/// Removes the item. With `logged` the item is kept, so that it can be put back.
 pub(crate) fn remove<A: Allocator>(
     hierarchy: &mut Hierarchy<A>,
     setting: &Setting,
@@ -73,8 +75,8 @@ pub(crate) fn remove<A: Allocator>(
         made: 0,
     };
     if logged {
-        let taken = hierarchy.take(id)?;
-        return Ok((done, Some(Undo::Removed { taken })));
+        let removed = hierarchy.remove_logged(id)?;
+        return Ok((done, Some(Undo::Removed { removed })));
     }
     let Some(_) = hierarchy.detach(id) else {
         unreachable!()

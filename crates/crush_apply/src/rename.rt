@@ -1,4 +1,4 @@
-//! A new name for a bucket.
+//! Applies `Rename`: gives a bucket another name.
 
 ghost use Rattle.std.specs.Prelude.{◌≡◌, List, Some, IfOk, IfErr};
 ghost use Rattle.crush_model.specs.Table.{Row};
@@ -15,6 +15,7 @@ use crush_hierarchy::Hierarchy;
 use crush_units::{BucketId, ItemId, Name};
 use std::alloc::{Allocator, Global};
 
+/// Returns the bucket that is to be renamed, or the refusal of the edit.
 fn check_rename<A: Allocator>(
     hierarchy: &Hierarchy<A>,
     from: &Name<Global>,

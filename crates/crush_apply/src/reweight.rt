@@ -1,4 +1,4 @@
-//! A new weight for one device.
+//! Applies `Reweight`: sets the weight of one device.
 
 ghost use Rattle.std.specs.Prelude.{◌≡◌, ◌≢◌, List, Some, IfOk, IfErr, OnOk, Err, false};
 ghost use Rattle.crush_model.specs.Table.{Row, id_named};
@@ -17,6 +17,7 @@ use crush_hierarchy::Hierarchy;
 use crush_units::{DeviceId, ItemId, Name, Weight};
 use std::alloc::{Allocator, Global};
 
+/// Makes the tests that `Reweight` and `ReweightSubtree` have in common, and returns the item.
 pub(crate) fn item_to_weigh<A: Allocator>(
     hierarchy: &Hierarchy<A>,
     name: &Name<Global>,
@@ -39,6 +40,7 @@ pub(crate) fn item_to_weigh<A: Allocator>(
     Ok(id)
 }
 
+/// Returns the device, or the refusal of the edit except for `SumTooLarge`.
 fn check_reweight<A: Allocator>(
     hierarchy: &Hierarchy<A>,
     name: &Name<Global>,

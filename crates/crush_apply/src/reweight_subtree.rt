@@ -1,4 +1,4 @@
-//! A new weight for all devices below a bucket.
+//! Applies `ReweightSubtree`: sets the weight of all devices below a bucket.
 
 ghost use Rattle.std.specs.Prelude.{◌≡◌, ℕ, List, Some, IfOk, IfErr, OnErr, true, false};
 ghost use Rattle.crush_units.specs.declared.id.ItemId.TheVariants.{Bucket};
@@ -21,6 +21,7 @@ use crush_tree::weight_runs;
 use crush_units::{BucketId, ItemId, Name, Weight};
 use std::alloc::{AllocError, Allocator, Global};
 
+/// Returns the bucket, or the refusal of the edit except for `SumTooLarge`.
 fn check_subtree<A: Allocator>(
     hierarchy: &Hierarchy<A>,
     name: &Name<Global>,
@@ -38,6 +39,7 @@ fn check_subtree<A: Allocator>(
     Ok(bucket)
 }
 
+/// Sets the weights. With `logged` the old weights are kept, which needs memory.
 pub(crate) fn reweight_subtree<A: Allocator + Clone>(
     hierarchy: &mut Hierarchy<A>,
     name: &Name<Global>,
@@ -61,7 +63,7 @@ pub(crate) fn reweight_subtree<A: Allocator + Clone>(
     Ok((done, undo))
 }
 
-/// The weights below the bucket, where `logged`.
+/// Returns the weights of the devices below the bucket if `logged`, otherwise `None`.
 fn weights_below<A: Allocator + Clone>(
     hierarchy: &Hierarchy<A>,
     bucket: BucketId,

@@ -1,4 +1,4 @@
-//! Two buckets that exchange their items and names.
+//! Applies `Swap`: two buckets exchange their items and their names.
 
 ghost use Rattle.std.specs.Prelude.{◌≡◌, ◌≢◌, List, Some, IfOk, IfErr, Err};
 ghost use Rattle.crush_model.specs.Table.{Row};
@@ -15,6 +15,7 @@ use crush_hierarchy::Hierarchy;
 use crush_units::{BucketId, ItemId, Name};
 use std::alloc::{Allocator, Global};
 
+/// Returns the two buckets, or the refusal of the swap.
 fn check_swap<A: Allocator>(
     hierarchy: &Hierarchy<A>,
     a: &Name<Global>,

@@ -1,60 +1,61 @@
-//! What takes edits back, noted as they are made.
+//! The undo log of a batch: an entry for each edit that was applied, which undoes it.
 
 ghost use Rattle.std.specs.Prelude.{◌≡◌};
 ghost use Rattle.crush_model.specs.Forest.{ForestData};
 ghost use Rattle.crush_apply.specs.UndoLog.{done_alone, Undoes, RollsBack, CanUndo, CanRollBack};
 
-use crate::addition::{Addition, send_back};
+use crate::addition::{Addition, undo_addition};
 use crate::old_stand::{OldStand, move_back};
 use crush_edits::{Done, EditFault};
-use crush_hierarchy::{Hierarchy, OldName, Taken};
+use crush_hierarchy::{Hierarchy, OldName, RemovedItem};
 use crush_tree::WeightRun;
 use crush_units::{BucketId, DeviceId, ItemId, Name, Weight};
 use std::alloc::Allocator;
 
-/// What takes an edit back, which needs no memory.
+/// What undoes an edit. Undoing allocates no memory, so it can't fail.
 #[derive(Drop)]
 pub(crate) enum Undo<A: Allocator> {
-    /// The weight before.
+    /// The device gets its old weight back.
     Weight {
         device: DeviceId,
         weight: Weight,
     },
-    /// The class before.
+    /// The device gets its old class back, or none.
     Class {
         device: DeviceId,
         class: Option<Name<A>>,
     },
-    /// The weights below a bucket before.
+    /// The devices below the bucket get their old weights back.
     Weights {
         bucket: BucketId,
         runs: Vec<WeightRun, A>,
     },
-    /// Two buckets that are exchanged again.
+    /// The two buckets are swapped again.
     Exchange {
         first: BucketId,
         second: BucketId,
     },
-    /// An item that comes back.
+    /// The removed item is put back.
     Removed {
-        taken: Taken<A>,
+        removed: RemovedItem<A>,
     },
-    /// The name before.
+    /// The bucket gets its old name back.
     Renamed {
         bucket: BucketId,
         old: OldName<A>,
     },
-    /// What goes again.
+    /// What was added is removed again.
     Arrived {
         addition: Addition<A>,
     },
-    /// An item that is put back, and then what came before it moved.
+    /// The moved item is put back, and then what was added before the move is removed.
     Moved {
         old_stand: OldStand,
         addition: Addition<A>,
     },
 }
 
+/// Returns the result of an edit without what undoes it.
 pub(crate) fn done_alone<A: Allocator>(
     answer: Result<(Done, Option<Undo<A>>), EditFault>,
 ) -> Result<Done, EditFault>
@@ -80,19 +81,20 @@ fn undo_one<A: Allocator>(hierarchy: &mut Hierarchy<A>, undo: Undo<A>)
         }
         Undo::Weights { bucket, runs } => hierarchy.give_weights(bucket, runs),
         Undo::Exchange { first, second } => hierarchy.swap(first, second),
-        Undo::Removed { taken } => hierarchy.restore(taken),
+        Undo::Removed { removed } => hierarchy.restore(removed),
         Undo::Renamed { bucket, old } => hierarchy.restore_name(ItemId::Bucket(bucket), old),
-        Undo::Arrived { addition } => send_back(hierarchy, addition),
+        Undo::Arrived { addition } => undo_addition(hierarchy, addition),
         Undo::Moved {
             old_stand,
             addition,
         } => {
             move_back(hierarchy, old_stand);
-            send_back(hierarchy, addition);
+            undo_addition(hierarchy, addition);
         }
     }
 }
 
+/// Undoes all edits of the log, the last one first.
 pub(crate) fn roll_back<A: Allocator>(hierarchy: &mut Hierarchy<A>, mut log: Vec<Undo<A>, A>)
     requires { CanRollBack log.items hierarchy.old }
     ensures { (f : ForestData) → RollsBack log.items hierarchy.old f → hierarchy.new ≡ f }

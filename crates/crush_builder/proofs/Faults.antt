@@ -1,4 +1,4 @@
--- What the faults of a call tell, and what their absence says.
+-- What a fault that a call returns says of the draft, and what follows if there is no fault.
 use Rattle.std.proofs.Common.{◌≡◌, Bool, true, false, List, [], ◌∷◌, refl, sym, subst, ◌∙◌}
 use Rattle.std.proofs.lemmas.Bool.{and_parts}
 use Rattle.std.specs.Prelude.{Option, Some, None, Result, Ok, Err, IfErr, IsErrAnd, is_some, not, ◌&&◌, if◌then◌else◌}
@@ -7,7 +7,7 @@ use Rattle.crush_builder.specs.declared.fault.BuildFault.{BuildFault}
 use Rattle.crush_builder.specs.declared.fault.BuildFault.TheVariants.{BadWeight, DuplicateId, DuplicateName, UnknownType, UnknownItem, SecondParent, UnknownBucketInRule, TooMany, SumTooLarge, OutOfMemory}
 use Rattle.crush_builder.specs.Faults.{fault_told, first_fault}
 
--- a fault whose test passes holds of the draft; out of memory is none of these
+-- whether the fault is any other than out of memory; if a list has only such faults, the first one whose test holds is what `fault_told` says of it
 abbrev is_told : BuildFault × Bool → Bool
 is_told p = is_some (fault_told p.0)
 
@@ -33,7 +33,7 @@ first_told (p ∷ ps) h f e = by_test p.1 e (first_told ps b.1 f) where
   by_test true e ih = let same : p.0 ≡ f = cc in sym (told_itself p.0 b.0) ∙ (λ i. fault_told (same i))
   by_test false e ih = ih e
 
--- where none is told, the first test fails and so do the others
+-- if a list has no fault whose test holds, the first test fails, and the rest of the list has none either
 pub passes : (f : BuildFault) (v : Bool) (ps : List (BuildFault × Bool)) → first_fault ((f, v) ∷ ps) ≡ None → (v ≡ false) × (first_fault ps ≡ None)
 passes f true ps h = absurd (let no : ◌≡◌ {A = Option BuildFault} (Some f) None = h in cc)
 passes f false ps h = (refl, h)

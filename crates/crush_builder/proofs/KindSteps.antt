@@ -19,7 +19,7 @@ use Rattle.crush_model.proofs.Weighs.{true_or_false}
 use Rattle.crush_builder.specs.Built.{Draft, nothing, with_kind}
 use Rattle.crush_builder.specs.Building.{BuilderData, IsDraft, IsPending, has_kind_number, has_kind_name, is_full_of_kinds}
 
--- where no element passes none is counted
+-- if no element passes the test, the count is 0
 none_passes : {X : Type 0} (p : X → Bool) (xs : List X) → list_any p xs ≡ false → count_by p xs ≡ 0
 none_passes p [] h = refl
 none_passes p (x ∷ xs) h = ⊎_elim
@@ -28,7 +28,7 @@ none_passes p (x ∷ xs) h = ⊎_elim
     let no : one_if (p x) ≡ 0 = ap one_if e in omega (arith, no, none_passes p xs rest, sum_by-cons (λ z. one_if (p z)) x xs))
     (true_or_false (p x))
 
--- one more leaves each at most once, where it is new
+-- if at most one element of a list passes a test, so it is with one more at the end, unless the new one and another pass
 pub count_one_more : {X : Type 0} (q : X → Bool) (x : X) (xs : List X) → count_by q xs ≤ 1 → (q x ≡ true → list_any q xs ≡ false) → count_by q (xs ++ x ∷ []) ≤ 1
 count_one_more q x xs once free = ⊎_elim
     (λ e. let one : one_if (q x) ≡ 1 = ap one_if e in omega (arith, one, none_passes q xs (free e), sum_by_push (λ z. one_if (q z)) xs x))

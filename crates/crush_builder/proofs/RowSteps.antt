@@ -73,7 +73,7 @@ device_step b f d id name class i idle st = record {
   part = subst (IsPending d.setting (d.table ++ new_device id name class ∷ [])) (sym (sym i.pending ∙ idle)) tt;
 }
 
--- a type of a name is there by its number
+-- if a type has the name, a type has its number
 kind_there : (p : KindData → Bool) (xs : List KindData) (k : ℕ) → option_map (λ (x : KindData). x.number) (find p xs) ≡ Some k → list_any (λ (x : KindData). x.number == k) xs ≡ true
 kind_there p [] k h = absurd (let no : ◌≡◌ {A = Option ℕ} None (Some k) = h in cc)
 kind_there p (x ∷ xs) k h = by_test (p x) h (kind_there p xs k) where
@@ -81,11 +81,11 @@ kind_there p (x ∷ xs) k h = by_test (p x) h (kind_there p xs k) where
   by_test true e ih = let same : x.number ≡ k = cc in ap (λ b. b || list_any (λ (y : KindData). y.number == k) xs) (ap (λ m. m == k) same ∙ same_id_refl (Bucket k))
   by_test false e ih = or_true (x.number == k) (list_any (λ (y : KindData). y.number == k) xs) (ih e)
 
--- the number of a name that buckets' types have is one of these
+-- if buckets can have the type with a name, they can have the type with its number
 pub named_bucket_kind : (s : SettingData) (n : List ℕ) (k : ℕ) → kind_number s n ≡ Some k → names_bucket_kind s n ≡ true → is_bucket_kind s k ≡ true
 named_bucket_kind s n k e h = λ i. (ap is_some_above_zero (sym e) ∙ h) i && kind_there (λ (x : KindData). bytes_eq x.name n) s.kinds k e i
 
--- a bucket of which there is no number has no fault but that
+-- if the first words of a bucket have no fault, its type's name has a number
 pub no_number : (d : Draft) (q n : List ℕ) → begin_fault d q n ≡ None → kind_number d.setting q ≡ None → ⊥
 no_number d q n clear e =
     let none = none_of_three DuplicateName UnknownType TooMany (has_name d n) (not (names_bucket_kind d.setting q)) (is_full_of_buckets d) clear in

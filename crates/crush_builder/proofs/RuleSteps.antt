@@ -191,7 +191,7 @@ rule_step b s d r i idle e form clear = record {
   part = subst (IsPending (with_rule d r).setting d.table) (sym (sym i.pending ∙ idle)) tt;
 }
 
--- WHAT IS TOLD of a rule holds of the draft; out of memory is none of these
+-- THE FAULT of a rule is what `rule_told` says of it, because it is any other than out of memory
 abbrev IsTold : BuildFault → Type 0
 IsTold f = is_some (fault_told f) ≡ true
 
@@ -229,7 +229,7 @@ rule_told_itself d r f e =
     (part_told (has_rule_id d.setting r.id) (record { part = AtId; fault = DuplicateId }) _ f refl (steps_told d 0 r.steps.items f))) e in
     e ∙ sym (ap (λ b. if b then Some f else None) t)
 
--- and it is never out of memory
+-- the fault of a rule is never out of memory
 pub never_lacking : (d : Draft) (r : Rule) (f : RuleFault) → rule_fault d r ≡ Some f → f.fault ≡ OutOfMemory → ⊥
 never_lacking d r f e lacks =
     let none : rule_told f ≡ None = ap (λ x. if is_some (fault_told x) then Some f else None) lacks in

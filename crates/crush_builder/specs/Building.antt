@@ -1,4 +1,4 @@
--- The state of a builder, the draft at which it is, and the tests that a reader makes before each step.
+-- The state of a builder, the draft that it represents, and the tests that a parser makes before each step. A draft (`Built`) is what has been built so far, with a table in place of a forest.
 pub use Rattle.crush_edits.specs.Setting.{has_tunable}
 use Rattle.std.specs.Prelude.{◌≡◌, ℕ, ◌<◌, ◌≤◌, List, [], ◌∷◌, All, map, Option, Some, None, Bool, true, false, ◌==◌, ◌||◌, ◌&&◌, if◌then◌else◌, length, bytes_eq, nat_lt, nat_le, is_some, option_and_then}
 use Rattle.std.specs.List.{count_by, list_any}
@@ -16,26 +16,27 @@ use Rattle.crush_edits.specs.Fits.{Fits}
 use Rattle.crush_builder.specs.Built.{Pending, nothing, begun, numbered, filling, Draft}
 use Rattle.crush_units.specs.declared.limits.TheConstants.{FARTHEST_BUCKET_ID, LAST_TYPE, MOST_BUCKETS, MOST_CLASS_IDS, MOST_DEVICES, MOST_TUNABLES, MOST_TYPES}
 
--- what contracts see of a builder
+-- a builder as contracts see it: its setting, its forest, the incomplete bucket, and how many written weights of buckets were replaced by their sums
 pub record BuilderData : Type 0 where
   pub setting : SettingData
   pub forest : ForestData
   pub pending : Pending
   pub adjusted : ℕ
 
--- a type of buckets that the setting has
+-- whether a bucket can have the type with this number: the number isn't 0, and the setting has the type
 abbrev pub is_bucket_kind : SettingData → ℕ → Bool
 is_bucket_kind s k = nat_lt 0 k && list_any (λ (x : KindData). x.number == k) s.kinds
 
--- the same by a type's name
+-- whether there is a number, and it isn't 0
 abbrev pub is_some_above_zero : Option ℕ → Bool
 is_some_above_zero None = false
 is_some_above_zero (Some k) = nat_lt 0 k
 
+-- whether a bucket can have the type with this name: the setting has the type, and its number isn't 0
 abbrev pub names_bucket_kind : SettingData → List ℕ → Bool
 names_bucket_kind s n = is_some_above_zero (kind_number s n)
 
--- what of a bucket that is not yet in the table can be put there
+-- a bucket of this type and name can be added to the table: the setting has the type, which isn't type 0, the name is valid and no item has it, and there are fewer buckets than the limit
 pub record CanBegin (s : SettingData) (t : List Row) (kind : ℕ) (name : List ℕ) : Type 0 where
   pub known : is_bucket_kind s kind ≡ true
   pub most : kind ≤ LAST_TYPE
@@ -43,11 +44,11 @@ pub record CanBegin (s : SettingData) (t : List Row) (kind : ℕ) (name : List �
   pub free : is_named t name ≡ false
   pub few : bucket_count t < MOST_BUCKETS
 
--- a bucket's id and those of its class ids
+-- the ids that a bucket uses: its own, and those of its class ids
 abbrev pub own_ids : ℕ → List ShadowData → List ℕ
 own_ids b class_ids = b ∷ map (λ (c : ShadowData). c.id) class_ids
 
--- its id and its class ids are in range, distinct and free, and no two class ids are of one class
+-- a bucket with this id and these class ids can be added to the table: all these ids are in range, distinct, and not used in the table; each class id has a class in the form of a name; no two class ids have the same class; and there are at most as many class ids as the limit
 pub record CanNumber (t : List Row) (b : ℕ) (class_ids : List ShadowData) : Type 0 where
   pub some : 0 < b
   pub most : b ≤ FARTHEST_BUCKET_ID
@@ -58,23 +59,23 @@ pub record CanNumber (t : List Row) (b : ℕ) (class_ids : List ShadowData) : Ty
   pub classes : (c : List ℕ) → count_by (λ (x : ShadowData). bytes_eq x.class c) class_ids ≤ 1
   pub few : length class_ids ≤ MOST_CLASS_IDS
 
--- the bucket stands in the table, in no other bucket
+-- the bucket is in the table, and no bucket holds it
 pub record IsRoot (t : List Row) (b : ℕ) : Type 0 where
   pub there : is_there t (Bucket b) ≡ true
   pub root : parent_of t (Bucket b) ≡ None
 
--- the pending part goes with the setting and the table
+-- the incomplete bucket is consistent with the setting and the table: if it isn't in the table yet, it can be added; if it is being filled, it is a root
 abbrev pub IsPending : SettingData → List Row → Pending → Type 0
 IsPending s t nothing = Unit {0}
 IsPending s t (begun kind name) = CanBegin s t kind name
 IsPending s t (numbered kind name b class_ids) = CanBegin s t kind name × CanNumber t b class_ids
 IsPending s t (filling b) = IsRoot t b
 
--- how many buckets another holds: no fewer than weights were adjusted
+-- how many buckets are held by another bucket; at most so many written weights were replaced by sums
 abbrev pub held_buckets : List Row → ℕ
 held_buckets t = count_by (λ (r : Row). is_bucket r && is_some r.parent) t
 
--- the builder is at the draft
+-- the builder represents the draft: they have the same setting, incomplete bucket and count of replaced weights; the forest represents the table; the setting fits the table; the incomplete bucket is consistent with both; and no more weights were replaced than there are held buckets
 pub record IsDraft (b : BuilderData) (d : Draft) : Type 0 where
   pub setting : b.setting ≡ d.setting
   pub pending : b.pending ≡ d.pending
@@ -84,75 +85,87 @@ pub record IsDraft (b : BuilderData) (d : Draft) : Type 0 where
   pub fits : Fits d.setting d.table
   pub part : IsPending d.setting d.table d.pending
 
--- its own rows are the table of one such draft
+-- the draft whose table is the rows of the builder's own forest; the builder represents it, among others
 abbrev pub own_draft : BuilderData → Draft
 own_draft b = record { setting = b.setting; table = rows_of b.forest; pending = b.pending; adjusted = b.adjusted }
 
--- what each builder keeps beside what its forest keeps
+-- the invariant of a builder, in addition to its forest's: the setting fits the rows, the incomplete bucket is consistent with both, and no more weights were replaced than there are held buckets
 pub record BuilderFits (b : BuilderData) : Type 0 where
   pub fits : Fits b.setting (rows_of b.forest)
   pub part : IsPending b.setting (rows_of b.forest) b.pending
   pub few : b.adjusted ≤ held_buckets (rows_of b.forest)
 
 -- THE TESTS
+-- whether no bucket is incomplete
 abbrev pub is_idle : Pending → Bool
 is_idle nothing = true
 is_idle _ = false
 
+-- whether a bucket has begun and has no id yet
 abbrev pub is_begun : Pending → Bool
 is_begun (begun kind name) = true
 is_begun _ = false
 
+-- whether a bucket has its id and no algorithm yet
 abbrev pub is_numbered : Pending → Bool
 is_numbered (numbered kind name b class_ids) = true
 is_numbered _ = false
 
+-- whether a bucket has its algorithm and isn't complete
 abbrev pub is_filling : Pending → Bool
 is_filling (filling b) = true
 is_filling _ = false
 
--- whether a name is that of the pending bucket, an id its own or that of a class id, and whether an item is the bucket that is being filled
+-- whether the incomplete bucket, if it isn't in the table yet, has this name
 abbrev pub has_pending_name : Pending → List ℕ → Bool
 has_pending_name (begun kind name) n = bytes_eq name n
 has_pending_name (numbered kind name b class_ids) n = bytes_eq name n
 has_pending_name _ n = false
 
+-- whether the incomplete bucket, if it isn't in the table yet, has this id or a class id with this id
 abbrev pub has_pending_id : Pending → ℕ → Bool
 has_pending_id (numbered kind name b class_ids) k = member k (own_ids b class_ids)
 has_pending_id _ k = false
 
+-- the class ids of the incomplete bucket, if it isn't in the table yet
 abbrev pub pending_class_ids : Pending → List ShadowData
 pending_class_ids (numbered kind name b class_ids) = class_ids
 pending_class_ids _ = []
 
+-- whether the item is the bucket that is being filled
 abbrev pub is_open : Pending → ItemId → Bool
 is_open (filling b) i = same_id (Bucket b) i
 is_open _ i = false
 
+-- whether an item of the table or the incomplete bucket has this name
 abbrev pub has_name : Draft → List ℕ → Bool
 has_name d n = is_named d.table n || has_pending_name d.pending n
 
+-- whether a bucket or a class id, of the table or of the incomplete bucket, has this id
 abbrev pub has_bucket_id : Draft → ℕ → Bool
 has_bucket_id d k = member k (used_ids d.table) || has_pending_id d.pending k
 
--- a class id of the pending bucket has the class
+-- whether the incomplete bucket, if it isn't in the table yet, has a class id for this class
 abbrev pub has_class : Draft → List ℕ → Bool
 has_class d c = list_any (λ (x : ShadowData). bytes_eq x.class c) (pending_class_ids d.pending)
 
--- the item of a name, if it is a device or a bucket that was closed
+-- the item itself, if it isn't the bucket that is being filled
 abbrev pub closed_item : Pending → ItemId → Option ItemId
 closed_item p i = if is_open p i then None else Some i
 
+-- the device or complete bucket with this name, if there is one
 abbrev pub item_named : Draft → List ℕ → Option ItemId
 item_named d n = option_and_then (closed_item d.pending) (id_named d.table n)
 
+-- whether a type has this number
 abbrev pub has_kind_number : SettingData → ℕ → Bool
 has_kind_number s k = list_any (λ (x : KindData). x.number == k) s.kinds
 
+-- whether a type has this name
 abbrev pub has_kind_name : SettingData → List ℕ → Bool
 has_kind_name s n = list_any (λ (x : KindData). bytes_eq x.name n) s.kinds
 
--- one more would pass a limit
+-- whether the number of devices, buckets, class ids of the incomplete bucket, types or tunables has reached its limit, so that one more would exceed it
 abbrev pub is_full_of_devices : Draft → Bool
 is_full_of_devices d = nat_le MOST_DEVICES (device_count d.table)
 

@@ -1,4 +1,4 @@
--- The faults of a builder's calls: each holds exactly where its test holds of the draft, and the least number is told.
+-- The faults of a builder's calls, except those of rules (`Rules`). Each fault has a test on the draft; of the faults whose tests hold, the one with the least number is returned.
 use Rattle.std.specs.Prelude.{ℕ, List, [], ◌∷◌, Option, Some, None, Bool, false, not, ◌&&◌, if◌then◌else◌, nat_lt}
 use Rattle.crush_units.specs.declared.id.ItemId.{ItemId}
 use Rattle.crush_units.specs.declared.id.ItemId.TheVariants.{Device}
@@ -11,7 +11,7 @@ use Rattle.crush_builder.specs.Built.{Draft, with_next_item}
 use Rattle.crush_builder.specs.Building.{is_open, has_kind_number, has_kind_name, has_name, has_bucket_id, has_class, names_bucket_kind, is_full_of_devices, is_full_of_buckets, is_full_of_class_ids, is_full_of_kinds, is_full_of_tunables}
 use Rattle.crush_units.specs.declared.limits.TheConstants.{HEAVIEST_DEVICE}
 
--- the place in the order in which faults are told
+-- the number of a fault: of several faults at the same place of a text, the one with the least number is returned
 abbrev pub build_fault_number : BuildFault → ℕ
 build_fault_number BadWeight = 5
 build_fault_number DuplicateId = 6
@@ -24,7 +24,7 @@ build_fault_number TooMany = 14
 build_fault_number SumTooLarge = 15
 build_fault_number OutOfMemory = 16
 
--- what a fault tells of the draft: that it holds there, and out of memory that none does
+-- what a returned fault says of the draft: that it is the draft's first fault. Out of memory says that the draft has no fault
 abbrev pub fault_told : BuildFault → Option BuildFault
 fault_told OutOfMemory = None
 fault_told BadWeight = Some BadWeight
@@ -37,42 +37,50 @@ fault_told UnknownBucketInRule = Some UnknownBucketInRule
 fault_told TooMany = Some TooMany
 fault_told SumTooLarge = Some SumTooLarge
 
--- the first fault whose test holds
+-- the first fault of the list whose test holds, if there is one
 abbrev pub first_fault : List (BuildFault × Bool) → Option BuildFault
 first_fault [] = None
 first_fault (p ∷ ps) = if p.1 then Some p.0 else first_fault ps
 
--- THE FAULTS of a type, a tunable, a device, a bucket's first words with its type's name, its id, a class id, an item: each with its test, in the order of their numbers
+-- THE FAULTS of each call, with their tests, in the order of their numbers
+-- of a type: a type has the number, a type has the name, or there are as many types as the limit
 abbrev pub kind_fault : Draft → ℕ → List ℕ → Option BuildFault
 kind_fault d k n = first_fault ((DuplicateId, has_kind_number d.setting k) ∷ ((DuplicateName, has_kind_name d.setting n) ∷ ((TooMany, is_full_of_kinds d) ∷ [])))
 
+-- of a tunable: a tunable has the name, or there are as many tunables as the limit
 abbrev pub tunable_fault : Draft → List ℕ → Option BuildFault
 tunable_fault d n = first_fault ((DuplicateName, has_tunable d.setting n) ∷ ((TooMany, is_full_of_tunables d) ∷ []))
 
+-- of a device: a device has the id, an item has the name, or there are as many devices as the limit
 abbrev pub device_fault : Draft → ℕ → List ℕ → Option BuildFault
 device_fault d i n = first_fault ((DuplicateId, is_there d.table (Device i)) ∷ ((DuplicateName, has_name d n) ∷ ((TooMany, is_full_of_devices d) ∷ [])))
 
+-- of the first words of a bucket: an item has the name, no type that buckets can have has the type's name, or there are as many buckets as the limit
 abbrev pub begin_fault : Draft → List ℕ → List ℕ → Option BuildFault
 begin_fault d k n = first_fault ((DuplicateName, has_name d n) ∷ ((UnknownType, not (names_bucket_kind d.setting k)) ∷ ((TooMany, is_full_of_buckets d) ∷ [])))
 
+-- of a bucket's id: a bucket or a class id has it
 abbrev pub id_fault : Draft → ℕ → Option BuildFault
 id_fault d b = first_fault ((DuplicateId, has_bucket_id d b) ∷ [])
 
+-- of a class id: a bucket or a class id has the id, the bucket has a class id for the class, or as many class ids as the limit
 abbrev pub class_id_fault : Draft → ℕ → List ℕ → Option BuildFault
 class_id_fault d b c = first_fault ((DuplicateId, has_bucket_id d b) ∷ ((DuplicateName, has_class d c) ∷ ((TooMany, is_full_of_class_ids d) ∷ [])))
 
--- a written weight that no device has
+-- whether a weight is written, and it is above the heaviest that a device can have
 abbrev pub is_written_too_heavy : Option ℕ → Bool
 is_written_too_heavy None = false
 is_written_too_heavy (Some w) = nat_lt HEAVIEST_DEVICE w
 
+-- whether the item is a device whose written weight is too heavy
 abbrev pub is_heavy_device : ItemId → Option ℕ → Bool
 is_heavy_device i w = is_device_id i && is_written_too_heavy w
 
--- a device, or a bucket that was closed
+-- whether the item is in the table and isn't the bucket that is being filled: a device or a complete bucket
 abbrev pub is_closed : Draft → ItemId → Bool
 is_closed d i = is_there d.table i && not (is_open d.pending i)
 
+-- of an item: it is a device with too heavy a weight, it is neither a device nor a complete bucket, a bucket holds it, or with it a bucket or the whole map is too heavy
 abbrev pub item_fault : Draft → ItemId → Option ℕ → Option BuildFault
 item_fault d i w =
     first_fault ((BadWeight, is_heavy_device i w) ∷ ((UnknownItem, not (is_closed d i)) ∷ ((SecondParent, is_placed d.table i) ∷ ((SumTooLarge, is_too_heavy (with_next_item d i w).table) ∷ []))))

@@ -1,4 +1,4 @@
--- How contracts see what a builder has of a statement.
+-- How contracts see the incomplete bucket of a builder.
 pub use Rattle.crush_hierarchy.specs.Given.{with_first_weight}
 use Rattle.std.specs.Prelude.{List, [], Option, Some, None, Vec, map}
 use Rattle.crush_model.specs.Items.{ShadowData}
@@ -8,11 +8,12 @@ use Rattle.crush_builder.specs.declared.builder.Pending.{Pending as BuilderPart}
 use Rattle.crush_builder.specs.declared.builder.Pending.TheVariants.{Nothing, Begun, Numbered, Filling}
 use Rattle.crush_builder.specs.Built.{Pending, nothing, begun, numbered, filling}
 
--- the class ids of which a builder has a list, where it has one
+-- the class ids in the builder's list, and none if it has no list yet
 abbrev pub listed : {A : _} → Option (Vec (ShadowId A) A) → List ShadowData
 listed None = []
 listed (Some class_ids) = map shadow_data class_ids.items
 
+-- the incomplete bucket of the builder's code as the value that contracts see
 abbrev pub pending_data : {A : _} → BuilderPart A → Pending
 pending_data Nothing = nothing
 pending_data (Begun kind name) = begun kind name

@@ -1,5 +1,6 @@
-//! [`MapBuilder`] takes what the statements of a map's text say, or answers a [`BuildFault`] or
-//! [`RuleFault`]. `crush_text` reads the bytes, and calls it.
+//! [`MapBuilder`] builds a map from the statements of a map's text, one call for each statement or
+//! part of one. A call fails with a [`BuildFault`] or a [`RuleFault`] if the map can't have what
+//! the statement says. `crush_text` parses the text and makes the calls.
 #![tactic(auto)]
 
 mod builder;

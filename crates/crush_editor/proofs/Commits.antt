@@ -1,4 +1,4 @@
--- A commit keeps the book.
+-- After a commit, what is true of every book is still true.
 use Rattle.std.proofs.Common.{◌≡◌, ◌≢◌, ℕ, ◌+◌, ◌<◌, ◌≤◌, Bool, true, false, Option, Some, None, List, [], ◌∷◌, ◌++◌, length, refl, sym, ap, ◌∙◌, subst, arith, length-append}
 use Rattle.std.specs.Prelude.{if◌then◌else◌, IfSome}
 use Rattle.std.proofs.lemmas.List.Elements.{All-push, All-nil}
@@ -95,7 +95,7 @@ module _ (p : Option MapData) (o m n : MapData) (h : List EntryData) (c : ℕ) (
       let is : opening_of (grown (e ∷ []) v) ≡ o = ap (λ (x : View MapData EntryData). opening_of (grown (e ∷ []) x)) kept.snapshot in
       subst (λ (x : MapData). IsKept p x n (h ++ e ∷ []) (c + change_of r) (grown (e ∷ []) v)) (sym is) (kept_more below room)
 
--- without an entry
+-- a history without entries has no changes
 no_changes : ◌≡◌ {A = ℕ} 0 (changes [])
 unfolding changes
 no_changes = refl
@@ -109,7 +109,7 @@ nothing_asked : (s : SettingData) (t : List Row) → (IsLegal s t []) × (t ≡ 
 unfolding IsLegalBehind counted_after
 nothing_asked s t = (tt, refl)
 
--- an opening and the map that calls are to change stand for the same tables, and are the same but for their room
+-- the map that calls are to change stands for each table for which the opening stands
 pub parted_stands : (p : Option MapData) (m o : MapData) → IsParted p m o → StandsAsBefore o m
 parted_stands (Some k) m o parted = parted.stands
 parted_stands None m o parted = λ s t stands. subst (λ (x : MapData). MapStands x s t) (sym parted) stands
@@ -129,7 +129,7 @@ all_new o m before s t of =
     let now = before s t of in
     (none.0, record { setting = now.setting; forest = subst (Stands m.forest) none.1 now.forest })
 
--- a new book
+-- what is true of every book is true of a new one
 first_kept : (p : Option MapData) (o m : MapData) → IsSound o.forest → IsParted p m o → IsKept p o m [] 0 (Book (known o []))
 first_kept p o m sound parted =
     let first = no_entry o in
@@ -151,7 +151,7 @@ pub kept_new : (p : Option MapData) (o m : MapData) (h : List EntryData) (v : Vi
 kept_new p o m h v sound parted none snapshot =
     subst (λ (x : List EntryData × View MapData EntryData). IsKept p (opening_of x.1) m x.0 0 x.1) (λ i. (sym none i, sym snapshot i)) (first_kept p o m sound parted)
 
--- a copy of an opening
+-- an opening and its copy are parted
 pub copied : (o m : MapData) → m.setting ≡ o.setting → IsSameForest m.forest o.forest → ((t : List Row) → Stands o.forest t → Stands m.forest t) → IsParted (Some o) m o
 copied o m setting same stands = record {
   kept = refl;
@@ -159,7 +159,7 @@ copied o m setting same stands = record {
   stands = λ s t of. record { setting = setting ∙ of.setting; forest = stands t of.forest };
 }
 
--- what a gauge asks of an opening
+-- the opening meets what a gauge requires
 pub opens : (o : MapData) (w : ℕ) → IsSound o.forest → ((t : List Row) → Stands o.forest t → w ≡ total t) → OpensGauge o w
 opens o w sound weighs =
     let first = no_entry o in

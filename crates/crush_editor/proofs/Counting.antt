@@ -1,4 +1,4 @@
--- Each operator's slips stand in its part of the history, and all slips are as many as the entries: so nothing else is in the history.
+-- Each operator's slips are a subsequence of its part of the history, and there are as many slips as entries. So the history has nothing else.
 use Rattle.std.proofs.Common.{◌≡◌, ◌⊎◌, ℕ, zero, suc, ◌+◌, ◌<◌, ◌≤◌, List, [], ◌∷◌, ◌++◌, length, map, filter, Bool, true, false, cond, nat_eq, refl, sym, ap, ◌∙◌, subst, inl, inr, ⊎_elim, arith, eq-eqb, ne_eqb}
 use mathlib.Core.Logic.{dite}
 use native.Mathlib.Decide.{ℕ_discrete}
@@ -45,7 +45,7 @@ below_le : (n : ℕ) (f g : ℕ → ℕ) → ((k : ℕ) → k < n → f k ≤ g 
 below_le zero f g each = omega arith
 below_le (suc n) f g each = let h = below_le n f g (λ k l. each k (omega arith)) in let e = each n (omega arith) in omega arith
 
--- where the sums are equal, each term is
+-- if each term of one sum is at most that of another, and the other sum is no greater, then the terms are equal
 below_same : (n : ℕ) (f g : ℕ → ℕ) → ((k : ℕ) → k < n → f k ≤ g k) → below n g ≤ below n f → (k : ℕ) → k < n → g k ≤ f k
 below_same zero f g each all k l = absurd (omega arith)
 below_same (suc n) f g each all k l =

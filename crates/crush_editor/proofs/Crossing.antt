@@ -1,4 +1,4 @@
--- What stands under an editor's lock crosses threads: each field does.
+-- What an editor's lock protects may be sent to another thread, since each of its fields may.
 use denote.RattleType.{RattleType}
 use denote.Hole.{as_row}
 use denote.Param.Send.{IsSend, view_send, sendable}

@@ -26,7 +26,7 @@ use Rattle.crush_gauge.specs.Held.{Held, held}
 use Rattle.crush_editor.specs.Seat.{reads, seen_of, seat_data, guard_of, is_stale, IsSeat, Answered, Guards, Sees}
 use Rattle.crush_editor.proofs.Counting.{stands_more, stands_push}
 
--- two lists that begin each other
+-- two lists that are prefixes of each other are equal
 pub prefix_same : {A : Type 0} (xs ys : List A) → IsPrefix xs ys → IsPrefix ys xs → xs ≡ ys
 prefix_same xs ys p q = prefix_whole xs ys p (prefix_length ys xs q)
 
@@ -53,12 +53,12 @@ answered o k slips seen h c r seat p legal = record {
   seat = seat_answered o k slips seen h c r seat p legal;
 }
 
--- GUARDED: what isn't stale was judged with as many changes as it names
+-- GUARDED: if a guarded batch isn't stale, it names the number of changes before it
 not_stale : (fresh : Bool) (t : List Row) (n : ℕ) (a : BatchAnswer) (r : Reply) → r ≡ (guarded_outcome fresh t n a).reply → is_stale r ≡ false → fresh ≡ true
 not_stale true t n a r told other = refl
 not_stale false t n a r told other = let stale : is_stale r ≡ true = ap is_stale told in absurd cc
 
--- and so it was made of the table that the seat had seen
+-- so the table before the batch is the one after the history that the seat had seen
 made_of_seen : (o : MapData) (k : ℕ) (seen h : List EntryData) (c : Call) (r : Reply) → IsPrefix seen h → IsLegalFrom o (h ++ entry k c r ∷ []) → guard_of c ≡ Some (changes seen) → is_stale r ≡ false → table_from o h ≡ table_from o seen
 made_of_seen o k seen h (One e) r p legal names other = absurd cc
 made_of_seen o k seen h (Batch es) r p legal names other = absurd cc
@@ -72,7 +72,7 @@ made_of_seen o k seen h (Guarded n es) r p legal names other =
     let many : changes (seen ++ p.0) ≡ changes seen = ap changes p.1 ∙ sym same ∙ named in
     ap (table_after o.setting t) (sym p.1) ∙ same_count_same_table o.setting t seen p.0 whole many
 
--- and what is stale was told the number of changes
+-- the number in a stale reply is the number of changes in the history up to and including this call
 stale_of_seen : (o : MapData) (k : ℕ) (h : List EntryData) (c : Call) (r : Reply) (n : ℕ) → IsLegalFrom o (h ++ entry k c r ∷ []) → r ≡ Stale n → changes (h ++ entry k c r ∷ []) ≡ n
 stale_of_seen o k h c r n legal stale =
     let told = last_told o.setting (rows_of o.forest) h (entry k c r) legal in
@@ -121,7 +121,7 @@ guards_all z o k slips seen c x b now r tz oz e is pre legal =
     let l : IsLegalFrom o after' = subst (λ (y : MapData × List EntryData). IsLegalFrom y.0 y.1) (λ i. (oz i, e i)) legal in
     subst (λ (y : Held MapData EntryData). Guards o (seat_data k slips seen) c x (seat_data k (slips ++ slip c x ∷ []) (seen_of y.view))) (sym h) (guards o k slips seen b.history c x pre l)
 
--- the seat has seen more
+-- a seat that has seen more without an answer
 pub sees_more : (z : TableId) (o : MapData) (k : ℕ) (slips : List AnsweredData) (v w : Held MapData EntryData) → v.table ≡ z → IsSeat o k slips (seen_of v.view) → w.table ≡ v.table → (h : List EntryData) × (w.view ≡ reads o h) × IsPrefix (seen_of v.view) h × IsLegalFrom o h
     → (w.table ≡ z) × (w.view ≡ reads o (seen_of w.view)) × IsSeat o k slips (seen_of w.view) × Sees o (seat_data k slips (seen_of v.view)) (seat_data k slips (seen_of w.view))
 sees_more z o k slips v w tz seat same now =
@@ -134,7 +134,7 @@ pub after_reading : (o : MapData) (v w : View MapData EntryData) (c x : ℕ) →
 after_reading o v w c x is r =
     let t = subst (λ (y : View MapData EntryData). Reads IsLegalFrom (λ _. changes) weight_from y c x w) is r in (t.0, t.1, t.2, t.3.0)
 
--- what a reading tells is of the history that the seat has then seen
+-- the pair of a reading is that of the history that the seat has then seen
 pub tells_seen : (o : MapData) (v w : View MapData EntryData) (c x : ℕ) → v ≡ reads o (seen_of v) → Reads IsLegalFrom (λ _. changes) weight_from v c x w → (c ≡ changes (seen_of w)) × (x ≡ weight_from o (seen_of w))
 tells_seen o v w c x is r =
     let t = subst (λ (y : View MapData EntryData). Reads IsLegalFrom (λ _. changes) weight_from y c x w) is r in

@@ -1,4 +1,4 @@
--- An editor may be shared by threads: its gauge may, and what stands under its lock crosses them.
+-- Threads may share an editor: they may share its gauge, and what its lock protects may be sent to another thread.
 use denote.RattleType.{RattleType}
 use denote.Hole.{as_row}
 use denote.Param.Send.{IsSend, IsSync, sendable}
@@ -51,7 +51,7 @@ module _ (N O : RattleType) (g : Desk.Ghosts N.Denot) (g' : Ledger.Ghosts N.Deno
 unkept_sent : IsSend WithoutSnapshot.the_row
 unkept_sent = search (sendable, crosses) depth 10
 
--- with its opening, and without
+-- the same for an editor that keeps its opening, and for one that doesn't
 module _ (N : RattleType) (g : Desk.Ghosts N.Denot) (g' : Ledger.Ghosts N.Denot) where
   pub editor_sync : (o : Opening.Ghosts (CrushMap.the_row Global.the_row GlobalImpl.ghosts).Denot) → IsSync (Editor.the_row N (CrushMap.the_row Global.the_row GlobalImpl.ghosts) g g' o)
   editor_sync o = any_editor_sync N (CrushMap.the_row Global.the_row GlobalImpl.ghosts) g g' o map_sent

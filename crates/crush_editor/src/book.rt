@@ -1,4 +1,5 @@
-//! The book of a map: its opening, the map now, and the history between them.
+//! The book of a map: its opening, the map now, and the history that leads from the opening to it.
+//! An editor has a book under its lock; one thread can use a book without an editor.
 
 ghost use Rattle.std.specs.List.{All};
 ghost use Rattle.std.specs.Prelude.{◌≡◌, ◌<◌, ◌≤◌, ◌++◌, ◌∷◌, [], length, IfOk, IfErr, IfSome, OnOk, OnErr};
@@ -23,18 +24,19 @@ use std::alloc::{Allocator, Global};
 use std::marker::Model;
 use thiserror::Error;
 
-/// Why a call was not answered.
+/// Why a call was not answered. A refused edit is no fault: the refusal is the call's reply.
 #[derive(Clone, Copy, Debug, PartialEq, Eq, Error)]
 pub enum SubmitFault {
-    /// The history has 65,536 entries.
+    /// The history has 65,536 entries, which is the most.
     #[error("the history is full")]
     Full,
+    /// Memory could not be allocated, and the history isn't full.
     #[error("out of memory")]
     OutOfMemory,
 }
 
-/// A map, with the history of what was asked of it since its opening. `A` is where its maps live;
-/// calls and entries are in the machine's memory. `O` is what it has of the opening.
+/// A map, with the history of the calls made on it since its opening. `A` is the allocator of its
+/// maps; the history is in the machine's memory. `O` is what the book keeps of the opening.
 #[derive(Drop)]
 pub struct Book<A: Allocator, O: Opening = CrushMap<A>> {
     opening: O,
@@ -61,7 +63,9 @@ impl<A: Allocator, O: Opening> Model for Book<A, O> {
 }
 
 impl<A: Allocator + Clone> Book<A> {
-    /// The book of a map, with no entry.
+    /// Creates a book whose opening is this map and whose history is empty. It publishes with
+    /// `seat`, the book's seat of a gauge that was created for this map. It copies the map once; if
+    /// memory runs out, it returns the map.
     pub fn new(map: CrushMap<A>, seat: MapBookSeat, alloc: Global) -> Result<Book<A>, CrushMap<A>>
         requires { seat.view ≡ BookSees (known map []) }
         ensures opening { IfOk result (λ b. b.opening ≡ map) }
@@ -86,7 +90,7 @@ impl<A: Allocator + Clone> Book<A> {
 }
 
 impl<A: Allocator> Book<A, WithoutSnapshot> {
-    /// [`Book::new`] without a copy of the map.
+    /// Creates a book as [`Book::new`] does, but without a copy of the map.
     pub(crate) fn without_opening(
         map: CrushMap<A>,
         seat: MapBookSeat,
@@ -109,6 +113,7 @@ impl<A: Allocator> Book<A, WithoutSnapshot> {
         }
     }
 
+    /// Returns the map of a book without entries, which is still the opening.
     pub(crate) fn into_map(self) -> CrushMap<A>
         requires { self.history ≡ [] }
         ensures { result ≡ self.opening }
@@ -125,10 +130,13 @@ impl<A: Allocator> Book<A, WithoutSnapshot> {
 }
 
 impl<A: Allocator + Clone, O: Opening> Book<A, O> {
-    /// Makes a call of operator k, counted from 0 and below 16, records it with its reply behind
-    /// the other entries, and publishes the new number of changes and the new weight: once, also
-    /// where the call is refused. `Full` is judged first; after a fault the map is as before also
-    /// in its room.
+    /// Makes a call of operator `k` (from 0, below 16) on the map, appends it with its reply to the
+    /// history, and returns the reply.
+    ///
+    /// It publishes the new number of changes and the new weight by one store, even if the reply is
+    /// a refusal. It fails with `Full` if and only if the history is full, which is checked first;
+    /// any other error is `OutOfMemory`. After an error the history and the map, including the
+    /// map's capacities, are unchanged.
     pub fn commit(
         &mut self,
         alloc: Global,
@@ -159,7 +167,8 @@ impl<A: Allocator + Clone, O: Opening> Book<A, O> {
         }
     }
 
-    /// [`Book::commit`] of a call that is moved into its entry, so that it isn't copied.
+    /// Makes a call as [`Book::commit`] does, but moves the call into its entry instead of copying
+    /// it. An error returns the call.
     pub fn commit_copied(
         &mut self,
         gauge: &MapGauge,
@@ -203,6 +212,8 @@ impl<A: Allocator + Clone, O: Opening> Book<A, O> {
         Ok(reply)
     }
 
+    /// Joins a note into the book's seat. It is for the contract alone: the note's history is a
+    /// prefix of the book's history.
     pub(crate) fn absorb(&mut self, gauge: &MapGauge, note: MapNote)
         requires gauge { self.old.table ≡ gauge.now.table.shared.table_id }
         requires note { (note.table ≡ self.old.table)
@@ -213,6 +224,7 @@ impl<A: Allocator + Clone, O: Opening> Book<A, O> {
         gauge.learn(&mut self.seat, note);
     }
 
+    /// Returns a note of the book's whole history.
     pub(crate) fn snapshot(&mut self, gauge: &MapGauge) -> MapNote
         requires { self.old.table ≡ gauge.now.table.shared.table_id }
         ensures book { self.new ≡ self.old }
@@ -222,6 +234,8 @@ impl<A: Allocator + Clone, O: Opening> Book<A, O> {
         gauge.note(&mut self.seat)
     }
 
+    /// Makes a call as [`Book::commit_copied`] does. The reader has then seen the whole history,
+    /// also after an error.
     pub(crate) fn execute(
         &mut self,
         gauge: &MapGauge,
@@ -256,7 +270,8 @@ impl<A: Allocator + Clone, O: Opening> Book<A, O> {
         outcome
     }
 
-    /// The fault of a call for whose copies there was no memory.
+    /// Returns the fault of a call that could not be copied: `Full` if the history is full,
+    /// otherwise `OutOfMemory`. The reader has then seen the whole history.
     pub(crate) fn refuse(&mut self, gauge: &MapGauge, reader: &mut Reader) -> SubmitFault
         requires gauge { self.old.table ≡ gauge.now.table.shared.table_id }
         requires reader { (reader.old.table ≡ self.old.table)
@@ -274,6 +289,7 @@ impl<A: Allocator + Clone, O: Opening> Book<A, O> {
         self.lacking()
     }
 
+    /// Returns `Full` if the history is full, otherwise `OutOfMemory`.
     fn lacking(&self) -> SubmitFault
         ensures { (result ≡ SubmitFault.Full) ↔ (length self.now.history ≡ MOST_ENTRIES) }
     {
@@ -285,13 +301,14 @@ impl<A: Allocator + Clone, O: Opening> Book<A, O> {
 }
 
 impl<A: Allocator> Book<A> {
-    /// The map that the book was made of, as it was then.
+    /// The opening: the map from which the book was created, as it was then.
     pub fn opening(&self) -> &CrushMap<A>
         ensures { result.now ≡ self.now.opening }
     {
         &self.opening
     }
 
+    /// Returns the opening, and drops the rest of the book.
     pub(crate) fn into_opening(self) -> CrushMap<A>
         ensures { result ≡ self.opening }
     {
@@ -307,21 +324,22 @@ impl<A: Allocator> Book<A> {
 }
 
 impl<A: Allocator, O: Opening> Book<A, O> {
-    /// The map after the history.
+    /// The map now, after all entries of the history.
     pub fn map(&self) -> &CrushMap<A>
         ensures { result.now ≡ self.now.map }
     {
         &self.map
     }
 
-    /// The entries, in the order in which the calls were made.
+    /// The history: an entry for each answered call, in the order in which the calls were made.
     pub fn history(&self) -> &[Entry]
         ensures { result.now ≡ self.now.history }
     {
         self.history.as_slice()
     }
 
-    /// What the type keeps, for a caller who knows the book by its type alone.
+    /// Does nothing when it runs; its contract states what is true of every book, for a proof that
+    /// knows nothing else of this one.
     pub fn recall_invariant(&self)
         ensures legal { IsLegalFrom self.now.opening self.now.history }
         ensures stands { StandsAfter self.now.opening self.now.map self.now.history }
@@ -332,8 +350,8 @@ impl<A: Allocator, O: Opening> Book<A, O> {
         let _changes = &self.changes;
     }
 
-    /// What the book has of its opening, with map and history, in place of the book. It takes no
-    /// memory.
+    /// Returns what the book keeps of its opening, its map and its history, and consumes the book.
+    /// It allocates no memory.
     pub fn into_closed(self) -> Closed<A, O>
         ensures opening { IfSome (O.kept result.opening) (λ m. m ≡ self.opening) }
         ensures map { result.map ≡ self.map }
@@ -359,17 +377,19 @@ impl<A: Allocator, O: Opening> Book<A, O> {
     }
 }
 
-/// What an editor hands out when it is closed, or a book in place of itself.
+/// What [`Editor::close`](crate::Editor::close) and [`Book::into_closed`] return.
 #[derive(Drop)]
 pub struct Closed<A: Allocator, O: Opening = CrushMap<A>> {
-    /// Before the first call.
+    /// What was kept of the map before the first call.
     pub opening: O,
-    /// After the last call.
+    /// The map after the last call.
     pub map: CrushMap<A>,
+    /// The entries of all answered calls, in the order in which the calls were made.
     pub history: Vec<Entry>,
 }
 
-/// Contracts alone see the entry.
+/// Publishes the number of changes and the weight after the entry `joining`, by one store. The
+/// entry is for the contract alone.
 fn publish(gauge: &MapGauge, seat: &mut MapBookSeat, joining: &Entry, count: u64, weight: u64)
     ghost joined: { EntryData }
     requires joins { joined ≡ joining.now }
@@ -382,6 +402,7 @@ fn publish(gauge: &MapGauge, seat: &mut MapBookSeat, joining: &Entry, count: u64
     gauge.publish(seat, count, weight)
 }
 
+/// Returns 1 if the reply says that the map was changed, otherwise 0.
 fn change_of(reply: Reply) -> u32
     ensures { result ≡ change_of reply }
 {

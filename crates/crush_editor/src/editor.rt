@@ -1,4 +1,4 @@
-//! An editor: what it is made of, its seats' calls, and its close.
+//! An editor: how it is created, the calls of its seats, and its close.
 
 ghost use Rattle.std.specs.Prelude.{◌≡◌, ℕ, ◌<◌, ◌≤◌, [], length, IfOk, IfErr, IfSome, OnOk, OnErr, vec_len, slice_index_or};
 ghost use mathlib.Core.Logic.{◌↔◌};
@@ -30,9 +30,12 @@ use std::marker::{Brand, Model};
 use std::sync::Wait;
 use std::sync::ledger::Blank;
 
-/// What is made before an editor has its name: the gauge, the book, and the readers of the seats.
-/// The name `N` says to contracts which gauge and which opening map are its: so a caller makes this
-/// first, and then calls a function that is generic in `N` at [`Brand`].
+/// What is created before an editor has its name: the gauge, the book, and the readers of the
+/// seats.
+///
+/// The name `N` of an editor says, for contracts alone, which gauge and which opening map are the
+/// editor's, so these must exist first. A caller therefore creates a `Started`, and then calls a
+/// function that is generic in `N`, with [`Brand`] for `N`; that function calls [`Editor::open`].
 #[derive(Drop)]
 pub struct Started<A: Allocator = Global, O: Opening = CrushMap<A>> {
     gauge: MapGauge,
@@ -72,7 +75,9 @@ impl<A: Allocator, O: Opening> Model for Started<A, O> {
 }
 
 impl<A: Allocator + Clone> Started<A> {
-    /// Makes the gauge, the book and the readers of so many operators: 1 to 16.
+    /// Creates the gauge, the book and the readers for this number of operators, from 1 to 16. It
+    /// copies the map once, so that the editor can return its opening. If memory runs out, it
+    /// returns the map.
     pub fn new(map: CrushMap<A>, operators: usize, alloc: Global) -> Result<Started<A>, CrushMap<A>>
         requires some { 0 < operators }
         requires few { operators ≤ MOST_OPERATORS }
@@ -94,8 +99,8 @@ impl<A: Allocator + Clone> Started<A> {
 }
 
 impl<A: Allocator> Started<A, WithoutSnapshot> {
-    /// [`Started::new`] of a map of which no copy is kept: the map itself is the one that calls
-    /// change, and the close hands out no opening.
+    /// Creates what [`Started::new`] does, but without a copy of the map. Calls change the map
+    /// itself, and [`Editor::close`] returns no opening. If memory runs out, it returns the map.
     pub fn without_opening(
         map: CrushMap<A>,
         operators: usize,
@@ -122,7 +127,7 @@ impl<A: Allocator> Started<A, WithoutSnapshot> {
 }
 
 impl<A: Allocator, O: Opening> Started<A, O> {
-    /// The gauge and the book, for one thread that needs no lock.
+    /// Returns the gauge and the book, for a single thread that needs no lock.
     pub fn into_book(self) -> (MapGauge, Book<A, O>)
         ensures table { result.1.table ≡ result.0.table.shared.table_id }
         ensures opening { result.1.opening ≡ self.opening }
@@ -140,7 +145,8 @@ impl<A: Allocator, O: Opening> Started<A, O> {
     }
 }
 
-/// Contracts alone see the opening. Each call picks it.
+/// The opening map, for contracts alone: a gauge is created with only its weight. The proof of each
+/// call picks the map.
 trait Opened {
     ghost use Rattle.crush_map.specs.MapData.{MapData};
 
@@ -153,6 +159,7 @@ impl Opened for Brand {
     ghost map = { no_map };
 }
 
+/// Creates a gauge for the map, with the book's seat and a reader for each operator.
 fn make_gauge<M: Opened, A: Allocator>(
     map: &CrushMap<A>,
     operators: usize,
@@ -169,6 +176,7 @@ fn make_gauge<M: Opened, A: Allocator>(
     new_gauge::<M>(map.total(), operators, alloc)
 }
 
+/// Creates a gauge for the opening map `M`, whose weight this is.
 fn new_gauge<M: Opened>(
     weight: u64,
     operators: usize,
@@ -184,7 +192,8 @@ fn new_gauge<M: Opened>(
     MapGauge::new(alloc, weight, operators)
 }
 
-/// The editor of a name: a book under one lock, and a gauge that is read without it.
+/// The editor with the name `N`: a book under one lock, and a gauge that is read without the lock.
+/// Threads share it by reference; each of them needs a [`Seat`] of its own.
 #[derive(Drop)]
 pub struct Editor<N: Desk, O: Opening = CrushMap<Global>> {
     lock_free_reader: LockFreeReader<N>,
@@ -192,9 +201,17 @@ pub struct Editor<N: Desk, O: Opening = CrushMap<Global>> {
 }
 
 impl<N: Desk, O: Opening> Editor<N, O> {
-    /// Makes a call of the seat's operator, under the lock. It may wait for ever; its copies and
-    /// the slip's room are taken before the lock. A guarded batch that names the changes of the
-    /// seat's last reading is stale, or made of the table that the seat has seen.
+    /// Makes a call of the seat's operator under the lock, and returns the reply. It waits for the
+    /// lock, perhaps for ever.
+    ///
+    /// The call's copies and room for the slip are allocated before the lock is acquired. After a
+    /// reply the seat has one more slip, and it has seen the history up to and including this call.
+    /// If a guarded batch names the number of changes that the seat had seen before the call, then
+    /// the reply is `Stale`, or the batch was made on the table that the seat had seen.
+    ///
+    /// An error is `Full` if and only if the history is full, otherwise it is `OutOfMemory`. After
+    /// an error the call was not made and the slips are unchanged; the seat may have seen more of
+    /// the history.
     pub fn submit(
         &self,
         rt: &impl Wait,
@@ -219,8 +236,8 @@ impl<N: Desk, O: Opening> Editor<N, O> {
         }
     }
 
-    /// [`Editor::submit`] of a call that is moved into its entry, so that it is copied once, for
-    /// its slip.
+    /// Makes a call as [`Editor::submit`] does, but moves the call into its entry. It is copied
+    /// only once, for its slip. An error returns the call.
     pub fn submit_copied(
         &self,
         rt: &impl Wait,
@@ -254,6 +271,8 @@ impl<N: Desk, O: Opening> Editor<N, O> {
         Ok(reply)
     }
 
+    /// Returns the fault of a call that could not be copied. It waits for the lock, since only the
+    /// book knows whether the history is full.
     fn refuse(&self, rt: &impl Wait, seat: &mut Seat<N>) -> SubmitFault
         ensures seat { Sees N.opening seat.old seat.new }
         ensures full { (result ≡ SubmitFault.Full) ↔ (length seat.new.seen ≡ MOST_ENTRIES) }
@@ -263,12 +282,13 @@ impl<N: Desk, O: Opening> Editor<N, O> {
         self.state_lock.refuse(rt, gauge, &mut seat.reader)
     }
 
-    /// The part of the editor that readings need.
+    /// The part of the editor that takes readings without the lock.
     pub fn lock_free_reader(&self) -> &LockFreeReader<N> {
         &self.lock_free_reader
     }
 
-    /// [`LockFreeReader::reading`] of this editor's reader without lock.
+    /// Returns the number of changes so far and the weight now, as [`LockFreeReader::reading`]
+    /// does.
     pub fn reading(&self, seat: &mut Seat<N>) -> Reading
         ensures seat { Sees N.opening seat.old seat.new }
         ensures changes { result.changes ≡ changes seat.new.seen }
@@ -278,7 +298,7 @@ impl<N: Desk, O: Opening> Editor<N, O> {
         self.lock_free_reader.reading(seat)
     }
 
-    /// [`LockFreeReader::note`] of this editor's reader without lock.
+    /// Returns a note of what the seat has seen, as [`LockFreeReader::note`] does.
     pub fn note(&self, seat: &mut Seat<N>) -> Note<N>
         ensures seat { seat.new ≡ seat.old }
         ensures note { result ≡ seat.old.seen }
@@ -286,7 +306,7 @@ impl<N: Desk, O: Opening> Editor<N, O> {
         self.lock_free_reader.note(seat)
     }
 
-    /// [`LockFreeReader::learn`] of this editor's reader without lock.
+    /// Adds a note to what the seat has seen, as [`LockFreeReader::learn`] does.
     pub fn learn(&self, seat: &mut Seat<N>, note: Note<N>)
         ensures seat { Sees N.opening seat.old seat.new }
         ensures note { IsPrefix note seat.new.seen }
@@ -296,7 +316,8 @@ impl<N: Desk, O: Opening> Editor<N, O> {
 }
 
 impl<N: Desk> Editor<N> {
-    /// The editor of a name, with a seat for each operator, seat k for operator k, counted from 0.
+    /// Creates the editor with the name `N`, and a seat for each operator: seat k, from 0, is
+    /// operator k's. If memory runs out, it returns the opening map.
     pub fn open(
         started: Started,
         alloc: Global,
@@ -318,7 +339,7 @@ impl<N: Desk> Editor<N> {
 }
 
 impl<N: Desk> Editor<N, WithoutSnapshot> {
-    /// [`Editor::open`] of an editor that keeps nothing of its opening.
+    /// Creates an editor as [`Editor::open`] does, but one that keeps nothing of its opening.
     pub fn open_unkept(
         started: Started<Global, WithoutSnapshot>,
         alloc: Global,
@@ -340,6 +361,7 @@ impl<N: Desk> Editor<N, WithoutSnapshot> {
 }
 
 impl<N: Desk, O: Opening> Editor<N, O> {
+    /// Creates the editor and its seats. If memory runs out, it returns the book, without entries.
     fn begin(
         started: Started<Global, O>,
         alloc: Global,
@@ -388,9 +410,12 @@ impl<N: Desk, O: Opening> Editor<N, O> {
         ))
     }
 
-    /// What the editor has of its opening, with map and history, once all seats are given back, in
-    /// the order of `open`. The history is one that one thread could have made: each answered call
-    /// once, in its operator's order. It takes no memory.
+    /// Closes the editor, and returns what it keeps of its opening, its map and its history.
+    /// `seats` must be all seats, in the order in which [`Editor::open`] returned them.
+    ///
+    /// The history is one that a single thread could have made: it has each answered call exactly
+    /// once, and the calls of each operator are in that operator's order. Closing can't fail, and
+    /// allocates no memory.
     pub fn close(self, seats: Vec<Seat<N>>) -> Closed<Global, O>
         requires count { vec_len seats ≡ N.parts }
         requires order { InOrder seats.items }

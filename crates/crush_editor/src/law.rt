@@ -1,11 +1,12 @@
-//! Which histories a gauge of a map may publish.
+//! Which histories the gauge of a map may publish, and short names for its types.
 
 use crush_gauge::{BookSeat, Gauge, Law, Note, ReadSeat};
 use crush_history::Entry;
 use crush_map::CrushMap;
 use std::alloc::Global;
 
-/// The law of a map's gauge: its legal histories, their changes and weights.
+/// The law of a map's gauge: which histories are legal, and for each of them its number of changes
+/// and the weight after it.
 pub struct OfMap;
 
 impl Law<CrushMap<Global>, Entry> for OfMap {
@@ -19,14 +20,14 @@ impl Law<CrushMap<Global>, Entry> for OfMap {
     ghost weight = { weight_from };
 }
 
-/// The gauge of a map.
+/// The gauge of a map: one atomic word with the number of changes and the weight of the map now.
 pub type MapGauge = Gauge<CrushMap<Global>, Entry, OfMap>;
 
-/// The seat by which a book publishes.
+/// The seat of a gauge with which a book publishes its changes and its weight.
 pub type MapBookSeat = BookSeat<CrushMap<Global>, Entry>;
 
-/// A seat by which an operator reads.
+/// A seat of a gauge with which an operator takes readings.
 pub type Reader = ReadSeat<CrushMap<Global>, Entry>;
 
-/// What a seat of a map's gauge has seen.
+/// A note of what a seat of a map's gauge has seen.
 pub type MapNote = Note<CrushMap<Global>, Entry>;

@@ -1,7 +1,10 @@
-//! An editor of one map for operators at once: a [`Book`], the map with its history, under one
-//! lock, and a gauge beside it. Each operator has a [`Seat`] for its calls, for readings without
-//! the lock, and for slips of the answered calls. Only [`Editor::submit`] and
-//! [`Editor::submit_copied`] may wait.
+//! An editor that up to 16 operators (threads) use at the same time to edit one map.
+//!
+//! An [`Editor`] has a [`Book`], which is the map with the history of its calls, under one lock,
+//! and a gauge that is read without the lock. Each operator has a [`Seat`]: with it the operator
+//! submits calls and takes readings, and it keeps a slip for each answered call. Only
+//! [`Editor::submit`] and [`Editor::submit_copied`] may wait. Read [`Started`] first: it says how
+//! an editor is created.
 #![tactic(auto)]
 
 mod book;

@@ -1,4 +1,4 @@
-//! What a reading needs of an editor, without its lock.
+//! Readings of an editor, which don't acquire its lock.
 
 ghost use Rattle.std.specs.Prelude.{◌≡◌, ◌≤◌};
 ghost use mathlib.Core.List.{IsPrefix};
@@ -12,7 +12,8 @@ use crate::locked::{Desk, Seat};
 use crush_gauge::Reading;
 use std::marker::{Model, PhantomData};
 
-/// What a seat has seen, to be handed to another seat of the same editor. It can cross threads.
+/// A note of what a seat has seen, for [`LockFreeReader::learn`] with another seat of the same
+/// editor. It can be sent to another thread.
 #[derive(Drop)]
 pub struct Note<N: Desk> {
     note: MapNote,
@@ -34,7 +35,7 @@ impl<N: Desk> Model for Note<N> {
         × IsLegalFrom N.opening (seen_of n.note.view) };
 }
 
-/// The gauge of an editor's name. Its calls take no lock and no memory.
+/// The gauge of the editor with the name `N`. Its methods acquire no lock and allocate no memory.
 #[derive(Drop)]
 pub struct LockFreeReader<N: Desk> {
     gauge: MapGauge,
@@ -58,8 +59,9 @@ impl<N: Desk> LockFreeReader<N> {
         &self.gauge
     }
 
-    /// The number of changes so far and the weight of all placed devices, in units, by one load: it
-    /// takes no lock and no memory.
+    /// Returns the number of changes so far, and the weight of all placed devices in units (65536
+    /// units are 1.0), both after the same history, which the seat has then seen. It is one atomic
+    /// load: it acquires no lock and allocates no memory.
     pub fn reading(&self, seat: &mut Seat<N>) -> Reading
         ensures seat { Sees N.opening seat.old seat.new }
         ensures changes { result.changes ≡ changes seat.new.seen }
@@ -69,7 +71,8 @@ impl<N: Desk> LockFreeReader<N> {
         self.gauge.read(&mut seat.reader)
     }
 
-    /// What the seat has seen, for another seat of this editor.
+    /// Returns a note of what the seat has seen, for another seat of this editor. The seat is
+    /// unchanged.
     pub fn note(&self, seat: &mut Seat<N>) -> Note<N>
         ensures seat { seat.new ≡ seat.old }
         ensures note { result ≡ seat.old.seen }
@@ -81,8 +84,8 @@ impl<N: Desk> LockFreeReader<N> {
         }
     }
 
-    /// The seat has then also seen what the note's seat had seen when the note was made: its next
-    /// reading is not before either.
+    /// Joins a note into the seat: the seat has then also seen what the note's seat had seen when
+    /// the note was made. So the seat's next reading is no older than what either of them had seen.
     pub fn learn(&self, seat: &mut Seat<N>, note: Note<N>)
         ensures seat { Sees N.opening seat.old seat.new }
         ensures note { IsPrefix note seat.new.seen }

@@ -1,4 +1,4 @@
-//! What lies under the lock of an editor, and the seats of its operators.
+//! What the lock of an editor protects, and the seats of the editor's operators.
 
 ghost use Rattle.std.specs.Prelude.{◌≡◌, ◌<◌, ◌≤◌, ◌+◌, ◌++◌, ◌∷◌, [], length, IfOk, IfErr, OnOk, OnErr};
 ghost use mathlib.Core.Logic.{◌↔◌};
@@ -17,7 +17,8 @@ use std::marker::{Brand, Model};
 use std::sync::ledger;
 use std::sync::ledger::{Ledger, Share};
 
-/// The name of one editor: contracts alone see its gauge, its opening map and its ledger.
+/// The name of one editor. It is for contracts alone, and says which gauge, which opening map and
+/// which ledger are this editor's.
 pub trait Desk: Ledger {
     ghost use Rattle.atomic_table.specs.Seated.{TableId};
     ghost use Rattle.crush_map.specs.MapData.{MapData};
@@ -36,7 +37,7 @@ impl Desk for Brand {
     ghost opening = { no_map };
 }
 
-/// An operator's place at an editor: its number, a slip of each call that it was answered, in
+/// An operator's place at an editor: its number, a slip for each of its calls that was answered, in
 /// order, and, for contracts alone, the history that it has seen.
 #[derive(Drop)]
 pub struct Seat<N: Desk> {
@@ -60,7 +61,8 @@ impl<N: Desk> Model for Seat<N> {
         × IsSeat N.opening s.operator s.slips.items (seen_of s.reader.view) };
 }
 
-/// `count` is the length of the book's history.
+/// What the lock protects: the book; the length of its history, `count`, of which each seat has its
+/// share; and the share that is left after each seat has taken its own.
 #[derive(Drop)]
 pub(crate) struct Locked<N: Desk, O: Opening> {
     pub(crate) book: Book<Global, O>,
@@ -86,6 +88,9 @@ impl<N: Desk, O: Opening> Model for Locked<N, O> {
 }
 
 impl<N: Desk, O: Opening> Locked<N, O> {
+    /// Executes a call of operator `k`, and counts it in the seat's share if it is answered. The
+    /// reader has then seen the whole history, also after an error. An error returns the call, and
+    /// leaves the book and the share unchanged.
     pub(crate) fn submit(
         &mut self,
         gauge: &MapGauge,
@@ -124,6 +129,7 @@ impl<N: Desk, O: Opening> Locked<N, O> {
         Ok(reply)
     }
 
+    /// Returns the fault of a call that could not be copied, as [`Book::refuse`] does.
     pub(crate) fn refuse(&mut self, gauge: &MapGauge, reader: &mut Reader) -> SubmitFault
         requires gauge { gauge.now.table.shared.table_id ≡ N.gauge }
         requires reader { (reader.old.table ≡ N.gauge)
@@ -143,14 +149,14 @@ impl<N: Desk, O: Opening> Locked<N, O> {
 }
 
 impl<N: Desk> Seat<N> {
-    /// The number of its operator, counted from 0.
+    /// The operator's number, from 0.
     pub fn operator(&self) -> usize
         ensures { result ≡ self.now.operator }
     {
         self.operator
     }
 
-    /// The calls that it was answered, with their replies, in order.
+    /// The operator's calls that were answered, with their replies, in order.
     pub fn slips(&self) -> &[Slip]
         ensures { result.now ≡ self.now.slips }
     {

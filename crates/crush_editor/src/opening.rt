@@ -1,11 +1,12 @@
-//! What a book has of its opening map: the map itself, or nothing.
+//! What a book keeps of its opening map: the map itself, or nothing.
 
 use crush_map::CrushMap;
 use std::alloc::Allocator;
 
-/// What a book, or an editor, has of the map that it was made of, its opening. A [`CrushMap`] is a
-/// copy in time and memory, handed out at the close; with [`WithoutSnapshot`] contracts alone speak of the
-/// opening.
+/// What a book or an editor keeps of its opening: the map from which it was created. With a
+/// [`CrushMap`] it keeps the whole opening and returns it at the close; this costs the time and
+/// memory of one copy of the map. With [`WithoutSnapshot`] it keeps nothing, and only contracts
+/// speak of the opening.
 pub trait Opening: Drop {
     ghost use Rattle.std.specs.Prelude.{Option};
     ghost use Rattle.crush_map.specs.MapData.{MapData};
@@ -13,7 +14,7 @@ pub trait Opening: Drop {
     ghost kept: { Self → Option MapData };
 }
 
-/// Nothing, in place of an opening map.
+/// Nothing, instead of an opening map.
 #[derive(Clone, Copy, Debug, PartialEq, Eq)]
 pub struct WithoutSnapshot;
 

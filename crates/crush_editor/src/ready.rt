@@ -1,4 +1,4 @@
-//! What a call takes of memory before the lock.
+//! The memory that a call allocates before the lock is acquired.
 
 ghost use Rattle.std.specs.Prelude.{◌≡◌, ◌<◌, IfOk, OnOk, vec_len, vec_capacity};
 ghost use Rattle.crush_editor.specs.History.{slip};
@@ -6,14 +6,16 @@ ghost use Rattle.crush_editor.specs.History.{slip};
 use crush_history::{Call, Reply, Slip};
 use std::alloc::{AllocError, Global};
 
-/// A copy of a call for its slip. Only this file makes one.
+/// A copy of a call for its slip. Only this file creates one, and it makes room for the slip first;
+/// so whoever has a `Ready` has both.
 #[derive(Drop)]
 pub(crate) struct Ready {
     for_slip: Call,
 }
 
 impl Ready {
-    /// With room for the slip.
+    /// Makes room for one more slip, and copies the call for it. Fails if memory runs out. The
+    /// slips are unchanged in any case.
     pub(crate) fn new(
         alloc: Global,
         slips: &mut Vec<Slip>,
@@ -28,6 +30,7 @@ impl Ready {
         Ok(Ready { for_slip })
     }
 
+    /// Returns the slip of the call with this reply, without allocating memory.
     pub(crate) fn into_slip(self, reply: Reply) -> Slip
         ensures { result ≡ slip self.for_slip reply }
     {

@@ -1,5 +1,5 @@
-//! The lock of an editor. Only this file names it, so that no call comes to it without the leave to
-//! wait and memory for its slip.
+//! The lock of an editor. Only this file can acquire it: each acquisition needs the permission to
+//! wait ([`Wait`]), and an acquisition for a call also needs the memory for the call's slip.
 
 ghost use Rattle.std.specs.Prelude.{◌≡◌, ◌<◌, ◌≤◌, length, vec_len, vec_capacity};
 ghost use mathlib.Core.Logic.{◌↔◌};
@@ -16,6 +16,7 @@ use crate::ready::Ready;
 use crush_history::Slip;
 use std::sync::{Mutex, MutexGuard, Wait};
 
+/// The lock, with the book that it protects.
 #[derive(Drop)]
 pub(crate) struct StateLock<N: Desk, O: Opening> {
     desk: Mutex<Locked<N, O>>,
@@ -28,6 +29,8 @@ impl<N: Desk, O: Opening> StateLock<N, O> {
         }
     }
 
+    /// Acquires the lock for a call. The caller shows that memory for the slip is allocated: there
+    /// is room in `slips`, and `ready` is the copy of the call.
     pub(crate) fn lock(
         &self,
         rt: &impl Wait,
@@ -41,6 +44,8 @@ impl<N: Desk, O: Opening> StateLock<N, O> {
         self.desk.lock(rt)
     }
 
+    /// Acquires the lock, and returns the fault of a call that could not be copied: `Full` if the
+    /// history is full, otherwise `OutOfMemory`. The reader has then seen the whole history.
     pub(crate) fn refuse(
         &self,
         rt: &impl Wait,
@@ -61,6 +66,7 @@ impl<N: Desk, O: Opening> StateLock<N, O> {
         self.desk.lock(rt).refuse(gauge, reader)
     }
 
+    /// Returns what the lock protects. Nobody else can have the lock, so this doesn't wait.
     pub(crate) fn into_inner(self) -> Locked<N, O> {
         let StateLock { desk } = self;
         desk.into_inner()

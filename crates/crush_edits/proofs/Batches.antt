@@ -10,7 +10,7 @@ use Rattle.crush_edits.specs.Edit.{edit}
 use Rattle.crush_edits.specs.Batch.{batch_refused, batch_done, no_dones, one_changed, with_done, and_then, batch_from}
 use Rattle.crush_edits.specs.LawBatch.{BatchCounts, BatchStops}
 
--- a batch from what was done before it adds to that
+-- the counts of a batch are added to the counts of what was done before it
 record Adds (d e : Dones) (n : ℕ) : Type 0 where
   all : e.edits ≡ d.edits + n
   some : e.changed ≤ d.changed + n

@@ -1,4 +1,4 @@
--- The rows of items in new buckets.
+-- The rows of new buckets that are nested as items.
 use Rattle.std.proofs.Common.{◌≡◌, ℕ, ◌≤◌, Bool, true, false, List, [], ◌∷◌, ◌++◌, ap, sym, ◌∙◌, refl, arith, append_assoc, append-nil}
 use Rattle.std.specs.Prelude.{◌==◌, if◌then◌else◌, Option, Some}
 use Rattle.crush_model.specs.Items.{Items, none, device, bucket}
@@ -11,7 +11,7 @@ use Rattle.crush_model.proofs.Sums.{device_sum, below}
 use Rattle.crush_edits.specs.Put.{NewData, new_header, next_up, chain}
 use Rattle.crush_edits.specs.Boxes.{boxes, last_first}
 
--- one more bucket on top: it holds those before it
+-- one more bucket at the end holds all the buckets before it
 pub boxes-more : (m : ℕ) (items : Items) (ns : List NewData) (n : NewData) → boxes m items (ns ++ n ∷ []) ≡ bucket (new_header n) (weight_sum (boxes m items ns)) m (boxes m items ns) none
 boxes-more m items [] n = refl
 boxes-more m items (x ∷ ns) n = boxes-more m (bucket (new_header x) (weight_sum items) m items none) ns n
@@ -24,11 +24,11 @@ rows-boxes m items (n ∷ ns) top =
     rows-boxes m (bucket (new_header n) (weight_sum items) m items none) ns top
     ∙ ap (λ z. last_first (chain ns top) ++ row ∷ z) (append-nil (rows (Some n.id) items)) ∙ sym (append_assoc (last_first (chain ns top)) (row ∷ []) (rows (Some n.id) items))
 
--- of the new buckets alone
+-- the same if there are no items in the lowest
 pub rows-empty : (m : ℕ) (ns : List NewData) (top : Option ℕ) → rows top (boxes m none ns) ≡ last_first (chain ns top)
 rows-empty m ns top = rows-boxes m none ns top ∙ append-nil (last_first (chain ns top))
 
--- they weigh what the items weigh, and store their sums where the items do
+-- the nested buckets weigh what the items in them weigh, and store right sums if the items do
 pub weight_sum-boxes : (m : ℕ) (items : Items) (ns : List NewData) → weight_sum (boxes m items ns) ≡ weight_sum items
 weight_sum-boxes m items [] = refl
 weight_sum-boxes m items (n ∷ ns) = omega (arith, weight_sum-boxes m (bucket (new_header n) (weight_sum items) m items none) ns)
@@ -41,7 +41,7 @@ pub device_sum-boxes : (m : ℕ) (items : Items) (ns : List NewData) → device_
 device_sum-boxes m items [] = refl
 device_sum-boxes m items (n ∷ ns) = omega (arith, device_sum-boxes m (bucket (new_header n) (weight_sum items) m items none) ns)
 
--- what is below one bucket is a part
+-- the devices below one bucket weigh at most what all devices weigh
 pub below-le : (b : ℕ) (n : Items) → below b n ≤ device_sum n
 below-le b none = omega arith
 below-le b (device d r) = omega (arith, below-le b r)

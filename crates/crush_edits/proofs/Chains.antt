@@ -1,4 +1,4 @@
--- The rows of new buckets, and the table with them.
+-- The rows of new buckets, and the table to which they are appended.
 use Rattle.std.proofs.Common.{◌≡◌, ℕ, ◌+◌, ◌≤◌, Bool, true, false, List, [], ◌∷◌, ◌++◌, ap, sym, subst, ◌∙◌, refl, arith, ⊎_elim, ◌⊎◌, inl, inr}
 use Rattle.std.specs.Prelude.{◌==◌, ◌||◌, not, if◌then◌else◌, Option, Some, None, IfSome, All, is_some, option_and_then, bytes_eq}
 use Rattle.std.specs.List.{sum_by, count_by}
@@ -42,12 +42,12 @@ pub chain-none : (f : Row → ℕ) → ((q : Option ℕ) (n : NewData) → f (bu
 chain-none f h [] top = refl
 chain-none f h (n ∷ ns) top = omega (arith, sum_by-cons f (bucket_row (next_up ns top) (new_header n)) (chain ns top), h (next_up ns top) n, chain-none f h ns top)
 
--- what holds of each new row
+-- a property that holds for each row of a new bucket
 pub chain-All : (P : Row → Type 0) (Q : NewData → Type 0) → ((q : Option ℕ) (n : NewData) → Q n → P (bucket_row q (new_header n))) → (ns : List NewData) (top : Option ℕ) → All Q ns → All P (chain ns top)
 chain-All P Q h [] top a = All-nil P
 chain-All P Q h (n ∷ ns) top a = All-cons P (bucket_row (next_up ns top) (new_header n)) (chain ns top) (h (next_up ns top) n (All-head Q n ns a)) (chain-All P Q h ns top (All-tail Q n ns a))
 
--- of some element that passes, or of none
+-- either no element passes the test, or Q holds
 any-or : {X : Type 0} (p : X → Bool) (Q : Type 0) (xs : List X) → All (λ x. p x ≡ true → Q) xs → (count_by p xs ≡ 0) ⊎ Q
 any-or p Q [] a = inl refl
 any-or p Q (x ∷ xs) a = ⊎_elim
@@ -59,7 +59,7 @@ pub All-right : {X : Type 0} (P : X → Type 0) (xs ys : List X) → All P (xs +
 All-right P [] ys a = a
 All-right P (x ∷ xs) ys a = All-right P xs ys (All-tail P x (xs ++ ys) a)
 
--- the form of a new row
+-- the row of a valid new bucket is valid
 new_form : (q : Option ℕ) (n : NewData) → IsNew n → IsRow (bucket_row q (new_header n))
 new_form q n form = record {
   name = form.name;
@@ -77,7 +77,7 @@ new_form q n form = record {
   };
 }
 
--- what has no parent is below nothing
+-- an item without a parent is below no bucket
 root_under : (t : List Row) → Lawful t → (i j : ItemId) → parent_of t j ≡ None → is_under t i j ≡ false
 root_under t l (Device d) j e = refl
 root_under t l (Bucket b) j e = ap (member b) (above-parent t l j ∙ ap (λ o. then_up o (λ p. above t (Bucket p))) e)
@@ -86,7 +86,7 @@ up_apart : (t : List Row) → Lawful t → (i j : ItemId) (o : Option ℕ) → p
 up_apart t l i j None e h = root_under t l i j e
 up_apart t l i j (Some q) e h = under_parent t l i j q e ∙ h
 
--- new buckets below what isn't a part of an item are no part of it
+-- if the receiver isn't part of an item, then the new buckets aren't, either
 pub chain_apart : (t : List Row) → Lawful t → (i : ItemId) (ns : List NewData) (top : Option ℕ) → All (λ (r : Row). row_of t r.id ≡ Some r) (chain ns top) → All (λ (n : NewData). same_id (Bucket n.id) i ≡ false) ns
     → IfSome top (λ b. is_part t i (Bucket b) ≡ false) → All (λ (r : Row). is_part t i r.id ≡ false) (chain ns top) × IfSome (next_up ns top) (λ b. is_part t i (Bucket b) ≡ false)
 chain_apart t l i [] top found other h = (All-nil (λ (r : Row). is_part t i r.id ≡ false), h)
@@ -99,7 +99,7 @@ chain_apart t l i (n ∷ ns) top found other h =
     let apart : is_part t i (Bucket n.id) ≡ false = λ z. not_it z || not_under z in
     (All-cons (λ (r : Row). is_part t i r.id ≡ false) row (chain ns top) apart above_it.0, apart)
 
--- at most one of the new buckets stands in each, and one in the receiver
+-- each new bucket holds at most one of the new buckets, and so does the receiver
 kids-few : (b : ℕ) (n : NewData) (ns : List NewData) (top : Option ℕ) → count_by (λ (r : Row). is_parent b r.parent) (chain (n ∷ ns) top) ≤ count_by (λ (x : NewData). x.id == b) ns + one_if (is_parent b top)
 kids-few b n [] top = omega (arith, sum_by-cons (λ (r : Row). one_if (is_parent b r.parent)) (bucket_row top (new_header n)) [])
 kids-few b n (x ∷ ns) top =
@@ -177,7 +177,7 @@ module _ (t : List Row) (l : Lawful t) (ns : List NewData) (top : Option ℕ) (f
   pub devices-with : device_count (t ++ new_rows) ≡ device_count t
   devices-with = omega (arith, sum_by-append (λ (r : Row). one_if (is_device r)) t new_rows, reordered-count is_device new-reordered, chain-none (λ (r : Row). one_if (is_device r)) (λ q n. refl) ns top)
 
-  -- THE LAW: a lawful table with new buckets is lawful, where there is room
+  -- THE LAW: a lawful table stays lawful with the new buckets, if there is room
   pub Lawful-with : has_too_many (t ++ new_rows) ≡ false → Lawful (t ++ new_rows)
   Lawful-with room =
       Lawful-attach t top (boxes m none ns) l fresh.there forms_new distinct_with names_with used_with
@@ -187,13 +187,13 @@ module _ (t : List Row) (l : Lawful t) (ns : List NewData) (top : Option ℕ) (f
   pub found-chain : All (λ (r : Row). row_of (t ++ new_rows) r.id ≡ Some r) (chain ns top)
   found-chain = reordered-All (λ (r : Row). row_of (t ++ new_rows) r.id ≡ Some r) new-reordered (All-right (λ (r : Row). row_of (t ++ new_rows) r.id ≡ Some r) t new_rows (All-found (t ++ new_rows) distinct_with))
 
-  -- an item that is there has none of the new ids
+  -- an item that the table has has none of the new ids
   pub ids-apart : (i : ItemId) → is_there t i ≡ true → All (λ (n : NewData). same_id (Bucket n.id) i ≡ false) ns
   ids-apart i there = All-weaker (λ (n : NewData). member n.id (used_ids t) ≡ false) (λ (n : NewData). same_id (Bucket n.id) i ≡ false) each ns fresh.unused where
     each : (n : NewData) → member n.id (used_ids t) ≡ false → same_id (Bucket n.id) i ≡ false
     each n h = ⊎_elim (λ p. absurd (let gone : is_there t i ≡ false = ap (is_there t) (sym p.1) ∙ unused_fresh t n.id h in cc)) (λ p. p.0) (same_id_tells (Bucket n.id) i)
 
-  -- what was there is a part where it was
+  -- whether one item of the table is part of another is the same with the new buckets as without
   pub is_part-with : (i j : ItemId) → is_there t j ≡ true → is_part (t ++ new_rows) i j ≡ is_part t i j
   is_part-with i j there = ap (λ z. same_id j i || z) (by_item i) where
     by_item : (k : ItemId) → is_under (t ++ new_rows) k j ≡ is_under t k j
@@ -204,19 +204,19 @@ module _ (t : List Row) (l : Lawful t) (ns : List NewData) (top : Option ℕ) (f
   top_apart i None there h = tt
   top_apart i (Some b) there h = is_part-with i (Bucket b) there ∙ h
 
-  -- the new buckets are no part of an item, and so isn't the one that receives it
+  -- if the receiver isn't part of an item, then the new buckets aren't, nor is the bucket that the item is put into
   pub chain-apart : has_too_many (t ++ new_rows) ≡ false → (i : ItemId) → All (λ (n : NewData). same_id (Bucket n.id) i ≡ false) ns → IfSome top (λ b. is_part t i (Bucket b) ≡ false)
       → All (λ (r : Row). is_part (t ++ new_rows) i r.id ≡ false) (chain ns top) × IfSome (next_up ns top) (λ b. is_part (t ++ new_rows) i (Bucket b) ≡ false)
   chain-apart room i other h = chain_apart (t ++ new_rows) (Lawful-with room) i ns top found-chain other (top_apart i top fresh.there h)
 
-  -- rows of other ids are not filtered out
+  -- removing the row of an item removes none of the new rows
   pub without_row-with : (i : ItemId) → All (λ (n : NewData). same_id (Bucket n.id) i ≡ false) ns → without_row i (t ++ new_rows) ≡ without_row i t ++ new_rows
   without_row-with i other =
       filter-append (λ (r : Row). not (same_id r.id i)) t new_rows
       ∙ ap (λ z. without_row i t ++ z) (filter_all (λ (r : Row). not (same_id r.id i)) new_rows
       (reordered-All (λ (r : Row). not (same_id r.id i) ≡ true) (reordered-sym new-reordered) (chain-All (λ (r : Row). not (same_id r.id i) ≡ true) (λ (n : NewData). same_id (Bucket n.id) i ≡ false) (λ q n h. ap not h) ns top other)))
 
-  -- at most one new bucket stands in each bucket
+  -- each bucket holds at most one of the new buckets
   one_kid : (b : ℕ) → count_by (λ (n : NewData). n.id == b) ns + one_if (is_parent b top) ≤ 1
   one_kid b = ⊎_elim
       (λ none_new. omega (arith, none_new, at_most (is_parent b top)))

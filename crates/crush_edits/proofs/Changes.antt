@@ -1,4 +1,4 @@
--- Where an edit makes another table.
+-- When an edit changes the table.
 use Rattle.std.proofs.Common.{◌≡◌, ℕ, suc, ◌+◌, ◌<◌, ◌≤◌, Bool, true, false, List, [], ◌∷◌, ◌++◌, length, refl, ap, sym, ◌∙◌, arith, eq-eqb, ⊎_elim, nat_eq}
 use Rattle.std.specs.Prelude.{◌==◌, ◌&&◌, ◌||◌, not, if◌then◌else◌, Option, Some, None, All, is_some, option_and_then, unwrap_or, bytes_eq}
 use Rattle.std.specs.List.{count_by, list_all}
@@ -71,7 +71,7 @@ row_refl r = row_weight r r.weight ∙ eqb_refl r.weight
 pub table_refl : (t : List Row) → same_table t t ≡ true
 table_refl t = pointwise_refl same_row row_refl t
 
--- where no row has the id the weight is set nowhere
+-- if no row has the id, setting its weight changes nothing
 absent : (i : ItemId) (w : ℕ) (t : List Row) → times i t ≡ 0 → same_table t (set_weight i w t) ≡ true
 absent i w [] h = refl
 absent i w (r ∷ t) h = ⊎_elim
@@ -80,7 +80,7 @@ absent i w (r ∷ t) h = ⊎_elim
     (λ k. same_row r (if p.0 k then record r { weight = w } else r) && rest k) ∙ (λ k. row_refl r k && true))
     (same_id_tells r.id i)
 
--- a new weight of one item makes another table where it is another weight
+-- setting an item's weight changes the table if and only if the weight is another one
 pub same_weight : (i : ItemId) (w v : ℕ) (t : List Row) → times i t ≤ 1 → own_weight_of t i ≡ Some v → same_table t (set_weight i w t) ≡ (v == w)
 same_weight i w v [] h e = cc
 same_weight i w v (r ∷ t) h e = ⊎_elim
@@ -136,7 +136,7 @@ pub same_weights : (which : Row → Bool) (w : ℕ) (t : List Row) → same_tabl
 same_weights which w [] = refl
 same_weights which w (r ∷ t) = λ k. row_or r w (which r) k && same_weights which w t k
 
--- where that is the same table it is the table as it was
+-- if setting the weights leaves an equal table, then each row is as it was
 row_kept : (r : Row) (w : ℕ) (b : Bool) → (not b || (r.weight == w)) ≡ true → (if b then record r { weight = w } else r) ≡ r
 row_kept r w true h = ap (λ v. record r { weight = v }) (sym (eqb-true r.weight w h))
 row_kept r w false h = refl
@@ -150,7 +150,7 @@ all_kept which w (r ∷ t) h =
 pub weights_kept : (which : Row → Bool) (w : ℕ) (t : List Row) → same_table t (set_weights which w t) ≡ true → set_weights which w t ≡ t
 weights_kept which w t h = all_kept which w t (sym (same_weights which w t) ∙ h)
 
--- TABLES THAT ARE ONE are of one length and have the same names
+-- EQUAL TABLES have the same length and the same names
 pub same_length : (t u : List Row) → same_table t u ≡ true → length t ≡ length u
 same_length [] [] e = refl
 same_length [] (s ∷ u) e = absurd cc
@@ -190,7 +190,7 @@ same_name_of (r ∷ t) (s ∷ u) e i =
       by_id true false f p rest = absurd cc
       by_id false true f p rest = absurd cc
 
--- so a table of another length is another
+-- so tables of different lengths are different
 pub other_length : (t u : List Row) → (length t ≡ length u → ⊥) → same_table t u ≡ false
 other_length t u h = ⊎_elim (λ e. absurd (h (same_length t u e))) (λ e. e) (true_or_false (same_table t u))
 
@@ -225,7 +225,7 @@ other_name_of i j m v (Some r) e h =
     ∙ ap (λ q. option_map (λ (x : Row). x.name) (option_map (λ (x : Row). if same_id x.id i then record x { name = m } else x) q)) e
     ∙ ap (λ b. Some (if b then record r { name = m } else r).name) (found_id i v r e)
 
--- each name stands once, so another bucket has another name
+-- no name occurs twice, so different buckets have different names
 names_differ : (t : List Row) → Lawful t → (a b : ℕ) (r s : Row) → row_of t (Bucket a) ≡ Some r → row_of t (Bucket b) ≡ Some s → (a == b) ≡ false → r.name ≡ s.name → ⊥
 names_differ t l a b r s e g apart same =
     let new : List Row = set_name (Bucket a) [] t in
@@ -265,7 +265,7 @@ other_swap t a b l here there apart = by_rows (row_of t (Bucket a)) (row_of t (B
       (λ e. e)
       (true_or_false (same_table t (swap_buckets a b t)))
 
--- A ROW that is taken out
+-- A ROW that is removed
 shorter : (t : List Row) (i : ItemId) → length (without_row i t) + times i t ≡ length t
 shorter [] i = refl
 shorter (r ∷ t) i = ⊎_elim

@@ -1,4 +1,4 @@
--- A table is another one after an item is put, unless the lowest stop's bucket holds the item already.
+-- Putting an item changes the table, unless the bucket of the lowest stop already holds the item.
 use Rattle.std.proofs.Common.{◌≡◌, ℕ, suc, Bool, true, false, List, [], ◌∷◌, ◌++◌, length, ap, sym, subst, ◌∙◌, ◌<◌, refl, arith, ⊎_elim, eqb-true, nat_eq}
 use Rattle.std.proofs.lemmas.Bool.{and_parts}
 use Rattle.std.specs.Prelude.{◌==◌, ◌&&◌, not, if◌then◌else◌, Option, Some, None, IfSome, All, is_some, option_and_then, bytes_eq}
@@ -31,7 +31,7 @@ chain_absent i [] top other = refl
 chain_absent i (n ∷ ns) top other =
     ap (λ b. if b then Some (bucket_row (next_up ns top) (new_header n)) else row_of (chain ns top) i) (All-head (λ (x : NewData). same_id (Bucket x.id) i ≡ false) n ns other) ∙ chain_absent i ns top (All-tail (λ (x : NewData). same_id (Bucket x.id) i ≡ false) n ns other)
 
--- the item's row, put
+-- the item's row after the put has the new parent
 pub row_of-put : (t : List Row) (r : Row) (ns : List NewData) (top : Option ℕ) → All (λ (n : NewData). same_id (Bucket n.id) r.id ≡ false) ns → row_of (put_at t r ns top) r.id ≡ Some (record r { parent = next_up ns top })
 row_of-put t r ns top other =
     let s : Row = record r { parent = next_up ns top } in
@@ -41,7 +41,7 @@ row_of-put t r ns top other =
     ∙ row_of-append (chain ns top) (record r { parent = next_up ns top } ∷ []) r.id
     ∙ (λ k. if is_some (chain_absent r.id ns top other k) then chain_absent r.id ns top other k else (if same_id_refl r.id k then Some (record r { parent = next_up ns top }) else None))
 
--- the item stood neither in a new bucket nor in what receives it
+-- the item's parent before the put isn't the lowest new bucket, because its id was unused
 stood_apart : (t : List Row) → Lawful t → (i : ItemId) (ns : List NewData) (top : Option ℕ) → 0 < length ns → All (λ (n : NewData). member n.id (used_ids t) ≡ false) ns → parent_of t i ≡ next_up ns top → ⊥
 stood_apart t l i [] top some unused e = omega (arith, some)
 stood_apart t l i (n ∷ ns) top some unused e =
@@ -69,7 +69,7 @@ parent_differs t i (p ∷ ps) l route h e = ⊎_elim
     stood_apart t l i (new_buckets t (p ∷ ps)) (receiver t (p ∷ ps)) (omega (arith, many, new_buckets-length t (p ∷ ps))) (route_fresh t (p ∷ ps) l route).unused e)
     (true_or_false (is_named t p.name))
 
--- TABLES THAT ARE ONE have the same parents
+-- EQUAL TABLES have the same parents
 columns : (a b c d e f g h : Bool) → (a && b && c && d && e && f && g && h) ≡ true → (a ≡ true) × (d ≡ true)
 columns false b c d e f g h p = absurd cc
 columns true false c d e f g h p = absurd cc
@@ -98,7 +98,7 @@ parent_of-same_table (r ∷ t) (s ∷ u) e i =
       by_id true false e p rest = absurd cc
       by_id false true e p rest = absurd cc
 
--- THE LAW: the table after is another, unless the item is held
+-- THE LAW: the put changes the table, unless the item is held
 pub differs : (t : List Row) (r : Row) (ps : List StopData) → Lawful t → IsRoute t ps → All (λ (n : NewData). same_id (Bucket n.id) r.id ≡ false) (new_buckets t ps) → held t r.id ps ≡ false → same_table t (put t r ps) ≡ false
 differs t r ps l route other h = ⊎_elim
     (λ e. absurd (parent_differs t r.id ps l route h

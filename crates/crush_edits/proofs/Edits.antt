@@ -1,4 +1,4 @@
--- What isn't refused leaves a lawful table that the setting fits.
+-- An edit that isn't refused leaves a lawful table that the setting fits.
 use Rattle.std.proofs.Common.{◌≡◌, ℕ, ◌≤◌, Bool, true, false, List, [], ◌∷◌, length, refl, ap, sym, subst, ◌∙◌, arith, ⊎_elim}
 use Rattle.std.specs.Prelude.{◌==◌, ◌&&◌, not, if◌then◌else◌, Option, Some, None, IfSome, All, is_some, is_none, option_and_then, unwrap_or, bytes_eq}
 use Rattle.std.specs.Option.{option_map}
@@ -49,7 +49,7 @@ use Rattle.crush_edits.proofs.Routes.{named_there}
 use Rattle.crush_edits.proofs.Stops.{location_route, no_stop_named}
 use Rattle.crush_edits.proofs.Tails.{form_stays, row_form, edited_is_own}
 
--- what isn't too heavy is a device's weight
+-- a weight that isn't too large is one that a device can have
 pub not_heavy : (w : ℕ) → is_heavy w ≡ false → w ≤ HEAVIEST_DEVICE
 not_heavy w h = ltb-false HEAVIEST_DEVICE w h
 
@@ -59,13 +59,13 @@ some_row t i there = by_row (row_of t i) refl there where
   by_row None e h = absurd cc
   by_row (Some r) e h = (r, e)
 
--- ITEMS IN PLACES
+-- EDITS WITH A LOCATION
 pub no_device_ends : (o : Option ItemId) → is_a_device o ≡ false → IfSome o (λ i. is_device_id i ≡ false)
 no_device_ends None h = tt
 no_device_ends (Some (Device d)) h = absurd cc
 no_device_ends (Some (Bucket b)) h = refl
 
--- nothing is part of a device but itself
+-- no bucket is part of a device
 pub device_apart : (t : List Row) (d : ℕ) (o : Option ℕ) → IfSome o (λ b. is_part t (Device d) (Bucket b) ≡ false)
 device_apart t d None = tt
 device_apart t d (Some b) = refl
@@ -97,7 +97,7 @@ device_light t l d w light = by_place (is_placed t (Device d)) where
   by_place true = by_row (row_of t (Device d)) refl
   by_place false = light
 
--- a name that isn't another's, of a device that isn't there, is none's
+-- if the table doesn't have the device, and no other item has its name, then no item has its name
 name_free : (t : List Row) (d : ℕ) (n : List ℕ) → is_there t (Device d) ≡ false → meets (λ j. not (same_id j (Device d))) (id_named t n) ≡ false → is_named t n ≡ false
 name_free t d n gone h = by_id (id_named t n) (named_there t n) h where
   by_id : (o : Option ItemId) → IfSome o (λ i. is_there t i ≡ true) → meets (λ j. not (same_id j (Device d))) o ≡ false → is_some o ≡ false
@@ -140,7 +140,7 @@ module _ (s : SettingData) (t : List Row) (k : Keeps s t) where
     device_put : (w : ℕ) → w ≤ HEAVIEST_DEVICE → is_too_heavy (put t (edited_device t d n w) (stops s l)) ≡ false → has_too_many (put t (edited_device t d n w) (stops s l)) ≡ false → Keeps s (put t (edited_device t d n w) (stops s l))
     device_put w light sums room = record { lawful = device_put_lawful w light sums room; fits = put_fits s t l (edited_device t d n w) k.fits (λ more. absurd (omega arith)) }
 
-    -- where it is held, or else put
+    -- nothing changes if the device is held; otherwise it is put
     create_or_move : (w : ℕ) → w ≤ HEAVIEST_DEVICE → (b : Bool) → has_too_many (if b then kept t else put_after t (edited_device t d n w) (stops s l)).table ≡ false → is_too_heavy (if b then kept t else put_after t (edited_device t d n w) (stops s l)).table ≡ false
         → Keeps s (if b then kept t else put_after t (edited_device t d n w) (stops s l)).table
     create_or_move w light true room sums = k
@@ -275,7 +275,7 @@ edit_keeps s t (RemoveClass n) k form told =
     let h = edit_passed s t (RemoveClass n) told in
     classed s t k None tt (id_named t n) (h NotADevice)
 
--- and of batches
+-- the law for batches
 batch_from_keeps : (s : SettingData) (es : List Edit) (d : Dones) (t u : List Row) (e : Dones) → Keeps s t → All IsEdit es → batch_from s es d t ≡ batch_done e u → Keeps s u
 batch_from_keeps s [] d t u e k forms is = let same : t ≡ u = cc in subst (Keeps s) same k
 batch_from_keeps s (x ∷ es) d t u e k forms is = by_refusal (refusal s t x) refl is (λ c v kv g. batch_from_keeps s es c v u e kv (All-tail IsEdit x es forms) g) where

@@ -1,4 +1,4 @@
--- The numbers of names that are kept beside a list of types.
+-- The index from the names of types to their numbers.
 use Rattle.std.proofs.Common.{◌≡◌, ℕ, Bool, true, false, List, [], ◌∷◌, ◌++◌, refl, sym, subst, ◌∙◌, true≢false}
 use Rattle.std.specs.BTreeMap.{BTreeMap, Updates}
 use Rattle.std.specs.Cmp.{eq_by_cmp_equiv}
@@ -21,7 +21,7 @@ others : {K X : Type 0} (eq : K → K → Bool) (test : K → Bool) (old new : L
 unfolding KeepsOthers
 others eq test old new h = h
 
--- a number is told of one name more
+-- the index after one more name has got a number
 pub told_with : {Z : Type 0} (old new : BTreeMap (Vec ℕ Z) ℕ) (name : Vec ℕ Z) (number : ℕ) → Updates (λ (x y : Vec ℕ Z). slice_cmp nat_cmp x.items y.items) old new name (Some number)
     → (n : List ℕ) → number_told new n ≡ (if bytes_eq name.items n then Some number else number_told old n)
 told_with old new name number h n = by (bytes_eq name.items n) refl
@@ -30,7 +30,7 @@ told_with old new name number h n = by (bytes_eq name.items n) refl
     by true e = subst (λ m. number_told new m ≡ Some number) (bytes_equal name.items n e) h.1
     by false e = others _ _ _ _ h.3 _ (λ x y. (eq_by_cmp_equiv nat_list_cmp_total).congr n x.items y.items) (λ k. apart name.items n k.items e)
 
--- of what is told of names, f, and what is told of one name, if it had no number, and of each other as before
+-- f is what the index has for each name; one name gets a number if it has none, and all others keep theirs
 module _ (f : List ℕ → Option ℕ) (name : List ℕ) (number : ℕ) where
   or_none : (o : Option ℕ) → o ≡ option_or o None
   or_none None = refl
@@ -73,7 +73,7 @@ first_number-push (x ∷ kinds) k n = by (bytes_eq x.name n) (first_number-push 
     by true rest = refl
     by false rest = rest
 
--- what is told of the names of types, when a type comes last
+-- the index stays right when a type is appended
 pub numbers_pushed : {Z : Type 0} (old new : BTreeMap (Vec ℕ Z) ℕ) (kinds : List KindData) (name : List ℕ) (k : KindData) → AreNumbersOf kinds old → name ≡ k.name → TellsFirst old new name k.number → AreNumbersOf (kinds ++ k ∷ []) new
 numbers_pushed old new kinds name k numbers same told n =
     told n ∙ (λ j. option_or (numbers n j) (if bytes_eq (same j) n then Some k.number else None)) ∙ sym (first_number-push kinds k n)

@@ -1,4 +1,4 @@
--- A setting that fits a table fits the same rows in another order, more rows, and what keeps types and ids.
+-- A setting that fits a table still fits if the rows are in another order, if rows are added, or if columns other than type and id change.
 use Rattle.std.proofs.Common.{ℕ, List, [], ◌∷◌, ◌++◌, ap, sym, ◌∙◌}
 use Rattle.std.specs.Prelude.{All, is_some, if◌then◌else◌}
 use Rattle.std.proofs.lemmas.List.Elements.{All-weaker, All-push}
@@ -12,7 +12,7 @@ use Rattle.crush_model.proofs.Appended.{row_of-append}
 use Rattle.crush_edits.specs.Setting.{SettingData, taken_buckets}
 use Rattle.crush_edits.specs.Fits.{HasKind, IsThere, Fits}
 
--- other rows
+-- a setting fits other rows whose types it has, if they have all buckets that the rows before have
 pub Fits-rows : (s : SettingData) (t u : List Row) → Fits s t → All (HasKind s) u → ((b : ℕ) → IsThere t b → IsThere u b) → Fits s u
 Fits-rows s t u f h kept = record { setting = f.setting; types = h; taken = All-weaker (IsThere t) (IsThere u) kept (taken_buckets s) f.taken }
 

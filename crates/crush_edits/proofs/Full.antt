@@ -1,4 +1,4 @@
--- Where there is no room, a device that isn't there yet is refused.
+-- If the table has no room, inserting a device that it doesn't have is refused.
 use Rattle.std.proofs.Common.{◌≡◌, ℕ, ◌+◌, ◌<◌, ◌≤◌, true, false, List, [], ◌∷◌, ◌++◌, length, ap, ◌∙◌, refl, arith}
 use Rattle.std.proofs.lemmas.Bool.Decides.{nat_tests}
 use Rattle.std.specs.Prelude.{Option, Some, None, ◌||◌, if◌then◌else◌, is_some, nat_lt}
@@ -22,14 +22,14 @@ use Rattle.crush_edits.specs.Stops.{stops, fresh_stops}
 use Rattle.crush_edits.proofs.Order.{group_passes}
 use Rattle.crush_edits.proofs.PutLaws.{counts_new}
 
--- an item that isn't there stands in no bucket
+-- an item that the table doesn't have is in no bucket
 gone_free : (t : List Row) (i : ItemId) → is_there t i ≡ false → is_placed t i ≡ false
 gone_free t i gone = by_row (row_of t i) gone where
   by_row : (o : Option Row) → is_some o ≡ false → is_some (option_and_then (λ (r : Row). r.parent) o) ≡ false
   by_row None e = refl
   by_row (Some r) e = absurd cc
 
--- one more than there may be
+-- one device more than allowed
 over_devices : (u d b : ℕ) → u ≡ d + 1 → MOST_DEVICES ≤ d → (nat_lt MOST_DEVICES u || nat_lt MOST_BUCKETS b) ≡ true
 over_devices u d b more full = grind (arith, nat_tests)
 
@@ -37,7 +37,7 @@ over_buckets : (u b c k : ℕ) → b ≡ c + k → MOST_BUCKETS < c + k → (nat
 over_buckets u b c k more full = grind (arith, nat_tests)
 
 module _ (s : SettingData) (t : List Row) (d : ℕ) (n : List ℕ) (w : ℕ) (l : List Pair) where
-  -- the tests before that of room leave it to that
+  -- if the tests before the one of room don't hold, the refusal is NoRoom
   room_is_told : first_refusal (located_device_tests s t d n w l) ≡ None → is_placed t (Device d) ≡ false → first_refusal (end_tests t (stops s l)) ≡ None → has_too_many (put t (edited_device t d n w) (stops s l)) ≡ true → refusal s t (Insert d n w l) ≡ Some NoRoom
   room_is_told e free f many =
       let a = after_insert s t d n w l in

@@ -1,4 +1,4 @@
--- A table stays lawful where new buckets come and an item is put into the lowest of them.
+-- A lawful table stays lawful when new buckets are added and an item is put into the lowest of them.
 use Rattle.std.proofs.Common.{◌≡◌, ℕ, ◌≤◌, Bool, true, false, List, [], ◌∷◌, ◌++◌, ap, sym, subst, ◌∙◌, refl, arith, append-nil, ⊎_elim}
 use Rattle.std.specs.Prelude.{◌||◌, not, if◌then◌else◌, Option, Some, None, IfSome, All, is_some, bytes_eq, nat_lt}
 use Rattle.std.specs.List.{count_by}
@@ -30,12 +30,12 @@ use Rattle.crush_edits.specs.New.{AreNew}
 use Rattle.crush_edits.proofs.Chains.{new_rows, new-reordered, Lawful-with, found-chain, chain-none, chain-sum}
 use Rattle.crush_edits.proofs.Puts.{others_kept, last-same, placed-same, still_found, next_apart, other}
 
--- the lowest of the new buckets, or what receives, is there
+-- the table has the bucket that the item is put into: the lowest new bucket, or the receiver
 pub next_there : (v : List Row) (ns : List NewData) (top : Option ℕ) → All (λ (r : Row). row_of v r.id ≡ Some r) (chain ns top) → IfSome top (λ b. is_there v (Bucket b) ≡ true) → IfSome (next_up ns top) (λ b. is_there v (Bucket b) ≡ true)
 next_there v [] top found h = h
 next_there v (n ∷ ns) top found h = ap is_some (All-head (λ (r : Row). row_of v r.id ≡ Some r) (bucket_row (next_up ns top) (new_header n)) (chain ns top) found)
 
--- a name that no row has
+-- if no row has the name, no item is found by it
 pub nowhere_named : (t : List Row) (n : List ℕ) → count_by (λ (r : Row). bytes_eq r.name n) t ≡ 0 → is_named t n ≡ false
 nowhere_named [] n h = refl
 nowhere_named (r ∷ t) n h = ⊎_elim
@@ -68,7 +68,7 @@ module _ (t : List Row) (l : Lawful t) (ns : List NewData) (top : Option ℕ) (f
     still None h = h
     still (Some b) h = is_there-append t new (Bucket b) h
 
-  -- an item that is there: as many devices and buckets as before it is put
+  -- an item that the table has: the numbers of devices and buckets are the same before and after the put
   module _ (i : ItemId) (r s : Row) (found : row_of t i ≡ Some r) (same : s.id ≡ r.id) where
     count_put : (p : Row → Bool) → p s ≡ p r → count_by p with_new ≡ count_by p (without_row i t ++ (chain ns top ++ s ∷ []))
     count_put p e =
@@ -87,7 +87,7 @@ module _ (t : List Row) (l : Lawful t) (ns : List NewData) (top : Option ℕ) (f
     pub room_put : has_too_many (without_row i t ++ (chain ns top ++ s ∷ [])) ≡ false → has_too_many with_new ≡ false
     room_put h = (λ k. nat_lt MOST_DEVICES (count_put is_device (ap is_device_id same) k) || nat_lt MOST_BUCKETS (count_put is_bucket (ap (λ j. not (is_device_id j)) same) k)) ∙ h
 
-  -- THE LAW: an item that is there, put, where the sums and counts stay in range
+  -- THE LAW: putting an item that the table has keeps the table lawful, if sums and counts stay in range
   pub Lawful-put_moved : (i : ItemId) (r : Row) (b w : ℕ) → row_of t i ≡ Some r → next_up ns top ≡ Some b → IfSome top (λ c. is_part t i (Bucket c) ≡ false) → IsRow (record r { parent = Some b; weight = w })
       → is_too_heavy (put_at t (record r { weight = w }) ns top) ≡ false → has_too_many (put_at t (record r { weight = w }) ns top) ≡ false → Lawful (put_at t (record r { weight = w }) ns top)
   Lawful-put_moved i r b w found next apart row light room =
@@ -110,13 +110,13 @@ module _ (t : List Row) (l : Lawful t) (ns : List NewData) (top : Option ℕ) (f
       (Lawful-moved with_new i b w r lawful here (if_some (λ c. is_there with_new (Bucket c) ≡ true) (next_up ns top) b next next_there_with) (if_some (λ c. is_part with_new i (Bucket c) ≡ false) (next_up ns top) b next (next_apart t l ns top fresh m fits i r found apart)) row
       (is_too_heavy-same (without_row i with_new ++ record r { parent = Some b; weight = w } ∷ []) (put_at t (record r { weight = w }) ns top) order distinct ∙ light))
 
-  -- a device that isn't there: the table with new buckets and the device is the table with it put
+  -- a device that the table doesn't have: appending the new buckets and then the device gives the table of the put
   pub put-new : (r : Row) → is_there t r.id ≡ false → Same (with_new ++ record r { parent = next_up ns top } ∷ []) (put_at t r ns top)
   put-new r gone = Same-trans (with_new ++ record r { parent = next_up ns top } ∷ []) (t ++ (chain ns top ++ record r { parent = next_up ns top } ∷ [])) (put_at t r ns top)
       (last-same t l ns top fresh m t (record r { parent = next_up ns top }))
       (Same-is (ap (λ z. z ++ (chain ns top ++ record r { parent = next_up ns top } ∷ [])) (sym (others_kept r.id t gone))))
 
-  -- THE LAW: a new device, put, where the sums and counts stay in range
+  -- THE LAW: putting a new device keeps the table lawful, if sums and counts stay in range
   module _ (d b : ℕ) (r : Row) (is : r.id ≡ Device d) (gone : is_there t r.id ≡ false) (new_name : is_named t r.name ≡ false) (no_stop : count_by (λ (n : NewData). bytes_eq n.name r.name) ns ≡ 0) (next : next_up ns top ≡ Some b) (row : IsRow (record r { parent = Some b })) where
     abbrev unplaced : Row
     unplaced = record r { parent = None; weight = 0 }
@@ -153,7 +153,7 @@ module _ (t : List Row) (l : Lawful t) (ns : List NewData) (top : Option ℕ) (f
     order : IsReordered (without_row (Device d) before ++ record r { parent = Some b } ∷ []) (put_at t r ns top)
     order = through (reordered-is (λ k. left_before k ++ record r { parent = sym next k } ∷ [])) ((put-new r gone).rows)
 
-    -- as many devices and buckets before it is placed
+    -- the numbers of devices and buckets are the same before the device is placed
     count_new : (p : Row → Bool) → p unplaced ≡ p (record r { parent = next_up ns top }) → count_by p before ≡ count_by p (put_at t r ns top)
     count_new p e =
         let both : one_if (p unplaced) ≡ one_if (p (record r { parent = next_up ns top })) = ap one_if e in

@@ -1,4 +1,4 @@
--- An edit makes so many buckets as it says.
+-- An edit creates as many buckets as it reports.
 use Rattle.std.proofs.Common.{◌≡◌, ℕ, ◌+◌, Bool, true, false, List, refl, ap, sym, ◌∙◌, arith, ⊎_elim}
 use Rattle.std.specs.Prelude.{not, if◌then◌else◌, Option, Some, None}
 use Rattle.std.specs.Option.{option_map}
@@ -29,7 +29,7 @@ use Rattle.crush_edits.proofs.PutLaws.{counts_put, counts_new}
 use Rattle.crush_edits.proofs.Stops.{location_route}
 use Rattle.crush_edits.proofs.Tails.{edited_is_own}
 
--- columns other than the id leave the buckets
+-- changing columns other than the id leaves the number of buckets as it is
 weights_count : (which : Row → Bool) (w : ℕ) (t : List Row) → bucket_count (set_weights which w t) ≡ bucket_count t
 weights_count which w t = count-map (λ (r : Row). if which r then record r { weight = w } else r) is_bucket (λ r. ap (λ i. not (is_device_id i)) (weight_id (which r) w r)) t
 

@@ -61,7 +61,7 @@ increasing (x ∷ xs) h = increasing_from x xs h
 abbrev numbers : List (Refusal × Bool) → List ℕ
 numbers ps = map (λ p. refusal_number p.0) ps
 
--- each list of tests rises, whatever its tests say
+-- the numbers rise in each list of tests, whatever the results of the tests are
 tests_rise : (s : SettingData) (t : List Row) (e : Edit) (a : After) → rises (numbers (tests s t e a)) ≡ true
 tests_rise s t (Insert d n w l) a = refl
 tests_rise s t (CreateOrMove d n w l) a = refl
@@ -79,7 +79,7 @@ tests_rise s t (RemoveClass n) a = refl
 pub rising : TestsRise
 rising s t e a = increasing (numbers (tests s t e a)) (tests_rise s t e a)
 
--- THE LEAST
+-- THE LEAST number is reported
 above : (x : ℕ) (ps : List (Refusal × Bool)) → rises_from x (numbers ps) ≡ true → All (λ p. x ≤ refusal_number p.0) ps
 above x [] h = All-nil (λ p. x ≤ refusal_number p.0)
 above x (p ∷ ps) h =
@@ -119,7 +119,7 @@ abbrev pub test_of : Refusal → List (Refusal × Bool) → Option Bool
 test_of r [] = None
 test_of r (p ∷ ps) = if refusal_number p.0 == refusal_number r then Some p.1 else test_of r ps
 
--- it is false where all are
+-- the test of a refusal is false if all tests are
 one_passed : (r : Refusal) (ps : List (Refusal × Bool)) → All (λ p. p.1 ≡ false) ps → IfSome (test_of r ps) (λ b. b ≡ false)
 one_passed r [] a = tt
 one_passed r (p ∷ ps) a = by_name (refusal_number p.0 == refusal_number r) (All-head (λ q. q.1 ≡ false) p ps a) (one_passed r ps (All-tail (λ q. q.1 ≡ false) p ps a)) where
@@ -127,11 +127,11 @@ one_passed r (p ∷ ps) a = by_name (refusal_number p.0 == refusal_number r) (Al
   by_name true here there = here
   by_name false here there = there
 
--- where nothing is told the test of each refusal is false, wherever in the list it stands
+-- if a list gives no refusal, the test of each refusal is false, wherever in the list it is
 pub passed : (ps : List (Refusal × Bool)) → first_refusal ps ≡ None → (r : Refusal) → IfSome (test_of r ps) (λ b. b ≡ false)
 passed ps told r = one_passed r ps (none_of ps told)
 
--- so of an edit
+-- the same for the tests of an edit
 pub edit_passed : (s : SettingData) (t : List Row) (e : Edit) → refusal s t e ≡ None → (r : Refusal) → IfSome (test_of r (tests s t e (after s t e))) (λ b. b ≡ false)
 edit_passed s t e told r = passed (tests s t e (after s t e)) told r
 

@@ -1,4 +1,4 @@
--- What the edits without a location leave: lawful tables, settings that fit, counts.
+-- The tables that the edits without a location leave: that they are lawful, that the setting fits them, and their counts.
 use Rattle.std.proofs.Common.{◌≡◌, ℕ, ◌+◌, ◌<◌, ◌≤◌, Bool, true, false, List, [], ◌∷◌, ◌++◌, length, refl, ap, sym, subst, ◌∙◌, arith, ⊎_elim}
 use Rattle.std.specs.Prelude.{◌==◌, ◌||◌, not, if◌then◌else◌, Some, None, IfSome, All, map, is_some, is_none, unwrap_or, nat_lt}
 use Rattle.std.specs.List.{list_any}
@@ -85,7 +85,7 @@ swap_fits s t a b fits =
     Fits-map s (λ (r : Row). record r { parent = option_map (exchange_id a b) r.parent }) (λ r. refl) (λ r. refl) (exchange_names a b t)
     (name_fits s _ (Bucket a) _ (name_fits s t (Bucket b) _ fits))
 
--- A ROW that is taken out
+-- A ROW that is removed
 none_of_no_length : {X : Type 0} (xs : List X) → (length xs == 0) ≡ true → xs ≡ []
 none_of_no_length [] h = refl
 none_of_no_length (x ∷ xs) h = ⊎_elim (λ p. absurd (omega (arith, p.1))) (λ p. absurd (let other = p.0 in cc)) (eqb_tells (length (x ∷ xs)) 0)

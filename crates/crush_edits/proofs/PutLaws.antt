@@ -39,12 +39,12 @@ use Rattle.crush_edits.proofs.Lawfuls.{few_too_many, room_put, Lawful-put_moved,
 use Rattle.crush_edits.proofs.Puts.{put-moved, put-moved_device, put-taken, put-boxed, put-boxed_device}
 use Rattle.crush_edits.proofs.Routes.{with_ids-names, with_ids-All, new_buckets-length, route_fresh, route_next}
 
--- one for each
+-- counting 1 for each new bucket gives their number
 ones : (xs : List NewData) → sum_by (λ (n : NewData). 1) xs ≡ length xs
 ones [] = refl
 ones (x ∷ xs) = omega (arith, sum_by-cons (λ (n : NewData). 1) x xs, ones xs)
 
--- the boxes of the new buckets have their rows
+-- the nested new buckets have the rows that the table gets for them
 module _ (t : List Row) (ps : List StopData) (l : Lawful t) (route : IsRoute t ps) where
   abbrev ns : List NewData
   ns = new_buckets t ps
@@ -67,7 +67,7 @@ module _ (t : List Row) (ps : List StopData) (l : Lawful t) (route : IsRoute t p
   pub new_sums : ((b : ℕ) → sum_below (t ++ rows_made t ps) b ≡ sum_below t b) × (total (t ++ rows_made t ps) ≡ total t)
   new_sums = (λ b. ap (λ z. sum_below z b) (sym with_are) ∙ sum_below-with t l ns top fresh 1 b, ap total (sym with_are) ∙ total-with t l ns top fresh 1)
 
-  -- an item that is there
+  -- an item that the table has
   module _ (r : Row) (w : ℕ) (found : row_of t r.id ≡ Some r) where
     room_boxes : has_too_many (put t (record r { weight = w }) ps) ≡ false → has_too_many with_boxes ≡ false
     room_boxes room = room_put t l ns top fresh 1 r.id r (record r { parent = next_place t ps; weight = w }) found refl room
@@ -81,7 +81,7 @@ module _ (t : List Row) (ps : List StopData) (l : Lawful t) (route : IsRoute t p
         subst (λ z. Same (table_without r.id z ++ rows (next_place t ps) (device (record d { weight = w }) none)) (put t (record r { weight = w }) ps)) with_are
         (put-moved_device t l ns top fresh 1 (room_boxes room) r.id r found apart d w (subst (λ z. Same (rows None (device d none)) (part r.id z)) (sym with_are) whole))
 
-    -- each id once, in each order of the rows
+    -- each id occurs once, in whichever order the rows are
     count_with : (p : Row → Bool) → p (record r { parent = next_place t ps; weight = w }) ≡ p r → count_by p with_boxes ≡ count_by p (put t (record r { weight = w }) ps)
     count_with p e =
         let both : one_if (p (record r { parent = next_place t ps; weight = w })) ≡ one_if (p r) = ap one_if e in
@@ -127,7 +127,7 @@ module _ (t : List Row) (ps : List StopData) (l : Lawful t) (route : IsRoute t p
         let next = route_next t ps route in
         Lawful-put_moved t l ns top fresh 1 r.id r next.0 w found next.1 apart (row next.0) light room
 
-  -- of any item that is there, with all below it
+  -- any item that the table has, with everything below it
   pub moves : (r : Row) (n : Items) → row_of t r.id ≡ Some r → IsApart t r.id ps → has_too_many (put t r ps) ≡ false → IsOne n → Same (rows None n) (part r.id (t ++ rows_made t ps))
       → Same (table_without r.id (t ++ rows_made t ps) ++ rows (next_place t ps) n) (put t r ps)
   moves r n found apart room one whole =
@@ -146,7 +146,7 @@ module _ (t : List Row) (ps : List StopData) (l : Lawful t) (route : IsRoute t p
       heavy_alike r r.weight found (table_without r.id t ++ rows (receiver t ps) (route_boxes m n t ps))
       (put-boxed t l ns top fresh m (room_put t l ns top fresh m r.id r (record r { parent = next_place t ps }) found refl room) r.id r found apart n one whole)
 
-  -- a device that wasn't there
+  -- a device that the table doesn't have
   module _ (d : LeafData) (gone : is_there t (Device d.id) ≡ false) where
     abbrev row : Row
     row = device_row None d
@@ -216,7 +216,7 @@ changes_new t ps d l route gone = differs t (device_row None d) ps l route (All-
   not_held [] = refl
   not_held (q ∷ rest) = ap (λ o. is_id o (id_named t q.name)) nowhere
 
--- THE SETTING
+-- THE SETTING still fits
 or_true : (a : Bool) → (a || true) ≡ true
 or_true true = refl
 or_true false = refl
@@ -256,7 +256,7 @@ chain_known s t l top =
     chain-All (HasKind s) (λ (n : NewData). known s n.kind) (λ q n k some. k) (new_buckets t (stops s l)) top
     (with_ids-All (λ (n : NewData). known s n.kind) (λ k. 0 < k) (λ (p : StopData). known s p.kind) (λ i p some k. k) (free_ids t (length (fresh_stops t (stops s l)))) (fresh_stops t (stops s l)) (free_ids-some t (length (fresh_stops t (stops s l)))) stops_are)
 
--- what was there is there when an item is put
+-- the table after a put has every item that the table before has
 pub put_there : (t : List Row) (r : Row) (ns : List NewData) (top : Option ℕ) (j : ItemId) → is_there t j ≡ true → is_there (put_at t r ns top) j ≡ true
 put_there t r ns top j there = ⊎_elim
     (λ p. let one : one_if (same_id r.id j) ≡ 1 = ap one_if p.0 in

@@ -1,4 +1,4 @@
--- What new buckets and an item in the lowest of them make of a table.
+-- The table after new buckets are added and an item is put into the lowest of them.
 use Rattle.std.proofs.Common.{◌≡◌, ℕ, ◌≤◌, Bool, true, false, List, [], ◌∷◌, ◌++◌, length, ap, sym, subst, ◌∙◌, refl, arith, append_assoc, append-nil, ⊎_elim}
 use Rattle.std.specs.Prelude.{not, if◌then◌else◌, Option, Some, None, IfSome, All, map, filter, is_some}
 use Rattle.std.specs.List.{count_by}
@@ -30,7 +30,7 @@ use Rattle.crush_edits.specs.New.{AreNew}
 use Rattle.crush_edits.proofs.Boxes.{rows-boxes}
 use Rattle.crush_edits.proofs.Chains.{new_rows, new_are, new-reordered, Lawful-with, ids-apart, is_part-with, chain-apart, without_row-with, one-kid}
 
--- ROWS TURNED have the same items where each has one at most
+-- ROWS IN REVERSE ORDER give each bucket the same items, if each bucket has at most one
 last_kid : (h : Bool) (x : Row) (xs : List Row) (ys : List ItemId) → (length xs ≤ 1 → ys ≡ map (λ (r : Row). r.id) xs) → length (if h then x ∷ xs else xs) ≤ 1
     → ys ++ map (λ (r : Row). r.id) (if h then x ∷ [] else []) ≡ map (λ (r : Row). r.id) (if h then x ∷ xs else xs)
 last_kid true x [] ys e h = ap (λ z. z ++ x.id ∷ []) (e (omega arith))
@@ -60,7 +60,7 @@ module _ (t : List Row) (l : Lawful t) (ns : List NewData) (top : Option ℕ) (f
   abbrev new : List Row
   new = new_rows t l ns top fresh m
 
-  -- the new buckets from the uppermost down, or from the lowest up
+  -- the rows of the new buckets from the uppermost down are the same table as from the lowest up
   pub new-same : Same new (chain ns top)
   new-same = record {
     rows = new-reordered t l ns top fresh m;
@@ -73,7 +73,7 @@ module _ (t : List Row) (l : Lawful t) (ns : List NewData) (top : Option ℕ) (f
     kids = λ b. kids-append w (new ++ s ∷ []) b ∙ ap (λ z. kids w b ++ z) (kids-append new (s ∷ []) b ∙ ap (λ z. z ++ kids (s ∷ []) b) (new-same.kids b) ∙ sym (kids-append (chain ns top) (s ∷ []) b)) ∙ sym (kids-append w (chain ns top ++ s ∷ []) b);
   })
 
-  -- the table with new buckets, an item taken out and put last, is the table with it put
+  -- the table with the new buckets, from which the item's row is removed and to which it is appended, is the table of the put
   pub placed-same : (i : ItemId) (s : Row) → All (λ (n : NewData). same_id (Bucket n.id) i ≡ false) ns → Same (without_row i with_new ++ s ∷ []) (without_row i t ++ (chain ns top ++ s ∷ []))
   placed-same i s other = Same-trans (without_row i with_new ++ s ∷ []) ((without_row i t ++ new) ++ s ∷ []) (without_row i t ++ (chain ns top ++ s ∷ []))
       (Same-is (ap (λ z. z ++ s ∷ []) (without_row-with t l ns top fresh m i other))) (last-same (without_row i t) s)
@@ -103,7 +103,7 @@ module _ (t : List Row) (l : Lawful t) (ns : List NewData) (top : Option ℕ) (f
       to_put : (s : Row) → s.id ≡ r.id → Same (without_row i t ++ (chain ns top ++ s ∷ [])) (without_row s.id t ++ (chain ns top ++ s ∷ []))
       to_put s e = Same-is (ap (λ j. without_row j t ++ (chain ns top ++ s ∷ [])) (sym (e ∙ is_it)))
 
-      -- THE LAW: new buckets, then the item with what is below it out of its place, then into the lowest
+      -- THE LAW: adding the new buckets, detaching the item with everything below it, and attaching it in the lowest gives the table of the put
       pub put-moved : (n : Items) → IsOne n → Same (rows None n) (part i with_new) → Same (table_without i with_new ++ rows (next_up ns top) n) (put_at t r ns top)
       put-moved n one whole =
           Same-trans (table_without i with_new ++ rows (next_up ns top) n) (without_row i with_new ++ record r { parent = next_up ns top } ∷ []) (put_at t r ns top)
@@ -111,7 +111,7 @@ module _ (t : List Row) (l : Lawful t) (ns : List NewData) (top : Option ℕ) (f
           (Same-trans (without_row i with_new ++ record r { parent = next_up ns top } ∷ []) (without_row i t ++ (chain ns top ++ record r { parent = next_up ns top } ∷ [])) (put_at t r ns top)
           (placed-same i (record r { parent = next_up ns top }) other) (to_put (record r { parent = next_up ns top }) refl))
 
-      -- and of a device with another weight
+      -- the same for a device, which gets another weight
       pub put-moved_device : (d : LeafData) (w : ℕ) → Same (rows None (device d none)) (part i with_new)
           → Same (table_without i with_new ++ rows (next_up ns top) (device (record d { weight = w }) none)) (put_at t (record r { weight = w }) ns top)
       put-moved_device d w whole =
@@ -120,14 +120,14 @@ module _ (t : List Row) (l : Lawful t) (ns : List NewData) (top : Option ℕ) (f
           (Same-trans (without_row i with_new ++ record r { parent = next_up ns top; weight = w } ∷ []) (without_row i t ++ (chain ns top ++ record r { parent = next_up ns top; weight = w } ∷ [])) (put_at t (record r { weight = w }) ns top)
           (placed-same i (record r { parent = next_up ns top; weight = w }) other) (to_put (record r { parent = next_up ns top; weight = w }) refl))
 
-      -- what is there has the parts that it had
+      -- whether a row of the table is part of the item is the same with the new buckets as without
       part_of_old : All (λ (x : Row). is_part with_new i x.id ≡ is_part t i x.id) t
       part_of_old = All-weaker (λ (x : Row). row_of t x.id ≡ Some x) (λ (x : Row). is_part with_new i x.id ≡ is_part t i x.id) (λ x e. is_part-with t l ns top fresh m i x.id (ap is_some e)) t (All-found t l.ids)
 
       part_of_new : All (λ (x : Row). is_part with_new i x.id ≡ false) new
       part_of_new = reordered-All (λ (x : Row). is_part with_new i x.id ≡ false) (reordered-sym new-same.rows) (chain-apart t l ns top fresh m room i other apart).0
 
-      -- so new buckets may come before the item is taken out, or after
+      -- so the new buckets may be added before the item is detached, or after that
       pub without-with : table_without i with_new ≡ table_without i t ++ new
       without-with =
           filter-append (λ (x : Row). not (is_part with_new i x.id)) t new
@@ -140,12 +140,12 @@ module _ (t : List Row) (l : Lawful t) (ns : List NewData) (top : Option ℕ) (f
           ∙ (λ k. filter_same (λ (x : Row). is_part with_new i x.id) (λ (x : Row). is_part t i x.id) t part_of_old k ++ filter_none (λ (x : Row). is_part with_new i x.id) new part_of_new k)
           ∙ append-nil (filter (λ (x : Row). is_part t i x.id) t))
 
-      -- the item out of its place, then the new buckets, then the item into the lowest
+      -- the law in the other order: detaching the item, adding the new buckets, attaching the item in the lowest
       pub put-taken : (n : Items) → IsOne n → Same (rows None n) (part i t) → Same ((table_without i t ++ new) ++ rows (next_up ns top) n) (put_at t r ns top)
       put-taken n one whole =
           subst (λ z. Same (z ++ rows (next_up ns top) n) (put_at t r ns top)) without-with (put-moved n one (subst (Same (rows None n)) (sym part-with) whole))
 
-      -- the item out of its place, then the new buckets that hold it
+      -- the law in two steps: detaching the item, adding the new buckets with the item in them
       boxed : (n : Items) (u : List Row) → Same (table_without i with_new ++ rows (next_up ns top) n) u → Same (table_without i t ++ rows top (boxes m n ns)) u
       boxed n u same =
           subst (λ z. Same (table_without i t ++ z) u) (ap (λ z. z ++ rows (next_up ns top) n) (new_are t l ns top fresh m) ∙ sym (rows-boxes m n ns top))

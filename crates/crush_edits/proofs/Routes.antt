@@ -1,4 +1,4 @@
--- A route's new buckets, and what receives them, of a lawful table.
+-- The new buckets of a route, and the bucket that receives them, in a lawful table.
 use Rattle.std.proofs.Common.{◌≡◌, ℕ, suc, ◌<◌, ◌≤◌, Bool, true, false, List, [], ◌∷◌, length, ap, sym, subst, ◌∙◌, refl, arith, ⊎_elim}
 use Rattle.std.specs.Prelude.{◌==◌, not, if◌then◌else◌, Option, Some, None, IfSome, All, is_some, option_and_then, bytes_eq}
 use Rattle.std.specs.List.{count_by, prefix_len}
@@ -22,7 +22,7 @@ use Rattle.crush_model.specs.Law.{AreFreeIds}
 use Rattle.crush_edits.specs.New.{IsStop, OnceNamed, IsRoute, IsNew, AreNew}
 use Rattle.crush_model.proofs.FreeIds.{free_ids-length, free_ids-lawful}
 
--- what a name names is there
+-- the table has a row with the id of each item that a name finds
 named_times : (t : List Row) (n : List ℕ) (r : Row) → row_named t n ≡ Some r → 1 ≤ times r.id t
 named_times [] n r e = absurd cc
 named_times (x ∷ t) n r e = by_name (bytes_eq x.name n) e (named_times t n r) where
@@ -45,7 +45,7 @@ end_there t ps = by_stop (end_stop t ps) where
   by_stop None = tt
   by_stop (Some p) = named_there t p.name
 
--- what receives is there
+-- the table has the receiver
 pub receiver_there : (t : List Row) (ps : List StopData) → IfSome (receiver t ps) (λ b. is_there t (Bucket b) ≡ true)
 receiver_there t ps = by_id (end_id t ps) (end_there t ps) where
   by_id : (o : Option ItemId) → IfSome o (λ i. is_there t i ≡ true) → IfSome (option_and_then number_of o) (λ b. is_there t (Bucket b) ≡ true)
@@ -53,7 +53,7 @@ receiver_there t ps = by_id (end_id t ps) (end_there t ps) where
   by_id (Some (Device d)) h = tt
   by_id (Some (Bucket b)) h = h
 
--- the stops before the end
+-- the table has none of the names of the stops before the end
 fresh_unnamed : (t : List Row) (ps : List StopData) → All (λ (p : StopData). is_named t p.name ≡ false) (fresh_stops t ps)
 fresh_unnamed t [] = All-nil (λ (p : StopData). is_named t p.name ≡ false)
 fresh_unnamed t (p ∷ ps) = subst (All (λ (q : StopData). is_named t q.name ≡ false)) (sym (take_while-cons (is_fresh t) p ps)) (by_name (is_named t p.name) refl (fresh_unnamed t ps)) where
@@ -91,7 +91,7 @@ with_ids-length (i ∷ ids) (p ∷ ps) e = ap suc (with_ids-length ids ps (omega
 pub new_buckets-length : (t : List Row) (ps : List StopData) → length (new_buckets t ps) ≡ length (fresh_stops t ps)
 new_buckets-length t ps = with_ids-length (free_ids t (length (fresh_stops t ps))) (fresh_stops t ps) (free_ids-length t (length (fresh_stops t ps)))
 
--- free ids for stops that a table doesn't name make buckets that it can have
+-- free ids and stops whose names the table doesn't have give buckets that the table can get
 pub numbered_new : (t : List Row) (m : ℕ) (ids : List ℕ) (ps : List StopData) (top : Option ℕ) → AreFreeIds t m ids → All IsStop ps → All (λ (p : StopData). is_named t p.name ≡ false) ps → OnceNamed ps → IfSome top (λ b. is_there t (Bucket b) ≡ true) → AreNew t (with_ids ids ps) top
 numbered_new t m ids ps top free forms unnamed once there = record {
   forms = with_ids-All IsNew (λ k. (0 < k) × (k ≤ FARTHEST_BUCKET_ID)) IsStop (λ i p r f. record { some = r.0; most = r.1; kind_some = f.kind_some; kind_most = f.kind_most; name = f.name }) ids ps (λ k d h. (free.some k d h, free.most k d h)) forms;
@@ -102,7 +102,7 @@ numbered_new t m ids ps top free forms unnamed once there = record {
   there = there;
 }
 
--- THE LAW: what a route makes new can be new
+-- THE LAW: a lawful table can get the new buckets of a route
 pub route_fresh : (t : List Row) (ps : List StopData) → Lawful t → IsRoute t ps → AreNew t (new_buckets t ps) (receiver t ps)
 route_fresh t ps l route =
     numbered_new t (length (fresh_stops t ps)) (free_ids t (length (fresh_stops t ps))) (fresh_stops t ps) (receiver t ps)
@@ -112,7 +112,7 @@ route_fresh t ps l route =
     (λ n. omega (arith, route.once n, sum_by-take-le (λ (p : StopData). one_if (bytes_eq p.name n)) ps (prefix_len (is_fresh t) ps)))
     (receiver_there t ps)
 
--- where the item comes: into a new bucket, or into one that is there and that the lowest stop names
+-- the item is put into a new bucket, or into the bucket that has the name of the lowest stop
 some_next : (ns : List NewData) (top : Option ℕ) → 0 < length ns → (b : ℕ) × (next_up ns top ≡ Some b)
 some_next [] top h = absurd (omega (arith, h))
 some_next (n ∷ ns) top h = (n.id, refl)
@@ -121,7 +121,7 @@ pub no_next : (ns : List NewData) (top : Option ℕ) → length ns ≡ 0 → nex
 no_next [] top h = refl
 no_next (n ∷ ns) top h = absurd (omega (arith, h))
 
--- the lowest stop is the end
+-- if the table has the name of the lowest stop, that stop ends the route and no bucket is new
 pub end_first : (t : List Row) (p : StopData) (ps : List StopData) → is_named t p.name ≡ true → (fresh_stops t (p ∷ ps) ≡ []) × (end_id t (p ∷ ps) ≡ id_named t p.name)
 end_first t p ps e = (take_while-cons (is_fresh t) p ps ∙ ap (λ b. if not b then p ∷ fresh_stops t ps else []) e, ap (λ b. option_and_then (λ (q : StopData). id_named t q.name) (if b then Some p else end_stop t ps)) e)
 

@@ -1,4 +1,4 @@
--- Parts of a setting as they are kept, and in the lists that contracts see.
+-- The parts of a setting as the code stores them, and as the lists that contracts see.
 use Rattle.std.proofs.Common.{◌≡◌, ℕ, Bool, true, false, cond, List, [], ◌∷◌, ◌++◌, ◌||◌, nat_eq, refl, ap, sym, subst, ◌∙◌, true≢false, arith, length, ◌<◌}
 use Rattle.std.proofs.lemmas.List.{append_assoc, length-append, map-append}
 use Rattle.std.specs.Cmp.{IsEquivalence, nat_eq_equiv}
@@ -52,18 +52,18 @@ module _ {K X : Type 0} (eq : K → K → Bool) (laws : IsEquivalence eq) where
       ap (λ es. es ++ rest) (e ∙ insert_entry-new eq m k v (new_key m.entries rest k v (subst (λ es. IsDistinct eq (keys_of es)) (sym so_far) distinct)))
       ∙ append_assoc m.entries ((k, v) ∷ []) rest ∙ so_far
 
--- what is seen of one element more
+-- mapping a list with one element more appends the image of that element
 pub map-push : {X Y : Type 0} (f : X → Y) (xs : List X) (x : X) → map f (xs ++ x ∷ []) ≡ map f xs ++ f x ∷ []
 map-push f [] x = refl
 map-push f (y ∷ xs) x = ap (λ z. f y ∷ z) (map-push f xs x)
 
--- a type of a new number comes last
+-- inserting a type with a new number appends it
 pub kind_pushed : {S : Type 0} (m n : IndexMap ℕ (List ℕ) S) (number : ℕ) (name : List ℕ) → first_name (map kind_data m.entries) number ≡ None
     → n.entries ≡ insert_entry nat_eq m.entries number name → map kind_data n.entries ≡ map kind_data m.entries ++ kind_data (number, name) ∷ []
 kind_pushed m n number name none e =
     ap (map kind_data) (e ∙ insert_entry-new nat_eq m number name (name_got number m.entries ∙ none)) ∙ map-push kind_data m.entries (number, name)
 
--- types as entries of their numbers: none has the number of one before it
+-- types as entries from numbers to names, in which no number occurs twice
 abbrev kind_entry : KindData → ℕ × List ℕ
 kind_entry k = (k.number, k.name)
 
@@ -81,7 +81,7 @@ new_number es distinct done rest k e =
     ap (λ ks. first_name ks k.number) (sym (seen_again done)) ∙ sym (name_got k.number (map kind_entry done))
     ∙ new_key nat_eq nat_eq_equiv (map kind_entry done) (map kind_entry rest) k.number k.name (subst (λ xs. IsDistinct nat_eq (keys_of xs)) (sym kept) distinct)
 
--- what was put last is taken off again
+-- popping removes the element that was pushed last
 abbrev front : {X : Type 0} → List X → List X
 front [] = []
 front (x ∷ []) = []

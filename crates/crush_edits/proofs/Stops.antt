@@ -29,7 +29,7 @@ use Rattle.crush_edits.specs.LawRoute.{StopsStep, Rises, StopsRise, of_stop, Sto
 abbrev more : SettingData → List StopData → Pair → List StopData
 more s ps p = with_stop (kind_number s p.kind) p.name ps
 
--- HOW OFTEN a name stands
+-- HOW OFTEN a name occurs among the stops
 abbrev stop_hit : List ℕ → StopData → ℕ
 stop_hit n q = one_if (bytes_eq q.name n)
 
@@ -44,7 +44,7 @@ fold_hit : (s : SettingData) (n : List ℕ) (l : List Pair) (a : List StopData) 
 fold_hit s n [] a = omega arith
 fold_hit s n (p ∷ l) a = omega (arith, fold_hit s n l (more s a p), with_hit n (kind_number s p.kind) p.name a, sum_by-cons (pair_hit n) p l)
 
--- HOW MANY there are
+-- HOW MANY stops there are
 length_insert : (xs : List StopData) (i : ℕ) (y : StopData) → length (insert xs i y) ≡ suc (length xs)
 length_insert xs i y = length-append (take i xs) (y ∷ drop i xs) ∙ (let both : length (take i xs) + length (drop i xs) ≡ length xs = sym (length-append (take i xs) (drop i xs)) ∙ ap length (take-append-drop i xs) in omega (arith, both))
 
@@ -61,7 +61,7 @@ fold_length s (p ∷ l) a h =
       with_length (kind_number s p.kind) p.name a (or_left (is_none (kind_number s p.kind)) (has_no_kind s l) h),
     )
 
--- THEIR FORM
+-- THE STOPS ARE VALID
 find_holds : {X : Type 0} (P : X → Type 0) (test : X → Bool) (xs : List X) → All P xs → IfSome (find test xs) P
 find_holds P test [] a = tt
 find_holds P test (x ∷ xs) a = by_test (test x) (find_holds P test xs (All-tail P x xs a)) where
@@ -88,14 +88,14 @@ fold_form s kinds (p ∷ l) a names h forms =
     fold_form s kinds l (more s a p) (All-tail (λ (q : Pair). IsName q.name) p l names) (or_right (is_type_zero s p) (list_any (is_type_zero s) l) h)
     (with_form (kind_number s p.kind) p.name a (kind_most s kinds p.kind) (or_left (is_type_zero s p) (list_any (is_type_zero s) l) h) (All-head (λ (q : Pair). IsName q.name) p l names) forms)
 
--- each name of the location once, so each once among the stops
+-- if no bucket name occurs twice in the location, then no name occurs twice among the stops
 once_named : (s : SettingData) (l : List Pair) → has_twice (map (λ (p : Pair). p.name) l) ≡ false → OnceNamed (stops s l)
 once_named s l h n =
     let once : count_by (λ m. bytes_eq m n) (map (λ (p : Pair). p.name) l) ≤ 1 =
     apart_once bytes_eq (λ a b. (bytes_eq-Decides a b).0) (λ a. (bytes_eq-Decides a a).1 refl) (map (λ (p : Pair). p.name) l) (not-false (are_apart bytes_eq (map (λ (p : Pair). p.name) l)) h) n in
     omega (arith, fold_hit s n l [], once, sum_by-map (λ m. one_if (bytes_eq m n)) (λ (p : Pair). p.name) l)
 
--- a name that the location doesn't have is no stop's
+-- no stop has a name that the location doesn't have
 none_named : (l : List Pair) (n : List ℕ) → names_it l n ≡ false → sum_by (pair_hit n) l ≡ 0
 none_named [] n h = refl
 none_named (p ∷ l) n h =
@@ -105,7 +105,7 @@ none_named (p ∷ l) n h =
 pub no_stop_named : (s : SettingData) (l : List Pair) (n : List ℕ) → names_it l n ≡ false → count_by (λ (p : StopData). bytes_eq p.name n) (stops s l) ≡ 0
 no_stop_named s l n h = omega (arith, fold_hit s n l [], none_named l n h)
 
--- THE LAW: a location that passes its tests, and at whose end no device stands, is a route
+-- THE LAW: if a location passes its tests and the item that ends its route isn't a device, then its stops are a route
 pub location_route : (s : SettingData) (t : List Row) (l : List Pair) → Fits s t → All (λ (p : Pair). IsName p.name) l → length l ≤ MOST_PAIRS → is_bad_location s l ≡ false → has_no_kind s l ≡ false → (length l == 0) ≡ false
     → IfSome (end_id t (stops s l)) (λ i. is_device_id i ≡ false) → IsRoute t (stops s l)
 location_route s t l fits names few good known some ends =
@@ -121,11 +121,11 @@ location_route s t l fits names few good known some ends =
       ends = ends;
     }
 
--- STOPS as a list: one step for each pair
+-- STOPS as a list, built by one step for each pair
 pub stops_step : StopsStep
 stops_step s l p = fold-append (more s) [] l (p ∷ [])
 
--- any sum over them is that over the pairs of known types
+-- any sum over the stops is the sum over the pairs of known types
 with_sum : (f : StopData → ℕ) (o : Option ℕ) (n : List ℕ) (ps : List StopData) → sum_by f (with_stop o n ps) ≡ sum_by f ps + of_stop f o n
 with_sum f None n ps = omega arith
 with_sum f (Some k) n ps = omega (arith, sum_by-insert f ps (position_or_len (λ (q : StopData). nat_le k q.kind) ps) (record { kind = k; name = n }))
@@ -137,7 +137,7 @@ fold_sum s f (p ∷ l) a = omega (arith, fold_sum s f l (more s a p), with_sum f
 pub stops_are_pairs : StopsArePairs
 stops_are_pairs s l f = fold_sum s f l [] ∙ omega arith
 
--- they rise: a stop is inserted before the first that is not below it
+-- the stops are in ascending order: a stop is inserted before the first whose type number is not less
 insert_cons : (p x : StopData) (xs : List StopData) → insert_stop p (x ∷ xs) ≡ (if nat_le p.kind x.kind then p ∷ x ∷ xs else x ∷ insert_stop p xs)
 insert_cons p x xs = by_test (nat_le p.kind x.kind) refl where
   by_test : (b : Bool) → nat_le p.kind x.kind ≡ b → insert_stop p (x ∷ xs) ≡ (if b then p ∷ x ∷ xs else x ∷ insert_stop p xs)

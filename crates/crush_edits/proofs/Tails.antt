@@ -1,4 +1,4 @@
--- What the steps of a put need of one another.
+-- What one step of a put must have left for the next step.
 use Rattle.std.proofs.Common.{Bool, true, false, ◌≡◌, ℕ, ◌≤◌, List, [], ◌∷◌, ◌++◌, length, ap, sym, subst, ◌∙◌, refl, arith, append-nil}
 use Rattle.std.specs.Prelude.{not, if◌then◌else◌, Option, Some, None, IfSome, All, is_some, option_and_then}
 use Rattle.crush_units.specs.declared.id.ItemId.{ItemId}
@@ -63,7 +63,7 @@ form_stays r row = (λ b. record { name = row.name; form = by_id r.id b row.form
   device : (d b w : ℕ) → w ≤ HEAVIEST_DEVICE → IsRowOf (Device d) r → IsRowOf (Device d) (record r { parent = Some b; weight = w })
   device d b w light form = record { id = form.id; kind = form.kind; light = light; unplaced = λ e. absurd cc; alg = form.alg; class_ids = form.class_ids; class = form.class }
 
--- a device's row
+-- the row of an item in a table of valid rows is valid
 from_rows : (t : List Row) → All IsRow t → (i : ItemId) (r : Row) → row_of t i ≡ Some r → IsRow r
 from_rows [] a i r e = absurd cc
 from_rows (x ∷ t) a i r e = by_id (same_id x.id i) e (λ f. from_rows t (All-tail IsRow x t a) i r f) where

@@ -1,4 +1,4 @@
--- The buckets that are kept beside rules as those that they take.
+-- The set of the buckets that rules take, which is kept beside the rules.
 use Rattle.std.proofs.Common.{◌≡◌, ℕ, Bool, true, false, List, [], ◌∷◌, ◌++◌, ◌||◌, append-nil, refl, ap, sym, ◌∙◌}
 use Rattle.std.proofs.Math.Bool.{or_assoc}
 use Rattle.std.proofs.lemmas.Grind.{flat_map-append}
@@ -15,7 +15,7 @@ use Rattle.crush_edits.specs.declared.setting.KeptRule.{KeptRule}
 use Rattle.crush_edits.specs.declared.setting.KeptStep.{KeptStep}
 use Rattle.crush_edits.specs.declared.setting.KeptStep.TheVariants.{Take, Choose, Set, Emit}
 
--- a number among those of two lists, and among those of the steps of rules
+-- whether a number is in two lists together, or among the buckets that steps take
 member-++ : (b : ℕ) (xs ys : List ℕ) → member b (xs ++ ys) ≡ member b xs || member b ys
 member-++ b [] ys = refl
 member-++ b (x ∷ xs) ys = ap (λ z. (x == b) || z) (member-++ b xs ys) ∙ sym (or_assoc (x == b) (member b xs) (member b ys))
@@ -44,6 +44,6 @@ taken_pushed old new rules r taken come b =
     come b ∙ (λ j. taken b j || steps_taken b r.steps.items j) ∙ sym (member-++ b (taken_by rules) (flat_map bucket_taken (map step_data r.steps.items)))
     ∙ ap (member b) (sym (taken_by-push rules (rule_data r)))
 
--- the same buckets as before
+-- a copy of the set has the same buckets
 pub taken_copied : (old new : BTreeSet ℕ) → AllZip (λ x y. y ≡ x) old.keys new.keys → (b : ℕ) → contains nat_cmp new b ≡ contains nat_cmp old b
 taken_copied old new h b = ap (list_any (is_at (nat_cmp b))) (each_same old.keys new.keys h)

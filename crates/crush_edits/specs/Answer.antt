@@ -1,4 +1,4 @@
--- What an edit answers: a refusal, or the table after.
+-- What an edit gives: a refusal, or the table after the edit.
 use Rattle.std.specs.Prelude.{ℕ, List, [], ◌∷◌, Option, Some, None, Bool, false, not, if◌then◌else◌, nat_lt}
 use Rattle.crush_units.specs.declared.id.ItemId.{ItemId}
 use Rattle.crush_units.specs.Id.{is_device_id}
@@ -9,52 +9,56 @@ use Rattle.crush_edits.specs.declared.refusal.Refusal.TheVariants.{NoRoom, SumTo
 use Rattle.crush_edits.specs.Changed.{same_table}
 use Rattle.crush_units.specs.declared.limits.TheConstants.{HEAVIEST_DEVICE}
 
--- the table after an edit, and how many buckets it made
+-- the table after an edit, and how many buckets the edit created
 pub record After : Type 0 where
   pub table : List Row
   pub made : ℕ
 
--- no bucket is made
+-- this table is the one after an edit that created no bucket
 abbrev pub kept : List Row → After
 kept t = record { table = t; made = 0 }
 
--- what is made of a value, and nothing where it is missing
+-- the result of f for a value; if the value is missing, the table is unchanged and no bucket is created
 abbrev pub on_some : {X : Type 0} → List Row → Option X → (X → After) → After
 on_some t None f = kept t
 on_some t (Some x) f = f x
 
--- a test of a value that may be missing
+-- whether there is a value and it passes the test
 abbrev pub meets : {X : Type 0} → (X → Bool) → Option X → Bool
 meets test None = false
 meets test (Some x) = test x
 
+-- whether there is an id and it is a device's
 abbrev pub is_a_device : Option ItemId → Bool
 is_a_device i = meets is_device_id i
 
+-- whether there is an id and it is a bucket's
 abbrev pub is_a_bucket : Option ItemId → Bool
 is_a_bucket i = meets (λ x. not (is_device_id x)) i
 
--- no device has such a weight
+-- whether the weight is above the largest that a device can have
 abbrev pub is_heavy : ℕ → Bool
 is_heavy w = nat_lt HEAVIEST_DEVICE w
 
--- the two tests of the table after: its counts, its sums
+-- the refusal NoRoom, which holds if the table after the edit has too many devices or buckets
 abbrev pub room_test : After → Refusal × Bool
 room_test a = (NoRoom, has_too_many a.table)
 
+-- the refusal SumTooLarge, which holds if a sum of weights in the table after the edit is too large
 abbrev pub sum_test : After → Refusal × Bool
 sum_test a = (SumTooLarge, is_too_heavy a.table)
 
--- the first refusal whose test holds
+-- of refusals with their tests, the first whose test holds
 abbrev pub first_refusal : List (Refusal × Bool) → Option Refusal
 first_refusal [] = None
 first_refusal (p ∷ ps) = if p.1 then Some p.0 else first_refusal ps
 
--- a refusal, or whether the table is another, how many buckets were made, and the table after
+-- what an edit gives: a refusal; or whether the table has changed, how many buckets were created, and the table after the edit
 pub data Answer : Type 0 where
   refused : Refusal → Answer
   done : Bool → ℕ → List Row → Answer
 
+-- what an edit of the table t gives: its refusal if there is one, otherwise the table after it, compared with t
 abbrev pub answer : Option Refusal → List Row → After → Answer
 answer (Some r) t a = refused r
 answer None t a = done (not (same_table t a.table)) a.made a.table

@@ -1,4 +1,4 @@
--- What a batch of edits does to the table: each is made of the table that the ones before it made.
+-- What a batch of edits does to the table: each edit is applied to the table that the edits before it have left.
 use Rattle.std.specs.Prelude.{ℕ, ◌+◌, List, [], ◌∷◌, Bool, true, false}
 use Rattle.crush_model.specs.Table.{Row}
 use Rattle.crush_edits.specs.declared.refusal.Refusal.{Refusal}
@@ -8,31 +8,34 @@ use Rattle.crush_edits.specs.Setting.{SettingData}
 use Rattle.crush_edits.specs.Answer.{Answer, refused, done}
 use Rattle.crush_edits.specs.Edit.{edit}
 
--- the first refusal with its index, or how many edits were made, how many made another table, how many buckets they made, and the table after all of them
+-- what a batch gives: the index of the first edit that is refused, from 0, and its refusal; or the counts of what was done, and the table after all edits
 pub data BatchAnswer : Type 0 where
   batch_refused : ℕ → Refusal → BatchAnswer
   batch_done : Dones → List Row → BatchAnswer
 
+-- the counts before the first edit
 abbrev pub no_dones : Dones
 no_dones = record { edits = 0; changed = 0; made = 0 }
 
--- one for an edit that made another table
+-- 1 for an edit that changed the table, 0 for any other
 abbrev pub one_changed : Bool → ℕ
 one_changed true = 1
 one_changed false = 0
 
+-- the counts after one more edit: whether that edit changed the table, and how many buckets it created
 abbrev pub with_done : Dones → Bool → ℕ → Dones
 with_done d changed made = record { edits = d.edits + 1; changed = d.changed + one_changed changed; made = d.made + made }
 
--- after one edit the others, unless it is refused
+-- continues with the other edits after one edit; if that one is refused, the batch is refused with its index, which is the number of edits before it
 abbrev pub and_then : Dones → Answer → (Dones → List Row → BatchAnswer) → BatchAnswer
 and_then d (refused r) others = batch_refused d.edits r
 and_then d (done changed made t) others = others (with_done d changed made) t
 
--- THE BATCH, from what was done before it
+-- what the edits es give when the edits before them have done d and left the table t
 abbrev pub batch_from : SettingData → List Edit → Dones → List Row → BatchAnswer
 batch_from s [] d t = batch_done d t
 batch_from s (e ∷ es) d t = and_then d (edit s t e) (batch_from s es)
 
+-- THE BATCH: what all of the edits give for the table t
 abbrev pub batch : SettingData → List Row → List Edit → BatchAnswer
 batch s t es = batch_from s es no_dones t

@@ -1,16 +1,16 @@
--- New buckets as nested boxes.
+-- New buckets as nested items, each in the next, the way a forest stores them.
 use Rattle.std.specs.Prelude.{ℕ, List, [], ◌∷◌, ◌++◌}
 use Rattle.crush_model.specs.Items.{Items, none, bucket}
 use Rattle.crush_model.specs.Stored.{weight_sum}
 use Rattle.crush_model.specs.Table.{Row}
 use Rattle.crush_edits.specs.Put.{NewData, new_header}
 
--- items in new buckets, each in the next, each with memory for m items
+-- items put into the first of several new buckets, that bucket into the second, and so on; each bucket has memory for m items
 abbrev pub boxes : ℕ → Items → List NewData → Items
 boxes m items [] = items
 boxes m items (n ∷ ns) = boxes m (bucket (new_header n) (weight_sum items) m items none) ns
 
--- rows from the last to the first
+-- the rows in reverse order
 abbrev pub last_first : List Row → List Row
 last_first [] = []
 last_first (r ∷ rs) = last_first rs ++ r ∷ []

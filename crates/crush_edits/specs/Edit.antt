@@ -1,4 +1,4 @@
--- What an edit does to the table: the edits of `ceph osd crush`, with this editor's refusals.
+-- What each edit does to the table of a map. The edits are those of `ceph osd crush`; the refusals are this editor's own.
 use Rattle.std.specs.Prelude.{List, Option, Bool, true, false}
 use Rattle.crush_model.specs.Table.{Row}
 use Rattle.crush_edits.specs.declared.refusal.Refusal.{Refusal}
@@ -12,7 +12,7 @@ use Rattle.crush_edits.specs.Naming.{after_swap, swap_tests, after_rename, renam
 use Rattle.crush_edits.specs.Classing.{after_set_class, set_class_tests, after_remove_class, remove_class_tests}
 use Rattle.crush_edits.specs.Making.{after_remove, remove_tests, after_add_bucket, add_bucket_tests}
 
--- THE TABLE AFTER, where nothing refuses the edit
+-- THE TABLE AFTER the edit, with the number of buckets that it created, if the edit isn't refused
 abbrev pub after : SettingData → List Row → Edit → After
 after s t (Insert d n w l) = after_insert s t d n w l
 after s t (CreateOrMove d n w l) = after_create_or_move s t d n w l
@@ -27,7 +27,7 @@ after s t (Rename from to) = after_rename t from to
 after s t (SetClass n c) = after_set_class t n c
 after s t (RemoveClass n) = after_remove_class t n
 
--- THE REFUSALS, each with its test, in the order in which they are told; the last speak of the table after
+-- THE REFUSALS of an edit, each with its test: the first whose test holds is reported; the tests for room and sums are of a, the table after the edit
 abbrev pub tests : SettingData → List Row → Edit → After → List (Refusal × Bool)
 tests s t (Insert d n w l) a = insert_tests s t d n w l a
 tests s t (CreateOrMove d n w l) a = device_put_tests s t d n w l a
@@ -42,15 +42,15 @@ tests s t (Rename from to) a = rename_tests t from to
 tests s t (SetClass n c) a = set_class_tests t n c
 tests s t (RemoveClass n) a = remove_class_tests t n
 
--- the refusal of an edit, if there is one
+-- the refusal of an edit, or none if the edit is not refused
 abbrev pub refusal : SettingData → List Row → Edit → Option Refusal
 refusal s t e = first_refusal (tests s t e (after s t e))
 
--- THE EDIT
+-- THE EDIT: what the edit e gives for the setting s and the table t
 abbrev pub edit : SettingData → List Row → Edit → Answer
 edit s t e = answer (refusal s t e) t (after s t e)
 
--- whether the edit is made with memory that is taken for it: weights are set in their places, buckets exchange what they have, and an item or a class that goes needs none
+-- whether the edit by itself, without what a batch keeps to undo it, may need new memory; setting weights, swapping buckets, and removing an item or a class need none
 abbrev pub takes_memory : Edit → Bool
 takes_memory (Reweight n w) = false
 takes_memory (ReweightSubtree n w) = false
@@ -65,7 +65,7 @@ takes_memory (Rename from to) = true
 takes_memory (SetClass n c) = true
 takes_memory (RemoveClass n) = false
 
--- whether the edit sets weights alone, of devices that stay where they are
+-- whether the edit only ever sets weights of devices, and moves nothing
 abbrev pub sets_weights : Edit → Bool
 sets_weights (Reweight n w) = true
 sets_weights (ReweightSubtree n w) = true

@@ -1,4 +1,4 @@
--- Which settings fit a table.
+-- Which settings are valid, and which of them fit a table.
 use Rattle.std.specs.Prelude.{◌≡◌, ℕ, ℤ, pos, negsuc, ◌<◌, ◌≤◌, List, [], ◌∷◌, Bool, true, false, ◌==◌, length, All, IfSome, bytes_eq, codes, is_some, nat_eq}
 use Rattle.std.specs.List.{count_by, list_any, starts_with}
 use Rattle.crush_units.specs.declared.id.ItemId.TheVariants.{Bucket}
@@ -7,45 +7,45 @@ use Rattle.crush_model.specs.Table.{Row, is_there}
 use Rattle.crush_edits.specs.Setting.{KindData, TunableData, StepData, take, choose, set, emit, RuleData, SettingData, kind_number, taken_buckets}
 use Rattle.crush_units.specs.declared.limits.TheConstants.{LARGEST_COUNT, LARGEST_RULE_NUMBER, LARGEST_TUNABLE, LAST_TYPE, MOST_RULES, MOST_STEPS, MOST_TUNABLES, MOST_TYPES}
 
--- the words of a map's text that begin a statement or a part of one: no type of buckets has such a name
+-- whether the name is a word that begins a statement of a map's text, or a part of one; no type of buckets may have such a name
 abbrev pub is_reserved : List ℕ → Bool
 is_reserved n = list_any (λ word. bytes_eq word n) (codes "tunable" ∷ (codes "device" ∷ (codes "type" ∷ (codes "rule" ∷ (codes "class" ∷ (codes "choose_args" ∷ []))))))
 
--- a type by itself
+-- a valid type: its number is in range, its name is a name, and unless its number is 0 the name isn't reserved
 pub record IsKind (k : KindData) : Type 0 where
   pub number : k.number ≤ LAST_TYPE
   pub name : IsName k.name
   pub free : 0 < k.number → is_reserved k.name ≡ false
 
--- a tunable by itself
+-- a valid tunable: its name is a name, and its value is in range
 pub record IsTunable (k : TunableData) : Type 0 where
   pub name : IsName k.name
   pub value : k.value ≤ LARGEST_TUNABLE
 
--- a number of 32 bits with a sign
+-- the count of a step fits a signed number of 32 bits
 abbrev pub IsCount : ℤ → Type 0
 IsCount (pos n) = n ≤ LARGEST_COUNT
 IsCount (negsuc n) = n ≤ LARGEST_COUNT
 
--- a step that chooses names a type of the setting, also type 0
+-- a valid step that chooses: its count is in range, and the setting has a type of the name kind, which may be type 0
 pub record IsChoice (s : SettingData) (count : ℤ) (kind : List ℕ) : Type 0 where
   pub range : IsCount count
   pub known : is_some (kind_number s kind) ≡ true
 
--- the word of a step that sets something begins with `set_`
+-- a valid step that sets a parameter: the word is a name that begins with `set_`, and the value is in range
 pub record IsSet (word : List ℕ) (value : ℕ) : Type 0 where
   pub name : IsName word
   pub sets : starts_with nat_eq word (codes "set_") ≡ true
   pub range : value ≤ LARGEST_RULE_NUMBER
 
--- a step by itself
+-- a valid step; the class of a step that takes a bucket is a name, if it has one
 abbrev pub IsStep : SettingData → StepData → Type 0
 IsStep s (take b class) = IfSome class IsName
 IsStep s (choose leaf firstn count kind) = IsChoice s count kind
 IsStep s (set word value) = IsSet word value
 IsStep s emit = Unit {0}
 
--- a rule by itself
+-- a valid rule: its name and its kind are names, its numbers are in range, and its steps are valid and at most MOST_STEPS
 pub record IsRule (s : SettingData) (r : RuleData) : Type 0 where
   pub name : IsName r.name
   pub id : r.id ≤ LARGEST_RULE_NUMBER
@@ -55,7 +55,7 @@ pub record IsRule (s : SettingData) (r : RuleData) : Type 0 where
   pub few : length r.steps ≤ MOST_STEPS
   pub steps : All (IsStep s) r.steps
 
--- a setting by itself: numbers, names and ids are distinct, all is of its form, and nothing is above its limit
+-- a valid setting: no two types have the same number or name, no two tunables the same name, and no two rules the same name or id; all of them are valid, and there are not too many
 pub record IsSetting (s : SettingData) : Type 0 where
   pub numbers : (n : ℕ) → count_by (λ (k : KindData). k.number == n) s.kinds ≤ 1
   pub names : (n : List ℕ) → count_by (λ (k : KindData). bytes_eq k.name n) s.kinds ≤ 1
@@ -69,15 +69,15 @@ pub record IsSetting (s : SettingData) : Type 0 where
   pub few_tunables : length s.tunables ≤ MOST_TUNABLES
   pub few_rules : length s.rules ≤ MOST_RULES
 
--- the type of the row is one of the setting's, but that a device's type 0 need not be declared
+-- the setting has a type of the row's type number; type 0, which devices have, need not be declared
 abbrev pub HasKind : SettingData → Row → Type 0
 HasKind s r = (0 < r.kind) → list_any (λ (k : KindData). k.number == r.kind) s.kinds ≡ true
 
--- the bucket is there
+-- the table has the bucket
 abbrev pub IsThere : List Row → ℕ → Type 0
 IsThere t b = is_there t (Bucket b) ≡ true
 
--- FITS: the types of the table's buckets are among the setting's, and the buckets that rules take are in the table
+-- FITS: the setting is valid, it has the types of all rows of the table except type 0, and the table has all buckets that rules take
 pub record Fits (s : SettingData) (t : List Row) : Type 0 where
   pub setting : IsSetting s
   pub types : All (HasKind s) t

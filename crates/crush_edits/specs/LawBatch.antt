@@ -7,10 +7,10 @@ use Rattle.crush_edits.specs.declared.edit.Edit.{Edit}
 use Rattle.crush_edits.specs.Setting.{SettingData}
 use Rattle.crush_edits.specs.Batch.{batch_refused, batch_done, batch}
 
--- all edits are counted, and those that made another table are some of them
+-- a batch that isn't refused counts all of its edits, and counts at most as many that changed the table
 abbrev pub BatchCounts : Type 0
 BatchCounts = (s : SettingData) (t u : List Row) (es : List Edit) (d : Dones) → batch s t es ≡ batch_done d u → (d.edits ≡ length es) × (d.changed ≤ length es)
 
--- the refused edit is one of the batch
+-- the index of the refused edit is less than the number of edits in the batch
 abbrev pub BatchStops : Type 0
 BatchStops = (s : SettingData) (t : List Row) (es : List Edit) (index : ℕ) (r : Refusal) → batch s t es ≡ batch_refused index r → index < length es

@@ -1,4 +1,4 @@
--- The law of all edits: what isn't refused leaves a lawful table that the setting fits, and so does a batch.
+-- The laws of all edits: an edit or a batch that isn't refused leaves a lawful table that the setting fits.
 use Rattle.std.specs.Prelude.{◌≡◌, ℕ, ◌<◌, List, None, All, ◌+◌, Bool, true, false}
 use Rattle.crush_units.specs.Name.{IsName}
 use Rattle.crush_model.specs.Table.{Row, bucket_count}
@@ -14,12 +14,13 @@ use Rattle.crush_edits.specs.Edit.{after, refusal}
 use Rattle.crush_edits.specs.Batch.{batch_done, batch}
 use Rattle.crush_units.specs.declared.limits.TheConstants.{DEVICE_IDS}
 
--- the forms of an edit, which the types of its parts keep: a device's id is in range, and names are names
+-- the device and the location of an edit are valid: the device's id is in range, its name is a name, and the location is valid
 pub record IsPlacing (d : ℕ) (n : List ℕ) (l : List Pair) : Type 0 where
   pub id : d < DEVICE_IDS
   pub name : IsName n
   pub at : IsLocation l
 
+-- an edit is valid in the parts that its types in the code guarantee: the device, the location, and the names and classes that it gives to items
 abbrev pub IsEdit : Edit → Type 0
 IsEdit (Insert d n w l) = IsPlacing d n l
 IsEdit (CreateOrMove d n w l) = IsPlacing d n l
@@ -34,23 +35,24 @@ IsEdit (Rename from to) = IsName to
 IsEdit (SetClass n c) = IsName c
 IsEdit (RemoveClass n) = Unit {0}
 
--- a lawful table that the setting fits
+-- the table is lawful, and the setting fits it
 pub record Keeps (s : SettingData) (t : List Row) : Type 0 where
   pub lawful : Lawful t
   pub fits : Fits s t
 
--- EDITS
+-- EDITS: if the table is lawful and fitted by the setting, and a valid edit isn't refused, then so is the table after the edit
 abbrev pub EditKeeps : Type 0
 EditKeeps = (s : SettingData) (t : List Row) (e : Edit) → Keeps s t → IsEdit e → refusal s t e ≡ None → Keeps s (after s t e).table
 
--- BATCHES
+-- BATCHES: if the table is lawful and fitted by the setting, and a batch of valid edits isn't refused, then so is the table after the batch
 abbrev pub BatchKeeps : Type 0
 BatchKeeps = (s : SettingData) (t u : List Row) (es : List Edit) (d : Dones) → Keeps s t → All IsEdit es → batch s t es ≡ batch_done d u → Keeps s u
 
--- MADE: so many buckets more, but for Remove
+-- whether the edit is Remove
 abbrev pub is_remove : Edit → Bool
 is_remove (Remove n) = true
 is_remove _ = false
 
+-- MADE: after any valid edit except Remove that isn't refused, the table has as many more buckets as the edit reports to have created
 abbrev pub MadeAreBuckets : Type 0
 MadeAreBuckets = (s : SettingData) (t : List Row) (e : Edit) → Keeps s t → IsEdit e → refusal s t e ≡ None → is_remove e ≡ false → bucket_count (after s t e).table ≡ bucket_count t + (after s t e).made

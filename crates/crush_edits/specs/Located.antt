@@ -1,4 +1,4 @@
--- The refusals of an edit with a location, each with its test, but for those of the table after.
+-- The refusals of the edits with a location, each with its test, except those that are about the table after the edit.
 use Rattle.std.specs.Prelude.{ℕ, List, [], ◌∷◌, ◌++◌, Bool, not, ◌==◌, ◌||◌, length, map, is_none, bytes_eq}
 use Rattle.std.specs.List.{list_any}
 use Rattle.crush_units.specs.declared.id.ItemId.{ItemId}
@@ -13,39 +13,42 @@ use Rattle.crush_edits.specs.Setting.{SettingData, kind_number}
 use Rattle.crush_edits.specs.Stops.{StopData, end_stop, end_id}
 use Rattle.crush_edits.specs.Answer.{meets, is_a_device, is_heavy}
 
--- some two of several names are one
+-- whether two of the names are equal
 abbrev pub has_twice : List (List ℕ) → Bool
 has_twice ns = not (are_apart bytes_eq ns)
 
+-- whether the pair's type is type 0, the type of devices
 abbrev pub is_type_zero : SettingData → Pair → Bool
 is_type_zero s p = meets (λ k. k == 0) (kind_number s p.kind)
 
--- a type name or a bucket name stands twice, or the name of type 0 stands there as a type name
+-- whether the location has a type name twice, or a bucket name twice, or the name of type 0 as a type name
 abbrev pub is_bad_location : SettingData → List Pair → Bool
 is_bad_location s l = has_twice (map (λ (p : Pair). p.kind) l) || (has_twice (map (λ (p : Pair). p.name) l) || list_any (is_type_zero s) l)
 
--- a type name that the setting doesn't have
+-- whether the location has a type name that the setting doesn't have
 abbrev pub has_no_kind : SettingData → List Pair → Bool
 has_no_kind s l = list_any (λ (p : Pair). is_none (kind_number s p.kind)) l
 
--- whether a bucket name of the location is the name
+-- whether the location has this name as the name of a bucket
 abbrev pub names_it : List Pair → List ℕ → Bool
 names_it l n = list_any (λ (p : Pair). bytes_eq p.name n) l
 
--- the name belongs to another id, or the id is there with another name
+-- whether an item with another id has the name, or the item of this id has another name
 abbrev pub is_taken : List Row → ItemId → List ℕ → Bool
 is_taken t i n = meets (λ j. not (same_id j i)) (id_named t n) || meets (λ m. not (bytes_eq m n)) (name_of t i)
 
--- the item that ends the route has another type than its pair
+-- whether the item that ends the route has another type than its pair says
 abbrev pub is_wrong_kind : List Row → List StopData → Bool
 is_wrong_kind t ps = meets (λ (p : StopData). meets (λ i. meets (λ k. not (k == p.kind)) (kind_of t i)) (id_named t p.name)) (end_stop t ps)
 
--- THE TESTS of the location by itself, with the device that is to come, and of the end of its route
+-- THE TESTS of the location alone: it is bad; it has an unknown type; it is empty
 abbrev pub location_tests : SettingData → List Pair → List (Refusal × Bool)
 location_tests s l = (BadLocation, is_bad_location s l) ∷ ((NoSuchType, has_no_kind s l) ∷ ((NoPlace, length l == 0) ∷ []))
 
+-- the tests of a device with its location: the location has the device's name; the tests of the location; the weight is too large; the name or the id is taken
 abbrev pub located_device_tests : SettingData → List Row → ℕ → List ℕ → ℕ → List Pair → List (Refusal × Bool)
 located_device_tests s t d n w l = (BadName, names_it l n) ∷ (location_tests s l ++ ((WeightTooLarge, is_heavy w) ∷ ((NameTaken, is_taken t (Device d) n) ∷ [])))
 
+-- the tests of the end of a route: the item that ends it is a device; it has another type than its pair says
 abbrev pub end_tests : List Row → List StopData → List (Refusal × Bool)
 end_tests t ps = (NotABucket, is_a_device (end_id t ps)) ∷ ((WrongType, is_wrong_kind t ps) ∷ [])

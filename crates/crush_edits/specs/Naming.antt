@@ -1,4 +1,4 @@
--- The edits of names: Swap, Rename.
+-- The edits that change names: Swap and Rename.
 use Rattle.std.specs.Prelude.{ℕ, List, [], ◌∷◌, Bool, not, ◌&&◌, ◌||◌}
 use Rattle.crush_model.specs.Table.{Row, id_named, is_named}
 use Rattle.crush_model.specs.Columns.{set_name, swap_buckets}
@@ -8,22 +8,24 @@ use Rattle.crush_edits.specs.declared.refusal.Refusal.TheVariants.{NoSuchItem, N
 use Rattle.crush_edits.specs.Stops.{bucket_named}
 use Rattle.crush_edits.specs.Answer.{After, kept, on_some, meets, is_a_device, sum_test}
 
--- SWAP: the names of the two rows are exchanged, and all parents that are the one or the other
+-- SWAP: exchanges the names of the two buckets, and their items: each row whose parent is one of the two gets the other as its parent
 abbrev pub after_swap : List Row → List ℕ → List ℕ → After
 after_swap t m n = on_some t (bucket_named t m) (λ a. on_some t (bucket_named t n) (λ b. kept (swap_buckets a b t)))
 
--- the two buckets are one, or one is below the other
+-- whether the two buckets are the same, or one is below the other
 abbrev pub names_nested : List Row → List ℕ → List ℕ → Bool
 names_nested t m n = meets (λ a. meets (are_nested t a) (bucket_named t n)) (bucket_named t m)
 
+-- the refusals of Swap with their tests: a name is no item's; a name is a device's; the buckets are nested; a sum is too large afterwards
 abbrev pub swap_tests : List Row → List ℕ → List ℕ → After → List (Refusal × Bool)
 swap_tests t m n a =
     (NoSuchItem, not (is_named t m) || not (is_named t n)) ∷ ((NotABucket, is_a_device (id_named t m) || is_a_device (id_named t n)) ∷ ((Nested, names_nested t m n) ∷ (sum_test a ∷ [])))
 
--- RENAME: the name column of the row is set
+-- RENAME: sets the name column of the item of name from
 abbrev pub after_rename : List Row → List ℕ → List ℕ → After
 after_rename t from to = on_some t (id_named t from) (λ i. kept (set_name i to t))
 
+-- the refusals of Rename with their tests: no item has either name; items have both names; the item is a device; only the new name is an item's
 abbrev pub rename_tests : List Row → List ℕ → List ℕ → List (Refusal × Bool)
 rename_tests t from to =
     (NoSuchItem, not (is_named t from) && not (is_named t to)) ∷ ((NameTaken, is_named t from && is_named t to) ∷ ((NotDirectory, is_a_device (id_named t from)) ∷ ((AlreadyRenamed, not (is_named t from) && is_named t to) ∷ [])))

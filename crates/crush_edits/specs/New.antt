@@ -1,4 +1,4 @@
--- Routes at whose end an item can be put, and new buckets that a table can have.
+-- Which stops are a route, at whose end an item can be put, and which new buckets a table can get.
 use Rattle.std.specs.Prelude.{◌≡◌, ℕ, ◌<◌, ◌≤◌, List, Option, true, false, ◌==◌, length, All, IfSome, bytes_eq}
 use Rattle.std.specs.List.{count_by}
 use Rattle.crush_units.specs.declared.id.ItemId.TheVariants.{Bucket}
@@ -8,17 +8,17 @@ use Rattle.crush_edits.specs.Stops.{StopData, end_id}
 use Rattle.crush_edits.specs.Put.{NewData}
 use Rattle.crush_units.specs.declared.limits.TheConstants.{FARTHEST_BUCKET_ID, LAST_TYPE, MOST_FREE_IDS}
 
--- a bucket's type and name
+-- a valid stop: its type number is that of a bucket's type, so not 0, and its name is a name
 pub record IsStop (p : StopData) : Type 0 where
   pub kind_some : 0 < p.kind
   pub kind_most : p.kind ≤ LAST_TYPE
   pub name : IsName p.name
 
--- each name once
+-- no two stops have the same name
 abbrev pub OnceNamed : List StopData → Type 0
 OnceNamed ps = (n : List ℕ) → count_by (λ (p : StopData). bytes_eq p.name n) ps ≤ 1
 
--- a route: not empty, its stops in form and each named once, and no device at its end
+-- a route: there is at least one stop and there are not too many, all are valid, no two have the same name, and the item that ends the route, if there is one, is not a device
 pub record IsRoute (t : List Row) (ps : List StopData) : Type 0 where
   pub some : 0 < length ps
   pub few : length ps ≤ MOST_FREE_IDS
@@ -26,7 +26,7 @@ pub record IsRoute (t : List Row) (ps : List StopData) : Type 0 where
   pub once : OnceNamed ps
   pub ends : IfSome (end_id t ps) (λ i. is_device_id i ≡ false)
 
--- a new bucket by itself
+-- a valid new bucket: its id and its type number are in range, the type isn't 0, and its name is a name
 pub record IsNew (n : NewData) : Type 0 where
   pub some : 0 < n.id
   pub most : n.id ≤ FARTHEST_BUCKET_ID
@@ -34,7 +34,7 @@ pub record IsNew (n : NewData) : Type 0 where
   pub kind_most : n.kind ≤ LAST_TYPE
   pub name : IsName n.name
 
--- new buckets that a table can have: ids and names that it doesn't have, each once, and the last in a bucket that is there
+-- new buckets that the table can get: all are valid, the table uses none of their ids and names, no two of them have the same id or name, and the bucket top that the last one is put into, if given, is in the table
 pub record AreNew (t : List Row) (ns : List NewData) (top : Option ℕ) : Type 0 where
   pub forms : All IsNew ns
   pub unused : All (λ (n : NewData). member n.id (used_ids t) ≡ false) ns

@@ -1,4 +1,4 @@
--- The edits with a location: Insert, CreateOrMove, Update, Move.
+-- The edits with a location: Insert, CreateOrMove, Update and Move.
 use Rattle.std.specs.Prelude.{ℕ, List, [], ◌∷◌, ◌++◌, None, Bool, not, if◌then◌else◌, length, unwrap_or}
 use Rattle.crush_units.specs.declared.id.ItemId.{ItemId}
 use Rattle.crush_units.specs.declared.id.ItemId.TheVariants.{Device}
@@ -15,50 +15,54 @@ use Rattle.crush_edits.specs.Put.{put, held}
 use Rattle.crush_edits.specs.Answer.{After, kept, on_some, meets, room_test, sum_test}
 use Rattle.crush_edits.specs.Located.{location_tests, located_device_tests, end_tests}
 
--- an item put at the end of the route
+-- the table after the item of row r is put at the end of the route, and the number of buckets that the route creates
 abbrev pub put_after : List Row → Row → List StopData → After
 put_after t r ps = record { table = put t r ps; made = length (fresh_stops t ps) }
 
--- the device of an edit: it keeps the class that it has
+-- the device that an edit puts: with the id, name and weight of the edit, and the class that the device has in the table, if any
 abbrev pub edited_leaf : List Row → ℕ → List ℕ → ℕ → LeafData
 edited_leaf t d n w = record { id = d; name = n; weight = w; class = class_of t (Device d) }
 
+-- the row of that device, without a parent
 abbrev pub edited_device : List Row → ℕ → List ℕ → ℕ → Row
 edited_device t d n w = device_row None (edited_leaf t d n w)
 
--- a placed device's own weight, else the given one
+-- the device's own weight if it is in a bucket, otherwise the given weight
 abbrev pub kept_weight : List Row → ℕ → ℕ → ℕ
 kept_weight t d w = if is_placed t (Device d) then unwrap_or (own_weight_of t (Device d)) w else w
 
--- INSERT: put with the given weight
+-- INSERT: puts the device with the given weight
 abbrev pub after_insert : SettingData → List Row → ℕ → List ℕ → ℕ → List Pair → After
 after_insert s t d n w l = put_after t (edited_device t d n w) (stops s l)
 
+-- the refusals of Insert with their tests: those of the device with its location; the device is in a bucket already; those of the end of the route; room; sums
 abbrev pub insert_tests : SettingData → List Row → ℕ → List ℕ → ℕ → List Pair → After → List (Refusal × Bool)
 insert_tests s t d n w l a = located_device_tests s t d n w l ++ ((AlreadyPlaced, is_placed t (Device d)) ∷ (end_tests t (stops s l) ++ (room_test a ∷ (sum_test a ∷ []))))
 
--- CREATE OR MOVE: nothing where it is held, else put with the weight that it keeps
+-- CREATE OR MOVE: changes nothing if the bucket of the lowest stop holds the device, otherwise puts it, with its own weight if it is in a bucket
 abbrev pub after_create_or_move : SettingData → List Row → ℕ → List ℕ → ℕ → List Pair → After
 after_create_or_move s t d n w l = if held t (Device d) (stops s l) then kept t else put_after t (edited_device t d n (kept_weight t d w)) (stops s l)
 
--- UPDATE: where it is held its weight is set, else it is put with the given weight
+-- UPDATE: sets the device's weight if the bucket of the lowest stop holds the device, otherwise puts it with the given weight
 abbrev pub after_update : SettingData → List Row → ℕ → List ℕ → ℕ → List Pair → After
 after_update s t d n w l = if held t (Device d) (stops s l) then kept (set_weight (Device d) w t) else put_after t (edited_device t d n w) (stops s l)
 
--- the refusals of the two
+-- the refusals of CreateOrMove and Update with their tests: as for Insert, but the device may be in a bucket already
 abbrev pub device_put_tests : SettingData → List Row → ℕ → List ℕ → ℕ → List Pair → After → List (Refusal × Bool)
 device_put_tests s t d n w l a = located_device_tests s t d n w l ++ (end_tests t (stops s l) ++ (room_test a ∷ (sum_test a ∷ [])))
 
--- MOVE: nothing where it is held, else put with its row as it is
+-- changes nothing if the bucket of the lowest stop holds the item, otherwise puts the item, with its row as it is except for the parent
 abbrev pub move_item : SettingData → List Row → List Pair → ItemId → After
 move_item s t l i = if held t i (stops s l) then kept t else on_some t (row_of t i) (λ r. put_after t r (stops s l))
 
+-- MOVE: the same for the item of name n
 abbrev pub after_move : SettingData → List Row → List ℕ → List Pair → After
 after_move s t n l = on_some t (id_named t n) (move_item s t l)
 
--- the item that ends the route is the moved one or below it
+-- whether the item that ends the route is the moved item itself or is below it
 abbrev pub makes_loop : List Row → List ℕ → List StopData → Bool
 makes_loop t n ps = meets (λ i. meets (is_part t i) (end_id t ps)) (id_named t n)
 
+-- the refusals of Move with their tests: those of the location; no item has the name; those of the end of the route; the move makes a loop; room; sums
 abbrev pub move_tests : SettingData → List Row → List ℕ → List Pair → After → List (Refusal × Bool)
 move_tests s t n l a = location_tests s l ++ ((NoSuchItem, not (is_named t n)) ∷ (end_tests t (stops s l) ++ ((Loop, makes_loop t n (stops s l)) ∷ (room_test a ∷ (sum_test a ∷ [])))))

@@ -1,4 +1,4 @@
--- What a location keeps, which pairs can be added to it, and why another isn't.
+-- Which locations are valid, which pairs can be added to one, and why another pair isn't added.
 use Rattle.std.specs.Prelude.{◌≡◌, ℕ, ◌<◌, ◌≤◌, List, false, ◌&&◌, length, All}
 use Rattle.crush_units.specs.Name.{IsName, is_name}
 use Rattle.crush_units.specs.declared.limits.TheConstants.{MOST_PAIRS}
@@ -8,31 +8,31 @@ use Rattle.crush_edits.specs.declared.location.Pair.{Pair}
 use Rattle.crush_edits.specs.declared.location.LocationFault.{LocationFault}
 use Rattle.crush_edits.specs.declared.location.LocationFault.TheVariants.{TooMany, BadName, OutOfMemory}
 
--- what each location keeps: at most so many pairs, and their names are names
+-- a valid location: it has at most MOST_PAIRS pairs, and their type names and bucket names are names
 pub record IsLocation (l : List Pair) : Type 0 where
   pub few : length l ≤ MOST_PAIRS
   pub kinds : All (λ (p : Pair). IsName p.kind) l
   pub names : All (λ (p : Pair). IsName p.name) l
 
--- there is room for the pair, and its two parts are names
+-- the pair can be added: the location has room for it, and its type name and its bucket name are names
 pub record CanPush (l : List Pair) (kind name : List ℕ) : Type 0 where
   pub room : length l < MOST_PAIRS
   pub kind_form : IsName kind
   pub name_form : IsName name
 
--- why a pair isn't added: exactly one of these holds
+-- when a fault is right: TooMany if the location is full; BadName if it isn't and one of the two isn't a name; OutOfMemory only if the pair can be added. For each location and pair, exactly one of the three is right
 abbrev pub IsLocationFault : List Pair → List ℕ → List ℕ → LocationFault → Type 0
 IsLocationFault l kind name TooMany = MOST_PAIRS ≤ length l
 IsLocationFault l kind name BadName = (length l < MOST_PAIRS) × ((is_name kind && is_name name) ≡ false)
 IsLocationFault l kind name OutOfMemory = CanPush l kind name
 
--- the number of a fault
+-- the number of a fault, which is the position of its variant from 1
 abbrev pub location_fault_number : LocationFault → ℕ
 location_fault_number TooMany = 1
 location_fault_number BadName = 2
 location_fault_number OutOfMemory = 3
 
--- what is told of bytes that are no name, or for which there is no memory
+-- the fault of a location for the fault of a name in it: bytes that are no name, or no memory for them
 abbrev pub fault_of_name : NameFault → LocationFault
 fault_of_name Empty = BadName
 fault_of_name (BadByte place) = BadName

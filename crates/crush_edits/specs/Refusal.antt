@@ -1,9 +1,9 @@
--- The refusals' names, numbers and errors.
+-- The names, numbers and Linux errors of the refusals.
 use Rattle.std.specs.Prelude.{ℕ, List, codes}
 use Rattle.crush_edits.specs.declared.refusal.Refusal.{Refusal}
 use Rattle.crush_edits.specs.declared.refusal.Refusal.TheVariants.{BadName, BadLocation, NoSuchType, NoPlace, WeightTooLarge, NoSuchItem, NameTaken, AlreadyPlaced, NotPlaced, NotADevice, NotABucket, WrongType, Loop, Nested, NotEmpty, InUse, NotDirectory, AlreadyRenamed, NoRoom, SumTooLarge, ClassBound}
 
--- the name, as it is printed
+-- the name of a refusal, as it is printed
 abbrev pub refusal_name : Refusal → List ℕ
 refusal_name BadName = codes "BadName"
 refusal_name BadLocation = codes "BadLocation"
@@ -27,7 +27,7 @@ refusal_name NoRoom = codes "NoRoom"
 refusal_name SumTooLarge = codes "SumTooLarge"
 refusal_name ClassBound = codes "ClassBound"
 
--- the place in the order in which refusals are told
+-- the number of a refusal: if several hold for an edit, the one with the least number is reported
 abbrev pub refusal_number : Refusal → ℕ
 refusal_number BadName = 1
 refusal_number BadLocation = 2
@@ -51,7 +51,7 @@ refusal_number NoRoom = 19
 refusal_number SumTooLarge = 20
 refusal_number ClassBound = 21
 
--- the number of the Linux error
+-- the number of the nearest Linux error
 abbrev pub refusal_error : Refusal → ℕ
 refusal_error BadName = 22
 refusal_error BadLocation = 22

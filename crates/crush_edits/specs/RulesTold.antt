@@ -1,4 +1,4 @@
--- Which buckets are told to be taken, and when they are those that rules take.
+-- The set of the buckets that rules take, each by the distance of its id below 0.
 use Rattle.std.specs.Prelude.{◌≡◌, ◌||◌, ℕ, List}
 use Rattle.std.specs.BTreeSet.{BTreeSet, contains}
 use Rattle.std.specs.List.{list_any}
@@ -8,10 +8,10 @@ use Rattle.crush_edits.specs.Setting.{RuleData, taken_by}
 use Rattle.crush_edits.specs.SettingSeen.{takes_bucket}
 use Rattle.crush_edits.specs.declared.setting.KeptStep.{KeptStep}
 
--- TAKEN BUCKETS: those that a step of a rule takes, and no others
+-- THE SET IS RIGHT: it has a bucket if and only if a step of a rule takes it
 abbrev pub AreTakenBy : List RuleData → BTreeSet ℕ → Type 0
 AreTakenBy rules taken = (b : ℕ) → contains nat_cmp taken b ≡ member b (taken_by rules)
 
--- those that these steps take, with those that were taken before
+-- the new set has a bucket if and only if the old set has it or one of the steps takes it
 abbrev pub ComeAsTaken : List KeptStep → BTreeSet ℕ → BTreeSet ℕ → Type 0
 ComeAsTaken steps old new = (b : ℕ) → contains nat_cmp new b ≡ contains nat_cmp old b || list_any (takes_bucket b) steps

@@ -1,4 +1,4 @@
--- The setting of a map: what it holds beside its items.
+-- The setting of a map: what the map holds besides its items.
 use Rattle.std.specs.Prelude.{ℕ, ℤ, List, [], ◌∷◌, Option, Bool, ◌==◌, find, flat_map, bytes_eq}
 use Rattle.std.specs.List.{list_any}
 use Rattle.std.specs.Option.{option_map}
@@ -13,14 +13,14 @@ pub record TunableData : Type 0 where
   pub name : List ℕ
   pub value : ℕ
 
--- a step of a rule: a bucket by how far its id is below 0, with or without a class; how many items of a type, by its name; a tunable that is set; the end
+-- a step of a rule. take: the distance of a bucket's id below 0, and a class or none. choose: whether a device below each item is chosen (chooseleaf), whether items after a lost one move up (firstn), how many items, and the name of their type. set: the name of a parameter, and its value. emit: outputs what was chosen
 pub data StepData : Type 0 where
   take : ℕ → Option (List ℕ) → StepData
   choose : Bool → Bool → ℤ → List ℕ → StepData
   set : List ℕ → ℕ → StepData
   emit : StepData
 
--- a rule
+-- a rule: its name, its id, the kind of pools that it serves, their smallest and largest size if it says them, and its steps in order
 pub record RuleData : Type 0 where
   pub name : List ℕ
   pub id : ℕ
@@ -35,17 +35,19 @@ pub record SettingData : Type 0 where
   pub tunables : List TunableData
   pub rules : List RuleData
 
--- of types in order, the number of the first of a name, and the name of the first of a number
+-- the number of the first type that has the name, or none
 abbrev pub first_number : List KindData → List ℕ → Option ℕ
 first_number kinds n = option_map (λ (k : KindData). k.number) (find (λ (k : KindData). bytes_eq k.name n) kinds)
 
+-- the name of the first type that has the number, or none
 abbrev pub first_name : List KindData → ℕ → Option (List ℕ)
 first_name kinds n = option_map (λ (k : KindData). k.name) (find (λ (k : KindData). k.number == n) kinds)
 
--- the number of a type's name, and the name of a number
+-- the number of the setting's first type that has the name, or none
 abbrev pub kind_number : SettingData → List ℕ → Option ℕ
 kind_number s n = first_number s.kinds n
 
+-- the name of the setting's first type that has the number, or none
 abbrev pub kind_name : SettingData → ℕ → Option (List ℕ)
 kind_name s n = first_name s.kinds n
 
@@ -53,15 +55,17 @@ kind_name s n = first_name s.kinds n
 abbrev pub has_tunable : SettingData → List ℕ → Bool
 has_tunable s n = list_any (λ (x : TunableData). bytes_eq x.name n) s.tunables
 
--- the bucket that a step takes, and the buckets that rules take, each as often as a step takes it
+-- the bucket that a step takes, as a list of one or none
 abbrev pub bucket_taken : StepData → List ℕ
 bucket_taken (take b class) = b ∷ []
 bucket_taken (choose leaf firstn count kind) = []
 bucket_taken (set word value) = []
 bucket_taken emit = []
 
+-- the buckets that the steps of these rules take, each as often as a step takes it
 abbrev pub taken_by : List RuleData → List ℕ
 taken_by rules = flat_map (λ (r : RuleData). flat_map bucket_taken r.steps) rules
 
+-- the buckets that the rules of the setting take
 abbrev pub taken_buckets : SettingData → List ℕ
 taken_buckets s = taken_by s.rules

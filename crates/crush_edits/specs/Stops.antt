@@ -1,4 +1,4 @@
--- Where a location leads: its stops by ascending type number, and the one that ends its route.
+-- Where a location leads: its stops by ascending type number, and the stop that ends its route.
 use Rattle.std.specs.Prelude.{ℕ, List, [], Option, Some, None, Bool, not, find, take_while, fold, option_and_then, nat_le, insert}
 use Rattle.std.specs.List.{position_or_len}
 use Rattle.crush_units.specs.declared.id.ItemId.{ItemId}
@@ -7,44 +7,49 @@ use Rattle.crush_model.specs.Table.{Row, id_named, is_named}
 use Rattle.crush_edits.specs.declared.location.Pair.{Pair}
 use Rattle.crush_edits.specs.Setting.{SettingData, kind_number}
 
--- a pair of a location with its type's number
+-- a stop: a pair of a location, with the number of its type instead of the type's name
 pub record StopData : Type 0 where
   pub kind : ℕ
   pub name : List ℕ
 
--- the stops of a location, by ascending type number; a type that the setting doesn't have gives no stop
+-- inserts a stop before the first whose type number is not less
 abbrev pub insert_stop : StopData → List StopData → List StopData
 insert_stop p ps = insert ps (position_or_len (λ (q : StopData). nat_le p.kind q.kind) ps) p
 
+-- the stops with one more, for a pair of this type number and name; without one if the type is unknown
 abbrev pub with_stop : Option ℕ → List ℕ → List StopData → List StopData
 with_stop None n ps = ps
 with_stop (Some k) n ps = insert_stop (record { kind = k; name = n }) ps
 
+-- the stops of a location, by ascending type number; a pair whose type the setting doesn't have gives no stop
 abbrev pub stops : SettingData → List Pair → List StopData
 stops s l = fold (λ ps (p : Pair). with_stop (kind_number s p.kind) p.name ps) [] l
 
--- the stops before the first whose name is there: their buckets are made
+-- whether no item of the table has the name of the stop
 abbrev pub is_fresh : List Row → StopData → Bool
 is_fresh t p = not (is_named t p.name)
 
+-- the stops before the first whose name the table has: for each of them a bucket is created
 abbrev pub fresh_stops : List Row → List StopData → List StopData
 fresh_stops t ps = take_while (is_fresh t) ps
 
--- the first stop whose name is there ends the route, and its item
+-- the stop that ends the route: the first whose name the table has, or none
 abbrev pub end_stop : List Row → List StopData → Option StopData
 end_stop t ps = find (λ (p : StopData). is_named t p.name) ps
 
+-- the item that ends the route, or none
 abbrev pub end_id : List Row → List StopData → Option ItemId
 end_id t ps = option_and_then (λ (p : StopData). id_named t p.name) (end_stop t ps)
 
--- the number of a bucket, and the bucket of a name
+-- the distance of a bucket's id below 0; none for a device
 abbrev pub number_of : ItemId → Option ℕ
 number_of (Device d) = None
 number_of (Bucket b) = Some b
 
+-- the bucket that has the name, or none
 abbrev pub bucket_named : List Row → List ℕ → Option ℕ
 bucket_named t n = option_and_then number_of (id_named t n)
 
--- the bucket that ends the route receives what comes before it
+-- the receiver: the bucket that ends the route, which receives the uppermost new bucket, or the item if no bucket is new
 abbrev pub receiver : List Row → List StopData → Option ℕ
 receiver t ps = option_and_then number_of (end_id t ps)

@@ -1,4 +1,4 @@
--- The edits of weights: Reweight, ReweightSubtree.
+-- The edits that change weights: Reweight and ReweightSubtree.
 use Rattle.std.specs.Prelude.{ℕ, List, [], ◌∷◌, Bool, not, ◌&&◌, is_none}
 use Rattle.crush_units.specs.declared.id.ItemId.{ItemId}
 use Rattle.crush_units.specs.Id.{is_device_id}
@@ -9,21 +9,23 @@ use Rattle.crush_edits.specs.declared.refusal.Refusal.TheVariants.{WeightTooLarg
 use Rattle.crush_edits.specs.Stops.{bucket_named}
 use Rattle.crush_edits.specs.Answer.{After, kept, on_some, meets, is_a_device, is_a_bucket, is_heavy, sum_test}
 
--- REWEIGHT: the weight column of the item is set
+-- REWEIGHT: sets the weight column of the item of name n
 abbrev pub after_reweight : List Row → List ℕ → ℕ → After
 after_reweight t n w = on_some t (id_named t n) (λ i. kept (set_weight i w t))
 
--- a device that stands in no bucket
+-- whether the item is a device that is in no bucket
 abbrev pub is_unplaced : List Row → ItemId → Bool
 is_unplaced t i = is_device_id i && is_none (parent_of t i)
 
+-- the refusals of Reweight with their tests: the weight is too large; no item has the name; the item is a device in no bucket; it is a bucket; a sum is too large afterwards
 abbrev pub reweight_tests : List Row → List ℕ → ℕ → After → List (Refusal × Bool)
 reweight_tests t n w a =
     (WeightTooLarge, is_heavy w) ∷ ((NoSuchItem, not (is_named t n)) ∷ ((NotPlaced, meets (is_unplaced t) (id_named t n)) ∷ ((NotADevice, is_a_bucket (id_named t n)) ∷ (sum_test a ∷ []))))
 
--- REWEIGHT SUBTREE: the weight column of all devices below the bucket is set
+-- REWEIGHT SUBTREE: sets the weight column of all devices below the bucket of name n
 abbrev pub after_subtree : List Row → List ℕ → ℕ → After
 after_subtree t n w = on_some t (bucket_named t n) (λ b. kept (set_subtree b w t))
 
+-- the refusals of ReweightSubtree with their tests: the weight is too large; no item has the name; the item is a device; a sum is too large afterwards
 abbrev pub subtree_tests : List Row → List ℕ → ℕ → After → List (Refusal × Bool)
 subtree_tests t n w a = (WeightTooLarge, is_heavy w) ∷ ((NoSuchItem, not (is_named t n)) ∷ ((NotABucket, is_a_device (id_named t n)) ∷ (sum_test a ∷ [])))

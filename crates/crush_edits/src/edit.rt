@@ -1,4 +1,4 @@
-//! The edits of a map.
+//! The edits of a map, one variant for each command of `ceph osd crush` that is supported.
 
 ghost use Rattle.std.specs.Prelude.{◌≡◌, IfOk};
 
@@ -6,75 +6,85 @@ use crate::location::Location;
 use crush_units::{DeviceId, Name, Weight};
 use std::alloc::{AllocError, Global};
 
-/// An edit of a map, as `ceph osd crush` makes it. In brackets stand its command and Ceph's
-/// function.
+/// An edit of a map, as `ceph osd crush` makes it. The brackets name its command and, for most
+/// edits, Ceph's function.
+///
+/// The fields `name`, `a`, `b` and `from` are names of items, `to` is the new name of a bucket,
+/// `kind` is the name of a type, and `class` is the name of a class. `weight` is the weight of a
+/// device, and `at` is where an item is to be put.
 #[derive(Debug, Drop)]
 pub enum Edit {
-    /// Puts a device that stands in no bucket at the end of a location's route, made where its id
-    /// is new (`add`, `insert_item`).
+    /// Puts a device that is in no bucket into the bucket that the location leads to, with this
+    /// weight; creates the device if its id is new (`add`, `insert_item`).
     Insert {
         device: DeviceId,
         name: Name<Global>,
         weight: Weight,
         at: Location,
     },
-    /// Puts a device, a placed one with its own weight, unless the lowest pair's bucket holds it
-    /// (`create-or-move`, `create_or_move_item`).
+    /// Creates the device at the location, or moves it there. A device that is in a bucket already
+    /// keeps its own weight, and `weight` is for any other. If the location's bucket of the lowest
+    /// type already holds the device, nothing changes (`create-or-move`, `create_or_move_item`).
     CreateOrMove {
         device: DeviceId,
         name: Name<Global>,
         weight: Weight,
         at: Location,
     },
-    /// Puts a device with the weight, which alone is set where the lowest pair's bucket holds it
-    /// (`set`, `update_item`).
+    /// Creates the device at the location, or moves it there, with this weight. If the location's
+    /// bucket of the lowest type already holds the device, only its weight is set (`set`,
+    /// `update_item`).
     Update {
         device: DeviceId,
         name: Name<Global>,
         weight: Weight,
         at: Location,
     },
-    /// Puts an item with all below it, unless the lowest pair's bucket holds it (`move`,
-    /// `move_bucket`).
+    /// Moves an item, with everything below it, to the location. If the location's bucket of the
+    /// lowest type already holds the item, nothing changes (`move`, `move_bucket`).
     Move {
         name: Name<Global>,
         at: Location,
     },
-    /// Exchanges two buckets' items and names (`swap-bucket`, `swap_bucket`).
+    /// Exchanges the items and the names of two buckets, which keep their ids and their parents
+    /// (`swap-bucket`, `swap_bucket`).
     Swap {
         a: Name<Global>,
         b: Name<Global>,
     },
-    /// Sets a placed device's weight (`reweight`, `adjust_item_weight`).
+    /// Sets the weight of a device that is in a bucket (`reweight`, `adjust_item_weight`).
     Reweight {
         name: Name<Global>,
         weight: Weight,
     },
-    /// Sets the weight of each device below a bucket (`reweight-subtree`, `adjust_subtree_weight`).
+    /// Sets the weight of each device below a bucket, at any depth (`reweight-subtree`,
+    /// `adjust_subtree_weight`).
     ReweightSubtree {
         name: Name<Global>,
         weight: Weight,
     },
-    /// Removes a device or an empty bucket (`rm`, `remove_item`).
+    /// Removes a device, or an empty bucket that no rule takes (`rm`, `remove_item`).
     Remove {
         name: Name<Global>,
     },
-    /// Makes an empty root (`add-bucket`, `add_bucket`).
+    /// Creates an empty bucket of this type that is in no other bucket (`add-bucket`,
+    /// `add_bucket`).
     AddBucket {
         name: Name<Global>,
         kind: Name<Global>,
     },
-    /// Renames a bucket (`rename-bucket`, `rename_bucket`).
+    /// Gives the bucket of name `from` the name `to` (`rename-bucket`, `rename_bucket`).
     Rename {
         from: Name<Global>,
         to: Name<Global>,
     },
-    /// Gives a device without a class one (`set-device-class`).
+    /// Sets the class of a device that has none. If the device has this class already, nothing
+    /// changes; if it has another one, the edit is refused (`set-device-class`).
     SetClass {
         name: Name<Global>,
         class: Name<Global>,
     },
-    /// Takes a device's class away (`rm-device-class`).
+    /// Removes the class of a device, if it has one (`rm-device-class`).
     RemoveClass {
         name: Name<Global>,
     },
@@ -93,7 +103,7 @@ struct Names {
 }
 
 impl Edit {
-    /// A copy of the edit.
+    /// Returns a copy of the edit, or an error if there is no memory for it.
     pub fn try_copy(&self, alloc: Global) -> Result<Edit, AllocError>
         ensures { IfOk result (λ copy. copy ≡ self.now) }
     {

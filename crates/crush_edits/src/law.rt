@@ -1,4 +1,4 @@
-//! Laws, as contracts of functions that do nothing.
+//! Laws of the edits. Each law is the contract of a function whose body is empty.
 
 pub mod edit;
 pub mod order;

@@ -1,6 +1,8 @@
-//! The edits of a CRUSH map and what its table makes of them (`specs/Edit.antt`): an [`Edit`] is a
-//! command, a [`Location`] says where an item comes, a [`Refusal`] why nothing was done, a
-//! [`Setting`] is the rest of a map.
+//! The edits of a CRUSH map as values: this crate describes edits, and `crush_apply` makes them.
+//!
+//! An [`Edit`] is one command. A [`Location`] says where a command puts an item. A [`Refusal`] says
+//! why an edit isn't made. A [`Setting`] holds what a map has besides its items. `specs/Edit.antt`
+//! defines what each edit does to the table of a map; read that first.
 #![tactic(auto)]
 
 mod edit;

@@ -1,4 +1,4 @@
-//! Where an item is to be put.
+//! Locations: where an edit is to put an item.
 
 ghost use Rattle.std.specs.Prelude.{◌≡◌, ◌≤◌, [], ◌∷◌, ◌++◌, length, IfOk, IfErr, OnOk, OnErr};
 ghost use Rattle.crush_units.specs.Name.{IsName};
@@ -10,16 +10,21 @@ use std::alloc::{AllocError, Global};
 use std::marker::Model;
 use thiserror::Error;
 
-/// A type name and a bucket's name, as `host=h1` says them.
+/// The name of a type and the name of a bucket, such as `host=h1` in a command.
 #[derive(Debug, Drop)]
 pub struct Pair {
+    /// The name of the bucket's type, for example `host`.
     pub kind: Name<Global>,
+    /// The name of the bucket, for example `h1`.
     pub name: Name<Global>,
 }
 
-/// Where an item is to be put: up to 16 pairs of type name and bucket name, in any order. By
-/// ascending type number, the first pair whose bucket is there receives what comes before it; pairs
-/// before it become buckets.
+/// Where an item is to be put: up to 16 pairs of a type name and a bucket name, in any order.
+///
+/// An edit takes the pairs by ascending number of their types, and puts the item into the bucket of
+/// the first pair. If that bucket isn't in the map, the edit creates it in the bucket of the next
+/// pair, and so on up to the first bucket that is in the map. If none is, the last bucket that is
+/// created is a root. The remaining pairs are checked, and otherwise ignored.
 #[derive(Debug, Drop)]
 pub struct Location {
     pairs: Vec<Pair>,
@@ -39,19 +44,22 @@ impl Model for Location {
     ghost invariant = { λ location. IsLocation location.pairs.items };
 }
 
-/// Why a pair isn't added to a location.
+/// Why a pair isn't added to a location, which is then unchanged.
 #[derive(Clone, Copy, Debug, PartialEq, Eq, Error)]
 pub enum LocationFault {
+    /// The location has 16 pairs already.
     #[error("a location has at most 16 pairs")]
     TooMany,
+    /// The type name or the bucket name isn't a valid name.
     #[error("not a name: expected letters, digits, `-`, `_` or `.`")]
     BadName,
+    /// Memory for the pair couldn't be allocated.
     #[error("out of memory")]
     OutOfMemory,
 }
 
 impl LocationFault {
-    /// The fault's number, from 1.
+    /// Returns the number of the fault: the position of its variant, from 1 to 3.
     pub fn number(self) -> u8
         ensures { result ≡ location_fault_number self }
     {
@@ -88,7 +96,7 @@ impl Pair {
 }
 
 impl Location {
-    /// A location without pairs.
+    /// Returns a location without pairs, whose memory comes from this allocator.
     pub fn new(alloc: Global) -> Location
         ensures { result ≡ [] }
     {
@@ -98,7 +106,11 @@ impl Location {
         }
     }
 
-    /// Adds a pair behind those that are there.
+    /// Adds a pair after the pairs that the location has.
+    ///
+    /// Fails with `TooMany` if there are 16 pairs already, otherwise with `BadName` if either name
+    /// is invalid, otherwise with `OutOfMemory` if there is no memory for the pair. The location is
+    /// unchanged after an error.
     pub fn push(&mut self, type_name: &[u8], name: &[u8]) -> Result<(), LocationFault>
         ensures ok { OnOk result (self.new
             ≡ self.old ++ record { kind = type_name.now; name = name.now } ∷ []) }
@@ -121,7 +133,7 @@ impl Location {
         Ok(())
     }
 
-    /// The pairs, in the order in which they were added: at most 16, and their names are names.
+    /// Returns the pairs, in the order in which they were added: at most 16, all with valid names.
     pub fn pairs(&self) -> &[Pair]
         ensures value { result.now ≡ self.now }
         ensures forms { IsLocation self.now }

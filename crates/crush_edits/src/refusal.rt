@@ -1,4 +1,4 @@
-//! Why an edit isn't made.
+//! The results of edits and batches: what was done, or why nothing was done.
 
 ghost use Rattle.std.specs.Prelude.{◌≡◌};
 ghost use Rattle.crush_edits.specs.Refusal.{refusal_name, refusal_number, refusal_error};
@@ -7,50 +7,62 @@ use std::alloc::AllocError;
 use std::fmt::{self, Display, Formatter};
 use thiserror::Error;
 
-/// Why an edit is refused. Of several the least is answered; numbers and order are this editor's
-/// own.
+/// Why an edit is refused. If several reasons hold, the one with the lowest number is reported.
+///
+/// A refused edit changes nothing. The numbers and their order are this editor's own, not Ceph's.
 #[derive(Clone, Copy, Debug, PartialEq, Eq)]
 pub enum Refusal {
-    /// The device's name is also a bucket name of the location.
+    /// The name of the device is also the name of a bucket in its location.
     BadName,
-    /// A type or bucket name stands twice in the location, or type 0's as a type.
+    /// The location has a type name or a bucket name twice, or has the name of type 0, the type of
+    /// devices, as a type name.
     BadLocation,
-    /// A type name, of the location or for a new bucket, isn't the map's.
+    /// The map has no type of this name, which the location has or a new bucket is to have.
     NoSuchType,
+    /// The location has no pairs.
     NoPlace,
-    /// Above 2147483647 units, used or not.
+    /// The weight is above 2147483647 units, even if the edit wouldn't use it.
     WeightTooLarge,
-    /// A named item isn't there; of a new name, neither name is.
+    /// The map has no item of this name. `Rename` is refused with this if the map has neither name.
     NoSuchItem,
-    /// Another item has the name, or the item has another.
+    /// Another item has the name, or the device of this id has another name. `Rename` is refused
+    /// with this if the map has both names, even if they are the same.
     NameTaken,
+    /// The device that is to be inserted is already in a bucket.
     AlreadyPlaced,
+    /// The device whose weight is to be set is in no bucket.
     NotPlaced,
+    /// The edit needs a device, and the named item is a bucket.
     NotADevice,
+    /// The edit needs a bucket, and the named item, or the item that the location leads to, is a
+    /// device.
     NotABucket,
-    /// Another type than the location says, or type 0 for a new bucket.
+    /// The bucket that the location leads to has another type than the location says, or a new
+    /// bucket is to have type 0.
     WrongType,
-    /// The receiving bucket is the item or stands below it.
+    /// The bucket that the location leads to is the moved item itself, or is below it.
     Loop,
-    /// The buckets are one, or one stands below the other.
+    /// The two buckets to be swapped are the same one, or one is below the other.
     Nested,
+    /// The bucket that is to be removed holds items.
     NotEmpty,
-    /// A rule takes the bucket.
+    /// A rule takes the bucket that is to be removed.
     InUse,
-    /// A device is to be renamed.
+    /// The item that is to be renamed is a device.
     NotDirectory,
-    /// The new name alone is there.
+    /// The map has the new name and not the old one, as if the bucket had been renamed before.
     AlreadyRenamed,
-    /// More than 4,096 buckets or 65,536 devices.
+    /// The map would have more than 4,096 buckets or more than 65,536 devices.
     NoRoom,
-    /// A bucket above 4294967295 units, or all placed devices above 8796093022207.
+    /// A bucket would weigh more than 4294967295 units, or all devices that are in buckets together
+    /// more than 8796093022207 units.
     SumTooLarge,
-    /// The device has another class.
+    /// The device already has another class.
     ClassBound,
 }
 
 impl Refusal {
-    /// The refusal's name, as it is written above.
+    /// Returns the name of the refusal, spelled like its variant.
     pub fn name(self) -> &'static str
         ensures { result.now ≡ refusal_name self }
     {
@@ -79,7 +91,7 @@ impl Refusal {
         }
     }
 
-    /// The refusal's number, from 1 to 21, which is its place among those above.
+    /// Returns the number of the refusal: the position of its variant, from 1 to 21.
     pub fn number(self) -> u8
         ensures { result ≡ refusal_number self }
     {
@@ -108,7 +120,7 @@ impl Refusal {
         }
     }
 
-    /// The number of the Linux error that comes nearest, as 2 for `ENOENT`.
+    /// Returns the number of the nearest Linux error, for example 2 for `ENOENT`.
     pub fn error(self) -> u8
         ensures { result ≡ refusal_error self }
     {
@@ -148,28 +160,33 @@ impl Display for Refusal {
 
 impl std::error::Error for Refusal {}
 
-/// What an edit that was made did.
+/// What an edit has done, if it was not refused.
 #[derive(Clone, Copy, Debug, PartialEq, Eq)]
 pub struct Done {
+    /// Whether the edit changed the map.
     pub changed: bool,
-    /// How many buckets were made.
+    /// The number of buckets that the edit created.
     pub made: u16,
 }
 
-/// What a batch of edits that were all made did.
+/// What a batch has done, if none of its edits was refused.
 #[derive(Clone, Copy, Debug, PartialEq, Eq)]
 pub struct Dones {
+    /// The number of edits in the batch.
     pub edits: u32,
-    /// How many changed the map.
+    /// The number of edits that changed the map.
     pub changed: u32,
+    /// The number of buckets that the edits created.
     pub made: u32,
 }
 
-/// Why an edit wasn't made.
+/// Why an edit wasn't made: it is refused, or memory ran out. The map is then unchanged.
 #[derive(Clone, Copy, Debug, PartialEq, Eq, Error)]
 pub enum EditFault {
+    /// The edit is refused, for this reason.
     #[error("the edit is refused: {0}")]
     Refused(Refusal),
+    /// Memory that the edit needs couldn't be allocated.
     #[error("out of memory")]
     OutOfMemory,
 }
@@ -196,12 +213,14 @@ impl From<AllocError> for EditFault {
     }
 }
 
-/// Why a batch of edits wasn't made.
+/// Why a batch of edits wasn't made: an edit is refused, or memory ran out. The map is then
+/// unchanged.
 #[derive(Clone, Copy, Debug, PartialEq, Eq, Error)]
 pub enum BatchFault {
-    /// The first refused edit's index, from 0.
+    /// The index of the first edit that is refused, from 0, and the reason.
     #[error("edit {0} is refused: {1}")]
     Refused(u32, Refusal),
+    /// Memory that the batch needs couldn't be allocated.
     #[error("out of memory")]
     OutOfMemory,
 }

@@ -1,39 +1,46 @@
-//! Rules of a map.
+//! CRUSH rules as a map's text says them, with buckets given by name.
 
 use crush_units::Name;
 use std::alloc::Global;
 
-/// A rule, which tells how devices are chosen. The editor keeps and prints it and runs none.
+/// A CRUSH rule: the steps by which Ceph chooses devices. The editor keeps rules and prints them,
+/// and never runs one.
 #[derive(Debug, Drop)]
 pub struct Rule {
+    /// The name of the rule.
     pub name: Name<Global>,
-    /// Up to 2147483647.
+    /// The rule's id, at most 2147483647.
     pub id: u32,
-    /// What it serves, as `replicated`.
+    /// The kind of pools that the rule serves, for example `replicated`.
     pub kind: Name<Global>,
-    /// Of pools, up to 2147483647.
+    /// The smallest size of a pool that the rule serves, if it says one, at most 2147483647.
     pub min_size: Option<u32>,
-    /// Up to 2147483647.
+    /// The largest size of a pool that the rule serves, if it says one, at most 2147483647.
     pub max_size: Option<u32>,
-    /// At most 64.
+    /// The steps, in order: at most 64.
     pub steps: Vec<Step>,
 }
 
 /// A step of a rule.
 #[derive(Debug, Drop)]
 pub enum Step {
-    /// The bucket of this name, or its devices of a class.
+    /// Starts from the bucket of this name. If a class is given, only the bucket's devices of that
+    /// class count.
     Take(Name<Global>, Option<Name<Global>>),
+    /// Chooses items of a type.
     Choose {
-        /// Chooses devices below the items.
+        /// Whether a device below each chosen item is chosen, too (`chooseleaf`).
         leaf: bool,
-        /// Whether a lost one moves the others up (`firstn`), or each keeps its place (`indep`).
+        /// Whether the items after a lost one move up (`firstn`), or all keep their places
+        /// (`indep`).
         firstn: bool,
-        /// Below 0 it counts from the pool's size.
+        /// How many items are chosen; a number below 0 is added to the pool's size.
         count: i32,
+        /// The name of the type of the items.
         kind: Name<Global>,
     },
-    /// A word that begins with `set_`, and its value, up to 2147483647.
+    /// Sets a parameter, whose name begins with `set_`, to a value of at most 2147483647.
     Set(Name<Global>, u32),
+    /// Ends a choice: outputs the devices chosen so far.
     Emit,
 }

@@ -1,4 +1,4 @@
-//! What a map holds beside its items.
+//! What a map holds besides its items: types, tunables and rules.
 
 ghost use Rattle.std.specs.Prelude.{◌≡◌, ◌∷◌, [], ◌++◌, map, None, false, OnOk, OnErr, IfOk};
 ghost use Rattle.std.specs.Option.{option_copied};
@@ -17,8 +17,9 @@ use rules::Rules;
 use std::alloc::{AllocError, Global};
 use std::marker::Model;
 
-/// A rule as a map keeps it: it names the buckets that it takes by their ids, so that a bucket's
-/// new name changes no rule. The rest is as in `Rule`.
+/// A rule as a map keeps it, with buckets given by id, so that renaming a bucket changes no rule.
+///
+/// The fields mean the same as in `Rule`, and have the same limits.
 #[derive(Debug, Drop)]
 pub struct KeptRule {
     pub name: Name<Global>,
@@ -29,10 +30,11 @@ pub struct KeptRule {
     pub steps: Vec<KeptStep>,
 }
 
-/// A step of a rule as a map keeps it. The rest is as in `Step`.
+/// A step of a rule as a map keeps it. Except for `Take`, the variants are those of `Step`.
 #[derive(Debug, Drop)]
 pub enum KeptStep {
-    /// The bucket of this id, or its devices of a class.
+    /// Starts from the bucket of this id. If a class is given, only the bucket's devices of that
+    /// class count.
     Take(BucketId, Option<Name<Global>>),
     Choose {
         leaf: bool,
@@ -44,8 +46,9 @@ pub enum KeptStep {
     Emit,
 }
 
-/// What a map holds beside its items: types, tunables and rules, each in the order in which they
-/// were declared.
+/// What a map holds besides its items: types, tunables and rules.
+///
+/// Each of the three keeps the order in which the map declares it.
 #[derive(Debug, Drop)]
 pub struct Setting {
     kinds: Kinds,
@@ -119,7 +122,7 @@ impl KeptRule {
 }
 
 impl Setting {
-    /// A setting without types, tunables and rules.
+    /// Returns a setting without types, tunables and rules, whose memory comes from this allocator.
     pub fn new(alloc: Global) -> Setting
         ensures { result ≡ record {
           kinds = [];
@@ -134,7 +137,9 @@ impl Setting {
         }
     }
 
-    /// Adds a type of a number that no type has, after those that are there.
+    /// Adds a type after the types that the setting has. No type may have its number yet.
+    ///
+    /// Fails if there is no memory for it; the setting is then unchanged.
     pub fn push_kind(&mut self, number: TypeId, name: Name<Global>) -> Result<(), AllocError>
         requires { kind_name self.old number ≡ None }
         ensures ok { OnOk result (self.new
@@ -145,7 +150,9 @@ impl Setting {
         Ok(())
     }
 
-    /// Adds a tunable of a name that no tunable has, after those that are there.
+    /// Adds a tunable after the tunables that the setting has. No tunable may have its name yet.
+    ///
+    /// Fails if there is no memory for it; the setting is then unchanged.
     pub fn push_tunable(&mut self, name: Name<Global>, value: u32) -> Result<(), AllocError>
         requires { has_tunable self.old name ≡ false }
         ensures ok { OnOk result (self.new
@@ -156,7 +163,10 @@ impl Setting {
         Ok(())
     }
 
-    /// Adds a rule after those that are there.
+    /// Adds a rule after the rules that the setting has.
+    ///
+    /// Fails if there is no memory for it; the setting is then unchanged. Its time grows with the
+    /// number of buckets that the rules take.
     pub fn push_rule(&mut self, rule: KeptRule) -> Result<(), AllocError>
         ensures ok { OnOk result (self.new
             ≡ record self.old { rules = self.old.rules ++ rule_data rule ∷ [] }) }
@@ -166,47 +176,48 @@ impl Setting {
         Ok(())
     }
 
-    /// The types: the name of each number, in the order in which they were declared.
+    /// Returns the types as a map from numbers to names, in the order in which they were added.
     pub fn kinds(&self) -> &IndexMap<TypeId, Name<Global>>
         ensures { map kind_data result.now.entries ≡ self.now.kinds }
     {
         self.kinds.names()
     }
 
-    /// The tunables: the value of each name, in the order in which they were declared.
+    /// Returns the tunables as a map from names to values, in the order in which they were added.
     pub fn tunables(&self) -> &IndexMap<Name<Global>, u32>
         ensures { map tunable_data result.now.entries ≡ self.now.tunables }
     {
         &self.tunables
     }
 
-    /// The rules, in the order in which they were declared.
+    /// Returns the rules, in the order in which they were added.
     pub fn rules(&self) -> &[KeptRule]
         ensures { map rule_data result.now ≡ self.now.rules }
     {
         self.rules.as_slice()
     }
 
-    /// The number of the type of this name, or `None` where the map has no such type.
+    /// Returns the number of the type of this name, or `None` if there is no such type. If several
+    /// types have the name, it is the number of the first.
     pub fn kind_number(&self, name: &[u8]) -> Option<TypeId>
         ensures { result ≡ kind_number self.now name.now }
     {
         self.kinds.number(name)
     }
 
-    /// The name of the type of this number, or `None` where the map has no such type.
+    /// Returns the name of the type of this number, or `None` if there is no such type.
     pub fn kind_name(&self, number: TypeId) -> Option<&Name<Global>>
         ensures { option_copied result ≡ kind_name self.now number }
     {
         self.kinds.name(number)
     }
 
-    /// The allocator that the setting was made with.
+    /// Returns the allocator of the setting's memory.
     pub fn allocator(&self) -> Global {
         self.kinds.allocator()
     }
 
-    /// A copy of the setting.
+    /// Returns a copy of the setting, or an error if there is no memory for it.
     pub fn try_copy(&self, alloc: Global) -> Result<Setting, AllocError>
         ensures { IfOk result (λ copy. copy ≡ self.now) }
     {
@@ -217,7 +228,7 @@ impl Setting {
         })
     }
 
-    /// Whether a step of a rule takes the bucket, with or without a class.
+    /// Whether a step of some rule takes the bucket, with or without a class.
     pub fn takes(&self, bucket: BucketId) -> bool
         ensures { result ≡ is_taken_by_rule self.now bucket }
     {
@@ -225,7 +236,8 @@ impl Setting {
     }
 }
 
-/// Whether only type 0 may have the name, since a part of a map's text begins with it.
+/// Whether the name is one that only type 0 may have, because a part of a map's text begins with
+/// this word.
 pub fn is_reserved(name: &[u8]) -> bool
     ensures { result ≡ is_reserved_name name.now }
 {

@@ -1,6 +1,7 @@
-//! Runs jobs, whose output is known, with each request for memory of their maps refused in turn, on
-//! a map alone and then by a book. What wanted that memory is done once more, so that each run comes
-//! to the known output, whichever request was refused.
+//! Runs jobs with a known output while one request for memory of the job's map is refused: in the
+//! first run the first request, in the next run the second, and so on. Each job is run on a map
+//! alone, and then with a book, which keeps a map and its history. An operation that fails for lack
+//! of memory is repeated, so each run must end with the known output.
 
 use crate::jobs::RECORD_SEPARATOR;
 use anyhow::{Context, ensure};
@@ -15,6 +16,7 @@ mod map;
 mod refusing;
 mod run;
 
+/// Runs each job of the records, and prints its name after it has passed.
 pub fn run_growths(rt: &HostRuntime, records: &[u8]) -> anyhow::Result<()> {
     for record in records.split(|byte| *byte == RECORD_SEPARATOR) {
         let parts = read_parts(record).context("a part is missing")?;
@@ -26,8 +28,8 @@ pub fn run_growths(rt: &HostRuntime, records: &[u8]) -> anyhow::Result<()> {
     Ok(())
 }
 
-/// Runs a job with each request refused; no fewer runs have to answer that memory ran out than its
-/// map makes requests.
+/// Runs a job once for each request, which is then refused. Fails if fewer runs report that memory
+/// ran out than the job's map makes requests.
 fn run_record(rt: &HostRuntime, parts: &Parts, maker: Maker) -> anyhow::Result<()> {
     let memory = Refusing::new(rt.alloc());
     let (told, fewest) = run_each(rt.alloc(), &memory, parts, maker)?;

@@ -1,5 +1,6 @@
-//! Runs jobs as `crushedit` does, first those of the file `jobs`, then those of `records`: each has
-//! to come to the output, summary, standard error and status that its part of `expected` has.
+//! Runs jobs as `crushedit` does: first those of the file `jobs`, then those of the file `records`.
+//! Each must end with the output, summary, standard error and status that its part of the file
+//! `expected` has.
 
 use crate::expected::Expected;
 use crush_input::{Words, report};
@@ -15,6 +16,7 @@ const PART_SEPARATOR: u8 = 0;
 
 pub const RECORD_SEPARATOR: u8 = 0x1e;
 
+/// Runs all jobs, and prints which of them end as expected, and how many parts no run took, if any.
 pub fn run_jobs(
     rt: &HostRuntime,
     workers: &(impl AllocGlobal + RandomSource + Threads + Wait + Sync),
@@ -48,7 +50,7 @@ fn run_files(
     }
 }
 
-/// Each line has the words of a command line behind the program's name.
+/// Runs the command line of each line, which has its words without the program's name.
 fn run_lines(
     rt: &HostRuntime,
     workers: &(impl AllocGlobal + RandomSource + Threads + Wait + Sync),
@@ -69,7 +71,7 @@ fn run_lines(
     Ok(())
 }
 
-/// A refused command line is reported as a fault of reading.
+/// Runs one command line. If the command line is rejected, that is reported as a read fault.
 fn run_line(
     rt: &HostRuntime,
     workers: &(impl AllocGlobal + RandomSource + Threads + Wait + Sync),
@@ -97,7 +99,7 @@ fn run_line(
     write_end(words, &ending, written)
 }
 
-/// Runs the jobs between record separators, and prints how many wrote what is expected.
+/// Runs the jobs between record separators, and prints how many end as expected.
 fn run_records(
     rt: &HostRuntime,
     workers: &(impl AllocGlobal + RandomSource + Threads + Wait + Sync),
@@ -142,7 +144,7 @@ fn run_record(
     run_job(workers, &NoGate, &request, &mut reader, written)
 }
 
-/// Writes the summary, what standard error is told, and the status.
+/// Writes the summary, what is printed on standard error, and the status.
 fn write_end(words: Words<'_>, ending: &Ending, written: &mut Vec<u8>) -> io::Result<()> {
     match &ending.outcome {
         Ok(done) => writeln!(

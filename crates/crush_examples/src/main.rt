@@ -1,4 +1,5 @@
-//! Runs the jobs of the examples, and prints of each run whether it wrote what is expected.
+//! Runs the jobs of the examples, and prints for each run whether its output is as expected. Then
+//! runs jobs while memory is refused (`growths`).
 #![tactic(auto)]
 
 use growths::run_growths;

@@ -1,4 +1,4 @@
--- Each step keeps the rule.
+-- Each step of a gauge keeps the rule.
 use Rattle.std.proofs.Common.{◌≡◌, ◌≢◌, ◌⊎◌, ℕ, zero, suc, ◌+◌, ◌*◌, ◌/◌, ◌%◌, ◌<◌, ◌≤◌, List, [], ◌∷◌, ◌++◌, length, set, Bool, true, false, refl, sym, ap, ◌∙◌, subst, inl, inr, ⊎_elim, arith, nat_le}
 use Rattle.std.specs.Prelude.{slice_index, slice_set}
 use mathlib.Core.Option.{some, none, some-injective, some-ne-none}
@@ -8,7 +8,7 @@ use Rattle.atomic_table.specs.Table.{State, Me, step, keeps, stepped, opening, A
 use Rattle.atomic_table.proofs.Lists.{at_set, at_snoc, set_again}
 use Rattle.crush_gauge.specs.declared.view.View.{View}
 use Rattle.crush_gauge.specs.declared.view.View.TheVariants.{Fresh, Spent, Book, Reader}
-use Rattle.crush_gauge.specs.Rule.{known, Opens, IsReader, IsBook, IsEither, IsSameKind, copied, grown, longer, joined, word, IsLawful, Knows, Fits, Kept, LooksAs, looked, Follows, LearnsAs, Learns, Reads, learned, published, begun, IsFresh, Holds}
+use Rattle.crush_gauge.specs.Rule.{known, Opens, IsReader, IsBook, IsEither, IsSameKind, copied, grown, longer, joined, word, IsLawful, Knows, Fits, Kept, LooksAs, loaded, Follows, LearnsAs, Learns, Reads, learned, published, begun, IsFresh, Holds}
 use Rattle.std.proofs.lemmas.Bool.Decides.{nat_tests}
 use Rattle.crush_gauge.proofs.Prefixes.{prefix_self, prefix_trans, prefix_shorter}
 
@@ -46,7 +46,7 @@ module _ {O E : Type 0} (legal : O → List E → Type 0) (changes weight : O �
       (λ (x : (j ≢ id) × (get_elem? views j ≡ some u)). others j u x.0 x.1)
       (at_set views id j w u e)
 
-  -- a view other than the book's still begins a longer history
+  -- a view other than the book's still fits when the history grows
   fits_more : (o : O) (book : ℕ) (b es : List E) (j : ℕ) (u : View O E) → j ≢ book → Fit o book b j u → Fit o book (b ++ es) j u
   fits_more o book b es j Fresh apart f = absurd f
   fits_more o book b es j Spent apart f = tt
@@ -63,12 +63,12 @@ module _ {O E : Type 0} (legal : O → List E → Type 0) (changes weight : O �
     each = fits_set o r.book r.all s.views id w (λ j u apart e. r.each j u e) fit;
   }
 
-  -- what the rule said of another seat
+  -- what the rule says of another seat still holds when the view of one seat changes
   others : (o : O) (book : ℕ) (b : List E) (views : List (View O E)) (id : ℕ) (v : View O E) (other : ℕ) (w : View O E) → ((j : ℕ) (u : View O E) → get_elem? views j ≡ some u → Fit o book b j u) → ¬ (other ≡ id) → get_elem? (set views id v) other ≡ some w → Fit o book b other w
   others o book b views id v other w each apart there =
       ⊎_elim (λ (t : (other ≡ id) × (v ≡ w)). absurd (apart t.0)) (λ (t : (other ≢ id) × (get_elem? views other ≡ some w)). each other w t.1) (at_set views id other v w there)
 
-  -- the second seat is spent
+  -- the rule is kept when one view changes and a second seat is spent
   join_kept : (o : O) (s : S) (r : Keep o s) (id : ℕ) (v : View O E) (other : ℕ) → Fit o r.book r.all id v → Keep o record { words = s.words; homes = s.homes; views = set (set s.views id v) other Spent }
   join_kept o s r id v other fit = record {
     book = r.book;
@@ -78,7 +78,7 @@ module _ {O E : Type 0} (legal : O → List E → Type 0) (changes weight : O �
     each = fits_set o r.book r.all (set s.views id v) other Spent (λ j u _ e. fits_set o r.book r.all s.views id v (λ i y _ e'. r.each i y e') fit j u e) tt;
   }
 
-  looks : (o : O) (slots id : ℕ) (v : View O E) (c : List (ℕ × Unit {0})) → IsReader v → Allows (Keep o) slots id (v, c) 0 (λ n. n) (looked legal changes weight (step slots 0 0 0 none) (v, c))
+  looks : (o : O) (slots id : ℕ) (v : View O E) (c : List (ℕ × Unit {0})) → IsReader v → Allows (Keep o) slots id (v, c) 0 (λ n. n) (loaded legal changes weight (step slots 0 0 0 none) (v, c))
   looks o slots id Fresh c unfit _ _ _ _ _ = absurd unfit
   looks o slots id Spent c unfit _ _ _ _ _ = absurd unfit
   looks o slots id (Book k) c unfit _ _ _ _ _ = absurd unfit
@@ -244,7 +244,7 @@ joined_either (Reader k) Spent is q = absurd q
 joined_either (Reader k) (Book j) is q = absurd q
 joined_either (Reader k) (Reader j) is q = tt
 
--- what a seat of either kind has seen, once the note's history was compared
+-- what a seat of either kind has seen after it joined a note and compared the histories
 pub learns_as : {O E : Type 0} (legal : O → List E → Type 0) (changes weight : O → List E → ℕ) (v w j u : View O E) → IsEither v → IsReader w → j ≡ joined v w → LearnsAs legal changes weight j u → IsSameKind v u × Learns legal changes weight v w u
 learns_as legal changes weight Fresh w j u r q is l = absurd r
 learns_as legal changes weight Spent w j u r q is l = absurd r
@@ -297,7 +297,7 @@ not_fresh_follows legal changes weight Spent es x y f e = absurd f
 not_fresh_follows legal changes weight (Book k) es x y f e = cc
 not_fresh_follows legal changes weight (Reader k) es x y f e = absurd f
 
--- once a seat's view isn't fresh, there is an opening
+-- as soon as some seat's view isn't fresh, there is an opening
 module _ {O E : Type 0} (legal : O → List E → Type 0) (changes weight : O → List E → ℕ) where
   abbrev alone_fresh : List (View O E)
   alone_fresh = Fresh ∷ []
@@ -325,9 +325,9 @@ module _ {O E : Type 0} (legal : O → List E → Type 0) (changes weight : O �
   wider_join : (n id : ℕ) (v : View O E) (other : ℕ) (w both end : View O E) → ¬ (v ≡ Fresh) → ((o : O) → Joins (Kept legal changes weight o) id v other w both end) → Joins (Holds legal changes weight n) id v other w both end
   wider_join n id v other w both end real each s h at apart there = let k = has_opening n s id v h at real in inr (k.0, each k.0 s k.1 at apart there)
 
-  -- THE STEPS, each by the views of the seats that take it
-  pub a_reader_looks : (n slots id : ℕ) (v : View O E) (c : List (ℕ × Unit {0})) → IsReader v → Allows (Holds legal changes weight n) slots id (v, c) 0 (λ x. x) (looked legal changes weight (step slots 0 0 0 none) (v, c))
-  a_reader_looks n slots id v c reads = wider_step n slots id (v, c) 0 (λ x. x) (looked legal changes weight (step slots 0 0 0 none) (v, c)) (not_fresh v (reader_either v reads)) (λ o. looks legal changes weight o slots id v c reads)
+  -- THE STEPS, each with the views of its seats
+  pub a_reader_looks : (n slots id : ℕ) (v : View O E) (c : List (ℕ × Unit {0})) → IsReader v → Allows (Holds legal changes weight n) slots id (v, c) 0 (λ x. x) (loaded legal changes weight (step slots 0 0 0 none) (v, c))
+  a_reader_looks n slots id v c reads = wider_step n slots id (v, c) 0 (λ x. x) (loaded legal changes weight (step slots 0 0 0 none) (v, c)) (not_fresh v (reader_either v reads)) (λ o. looks legal changes weight o slots id v c reads)
 
   pub a_book_publishes : (n slots id word x y : ℕ) (v : View O E) (c : List (ℕ × Unit {0})) (es : List E) → Follows legal changes weight v es x y → word ≡ x * 8796093022208 + y
       → Allows (Holds legal changes weight n) slots id (v, c) 0 (λ _. word) (λ _. published es (step slots 0 word 0 none) (v, c) word)
@@ -348,7 +348,7 @@ module _ {O E : Type 0} (legal : O → List E → Type 0) (changes weight : O �
       subst (λ (m : Me (Unit {0}) (View O E)). Allows (Holds legal changes weight n) slots id m 0 (λ x. x) (learned legal changes weight (step slots 0 0 0 none) m)) (sym same)
       (wider_step n slots id (u, c) 0 (λ x. x) (learned legal changes weight (step slots 0 0 0 none) (u, c)) (not_fresh u j) (λ o. compares legal changes weight o slots id u c (not_spent u j)))
 
-  -- the table as it is made
+  -- the table when it is created
   pub table_is_fresh : (n : ℕ) → Holds legal changes weight n (opening {S = Unit {0}} (n ∷ []) [] Fresh)
   table_is_fresh n = inl record { words = refl; views = refl }
 

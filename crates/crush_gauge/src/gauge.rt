@@ -1,4 +1,4 @@
-//! The gauge: one shared word with the pair of a history.
+//! The gauge: one shared word that encodes the pair of a history.
 
 ghost use Rattle.std.specs.Prelude.{◌≡◌, ℕ, ◌<◌, ◌≤◌, ◌++◌, ◌∷◌, [], IfOk, vec_len, length};
 ghost use Rattle.std.specs.List.{All};
@@ -6,8 +6,8 @@ ghost use Rattle.crush_gauge.specs.declared.view.View.TheVariants.{Book, Reader}
 ghost use Rattle.crush_gauge.specs.Rule.{known, opened, copied, IsEither, IsSameKind, IsLawful, Opens, Follows, Reads, Learns, grown};
 ghost use Rattle.crush_gauge.specs.Held.{held, copy_of};
 
+use crate::ghost_steps::{Begin, ChoosesGhost, Compare, Load, Merge, Publish, Rule, SplitOff};
 use crate::limits::CHANGE;
-use crate::plays::{Begin, Compare, Divide, Look, Merge, Picks, Publish, Rule};
 use crate::seat::{BookSeat, Note, ReadSeat};
 use crate::view::{Law, View};
 use crate::watcher::Watcher;
@@ -15,28 +15,34 @@ use atomic_table::{Seat, Table};
 use std::alloc::{AllocError, Global};
 use std::marker::Brand;
 
-/// One word, `changes * 2^43 + weight`, for the history of entries `E` from an opening `O`; the law
-/// `P` says which histories there may be. The steps of all threads on it stand in one order
-/// (sequential consistency).
+/// One shared word, `changes * 2^43 + weight`, for a history of entries `E` after an opening `O`.
+///
+/// The law `P` says which histories are legal. The steps of all threads on the word have one total
+/// order (sequential consistency).
 #[derive(Drop)]
 pub struct Gauge<O, E, P: Law<O, E>> {
+    /// The table of the word and of the views of all seats.
     pub table: Table<(), View<O, E>, u64, Rule<P>, Global>,
     pub ghost one_word: { (table.shared.table_id.words ≡ 1) × (table.shared.table_id.slots ≡ 0) },
 }
 
-/// The pair of one history: how many of its entries are changes, and the weight after it.
+/// The pair of one history, returned by [`Gauge::read`]: how many of its entries are changes, and
+/// the weight after it.
 #[derive(Clone, Copy, Debug, PartialEq, Eq)]
 pub struct Reading {
     /// How many entries are changes, at most [`MOST_CHANGES`](crate::limits::MOST_CHANGES).
     pub changes: u64,
-    /// The weight after the history, below 2^43, in the units of the law.
+    /// The weight after the history, below 2^43, in the units of the law `P` of the gauge.
     pub weight: u64,
 }
 
 impl<O, E, P: Law<O, E>> Gauge<O, E, P> {
-    /// The gauge of an opening of this weight, below 2^43, with the seat that publishes and
-    /// `readers` seats that read. The proof of the call picks the opening. An `Err` says that
-    /// memory ran out.
+    /// Creates a gauge with the seat that publishes and with `readers` seats that read.
+    ///
+    /// `weight` is the weight at the opening, below 2^43, in the units of the law. The proof of the
+    /// call picks the opening, after which the empty history must be legal and have no change and
+    /// this weight. All seats have then seen the opening and no entry. Returns an error if memory
+    /// runs out.
     pub fn new(
         alloc: Global,
         weight: u64,
@@ -59,18 +65,20 @@ impl<O, E, P: Law<O, E>> Gauge<O, E, P> {
         Ok((gauge, book, seats))
     }
 
-    fn begin<M: Picks<O>>(&self, first: Seat<(), View<O, E>>, weight: u64) -> BookSeat<O, E>
+    /// Turns the first seat of the table into the book's seat, with the opening that `M` picks.
+    fn begin<M: ChoosesGhost<O>>(&self, first: Seat<(), View<O, E>>, weight: u64) -> BookSeat<O, E>
         requires gauge { first.table_id ≡ self.now.table.shared.table_id }
         requires key { self.now.table.shared.key ≡ weight }
         requires fresh { first.me ≡ (View.Fresh, []) }
-        requires opens { Opens P.legal P.changes P.weight M.picked weight }
-        ensures { result ≡ held first.table_id (opened M.picked) }
+        requires opens { Opens P.legal P.changes P.weight M.chosen weight }
+        ensures { result ≡ held first.table_id (opened M.chosen) }
     {
         let mut seat = first;
         self.table.shared.load::<Begin<M>>(&mut seat, 0);
         BookSeat { seat }
     }
 
+    /// Creates seats that have seen what the book's seat has seen.
     fn readers(
         &self,
         alloc: Global,
@@ -90,6 +98,7 @@ impl<O, E, P: Law<O, E>> Gauge<O, E, P> {
         Ok(seats)
     }
 
+    /// Splits a note from a seat of either kind.
     pub(crate) fn note_of(&self, seat: &mut Seat<(), View<O, E>>) -> Note<O, E>
         requires gauge { seat.old.table_id ≡ self.now.table.shared.table_id }
         requires either { IsEither seat.old.me.0 }
@@ -98,12 +107,16 @@ impl<O, E, P: Law<O, E>> Gauge<O, E, P> {
         ensures note { result ≡ held seat.old.table_id (copied seat.old.me.0) }
     {
         Note {
-            seat: self.table.shared.split_seat::<Divide>(seat),
+            seat: self.table.shared.split_seat::<SplitOff>(seat),
         }
     }
 
-    /// Adds an entry, which the proof of the call picks, by one store. The history with it has this
-    /// pair: at most [`MOST_CHANGES`](crate::limits::MOST_CHANGES) changes and a weight below 2^43.
+    /// Publishes one entry by one store, so that all seats of the gauge can read the new pair.
+    ///
+    /// The proof of the call picks the entry. The history with this entry must be legal and have
+    /// this pair: `changes` changes, at most [`MOST_CHANGES`](crate::limits::MOST_CHANGES), and the
+    /// weight `weight`, below 2^43, in the units of the law. The book's seat has then seen the
+    /// entry.
     pub fn publish(&self, book: &mut BookSeat<O, E>, changes: u64, weight: u64)
         ghost entry: { E }
         requires gauge { book.old.table ≡ self.now.table.shared.table_id }
@@ -114,11 +127,11 @@ impl<O, E, P: Law<O, E>> Gauge<O, E, P> {
         self.publish_as::<Brand>(book, changes, weight)
     }
 
-    fn publish_as<M: Picks<E>>(&self, book: &mut BookSeat<O, E>, changes: u64, weight: u64)
+    fn publish_as<M: ChoosesGhost<E>>(&self, book: &mut BookSeat<O, E>, changes: u64, weight: u64)
         requires gauge { book.old.table ≡ self.now.table.shared.table_id }
-        requires follows { Follows P.legal P.changes P.weight book.old.view M.picked changes
+        requires follows { Follows P.legal P.changes P.weight book.old.view M.chosen changes
             weight }
-        ensures { book.new ≡ held book.old.table (grown M.picked book.old.view) }
+        ensures { book.new ≡ held book.old.table (grown M.chosen book.old.view) }
     {
         let word = changes * CHANGE + weight;
         self.table
@@ -126,22 +139,25 @@ impl<O, E, P: Law<O, E>> Gauge<O, E, P> {
             .store::<Publish<M>>(&mut book.seat, 0, word)
     }
 
-    /// The pair of the history at this moment, by one load, which waits for nobody and takes no
-    /// memory.
+    /// Reads the pair of the history at this moment, by one load, which waits for nobody and
+    /// allocates nothing.
+    ///
+    /// The seat has then seen this history, which begins with what the seat had seen before.
     pub fn read(&self, seat: &mut ReadSeat<O, E>) -> Reading
         requires { seat.old.table ≡ self.now.table.shared.table_id }
         ensures table { seat.new.table ≡ seat.old.table }
         ensures reads { Reads P.legal P.changes P.weight seat.old.view result.changes result.weight
             seat.new.view }
     {
-        let word = self.table.shared.load::<Look<P>>(&mut seat.seat, 0);
+        let word = self.table.shared.load::<Load<P>>(&mut seat.seat, 0);
         Reading {
             changes: word / CHANGE,
             weight: word % CHANGE,
         }
     }
 
-    /// What a seat of either kind has seen, to be handed to another.
+    /// Returns a note of what a seat of either kind has seen, for another seat of the same gauge.
+    /// The seat has seen the same as before.
     pub fn note<S: Watcher<O, E>>(&self, seat: &mut S) -> Note<O, E>
         requires { (S.knows seat.old).table ≡ self.now.table.shared.table_id }
         ensures seat { S.knows seat.new ≡ S.knows seat.old }
@@ -150,9 +166,11 @@ impl<O, E, P: Law<O, E>> Gauge<O, E, P> {
         seat.note_of(self)
     }
 
-    /// Joins a note of the same gauge into a seat of either kind, which has then seen the longer of
-    /// the two histories, of which the other is a beginning. The book's seat knows the whole
-    /// history before, and learns only that the note is a beginning of it.
+    /// Joins a note into a seat of either kind, so that the seat has also seen the note's history.
+    ///
+    /// Both must be of this gauge. A seat that reads has then seen the longer of the two histories;
+    /// the other is a prefix of it. The book's seat has already seen the whole history, and the
+    /// note proves to be a prefix of it. Makes two steps on the table: a join and a load.
     pub fn learn<S: Watcher<O, E>>(&self, seat: &mut S, note: Note<O, E>)
         requires seat { (S.knows seat.old).table ≡ self.now.table.shared.table_id }
         requires note { note.table ≡ self.now.table.shared.table_id }
@@ -163,7 +181,8 @@ impl<O, E, P: Law<O, E>> Gauge<O, E, P> {
         seat.learn_from(self, note);
     }
 
-    /// One join, and one load that compares the two.
+    /// Joins a note into a seat, then loads the word to prove that both histories are prefixes of
+    /// one.
     pub(crate) fn join_note(&self, seat: &mut Seat<(), View<O, E>>, note: Note<O, E>)
         requires gauge { seat.old.table_id ≡ self.now.table.shared.table_id }
         requires either { IsEither seat.old.me.0 }

@@ -1,12 +1,17 @@
-//! One word that is shared by threads: how many entries of a history are changes, and the weight
-//! after it. One seat, the book's, publishes each entry by one store; any number of seats read the
-//! pair by one load. Openings and entries are there for contracts alone: which histories there may
-//! be, and which pair each has, a [`Law`] says.
+//! A gauge: one word, shared by threads, that shows how far a history of entries has grown.
+//!
+//! The word has a pair of numbers: how many entries of the history are changes, and the weight
+//! after it. Each thread uses the word through a *seat*. One seat, the book's, publishes each entry
+//! by one store; any number of other seats read the pair by one load.
+//!
+//! The opening of the history and its entries exist in contracts alone. A [`Law`] says which
+//! histories are legal, and which pair each of them has. `crush_editor` has such a gauge for the
+//! map that it edits. Read [`Gauge`] first.
 #![tactic(auto)]
 
 mod gauge;
+mod ghost_steps;
 pub mod limits;
-mod plays;
 mod seat;
 mod view;
 mod watcher;

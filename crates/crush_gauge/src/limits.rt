@@ -1,7 +1,8 @@
-//! The numbers of the shared word.
+//! The limits of the two numbers in the shared word.
 
-/// What one change adds to the word: 2^43. A weight lies below it, so that the two share one word.
+/// The number that one change adds to the word: 2^43. Each weight is below it, so that both numbers
+/// share one word.
 pub const CHANGE: u64 = 8796093022208;
 
-/// The most changes of a gauge: with a weight below 2^43 the word then stays below 2^60.
+/// The greatest number of changes of a gauge. With a weight below 2^43 the word is then below 2^60.
 pub const MOST_CHANGES: u64 = 65536;

@@ -1,4 +1,5 @@
-//! The seats of a gauge. What a seat has seen is there for contracts alone.
+//! The seats of a gauge, through which threads use its word. What a seat has seen exists in
+//! contracts alone.
 
 ghost use Rattle.std.specs.Prelude.{◌≡◌};
 
@@ -6,7 +7,8 @@ use crate::view::View;
 use atomic_table::Seat;
 use std::marker::Model;
 
-/// The seat that publishes, one for each gauge; it has seen the whole history.
+/// The seat that publishes entries, by [`Gauge::publish`](crate::Gauge::publish). Each gauge has
+/// one, and it has seen the whole history.
 #[derive(Drop)]
 pub struct BookSeat<O, E> {
     pub(crate) seat: Seat<(), View<O, E>>,
@@ -24,7 +26,8 @@ impl<O, E> Model for BookSeat<O, E> {
     ghost invariant = { λ s. (s.seat.me.1 ≡ []) × IsBook s.seat.me.0 };
 }
 
-/// A seat that reads; it has seen a beginning of the history.
+/// A seat that reads, by [`Gauge::read`](crate::Gauge::read). It has seen a prefix of the history,
+/// perhaps all of it.
 #[derive(Drop)]
 pub struct ReadSeat<O, E> {
     pub(crate) seat: Seat<(), View<O, E>>,
@@ -42,7 +45,8 @@ impl<O, E> Model for ReadSeat<O, E> {
     ghost invariant = { λ s. (s.seat.me.1 ≡ []) × IsReader s.seat.me.0 };
 }
 
-/// What a seat has seen, to be handed to another seat of the same gauge.
+/// A record of what a seat has seen, for another seat of the same gauge. It is returned by
+/// [`Gauge::note`](crate::Gauge::note) and used up by [`Gauge::learn`](crate::Gauge::learn).
 #[derive(Drop)]
 pub struct Note<O, E> {
     pub(crate) seat: Seat<(), View<O, E>>,
@@ -61,7 +65,7 @@ impl<O, E> Model for Note<O, E> {
 }
 
 impl<O, E> ReadSeat<O, E> {
-    /// The note of a seat that is not used any more.
+    /// Turns a seat that is no longer used into a note of what it has seen.
     pub fn into_note(self) -> Note<O, E>
         ensures { result ≡ self }
     {

@@ -1,36 +1,40 @@
-//! What a seat knows, for contracts alone.
+//! What a seat has seen of the history. The types here are used in contracts alone.
 
 use std::collections::LinkedList;
 
-/// Which histories of entries are legal from an opening, and which pair each has: how many changes,
-/// and the weight after it.
+/// The law of a gauge: which histories of entries are legal after an opening, and which pair each
+/// has. The pair is how many entries are changes, and the weight after the history.
 pub trait Law<O, E> {
     ghost use Rattle.std.specs.Prelude.{ℕ, List};
 
+    /// Whether the entries are a legal history after the opening.
     ghost legal: { O → List E → Type 0 };
 
+    /// How many of the entries are changes.
     ghost changes: { O → List E → ℕ };
 
+    /// The weight after the entries.
     ghost weight: { O → List E → ℕ };
 }
 
-/// A history, and two that begin it: those of the seats that were joined last.
+/// What a seat has seen: an opening and a history, and the histories that its last join compared.
 pub struct Known<O, E> {
     /// The opening of the gauge.
     pub opening: O,
-    /// The history that was seen.
+    /// The history that the seat has seen.
     pub seen: LinkedList<E>,
-    /// What this seat had seen before the last join.
+    /// The history that this seat had seen before its last join; empty after the load that follows.
     pub mine: LinkedList<E>,
-    /// What the other seat of the last join had seen.
+    /// The history that the other seat of the last join had seen; empty after the load that
+    /// follows.
     pub other: LinkedList<E>,
 }
 
-/// What a seat knows.
+/// What a seat has seen, by the kind of the seat.
 pub enum View<O, E> {
-    /// The first seat, before there is an opening.
+    /// The first seat of a gauge, before the gauge has an opening.
     Fresh,
-    /// A seat that was joined into another.
+    /// A seat that was joined into another one, and is used no more.
     Spent,
     /// The seat that publishes.
     Book(Known<O, E>),

@@ -1,4 +1,5 @@
-//! What the two kinds of seat have in common: notes are made of them and learned by them.
+//! What the two kinds of seat have in common: each can write a note of what it has seen, and learn
+//! from a note.
 
 ghost use Rattle.std.specs.Prelude.{◌≡◌};
 ghost use Rattle.crush_gauge.specs.Rule.{Learns};
@@ -8,19 +9,22 @@ use crate::gauge::Gauge;
 use crate::seat::{BookSeat, Note, ReadSeat};
 use crate::view::Law;
 
-/// Either kind of seat, for [`Gauge::note`] and [`Gauge::learn`].
+/// A seat of either kind: a [`BookSeat`] or a [`ReadSeat`]. Callers use [`Gauge::note`] and
+/// [`Gauge::learn`], which take both kinds.
 pub trait Watcher<O, E> {
     ghost use Rattle.crush_gauge.specs.Held.{Held};
 
+    /// The gauge of the seat, and what the seat has seen.
     ghost knows: { Self → Held O E };
 
-    /// What the seat has seen.
+    /// Returns a note of what the seat has seen. The seat must be of this gauge.
     fn note_of<P: Law<O, E>>(&mut self, gauge: &Gauge<O, E, P>) -> Note<O, E>
         requires { (knows self.old).table ≡ gauge.now.table.shared.table_id }
         ensures seat { knows self.new ≡ knows self.old }
         ensures note { result ≡ copy_of (knows self.old) };
 
-    /// The seat has then seen the note's history too.
+    /// Lets the seat learn from a note, so that it has also seen the note's history. Both must be
+    /// of this gauge.
     fn learn_from<P: Law<O, E>>(&mut self, gauge: &Gauge<O, E, P>, note: Note<O, E>)
         requires seat { (knows self.old).table ≡ gauge.now.table.shared.table_id }
         requires note { note.table ≡ gauge.now.table.shared.table_id }

@@ -4,5 +4,5 @@ pub mod Given
 pub mod Indexed
 pub mod Naming
 pub mod Placed
-pub mod Taking
+pub mod Removing
 pub mod AnswersKept

@@ -1,7 +1,7 @@
--- Whose the entries of a run are.
+-- Which operators made the calls of a run's entries.
 use Rattle.std.specs.Prelude.{ℕ, ◌<◌, List, All}
 use Rattle.crush_history.specs.declared.entry.Entry.{Entry}
 
--- each entry is of one of the first n operators
+-- the operator of each entry is one of the first n: its index is below n
 abbrev pub AreOf : ℕ → List Entry → Type 0
 AreOf n entries = All (λ (e : Entry). e.operator < n) entries

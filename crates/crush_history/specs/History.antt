@@ -1,4 +1,4 @@
--- Calls on a table, and histories of calls.
+-- What a call does to a table, and which histories of calls are legal.
 use Rattle.std.specs.Prelude.{◌≡◌, ℕ, ◌+◌, ◌==◌, List, [], ◌∷◌, ◌++◌, Bool, true, false, if◌then◌else◌, map, filter, nat_lt}
 use Rattle.crush_model.specs.Table.{Row}
 use Rattle.crush_edits.specs.Setting.{SettingData}
@@ -13,38 +13,38 @@ use Rattle.crush_history.specs.declared.entry.Slip.{Slip}
 use Rattle.crush_history.specs.declared.call.Reply.TheVariants.{Done, Dones, Refused, BatchRefused, Stale}
 use Rattle.crush_history.specs.Script.{ScriptData}
 
--- what a call makes of a table: the reply, and the table after
+-- the outcome of a call on a table: the reply, and the table after the call
 pub record Outcome : Type 0 where
   pub reply : Reply
   pub table : List Row
 
--- a refused edit leaves the table
+-- the outcome of an edit, from the table before and the table's answer; a refused edit leaves the table as it is
 abbrev pub edit_outcome : List Row → Answer → Outcome
 edit_outcome t (refused r) = record { reply = Refused r; table = t }
 edit_outcome t (done changed made u) = record { reply = Done (record { changed = changed; made = made }); table = u }
 
--- a refused batch leaves the table
+-- the outcome of a batch, from the table before and the table's answer; a refused batch leaves the table as it is
 abbrev pub batch_outcome : List Row → BatchAnswer → Outcome
 batch_outcome t (batch_refused index r) = record { reply = BatchRefused index r; table = t }
 batch_outcome t (batch_done d u) = record { reply = Dones d; table = u }
 
--- a guarded batch is made where the number of changes is the one that it names; else it is stale, whatever its edits are, and leaves
--- the table
+-- the outcome of a guarded batch: if the number of changes n is the one that the call expects (true), that of the batch; otherwise
+-- the reply is stale with n, whatever the edits are, and the table is unchanged
 abbrev pub guarded_outcome : Bool → List Row → ℕ → BatchAnswer → Outcome
 guarded_outcome true t n a = batch_outcome t a
 guarded_outcome false t n a = record { reply = Stale n; table = t }
 
--- ANSWER: the reply to a call on a table before which there were n changes, and the table after
+-- ANSWER: the outcome of a call on a table after n changes
 abbrev pub call_outcome : SettingData → List Row → ℕ → Call → Outcome
 call_outcome s t n (One e) = edit_outcome t (edit s t e)
 call_outcome s t n (Batch es) = batch_outcome t (batch s t es)
 call_outcome s t n (Guarded seen es) = guarded_outcome (seen == n) t n (batch s t es)
 
--- an entry of a history: the operator's number from 0, its call and the reply
+-- an entry of a history: the operator's index from 0, its call, and the reply
 abbrev pub EntryData : Type 0
 EntryData = Entry
 
--- whether a reply tells of a change
+-- whether a reply says that the map changed: the edit changed it, or at least one edit of the batch did
 abbrev pub is_change : Reply → Bool
 is_change (Done d) = d.changed
 is_change (Dones d) = nat_lt 0 d.changed
@@ -52,72 +52,72 @@ is_change (Refused r) = false
 is_change (BatchRefused index r) = false
 is_change (Stale n) = false
 
--- what a reply adds to the number of changes
+-- what a reply adds to the number of changes: 1 if it says that the map changed, and otherwise 0
 abbrev pub change_of : Reply → ℕ
 change_of r = if is_change r then 1 else 0
 
--- how many entries are a change
+-- how many entries of a history changed the map
 unfoldable pub changes : List EntryData → ℕ
 changes [] = 0
 changes (e ∷ h) = change_of e.reply + changes h
 
--- a table, and how many changes there were before it
+-- a table, and the number of changes that led to it
 pub record Counted : Type 0 where
   pub table : List Row
   pub count : ℕ
 
--- before the first call
+-- the table before the first call, with no changes
 abbrev pub untouched : List Row → Counted
 untouched t = record { table = t; count = 0 }
 
--- behind a history
+-- the table t, with the number of changes in the history h
 abbrev pub behind : List Row → List EntryData → Counted
 behind t h = record { table = t; count = changes h }
 
--- one entry later
+-- the table and the number of changes after one more entry: the table after its call, and one more change if its reply says so
 abbrev pub later : SettingData → Counted → EntryData → Counted
 later s q e = record { table = (call_outcome s q.table q.count e.call).table; count = q.count + change_of e.reply }
 
--- after the entries of a history
+-- the table and the number of changes after the entries of a history, one after the other
 unfoldable pub counted_after : SettingData → Counted → List EntryData → Counted
 counted_after s q [] = q
 counted_after s q (e ∷ h) = counted_after s (later s q e) h
 
--- the table after the calls of a history
+-- the table after the calls of a history that begins with the table t
 abbrev pub table_after : SettingData → List Row → List EntryData → List Row
 table_after s t h = (counted_after s (untouched t) h).table
 
--- each reply is the table's at that point, with as many changes as there were before
+-- a history that begins with this table and number of changes is legal: each entry's reply is the reply to its call on the table, and after the changes, at that point
 unfoldable pub IsLegalBehind : SettingData → Counted → List EntryData → Type 0
 IsLegalBehind s q [] = Unit {0}
 IsLegalBehind s q (e ∷ h) = (e.reply ≡ (call_outcome s q.table q.count e.call).reply) × IsLegalBehind s (later s q e) h
 
--- LEGAL: from the first call on
+-- LEGAL: the same for a history that begins with the table t and no changes
 abbrev pub IsLegal : SettingData → List Row → List EntryData → Type 0
 IsLegal s t h = IsLegalBehind s (untouched t) h
 
--- an answered call
+-- an answered call: the call and its reply, without its operator
 abbrev pub AnsweredData : Type 0
 AnsweredData = Slip
 
--- the answered calls of one operator, in order
+-- the answered calls of operator k in a history, in order
 abbrev pub of_operator : ℕ → List EntryData → List AnsweredData
 of_operator k h = map (λ (e : EntryData). record { call = e.call; reply = e.reply }) (filter (λ (e : EntryData). e.operator == k) h)
 
--- the entry of a call that an operator makes
+-- the entry that results if operator k makes the call now
 abbrev pub entry_on : SettingData → Counted → ℕ → Call → EntryData
 entry_on s q k c = record { operator = k; call = c; reply = (call_outcome s q.table q.count c).reply }
 
--- the entries of one operator's calls, made one after the other
+-- the entries that result if operator k makes these calls one after the other
 unfoldable pub turn : SettingData → Counted → ℕ → List Call → List EntryData
 turn s q k [] = []
 turn s q k (c ∷ cs) = entry_on s q k c ∷ turn s (later s q (entry_on s q k c)) k cs
 
--- those of scripts, made one after the other, the first of which is operator k's
+-- the entries that result if scripts run one after the other; the first script is operator k's, the next operator k + 1's
 unfoldable pub turns_from : SettingData → Counted → ℕ → List ScriptData → List EntryData
 turns_from s q k [] = []
 turns_from s q k (x ∷ xs) = turn s q k x.calls ++ turns_from s (counted_after s q (turn s q k x.calls)) (k + 1) xs
 
--- TURNS: the history of scripts that run one after the other
+-- TURNS: the history that results if the scripts run one after the other, from operator 0 on
 abbrev pub turns : SettingData → List Row → List ScriptData → List EntryData
 turns s t scripts = turns_from s (untouched t) 0 scripts

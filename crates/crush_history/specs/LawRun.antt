@@ -1,4 +1,4 @@
--- The law of runs: what is made of a lawful table that the setting fits is another such table.
+-- The laws of runs: if a table is lawful and the setting fits it (`Keeps`), so it is after a call, a history, or scripts that run one after the other; and the table stays the same as long as nothing is reported as a change.
 use Rattle.std.specs.Prelude.{◌≡◌, ℕ, ◌++◌, List, All, false}
 use Rattle.crush_model.specs.Table.{Row}
 use Rattle.crush_edits.specs.Setting.{SettingData}
@@ -8,28 +8,28 @@ use Rattle.crush_history.specs.declared.call.Call.TheVariants.{One, Batch, Guard
 use Rattle.crush_history.specs.Script.{ScriptData}
 use Rattle.crush_history.specs.History.{EntryData, call_outcome, is_change, changes, table_after, IsLegal, turns}
 
--- the forms of a call, which the types of its edits keep
+-- each edit of the call has its form, which the types of the code guarantee
 abbrev pub IsCall : Call → Type 0
 IsCall (One e) = IsEdit e
 IsCall (Batch es) = All IsEdit es
 IsCall (Guarded seen es) = All IsEdit es
 
--- A CALL, whatever it is answered
+-- A CALL leaves such a table such a table, whatever the reply is
 abbrev pub CallKeeps : Type 0
 CallKeeps = (s : SettingData) (t : List Row) (n : ℕ) (c : Call) → Keeps s t → IsCall c → Keeps s (call_outcome s t n c).table
 
--- A HISTORY
+-- A HISTORY leaves such a table such a table
 abbrev pub HistoryKeeps : Type 0
 HistoryKeeps = (s : SettingData) (t : List Row) (h : List EntryData) → Keeps s t → All (λ (e : EntryData). IsCall e.call) h → Keeps s (table_after s t h)
 
--- SCRIPTS in turn
+-- SCRIPTS that run one after the other leave such a table such a table
 abbrev pub TurnsKeep : Type 0
 TurnsKeep = (s : SettingData) (t : List Row) (scripts : List ScriptData) → Keeps s t → All (λ (x : ScriptData). All IsCall x.calls) scripts → Keeps s (table_after s t (turns s t scripts))
 
--- NO CHANGE: a reply that tells of none leaves the table
+-- NO CHANGE: a call whose reply says that nothing changed leaves the table as it is
 abbrev pub NoChangeKeeps : Type 0
 NoChangeKeeps = (s : SettingData) (t : List Row) (n : ℕ) (c : Call) → is_change (call_outcome s t n c).reply ≡ false → (call_outcome s t n c).table ≡ t
 
--- AS MANY CHANGES, THE SAME TABLE: where a legal history goes on without a change, so does its table
+-- AS MANY CHANGES, THE SAME TABLE: if a legal history h is continued by g without another change, the table after both is the table after h
 abbrev pub SameCountSameTable : Type 0
 SameCountSameTable = (s : SettingData) (t : List Row) (h g : List EntryData) → IsLegal s t (h ++ g) → changes (h ++ g) ≡ changes h → table_after s t (h ++ g) ≡ table_after s t h

@@ -5,3 +5,5 @@ pub mod HistoryText
 pub mod Refused
 pub mod Turns
 pub mod LawRun
+pub mod Ceph
+pub mod Said

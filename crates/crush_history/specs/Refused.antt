@@ -5,7 +5,7 @@ use Rattle.crush_history.specs.declared.call.Reply.TheVariants.{Done, Dones, Ref
 use Rattle.crush_history.specs.History.{EntryData}
 use Rattle.crush_history.specs.HistoryText.{entry_text}
 
--- whether a reply is a refusal: of an edit, of a batch, or of a guarded call that came too late
+-- whether a reply is a refusal: of an edit, of a batch, or of a guarded batch that is stale
 abbrev pub is_refused : Reply → Bool
 is_refused (Done d) = false
 is_refused (Dones d) = false
@@ -13,12 +13,12 @@ is_refused (Refused r) = true
 is_refused (BatchRefused index r) = true
 is_refused (Stale n) = true
 
--- how many entries were refused
+-- how many entries of a history were refused
 unfoldable pub refusals : List EntryData → ℕ
 refusals [] = 0
 refusals (e ∷ h) = (if is_refused e.reply then 1 else 0) + refusals h
 
--- the line of an entry that was refused, and of another nothing
+-- the line of an entry if it was refused, and otherwise no text
 abbrev pub refused_line : ℕ → List ℕ → EntryData → List ℕ
 refused_line number operator e = if is_refused e.reply then entry_text number operator e else []
 

@@ -1,4 +1,4 @@
--- Scripts of calls, as contracts see them.
+-- Operators' scripts, as contracts see them.
 use Rattle.std.specs.Prelude.{ℕ, List, length, map}
 use Rattle.std.specs.List.{sum_by}
 use Rattle.crush_history.specs.declared.call.Call.{Call}
@@ -9,12 +9,14 @@ pub record ScriptData : Type 0 where
   pub name : List ℕ
   pub calls : List Call
 
+-- a script of the code as contracts see it
 abbrev pub script_data : Script → ScriptData
 script_data s = record { name = s.name; calls = s.calls.items }
 
+-- several scripts of the code as contracts see them
 abbrev pub scripts_data : List Script → List ScriptData
 scripts_data scripts = map script_data scripts
 
--- how many calls scripts have in all
+-- how many calls the scripts have together
 abbrev pub call_count : List ScriptData → ℕ
 call_count scripts = sum_by (λ (s : ScriptData). length s.calls) scripts

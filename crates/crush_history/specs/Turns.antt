@@ -1,4 +1,4 @@
--- What calls make of a map, and what the history of scripts that run in turn is.
+-- How a call changes a map, and what the history is of scripts that run one after the other.
 use Rattle.std.specs.Prelude.{◌≡◌, ℕ, zero, suc, List, [], ◌∷◌, length, map}
 use Rattle.crush_model.specs.Table.{Row}
 use Rattle.crush_edits.specs.Setting.{SettingData}
@@ -8,25 +8,26 @@ use Rattle.crush_history.specs.declared.call.Reply.{Reply}
 use Rattle.crush_history.specs.Script.{ScriptData, call_count}
 use Rattle.crush_history.specs.History.{call_outcome, EntryData, AnsweredData, IsLegal, of_operator, turns}
 
--- MADE: the reply is the table's after n changes, and the map stands for the table after, of each table for which it stood
+-- MADE: for each setting and table that the map represents before the call, the reply is that of the table after n changes, and the map represents the same setting and the table after the call
 abbrev pub Makes : ℕ → MapData → MapData → Call → Reply → Type 0
 Makes n old new call reply = (s : SettingData) (t : List Row) → MapStands old s t → (reply ≡ (call_outcome s t n call).reply) × MapStands new s (call_outcome s t n call).table
 
--- the calls of the script of a number, or none where there is no such script
+-- the calls of the script with index k, or none if there is no such script
 abbrev pub calls_at : List ScriptData → ℕ → List Call
 calls_at [] k = []
 calls_at (x ∷ xs) zero = x.calls
 calls_at (x ∷ xs) (suc k) = calls_at xs k
 
+-- the calls of answered calls, without their replies
 abbrev pub calls_of : List AnsweredData → List Call
 calls_of answered = map (λ (a : AnsweredData). a.call) answered
 
--- each reply is the table's at that point, and the entries are the calls of each script in order, and no others
+-- the history is one of these scripts: it is legal, the calls of operator k are those of script k in order, and it has no other calls
 pub record IsHistoryOf (s : SettingData) (t : List Row) (scripts : List ScriptData) (h : List EntryData) : Type 0 where
   pub legal : IsLegal s t h
   pub calls : (k : ℕ) → calls_of (of_operator k h) ≡ calls_at scripts k
   pub length : length h ≡ call_count scripts
 
--- the scripts in turn make such a history
+-- scripts that run one after the other give such a history
 abbrev pub TurnsAreHistory : Type 0
 TurnsAreHistory = (s : SettingData) (t : List Row) (scripts : List ScriptData) → IsHistoryOf s t scripts (turns s t scripts)

@@ -1,4 +1,4 @@
-//! Calls and replies.
+//! Calls of operators, and the replies to them.
 
 ghost use Rattle.std.specs.Prelude.{◌≡◌, ◌≤◌, ◌<◌, ◌++◌, ◌∷◌, [], length, nat_lt, IfOk, OnOk};
 ghost use Rattle.crush_units.specs.declared.limits.TheConstants.{MOST_EDITS};
@@ -26,30 +26,38 @@ impl Model for Edits {
     ghost invariant = { λ batch. length batch.edits.items ≤ MOST_EDITS };
 }
 
-/// One call of an operator, which is made as a whole.
+/// One call of an operator: an edit or a batch, which is applied completely or not at all.
 #[derive(Debug, Drop)]
 pub enum Call {
+    /// One edit.
     One(Edit),
-    /// Each edit is made of the map that those before it made, or none is.
+    /// A batch: each edit applies to the map that the edits before it made. Either all edits are
+    /// made or none is.
     Batch(Edits),
-    /// A batch that its operator wants only while the history has `seen` changes.
+    /// A batch that is applied only if the history has exactly `seen` changes when the call is
+    /// made. Otherwise the reply is [`Reply::Stale`].
     Guarded { seen: u32, edits: Edits },
 }
 
-/// What a call is answered.
+/// The result of a call. Only a call with the reply `Done` or `Dones` can have changed the map.
 #[derive(Clone, Copy, Debug, PartialEq, Eq)]
 pub enum Reply {
+    /// The edit was made.
     Done(Done),
+    /// All edits of the batch were made.
     Dones(Dones),
+    /// The edit was refused.
     Refused(Refusal),
-    /// The first refused edit's index, from 0.
+    /// An edit of the batch was refused, so none was made. Has the index, from 0, of the first
+    /// refused edit, and its refusal.
     BatchRefused(u32, Refusal),
-    /// The history has this number of changes, not the one that was seen.
+    /// The guarded batch wasn't made, because the history has this number of changes, which isn't
+    /// the number that the call expects.
     Stale(u32),
 }
 
 impl Edits {
-    /// A batch of these edits, which are at most 65,536.
+    /// Returns a batch of these edits, in order. The caller guarantees at most 65,536 edits.
     pub fn new(edits: Vec<Edit>) -> Edits
         requires { length edits.items ≤ MOST_EDITS }
         ensures { result ≡ edits.items }
@@ -57,7 +65,7 @@ impl Edits {
         Edits { edits }
     }
 
-    /// The edits in order, at most 65,536.
+    /// Returns the edits in order, at most 65,536.
     pub fn as_slice(&self) -> &[Edit]
         ensures value { result.now ≡ self.now }
         ensures few { length self.now ≤ MOST_EDITS }
@@ -65,14 +73,17 @@ impl Edits {
         self.edits.as_slice()
     }
 
-    /// Whether there can be one edit more.
+    /// Whether the batch has fewer than 65,536 edits, so that another one can be added.
     pub fn has_room(&self) -> bool
         ensures { result ≡ nat_lt (length self.now) MOST_EDITS }
     {
         self.edits.len() < MOST_EDITS
     }
 
-    /// Adds an edit behind the others.
+    /// Adds an edit after the others.
+    ///
+    /// The caller guarantees that the batch has fewer than 65,536 edits. If memory runs out,
+    /// returns the edit in the error.
     pub fn push(&mut self, edit: Edit) -> Result<(), AllocFailed<Edit>>
         requires { length self.old < MOST_EDITS }
         ensures { OnOk result (self.new ≡ self.old ++ edit ∷ []) }
@@ -80,6 +91,7 @@ impl Edits {
         self.edits.push(edit)
     }
 
+    /// Returns a copy of the batch in memory of `alloc`, or an error if memory runs out.
     pub(crate) fn try_copy(&self, alloc: Global) -> Result<Edits, AllocError>
         ensures { IfOk result (λ copy. copy ≡ self.now) }
     {
@@ -89,7 +101,9 @@ impl Edits {
 }
 
 impl Call {
-    /// A copy of the call, as a history keeps one of a call that an operator lends.
+    /// Returns a copy of the call in memory of `alloc`, or an error if memory runs out.
+    ///
+    /// An operator lends a call only while it is made; a history keeps a copy.
     pub fn try_copy(&self, alloc: Global) -> Result<Call, AllocError>
         ensures { IfOk result (λ copy. copy ≡ self.now) }
     {
@@ -104,6 +118,7 @@ impl Call {
     }
 }
 
+/// Copies the edits, in order, into memory of `alloc`.
 fn copy_edits(alloc: Global, edits: &[Edit]) -> Result<Vec<Edit>, AllocError>
     ensures { IfOk result (λ copies. copies.items ≡ edits.now) }
 {

@@ -1,28 +1,34 @@
-//! The entries of a history.
+//! The entries of a history, and which of them changed the map.
 
 ghost use Rattle.std.specs.Prelude.{◌≡◌, ◌<◌, ◌^◌, length};
 ghost use Rattle.crush_history.specs.History.{changes, is_change};
 
 use crate::call::{Call, Reply};
 
-/// One entry of a history: a call that was answered, and by whom it was made.
+/// One entry of a history: a call, its reply, and the operator that made the call.
 #[derive(Debug, Drop)]
 pub struct Entry {
-    /// From 0 in the order of the sections.
+    /// The operator's index: the position of its script among the job's scripts, from 0.
     pub operator: usize,
+    /// The call that the operator made.
     pub call: Call,
+    /// The reply to the call.
     pub reply: Reply,
 }
 
-/// A call that was answered, as the operator who made it keeps it: an entry without the number of
-/// its operator.
+/// A call and its reply, as the operator that made the call keeps them.
+///
+/// It is an entry without the operator's index.
 #[derive(Debug, Drop)]
 pub struct Slip {
+    /// The call that the operator made.
     pub call: Call,
+    /// The reply to the call.
     pub reply: Reply,
 }
 
-/// Whether an edit, or one of a batch, changed the map.
+/// Whether the reply says that the call changed the map: its edit did, or at least one edit of its
+/// batch.
 pub fn is_change(reply: Reply) -> bool
     ensures { result ≡ is_change reply }
 {
@@ -35,7 +41,7 @@ pub fn is_change(reply: Reply) -> bool
     }
 }
 
-/// How many entries changed the map.
+/// Returns how many of the entries changed the map. Visits each entry.
 pub fn count_changes(entries: &[Entry]) -> u32
     requires { length entries.now < 2 ^ 32 }
     ensures { result ≡ changes entries.now }

@@ -1,4 +1,4 @@
-//! The lines of a history.
+//! Printing a history, one line for each entry.
 
 ghost use Rattle.std.specs.Prelude.{◌≡◌, ◌<◌, ◌^◌, [], length, slice_index_or, IfErr, IfOk};
 ghost use Rattle.crush_units.specs.Writes.{Writes};
@@ -16,6 +16,7 @@ use itoa::Buffer;
 use std::alloc::{AllocError, Global};
 use std::io::Write;
 
+/// Writes the start of a line, before the call: `# NUMBER OPERATOR `.
 #[tactic(auto, unfolding(crate::specs::HistoryText::line_head))]
 fn write_head<W: Write>(number: u32, operator: &[u8], out: &mut W) -> Result<(), WriteFault>
     ensures writes { Writes result (W.contents out.old) (W.contents out.new)
@@ -36,6 +37,7 @@ fn write_head<W: Write>(number: u32, operator: &[u8], out: &mut W) -> Result<(),
     )
 }
 
+/// Returns `1` for true and `0` for false.
 fn digit_of(is_true: bool) -> &'static [u8]
     ensures { result.now ≡ digit_of is_true }
 {
@@ -89,6 +91,7 @@ fn write_dones<W: Write>(dones: Dones, out: &mut W) -> Result<(), WriteFault>
     )
 }
 
+/// Writes a refusal's name and Linux error number, and ends the line.
 fn write_refusal<W: Write>(refusal: Refusal, out: &mut W) -> Result<(), WriteFault>
     ensures writes { Writes result (W.contents out.old) (W.contents out.new)
         (refusal_text refusal) }
@@ -110,6 +113,7 @@ fn write_refused<W: Write>(refusal: Refusal, out: &mut W) -> Result<(), WriteFau
     write_refusal(refusal, out)
 }
 
+/// Writes where a batch was refused: ` = refused at INDEX `.
 fn write_refused_at<W: Write>(index: u32, out: &mut W) -> Result<(), WriteFault>
     ensures writes { Writes result (W.contents out.old) (W.contents out.new)
         (refused_at_text index) }
@@ -152,6 +156,7 @@ fn write_stale<W: Write>(changes: u32, out: &mut W) -> Result<(), WriteFault>
     )
 }
 
+/// Writes the end of a line, after the call: ` = REPLY` and a line feed.
 fn write_reply<W: Write>(reply: Reply, out: &mut W) -> Result<(), WriteFault>
     ensures writes { Writes result (W.contents out.old) (W.contents out.new) (line_end reply) }
     ensures fault { IfErr result (λ fault. fault ≡ WriteFault.Write) }
@@ -165,8 +170,11 @@ fn write_reply<W: Write>(reply: Reply, out: &mut W) -> Result<(), WriteFault>
     }
 }
 
-/// Writes an entry's line, `# NUMBER OPERATOR CALL = REPLY`, a comment of a map's text;
-/// `docs/FORMATS.md` has the form.
+/// Writes the line of one entry of a history: `# NUMBER OPERATOR CALL = REPLY`.
+///
+/// `number` is the entry's number in the history, from 1, and `operator` the operator's name. The
+/// line is a comment in a map's text; `docs/FORMATS.md` has its form. Fails only with
+/// [`WriteFault::Write`]; then only a proper prefix of the line has been written.
 pub fn write_entry<W: Write>(
     number: u32,
     operator: &[u8],
@@ -183,7 +191,8 @@ pub fn write_entry<W: Write>(
     write_reply(reply, out)
 }
 
-/// An operator's name.
+/// Returns the name of an operator, given by its index in `scripts`, which the caller guarantees to
+/// be in range.
 pub fn operator_name(scripts: &[Script], operator: usize) -> &[u8]
     requires { operator < length scripts.now }
     ensures { result.now ≡ slice_index_or (names_of (scripts_data scripts.now)) operator [] }
@@ -192,9 +201,12 @@ pub fn operator_name(scripts: &[Script], operator: usize) -> &[u8]
     script.name.as_bytes()
 }
 
-/// The lines of a history, one for each entry, as [`write_entry`] writes it; they count from 1, and
-/// each entry has the name of the script of its operator's number. A history is one write, before
-/// which out of memory shows.
+/// Returns the text of a history, with one line for each entry, as [`write_entry`] writes it.
+///
+/// Lines are numbered from 1. An entry's operator is an index in `scripts`, whose script gives the
+/// operator's name; the caller guarantees that each is in range, and fewer than 2^32 entries. The
+/// text is returned as a whole, so that memory can only run out before anything is written. Returns
+/// an error if memory runs out.
 pub fn history_text(
     alloc: Global,
     scripts: &[Script],

@@ -1,9 +1,14 @@
-//! A [`Call`] is what an operator wants of a map, a [`Reply`] its answer, an [`Entry`] both in a
-//! history. [`make_call`] makes one, `crush_editor` those of many operators, `crush_script` reads
-//! them.
+//! Calls on a map, their replies, and the history of both.
+//!
+//! A [`Call`] is one edit or one batch that an operator sends, a [`Reply`] is its result, and an
+//! [`Entry`] of a history has both. [`make_call`] makes one call on a map, and [`history_text`]
+//! prints a history. `crush_script` parses calls, and `crush_editor` makes the calls of many
+//! operators at the same time.
 #![tactic(auto)]
 
 mod call;
+mod ceph;
+mod device;
 mod entry;
 mod history;
 mod law;
@@ -13,6 +18,8 @@ mod refused;
 mod script;
 
 pub use call::{Call, Edits, Reply};
+pub use ceph::{push_ceph_heading, push_ceph_line};
+pub use device::device_named;
 pub use entry::{Entry, Slip, count_changes, is_change};
 pub use history::{history_text, operator_name, write_entry};
 pub use law::{runs_keep_lawful, same_count_is_same_table, turns_are_history};

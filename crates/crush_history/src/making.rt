@@ -1,4 +1,4 @@
-//! One call, made on a map.
+//! Making one call on a map.
 
 ghost use Rattle.std.specs.Prelude.{◌≡◌, ◌≤◌, ℕ, length, IfOk, OnErr};
 ghost use Rattle.crush_units.specs.declared.limits.TheConstants.{MOST_EDITS};
@@ -9,6 +9,7 @@ use crush_edits::{BatchFault, Edit, EditFault};
 use crush_map::CrushMap;
 use std::alloc::{AllocError, Allocator};
 
+/// Applies one edit; a refusal is a reply, and running out of memory is an error.
 fn make_edit<A: Allocator + Clone>(map: &mut CrushMap<A>, asked: &Edit) -> Result<Reply, AllocError>
     ensures made { IfOk result (λ reply. (n : ℕ)
         → Makes n map.old map.new (Call.One asked.now) reply) }
@@ -21,6 +22,7 @@ fn make_edit<A: Allocator + Clone>(map: &mut CrushMap<A>, asked: &Edit) -> Resul
     }
 }
 
+/// Applies a batch of edits; a refusal is a reply, and running out of memory is an error.
 fn make_batch<A: Allocator + Clone>(
     map: &mut CrushMap<A>,
     asked: &[Edit],
@@ -37,6 +39,7 @@ fn make_batch<A: Allocator + Clone>(
     }
 }
 
+/// Applies a batch if the number of changes so far, `count`, is `seen`; otherwise it is stale.
 fn make_guarded<A: Allocator + Clone>(
     map: &mut CrushMap<A>,
     count: u32,
@@ -53,7 +56,11 @@ fn make_guarded<A: Allocator + Clone>(
     make_batch(map, asked)
 }
 
-/// Makes one call on a map, before which so many calls changed it.
+/// Makes one call on a map, and returns its reply.
+///
+/// `count` is the number of changes in the history so far, which a guarded batch is compared with.
+/// If the reply is a refusal or stale, the map represents the same tables as before. Returns an
+/// error only if memory runs out; then the map is unchanged.
 pub fn make_call<A: Allocator + Clone>(
     map: &mut CrushMap<A>,
     count: u32,

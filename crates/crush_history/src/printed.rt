@@ -1,4 +1,4 @@
-//! The text of calls.
+//! Printing a call as the commands that a script would have for it.
 
 ghost use Rattle.std.specs.Prelude.{◌≡◌, ◌++◌, codes, IfErr};
 ghost use Rattle.crush_units.specs.Writes.{Writes};
@@ -11,6 +11,7 @@ use itoa::Buffer;
 use std::alloc::Global;
 use std::io::Write;
 
+/// Writes a command's first word and a name.
 fn write_one_name<W: Write>(
     first: &[u8],
     name: &Name<Global>,
@@ -23,6 +24,7 @@ fn write_one_name<W: Write>(
     put_all(out, &[first, b" ".as_slice(), name.as_bytes()])
 }
 
+/// Writes a command's first word and two names.
 fn write_two_names<W: Write>(
     first: &[u8],
     a: &Name<Global>,
@@ -45,6 +47,7 @@ fn write_two_names<W: Write>(
     )
 }
 
+/// Writes a command's first word, a name, and a weight with five decimals.
 fn write_weighed<W: Write>(
     first: &[u8],
     name: &Name<Global>,
@@ -70,6 +73,7 @@ fn write_weighed<W: Write>(
     )
 }
 
+/// Writes one pair of a location after a space: ` TYPE=NAME`.
 fn write_pair<W: Write>(pair: &Pair, out: &mut W) -> Result<(), WriteFault>
     ensures writes { Writes result (W.contents out.old) (W.contents out.new) (pair_text pair.now) }
     ensures fault { IfErr result (λ fault. fault ≡ WriteFault.Write) }
@@ -85,6 +89,7 @@ fn write_pair<W: Write>(pair: &Pair, out: &mut W) -> Result<(), WriteFault>
     )
 }
 
+/// Writes the pairs of a location, each after a space.
 fn write_pairs<W: Write>(pairs: &[Pair], out: &mut W) -> Result<(), WriteFault>
     ensures writes { Writes result (W.contents out.old) (W.contents out.new)
         (pairs_text pairs.now) }
@@ -96,6 +101,7 @@ fn write_pairs<W: Write>(pairs: &[Pair], out: &mut W) -> Result<(), WriteFault>
     Ok(())
 }
 
+/// Writes a command that puts a device with a weight at a location.
 fn write_placing<W: Write>(
     first: &[u8],
     name: &Name<Global>,
@@ -120,7 +126,10 @@ fn write_move<W: Write>(name: &Name<Global>, at: &Location, out: &mut W) -> Resu
     write_pairs(at.pairs(), out)
 }
 
-/// Writes an edit as its command, the weight with five decimals.
+/// Writes an edit as its command in a script, for example `reweight osd.1 0.50000`.
+///
+/// Weights have five decimals. A device's id isn't written: a script takes it from the name
+/// `osd.N`. Fails only with [`WriteFault::Write`]; then only a proper prefix has been written.
 pub fn write_edit<W: Write>(edit: &Edit, out: &mut W) -> Result<(), WriteFault>
     ensures writes { Writes result (W.contents out.old) (W.contents out.new) (edit_text edit.now) }
     ensures fault { IfErr result (λ fault. fault ≡ WriteFault.Write) }
@@ -158,6 +167,7 @@ pub fn write_edit<W: Write>(edit: &Edit, out: &mut W) -> Result<(), WriteFault>
     }
 }
 
+/// Writes one edit of a batch and the separator after it.
 fn write_edit_of_batch<W: Write>(edit: &Edit, out: &mut W) -> Result<(), WriteFault>
     ensures writes { Writes result (W.contents out.old) (W.contents out.new)
         (edit_text edit.now ++ codes " ; ") }
@@ -178,6 +188,7 @@ fn write_edits<W: Write>(edits: &[Edit], out: &mut W) -> Result<(), WriteFault>
     Ok(())
 }
 
+/// Writes what follows the `begin` of a batch: its edits and `commit`.
 fn write_rest<W: Write>(edits: &[Edit], out: &mut W) -> Result<(), WriteFault>
     ensures writes { Writes result (W.contents out.old) (W.contents out.new)
         (rest_text edits.now) }
@@ -196,6 +207,7 @@ fn write_batch<W: Write>(edits: &[Edit], out: &mut W) -> Result<(), WriteFault>
     write_rest(edits, out)
 }
 
+/// Writes the beginning of a guarded batch: `begin at SEEN ; `.
 fn write_guard<W: Write>(seen: u32, out: &mut W) -> Result<(), WriteFault>
     ensures writes { Writes result (W.contents out.old) (W.contents out.new) (guard_text seen) }
     ensures fault { IfErr result (λ fault. fault ≡ WriteFault.Write) }
@@ -214,6 +226,7 @@ fn write_guarded<W: Write>(seen: u32, edits: &[Edit], out: &mut W) -> Result<(),
     write_rest(edits, out)
 }
 
+/// Writes a call on one line; a batch is `begin ; EDIT ; .. ; commit`.
 pub(crate) fn write_call<W: Write>(call: &Call, out: &mut W) -> Result<(), WriteFault>
     ensures writes { Writes result (W.contents out.old) (W.contents out.new) (call_text call.now) }
     ensures fault { IfErr result (λ fault. fault ≡ WriteFault.Write) }

@@ -1,4 +1,4 @@
-//! Refused entries.
+//! The entries of a history that were refused.
 
 ghost use Rattle.std.specs.Prelude.{◌≡◌, ◌<◌, ◌^◌, ◌++◌, IfOk, OnOk, length};
 ghost use Rattle.crush_history.specs.Entries.{AreOf};
@@ -12,7 +12,7 @@ use crate::history::{operator_name, write_entry};
 use crate::script::Script;
 use std::alloc::{AllocError, Global};
 
-/// Whether a reply refuses, or is stale.
+/// Whether the reply refuses an edit or a batch, or says that a guarded batch is stale.
 pub fn is_refused(reply: Reply) -> bool
     ensures { result ≡ is_refused reply }
 {
@@ -25,7 +25,7 @@ pub fn is_refused(reply: Reply) -> bool
     }
 }
 
-/// How many entries were refused.
+/// Returns how many of the entries were refused or stale. Visits each entry.
 pub fn count_refused(entries: &[Entry]) -> u32
     requires { length entries.now < 2 ^ 32 }
     ensures { result ≡ refusals entries.now }
@@ -39,6 +39,7 @@ pub fn count_refused(entries: &[Entry]) -> u32
     count
 }
 
+/// Appends the entry's line to the text if the entry was refused.
 fn push_refused(
     number: u32,
     operator: &[u8],
@@ -54,7 +55,11 @@ fn push_refused(
     write_entry(number, operator, &entry.call, entry.reply, text).map_err(|_| AllocError)
 }
 
-/// The lines of refused entries, numbered as in the history.
+/// Returns the lines of the entries that were refused or stale, numbered as in the whole history.
+///
+/// The lines have the form that [`write_entry`] writes. An entry's operator is an index in
+/// `scripts`; the caller guarantees that each is in range, and fewer than 2^32 entries. Returns an
+/// error if memory runs out.
 pub fn refused_text(
     alloc: Global,
     scripts: &[Script],

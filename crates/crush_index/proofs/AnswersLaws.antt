@@ -1,4 +1,4 @@
--- What an index tells after rows have come or gone, whatever it told before.
+-- What an index answers after rows were added or removed, whatever it answered before.
 use Rattle.std.proofs.Common.{◌≡◌, ℕ, Bool, true, false, List, [], ◌∷◌, ◌++◌, ap, sym, ◌∙◌, refl, append-nil}
 use Rattle.std.specs.Prelude.{◌||◌, if◌then◌else◌, Option, Some, None, Result, Ok, Err, OnErr, is_some, bytes_eq}
 use Rattle.std.specs.Option.{option_map}
@@ -13,7 +13,7 @@ use Rattle.crush_nodes.specs.declared.place.Place.{Place}
 use Rattle.crush_index.specs.IndexAnswers.{Answers, with_name, with_row, with_rows, without_rows}
 use Rattle.crush_index.specs.UsedLaw.{uses}
 
--- the same of each name, of each item and of each number
+-- answers that agree for each name, each item and each id are equal
 pub tells : (s u : Answers) → ((n : List ℕ) → s.names n ≡ u.names n) → ((i : ItemId) → s.places i ≡ u.places i) → ((k : ℕ) → s.used k ≡ u.used k) → s ≡ u
 tells s u names places used = λ j. record { names = λ n. names n j; places = λ i. places i j; used = λ k. used k j }
 
@@ -60,7 +60,7 @@ without_rows-append a b s = tells (without_rows (a ++ b) s) (without_rows b (wit
     (λ i. choose (is_there (a ++ b) i) (is_there a i || is_there b i) None (s.places i) (is_there-append a b i) ∙ either_then (is_there a i) (is_there b i) None (s.places i))
     (λ k. choose (member k (used_ids (a ++ b))) (member k (used_ids a) || member k (used_ids b)) false (s.used k) (used-append a b k) ∙ either_then (member k (used_ids a)) (member k (used_ids b)) false (s.used k))
 
--- in either order
+-- two lists of rows can be removed in either order
 turned : (a b : List Row) (s : Answers) → without_rows a (without_rows b s) ≡ without_rows b (without_rows a s)
 turned a b s = tells (without_rows a (without_rows b s)) (without_rows b (without_rows a s))
     (λ n. in_turn (is_named a n) (is_named b n) None (s.names n))
@@ -102,14 +102,14 @@ forgotten_one r s =
     (λ k. hidden_use (s.used k) (member k (uses r)))
     ∙ sym (without_one r s)
 
--- what came with rows is forgotten with them
+-- removing rows also removes all that adding them has added
 pub forgotten : (t : List Row) (s : Answers) → without_rows t (with_rows t s) ≡ without_rows t s
 forgotten [] s = refl
 forgotten (r ∷ t) s =
     without_rows-append (r ∷ []) t (with_rows t (with_row r s)) ∙ turned t (r ∷ []) (with_rows t (with_row r s)) ∙ ap (without_rows (r ∷ [])) (forgotten t (with_row r s))
     ∙ turned (r ∷ []) t (with_row r s) ∙ ap (without_rows t) (forgotten_one r s) ∙ sym (without_rows-append (r ∷ []) t s)
 
--- THE SAME BUT OF ROWS
+-- THE SAME ANSWERS, EXCEPT FOR THE NAMES AND IDS OF ROWS
 abbrev pub SameBut : List Row → Answers → Answers → Type 0
 SameBut t old new = without_rows t new ≡ without_rows t old
 
@@ -119,7 +119,7 @@ same_but-left a b s u e = without_rows-append a b u ∙ ap (without_rows b) e �
 pub same_but-right : (a b : List Row) (s u : Answers) → SameBut b s u → SameBut (a ++ b) s u
 same_but-right a b s u e = without_rows-append a b u ∙ turned b a u ∙ ap (without_rows a) e ∙ turned a b s ∙ sym (without_rows-append a b s)
 
--- a row has come
+-- answers that change as by one row are those after the row was added
 pub came : (r : Row) (s u : Answers) → ((n : List ℕ) → u.names n ≡ (if bytes_eq r.name n then Some r.id else s.names n)) → ((i : ItemId) → u.places i ≡ (if same_id r.id i then Some (place_under (is_device r) r.parent) else s.places i))
     → ((k : ℕ) → u.used k ≡ (s.used k || member k (uses r))) → u ≡ with_row r s
 came r s u names places used = tells u (with_row r s) names places used
@@ -128,7 +128,7 @@ pub not_used : (b : Bool) → b ≡ (b || false)
 not_used true = refl
 not_used false = refl
 
--- a row has come after its name
+-- the same if the row's name was added first
 pub came_named : (r : Row) (name : List ℕ) (place : Place) (s m u : Answers) → name ≡ r.name → place ≡ place_under (is_device r) r.parent → m ≡ with_name name r.id s → ((n : List ℕ) → u.names n ≡ m.names n)
     → ((i : ItemId) → u.places i ≡ (if same_id r.id i then Some place else m.places i)) → ((k : ℕ) → u.used k ≡ (m.used k || member k (uses r))) → u ≡ with_row r s
 came_named r name place s m u is at e names places used = came r s u
@@ -136,17 +136,17 @@ came_named r name place s m u is at e names places used = came r s u
     (λ i. places i ∙ ap (λ (x : Answers). if same_id r.id i then Some place else x.places i) e ∙ ap (λ z. if same_id r.id i then Some z else s.places i) at)
     (λ k. used k ∙ ap (λ (x : Answers). x.used k || member k (uses r)) e)
 
--- the same but of one row
+-- answers that agree except for the name and ids of one row
 pub same_but_one : (r : Row) (s u : Answers) → ((n : List ℕ) → (if bytes_eq r.name n then None else u.names n) ≡ (if bytes_eq r.name n then None else s.names n))
     → ((i : ItemId) → (if same_id r.id i then None else u.places i) ≡ (if same_id r.id i then None else s.places i))
     → ((k : ℕ) → (if member k (uses r) then false else u.used k) ≡ (if member k (uses r) then false else s.used k)) → SameBut (r ∷ []) s u
 same_but_one r s u names places used = without_one r u ∙ tells (without_row r u) (without_row r s) names places used ∙ sym (without_one r s)
 
--- told of one, which is hidden
+-- a changed answer for one key makes no difference if that key is left out
 pub hidden_one : {X : Type 0} (b : Bool) (o v w : Option X) → w ≡ (if b then o else v) → (if b then None else w) ≡ (if b then None else v)
 hidden_one b o v w e = ap (λ z. if b then None else z) e ∙ hidden b None v o
 
--- what holds in any case holds after an Err, or on Ok
+-- what holds always also holds after an error, and on success
 pub on_err : {T E P : Type 0} (r : Result T E) → P → OnErr r P
 on_err (Ok x) p = tt
 on_err (Err e) p = p

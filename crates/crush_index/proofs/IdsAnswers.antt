@@ -1,4 +1,4 @@
--- Ids of a bucket and its class ids that come into use or are free again one after the other.
+-- The ids of a bucket and its class ids, which become used, or free again, one after the other.
 use Rattle.std.proofs.Common.{◌≡◌, ℕ, suc, ◌+◌, ◌<◌, ◌≤◌, Bool, true, false, List, [], ◌∷◌, ◌++◌, length, get_or, take, drop, ap, sym, ◌∙◌, refl}
 use Rattle.std.specs.Prelude.{◌==◌, ◌||◌, if◌then◌else◌}
 use Rattle.std.proofs.lemmas.List.{take-append-drop, take_all, take_more}
@@ -26,7 +26,7 @@ module _ {A : _} (own : ℕ) (cs : List (ShadowId A)) (i : ℕ) where
   abbrev taken : List ℕ
   taken = own ∷ shadow_numbers (take i cs)
 
-  -- one more
+  -- after the next class id
   module _ (x : ShadowId A) (id : ℕ) (lt : i < length cs) (at : x ≡ get_or cs i x) (is : id ≡ x.id) where
     abbrev more : List ℕ
     more = own ∷ shadow_numbers (take (i + 1) cs)
@@ -55,7 +55,7 @@ module _ {A : _} (own : ℕ) (cs : List (ShadowId A)) (i : ℕ) where
     one_more_free old now new before one k =
         one k ∙ ap (λ b. if id == k then false else b) (before k) ∙ sym (either_then (member k taken) (id == k) false (used_answer old k)) ∙ ap (λ b. if b then false else used_answer old k) (sym (member_more k))
 
-  -- one that didn't come
+  -- after a class id that wasn't inserted
   hidden_part : (o m r : Bool) → (if (m || r) then false else (o || m)) ≡ (if (m || r) then false else o)
   hidden_part true true r = refl
   hidden_part true false r = refl

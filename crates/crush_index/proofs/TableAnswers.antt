@@ -1,4 +1,4 @@
--- What an index of a table tells after rows have come to it, and after a part of it has gone.
+-- What an index of a table answers after rows were added to the table, and after a part was removed.
 use Rattle.std.proofs.Common.{◌≡◌, ℕ, zero, suc, ◌+◌, ◌≤◌, Bool, true, false, List, [], ◌∷◌, ◌++◌, ap, sym, subst, ◌∙◌, refl, arith, append-nil, append_assoc, ⊎_elim}
 use Rattle.std.specs.Prelude.{◌==◌, ◌||◌, not, if◌then◌else◌, Option, Some, None, is_some, bytes_eq, nat_lt}
 use Rattle.std.specs.List.{count_by}
@@ -30,7 +30,7 @@ use Rattle.crush_index.specs.IndexAnswers.{IsIndexOf, Answers, answers, with_row
 use Rattle.crush_index.proofs.PlaceColumn.{place_in-last}
 use Rattle.crush_index.proofs.AnswersLaws.{tells, is_named-append, is_there-append}
 
--- what an index of the table tells
+-- the answers of an index of the table
 abbrev pub answer_of : List Row → Answers
 answer_of t = record { names = λ n. id_named t n; places = λ i. place_in t i; used = λ k. member k (used_ids t) }
 
@@ -110,7 +110,7 @@ module _ (t u : List Row) (l : Lawful (t ++ u)) where
   gone_if true x y h = sym (h refl)
   gone_if false x y h = refl
 
-  -- the rows are not in the first table, so that to forget them changes nothing
+  -- the rows are not in the first table, so that their removal changes no answer
   pub unknown : without_rows u (answer_of t) ≡ answer_of t
   unknown = tells (without_rows u (answer_of t)) (answer_of t)
       (λ n. gone_if (is_named u n) None (id_named t n) (λ h. no_id (id_named t n) (names_apart n h)))

@@ -1,4 +1,4 @@
--- What an index of used ids tells of an id that has a bit, and of one further off.
+-- What an index of used ids answers for an id that has a bit, and for one in the hash set.
 use Rattle.std.proofs.Common.{◌≡◌, ◌⊎◌, inl, inr, ⊎_elim, ℕ, ◌+◌, ◌*◌, ◌/◌, ◌%◌, ◌<◌, ◌≤◌, max, true, get_or, ap, ◌∙◌, arith}
 use Rattle.std.specs.Prelude.{◌==◌, ◌||◌, if◌then◌else◌, is_some, nat_eq, nat_lt}
 use Rattle.std.specs.Int.{bit_at}
@@ -13,7 +13,7 @@ use Rattle.crush_index.specs.UsedKept.{near_ids}
 below : (a n : ℕ) → a < n → nat_lt a n ≡ true
 below a n h = grind (arith, nat_tests)
 
--- SEARCHED: the ids from one on before a word are in use
+-- SEARCHED: all ids from least to before those of the word at place are used
 abbrev pub Searched : UsedIds → ℕ → ℕ → Type 0
 Searched used least place = (k : ℕ) → least ≤ k → k < 64 * place → used_answer used k ≡ true
 
@@ -23,17 +23,17 @@ searched_first used least place e k from to = absurd (omega (arith, e, from, to)
 below_or_not : (k n : ℕ) → (k < n) ⊎ (n ≤ k)
 below_or_not k n = ⊎_elim (λ e. inr (omega arith)) (λ other. ⊎_elim (λ below. inl below) (λ above. inr (omega arith)) other) (cases_order k n)
 
--- what is left to look at after the words
+-- after the last word was searched, all ids before its end, or before least, are used
 pub searched_words : (used : UsedIds) (least place : ℕ) → Searched used least place → (next : ℕ) → next ≤ max (64 * place) least → (k : ℕ) → least ≤ k → k < next → used_answer used k ≡ true
 searched_words used least place before next h k from to = before k from (omega (arith, h, from, to))
 
 module _ (used : UsedIds) (least place : ℕ) (within : place < 1089) (before : Searched used least place) where
-  -- an id of the word that has its bit
+  -- an id of the word whose bit is set is used
   used_here : (k : ℕ) → k / 64 ≡ place → bit_at (get_or used.words.items place 0) (k % 64) ≡ 1 → used_answer used k ≡ true
   used_here k e one =
-      ap (λ b. (if b then bit_at (get_or used.words.items (k / 64) 0) (k % 64) == 1 else contains nat_eq used.far k) || is_some (chain_answer (nat_eq k) used.late)) (below k near_ids (omega (arith, e, within)))
-      ∙ ap (λ z. (bit_at (get_or used.words.items z 0) (k % 64) == 1) || is_some (chain_answer (nat_eq k) used.late)) e
-      ∙ ap (λ z. (z == 1) || is_some (chain_answer (nat_eq k) used.late)) one
+      ap (λ b. (if b then bit_at (get_or used.words.items (k / 64) 0) (k % 64) == 1 else contains nat_eq used.sparse k) || is_some (chain_answer (nat_eq k) used.overflow)) (below k near_ids (omega (arith, e, within)))
+      ∙ ap (λ z. (bit_at (get_or used.words.items z 0) (k % 64) == 1) || is_some (chain_answer (nat_eq k) used.overflow)) e
+      ∙ ap (λ z. (z == 1) || is_some (chain_answer (nat_eq k) used.overflow)) one
 
   pub searched_word : (from : ℕ) → ((i : ℕ) → i < 64 → least ≤ 64 * place + i → from ≤ i) → ((i : ℕ) → from ≤ i → i < 64 → bit_at (get_or used.words.items place 0) i ≡ 1) → Searched used least (place + 1)
   searched_word from each full k low high = ⊎_elim

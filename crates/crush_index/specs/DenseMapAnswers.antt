@@ -1,4 +1,4 @@
--- What is told of numbers most of which are near to 0.
+-- What a map of numbers answers, in which most numbers are near to 0.
 use Rattle.std.specs.Prelude.{◌≡◌, ℕ, List, Option, None, if◌then◌else◌, nat_eq, get_or}
 use Rattle.std.specs.Option.{option_or}
 use Rattle.indexmap.specs.IndexMap.{IndexMap, get, hasher_of}
@@ -7,26 +7,26 @@ use Rattle.crush_index.specs.declared.chain.Chain.{Chain}
 use Rattle.crush_index.specs.declared.hashing.Hashing.{Hashing}
 use Rattle.crush_index.specs.declared.dense_map.DenseMap.{DenseMap}
 
--- the entry of a number, none past the last
+-- the entry of a number in the vector; past the last one there is none
 abbrev pub entry_at : {T : Type 0} → List (Option T) → ℕ → Option T
 entry_at entries n = get_or entries n None
 
--- what is kept of a number by itself, or, where nothing is, in a link
-abbrev pub far_at : {T S : Type 0} → IndexMap ℕ T S → Chain ℕ T → ℕ → Option T
-far_at far late n = option_or (get nat_eq far n) (chain_answer (nat_eq n) late)
+-- the value of a number in the hash map, or, if there is none, the value in the chain
+abbrev pub sparse_at : {T S : Type 0} → IndexMap ℕ T S → Chain ℕ T → ℕ → Option T
+sparse_at sparse overflow n = option_or (get nat_eq sparse n) (chain_answer (nat_eq n) overflow)
 
--- what is kept of a number: its entry, or, where that is empty, what is kept further off
+-- the value of a number: its entry in the vector, or, if that is empty, its value in the hash map or in the chain
 unfoldable pub answer_at : {T : Type 0} → DenseMap T → ℕ → Option T
-answer_at dense_map n = option_or (entry_at dense_map.near.items n) (far_at dense_map.far dense_map.late n)
+answer_at dense_map n = option_or (entry_at dense_map.dense.items n) (sparse_at dense_map.sparse dense_map.overflow n)
 
--- the same of each number as before
+-- each number has the same value as before
 abbrev pub DenseMapSame : {T : Type 0} → DenseMap T → DenseMap T → Type 0
 DenseMapSame old new = (n : ℕ) → answer_at new n ≡ answer_at old n
 
--- this of one number, and of each other the same as before
+-- one number has the value o, or none, and each other number has the same value as before
 abbrev pub DenseMapWith : {T : Type 0} → DenseMap T → DenseMap T → ℕ → Option T → Type 0
 DenseMapWith old new number o = (n : ℕ) → answer_at new n ≡ (if nat_eq number n then o else answer_at old n)
 
--- how those further off are hashed
+-- how the hash map hashes its numbers
 abbrev pub numbered_hashing : {T : Type 0} → DenseMap T → Hashing
-numbered_hashing dense_map = hasher_of dense_map.far
+numbered_hashing dense_map = hasher_of dense_map.sparse

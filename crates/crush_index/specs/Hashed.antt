@@ -1,15 +1,15 @@
--- How a key is hashed.
+-- How a name is hashed.
 use Rattle.std.specs.Prelude.{Option, Some, None, ℕ, List, [], ◌∷◌}
 use Rattle.std.specs.RandomState.{initial_hasher}
 use Rattle.std.specs.Hash.DefaultHasher as sip
 use Rattle.std.specs.declared.hash.DefaultHasher.{DefaultHasher}
 use Rattle.std.specs.declared.hash.RandomState.{RandomState}
 
--- the state in which it begins: that of SipHash without keys, or with these
+-- the state in which a hasher begins: that of SipHash without keys, or with these keys
 abbrev pub first_state : Option RandomState → DefaultHasher
 first_state None = sip.initial
 first_state (Some keys) = initial_hasher keys
 
--- a name is written at once
+-- what is written to the hasher: all bytes of the name in one write
 abbrev pub at_once : List ℕ → List (List ℕ)
 at_once bytes = bytes ∷ []

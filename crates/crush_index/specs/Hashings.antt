@@ -1,4 +1,4 @@
--- How an index hashes: each of its tables by the hashing that it was made with.
+-- How an index hashes: each of its tables keeps the hashing with which it was created.
 use Rattle.std.specs.Prelude.{◌≡◌}
 use Rattle.indexmap.specs.IndexSet.{hasher_of as set_hasher_of}
 use Rattle.crush_index.specs.DenseMapAnswers.{numbered_hashing}
@@ -9,33 +9,37 @@ use Rattle.crush_index.specs.declared.names.Names.{Names}
 use Rattle.crush_index.specs.declared.places.Places.{Places}
 use Rattle.crush_index.specs.declared.used.UsedIds.{UsedIds}
 
--- how names and used ids are hashed
+-- the hashing of the names
 abbrev pub names_hashing : Names → Hashing
 names_hashing names = names.hashing
 
+-- the hashing of the used ids
 abbrev pub used_hashing : UsedIds → Hashing
-used_hashing used = set_hasher_of used.far
+used_hashing used = set_hasher_of used.sparse
 
--- how the numbers of devices and of buckets are
+-- the hashings of the places: one for the numbers of devices, and those for buckets
 pub record PlacesHashings : Type 0 where
   pub devices : Hashing
   pub buckets : SlotsHashings
 
+-- the hashings of these places
 abbrev pub places_hashings : Places → PlacesHashings
 places_hashings places = record { devices = numbered_hashing places.devices; buckets = slots_hashings places.slots }
 
--- how all tables of an index are
+-- the hashings of all tables of an index
 pub record Hashings : Type 0 where
   pub names : Hashing
   pub places : PlacesHashings
   pub used : Hashing
 
+-- the hashings of this index
 abbrev pub hashings : Index → Hashings
 hashings index = record { names = names_hashing index.names; places = places_hashings index.places; used = used_hashing index.used }
 
--- HASHED: each table of an index hashes so
+-- each table of the places has the hashing h
 abbrev pub ArePlacesHashed : Hashing → Places → Type 0
 ArePlacesHashed h places = places_hashings places ≡ record { devices = h; buckets = record { numbers = h; slots = h } }
 
+-- HASHED: each table of the index has the hashing h
 abbrev pub IsHashed : Hashing → Index → Type 0
 IsHashed h index = hashings index ≡ record { names = h; places = record { devices = h; buckets = record { numbers = h; slots = h } }; used = h }

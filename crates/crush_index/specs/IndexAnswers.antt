@@ -1,4 +1,4 @@
--- What an index tells, and when it tells what a table says.
+-- What an index answers, and when these are the answers of a table.
 use Rattle.std.specs.Prelude.{ℕ, List, [], ◌∷◌, Option, Some, None, Bool, false, ◌||◌, if◌then◌else◌, bytes_eq}
 use Rattle.crush_units.specs.declared.id.ItemId.{ItemId}
 use Rattle.crush_units.specs.Id.{same_id}
@@ -15,22 +15,23 @@ use Rattle.crush_index.specs.PlacesAnswers.{place_answer, ArePlacesOf}
 use Rattle.crush_index.specs.UsedLaw.{uses}
 use Rattle.crush_index.specs.UsedAnswers.{used_answer, AreUsedIn}
 
--- INDEX OF A TABLE: names have the ids that the table says, items stand where it says, and those ids are in use which it says
+-- INDEX OF A TABLE: the index answers as the table says: which id each name has, where each item is, and which ids are used
 pub record IsIndexOf (t : List Row) (index : Index) : Type 0 where
   pub names : AreNamesOf t index.names
   pub places : ArePlacesOf t index.places
   pub used : AreUsedIn t index.used
 
--- all that an index tells: of each name, of each item, of each number of a bucket
+-- all answers of an index: the id of each name, the place of each item, and whether each bucket id is used, given as its distance below 0
 pub record Answers : Type 0 where
   pub names : List ℕ → Option ItemId
   pub places : ItemId → Option Place
   pub used : ℕ → Bool
 
+-- the answers of this index
 abbrev pub answers : Index → Answers
 answers index = record { names = id_answer index.names; places = place_answer index.places; used = used_answer index.used }
 
--- and after a row has come, after several have, and after all names and ids of rows were forgotten
+-- the answers after a row was added: its name has its id, its item has the place below its parent, and its ids are used
 abbrev pub with_row : Row → Answers → Answers
 with_row r s = record {
   names = λ n. if bytes_eq r.name n then Some r.id else s.names n;
@@ -38,10 +39,12 @@ with_row r s = record {
   used = λ k. s.used k || member k (uses r);
 }
 
+-- the answers after several rows were added, the first one first
 abbrev pub with_rows : List Row → Answers → Answers
 with_rows [] s = s
 with_rows (r ∷ t) s = with_rows t (with_row r s)
 
+-- the answers after all names and ids of these rows were removed: the names have no id, the items no place, and the ids are free
 abbrev pub without_rows : List Row → Answers → Answers
 without_rows t s = record {
   names = λ n. if is_named t n then None else s.names n;
@@ -49,14 +52,15 @@ without_rows t s = record {
   used = λ k. if member k (used_ids t) then false else s.used k;
 }
 
--- and after a name has come, and after one was forgotten
+-- the answers after a name got the id i
 abbrev pub with_name : List ℕ → ItemId → Answers → Answers
 with_name name i s = record s { names = λ n. if bytes_eq name n then Some i else s.names n }
 
+-- the answers after a name was removed
 abbrev pub without_name : List ℕ → Answers → Answers
 without_name name s = record s { names = λ n. if bytes_eq name n then None else s.names n }
 
--- the row of a node below a parent or none, without those of the items below it
+-- the row of a node below this parent, or below none, without the rows of the items below the node
 abbrev pub own_row : {A : _} → Option ℕ → Node A → Row
 own_row p (Device l) = device_row p (leaf_data l)
 own_row p (Bucket b) = bucket_row p b.value.header

@@ -1,4 +1,4 @@
--- A name as a key: with its digest, by which it is hashed.
+-- A name as a key of a hash map: with its digest, which alone is hashed.
 use Rattle.std.specs.Prelude.{◌≡◌, ℕ, List, [], ◌∷◌, Bool, true, ◌&&◌, ◌==◌, nat_eq, bytes_eq, fold, length, slice_index, if◌then◌else◌}
 use Rattle.std.specs.Cmp.{IsEquivalence}
 use Rattle.std.specs.Cmp.Rules.{comparing}
@@ -8,24 +8,25 @@ use Rattle.std.proofs.Common.{rules}
 use Rattle.crush_index.specs.Hashed.{first_state, at_once}
 use Rattle.crush_index.specs.declared.digests.IdentityHasher.{IdentityHasher}
 use Rattle.crush_index.specs.declared.hashing.Hashing.{Hashing}
-use Rattle.crush_index.specs.declared.key.Sought.{Sought}
+use Rattle.crush_index.specs.declared.key.LookupKey.{LookupKey}
 
--- the digest of a name: its SipHash
+-- the digest of a name: the SipHash of its bytes
 unfoldable pub digest : Hashing → List ℕ → ℕ
 digest h name = sip.finish (fold sip.write (first_state h.keys) (at_once name))
 
--- the key of a name
+-- the key of a name: its digest and its bytes
 abbrev pub key_of : Hashing → List ℕ → ℕ × List ℕ
 key_of h name = (digest h name, name)
 
--- the key that is asked for
-abbrev pub sought_key : Sought → ℕ × List ℕ
-sought_key sought = (sought.digest, sought.bytes.now)
+-- the key that is looked for: its digest and the borrowed bytes
+abbrev pub lookup_key : LookupKey → ℕ × List ℕ
+lookup_key lookup = (lookup.digest, lookup.bytes.now)
 
--- whether two keys are the same
+-- whether two keys have the same digest and the same bytes
 abbrev pub same_key : ℕ × List ℕ → ℕ × List ℕ → Bool
 same_key x y = nat_eq x.0 y.0 && bytes_eq x.1 y.1
 
+-- this test is an equivalence
 pub same_key_equiv : IsEquivalence same_key
 same_key_equiv = Prim.search (comparing, rules)
 
@@ -33,13 +34,15 @@ same_key_equiv = Prim.search (comparing, rules)
 pub same_digests : (x y : ℕ × List ℕ) → same_key x y ≡ true → x.0 ≡ y.0
 same_digests x y e = Prim.search (comparing, rules)
 
--- a hasher of digests: it finishes with the eight bytes that were written, the lowest first
+-- a hasher of digests to which nothing was written
 abbrev pub nothing_passed : IdentityHasher
 nothing_passed = record { digest = 0 }
 
+-- the first eight bytes of a list
 abbrev pub eight : List ℕ → List ℕ
 eight bs =
     slice_index bs 0 ∷ slice_index bs 1 ∷ slice_index bs 2 ∷ slice_index bs 3 ∷ slice_index bs 4 ∷ slice_index bs 5 ∷ slice_index bs 6 ∷ slice_index bs 7 ∷ []
 
+-- the hasher after a write: eight bytes are its digest, the lowest byte first; any other number of bytes changes nothing
 abbrev pub passed : IdentityHasher → List ℕ → IdentityHasher
 passed state bs = if length bs == 8 then record { digest = from_le_bytes w64 (eight bs) } else state

@@ -14,7 +14,7 @@ pub mod PlacesChanged
 pub mod PlacesKept
 pub mod PlacesLaw
 pub mod PlacesAnswers
-pub mod Returning
+pub mod Restoring
 pub mod SlotsKept
 pub mod SlotsAnswers
 pub mod UsedChanged

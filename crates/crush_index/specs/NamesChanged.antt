@@ -1,17 +1,17 @@
--- What became of an index of names: old is the one before a call, new the one after it.
+-- How calls change the index of names: old is the index before a call, new the one after it.
 use Rattle.std.specs.Prelude.{◌≡◌, ℕ, List, Some, Result, OnOk, OnErr}
 use Rattle.crush_units.specs.declared.id.ItemId.{ItemId}
 use Rattle.crush_index.specs.Hashings.{names_hashing}
 use Rattle.crush_index.specs.NamesAnswers.{AnswersSame, AnswersOne}
 use Rattle.crush_index.specs.declared.names.Names.{Names}
 
--- the name has the id; after an error each name has the id that it had
+-- on success the name has the id, and each other name the same as before; after an error each name has the same id as before; the hashing is the same in both cases
 pub record Inserts {X E : Type 0} (name : List ℕ) (id : ItemId) (old new : Names) (answer : Result X E) : Type 0 where
   pub ok : OnOk answer (AnswersOne old new name (Some id))
   pub err : OnErr answer (AnswersSame old new)
   pub hashing : names_hashing new ≡ names_hashing old
 
--- the same of each name, and hashed so
+-- the copy has the same id for each name, and the same hashing
 pub record IsCopyOf (names copy : Names) : Type 0 where
   pub answers : AnswersSame names copy
   pub hashing : names_hashing copy ≡ names_hashing names

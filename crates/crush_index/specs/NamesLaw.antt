@@ -1,4 +1,4 @@
--- An index of names that is told of a change of the table tells the names of the table after it.
+-- Which changes of a table need which update of its index of names. In each law old, or names, is the index of the table before the change; new, or the same names, is then the index of the table after it.
 use Rattle.std.specs.Prelude.{◌≡◌, ℕ, List, [], ◌∷◌, ◌++◌, Some, None, Bool, false, ◌==◌}
 use Rattle.crush_units.specs.declared.id.ItemId.{ItemId}
 use Rattle.crush_units.specs.declared.id.ItemId.TheVariants.{Bucket}
@@ -9,37 +9,38 @@ use Rattle.crush_model.specs.Columns.{set_weights, set_name, without_row, exchan
 use Rattle.crush_index.specs.declared.names.Names.{Names}
 use Rattle.crush_index.specs.NamesAnswers.{AreNamesOf, AnswersOne, AnswersTwo}
 
--- the names of a table are those of each that is the same
+-- the names of a lawful table are those of each table with the same rows and the same items of each bucket in order
 abbrev pub NamesOfSame : Type 0
 NamesOfSame =
     (names : Names) (t u : List Row) → Lawful t → Same t u → AreNamesOf t names → AreNamesOf u names
 
--- weights and parents are nothing to names
+-- new weights need no update
 abbrev pub NamesOfWeights : Type 0
 NamesOfWeights =
     (names : Names) (t : List Row) (which : Row → Bool) (w : ℕ) → AreNamesOf t names → AreNamesOf (set_weights which w t) names
 
+-- an exchange of the items of two buckets alone needs no update
 abbrev pub NamesOfParents : Type 0
 NamesOfParents =
     (names : Names) (t : List Row) (a b : ℕ) → AreNamesOf t names → AreNamesOf (exchange_parents a b t) names
 
--- a row comes last, whose name no row has
+-- a row is added at the end, with a name that no row has: the name gets the row's id
 abbrev pub NamesFollowRow : Type 0
 NamesFollowRow =
     (old new : Names) (t : List Row) (r : Row) → AreNamesOf t old → is_named t r.name ≡ false → AnswersOne old new r.name (Some r.id) → AreNamesOf (t ++ r ∷ []) new
 
--- an item's row goes
+-- an item's row is removed from a lawful table: its name is removed
 abbrev pub NamesFollowWithout : Type 0
 NamesFollowWithout =
     (old new : Names) (t : List Row) (i : ItemId) (name : List ℕ) → Lawful t → AreNamesOf t old → name_of t i ≡ Some name → AnswersOne old new name None → AreNamesOf (without_row i t) new
 
--- an item gets another name
+-- an item gets another name, and the table is lawful before and after: the new name gets its id, and the old name is removed
 abbrev pub NamesFollowName : Type 0
 NamesFollowName =
     (old new : Names) (t : List Row) (i : ItemId) (from to : List ℕ) → Lawful t → Lawful (set_name i to t) → AreNamesOf t old → name_of t i ≡ Some from
     → AnswersTwo old new to (Some i) from None → AreNamesOf (set_name i to t) new
 
--- two buckets exchange their names and items
+-- two different buckets exchange their names and items, and the table is lawful before, and with the names alone exchanged: each name gets the id of the other bucket
 abbrev pub NamesFollowSwap : Type 0
 NamesFollowSwap =
     (old new : Names) (t : List Row) (a b : ℕ) (first second : List ℕ) → Lawful t → Lawful (exchange_names a b t) → (a == b) ≡ false → AreNamesOf t old

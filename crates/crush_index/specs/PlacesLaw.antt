@@ -1,4 +1,4 @@
--- An index of places that is told of a change of the table tells the places of the table after it.
+-- Which changes of a table need which update of its index of places. In each law old, or places, is the index of the table before the change; new, or the same places, is then the index of the table after it.
 use Rattle.std.specs.Prelude.{◌≡◌, ℕ, List, [], ◌∷◌, ◌++◌, Some, None, Bool, false}
 use Rattle.std.specs.Option.{option_map}
 use Rattle.crush_units.specs.declared.id.ItemId.{ItemId}
@@ -11,37 +11,38 @@ use Rattle.crush_walks.specs.Swapping.{exchanged_place}
 use Rattle.crush_index.specs.declared.places.Places.{Places}
 use Rattle.crush_index.specs.PlacesAnswers.{ArePlacesOf, place_answer, StandsAt}
 
--- the places of a table are those of each that is the same
+-- the places of a lawful table are those of each table with the same rows and the same items of each bucket in order
 abbrev pub PlacesOfSame : Type 0
 PlacesOfSame =
     (places : Places) (t u : List Row) → Lawful t → Same t u → ArePlacesOf t places → ArePlacesOf u places
 
--- weights and names are nothing to places
+-- new weights need no update
 abbrev pub PlacesOfWeights : Type 0
 PlacesOfWeights =
     (places : Places) (t : List Row) (which : Row → Bool) (w : ℕ) → ArePlacesOf t places → ArePlacesOf (set_weights which w t) places
 
+-- a new name needs no update
 abbrev pub PlacesOfNames : Type 0
 PlacesOfNames =
     (places : Places) (t : List Row) (i : ItemId) (name : List ℕ) → ArePlacesOf t places → ArePlacesOf (set_name i name t) places
 
--- a row comes last, with an id of its own
+-- a row is added at the end, with an id that no row has: the item gets the place below the row's parent
 abbrev pub PlacesFollowRow : Type 0
 PlacesFollowRow =
     (old new : Places) (t : List Row) (r : Row) → ArePlacesOf t old → is_there t r.id ≡ false → StandsAt old new r.id (Some (place_under (is_device r) r.parent))
     → ArePlacesOf (t ++ r ∷ []) new
 
--- an item's row goes
+-- an item's row is removed: the item has no place
 abbrev pub PlacesFollowWithout : Type 0
 PlacesFollowWithout =
     (old new : Places) (t : List Row) (i : ItemId) → ArePlacesOf t old → StandsAt old new i None → ArePlacesOf (without_row i t) new
 
--- an item's row is put last with another parent
+-- an item's row is removed, and a row r with its id is added at the end: the item gets the place below the parent of r
 abbrev pub PlacesFollowMove : Type 0
 PlacesFollowMove =
     (old new : Places) (t : List Row) (r : Row) → ArePlacesOf t old → StandsAt old new r.id (Some (place_under (is_device r) r.parent)) → ArePlacesOf (without_row r.id t ++ r ∷ []) new
 
--- two buckets exchange their names and items
+-- two buckets exchange their names and items: in the place of each item, a and b are exchanged
 abbrev pub PlacesFollowSwap : Type 0
 PlacesFollowSwap =
     (old new : Places) (t : List Row) (a b : ℕ) → ArePlacesOf t old → ((i : ItemId) → place_answer new i ≡ option_map (exchanged_place a b) (place_answer old i))

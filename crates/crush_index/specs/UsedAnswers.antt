@@ -1,4 +1,4 @@
--- Which ids an index tells are in use, and when it tells what a table says.
+-- Which ids are used by the answer of an index, and when this is the answer of a table. Ids are distances below 0.
 use Rattle.std.specs.Prelude.{◌≡◌, ℕ, ◌<◌, ◌≤◌, ◌==◌, ◌||◌, List, Bool, true, false, if◌then◌else◌, nat_eq, is_some}
 use Rattle.crush_model.specs.Table.{Row, member, used_ids}
 use Rattle.crush_units.specs.declared.limits.TheConstants.{FARTHEST_BUCKET_ID}
@@ -6,38 +6,40 @@ use Rattle.crush_index.specs.Chains.{chain_answer}
 use Rattle.crush_index.specs.UsedKept.{bit_answer}
 use Rattle.crush_index.specs.declared.used.UsedIds.{UsedIds}
 
--- whether an id is in use: so, or by a link
+-- whether an id is used: by its bit or in the hash set, or else in the chain
 abbrev pub used_answer : UsedIds → ℕ → Bool
-used_answer used k = bit_answer used.words.items used.far k || is_some (chain_answer (nat_eq k) used.late)
+used_answer used k = bit_answer used.words.items used.sparse k || is_some (chain_answer (nat_eq k) used.overflow)
 
--- USED IDS OF A TABLE: an id is in use exactly where the table says so
+-- USED IDS OF A TABLE: an id is used if and only if the table uses it
 abbrev pub AreUsedIn : List Row → UsedIds → Type 0
 AreUsedIn t used = (k : ℕ) → used_answer used k ≡ member k (used_ids t)
 
--- the same of each id as before
+-- the same ids are used as before
 abbrev pub UsesSame : UsedIds → UsedIds → Type 0
 UsesSame old new = (k : ℕ) → used_answer new k ≡ used_answer old k
 
--- this of one id, and of each other the same as before
+-- one id is used if and only if b is true, and each other id as before
 abbrev pub UsesOne : UsedIds → UsedIds → ℕ → Bool → Type 0
 UsesOne old new id b = (k : ℕ) → used_answer new k ≡ (if id == k then b else used_answer old k)
 
--- these have come into use; these are free; and of each but these the same as before
+-- these ids are used, and each other id as before
 abbrev pub ComeIntoUse : List ℕ → UsedIds → UsedIds → Type 0
 ComeIntoUse ids old new = (k : ℕ) → used_answer new k ≡ (used_answer old k || member k ids)
 
+-- these ids are free, and each other id is used as before
 abbrev pub AreFree : List ℕ → UsedIds → UsedIds → Type 0
 AreFree ids old new = (k : ℕ) → used_answer new k ≡ (if member k ids then false else used_answer old k)
 
+-- except for these ids, of which nothing is said, the same ids are used as before
 abbrev pub UsesSameBut : List ℕ → UsedIds → UsedIds → Type 0
 UsesSameBut ids old new =
     (k : ℕ) → (if member k ids then false else used_answer new k) ≡ (if member k ids then false else used_answer old k)
 
--- each id that a bucket can have is in use from one on
+-- all ids that a bucket can have are used, from least on
 abbrev pub AreAllUsed : UsedIds → ℕ → Type 0
 AreAllUsed used least = (k : ℕ) → least ≤ k → k ≤ FARTHEST_BUCKET_ID → used_answer used k ≡ true
 
--- the first id from one on that isn't in use
+-- id is the first free one from least on: it is not below least, it is free, and all ids from least to before it are used
 pub record IsFirstFree (used : UsedIds) (least id : ℕ) : Type 0 where
   pub after : least ≤ id
   pub free : used_answer used id ≡ false

@@ -1,4 +1,4 @@
--- An index of used ids that is told of a change of the table tells those of the table after it.
+-- Which changes of a table need which update of its index of used ids. In each law old, or used, is the index of the table before the change; new, or the same used ids, is then the index of the table after it.
 use Rattle.std.specs.Prelude.{◌≡◌, ℕ, List, [], ◌∷◌, ◌++◌, Some, Bool, false, ◌||◌, if◌then◌else◌, map}
 use Rattle.crush_units.specs.declared.id.ItemId.{ItemId}
 use Rattle.crush_model.specs.Items.{ShadowData}
@@ -9,34 +9,36 @@ use Rattle.crush_model.specs.Columns.{set_weights, set_name, without_row, swap_b
 use Rattle.crush_index.specs.declared.used.UsedIds.{UsedIds}
 use Rattle.crush_index.specs.UsedAnswers.{used_answer, AreUsedIn}
 
--- the ids that one row uses: a bucket its own and those of its class ids
+-- the ids that one row uses: the id of a bucket, and its class ids
 abbrev pub uses : Row → List ℕ
 uses r = bucket_ids r.id ++ map (λ (c : ShadowData). c.id) r.class_ids
 
--- the used ids of a table are those of each that is the same
+-- the used ids of a table are those of each table with the same rows and the same items of each bucket in order
 abbrev pub UsedOfSame : Type 0
 UsedOfSame = (used : UsedIds) (t u : List Row) → Same t u → AreUsedIn t used → AreUsedIn u used
 
--- weights, names and an exchange of two buckets are nothing to used ids
+-- new weights need no update
 abbrev pub UsedOfWeights : Type 0
 UsedOfWeights =
     (used : UsedIds) (t : List Row) (which : Row → Bool) (w : ℕ) → AreUsedIn t used → AreUsedIn (set_weights which w t) used
 
+-- a new name needs no update
 abbrev pub UsedOfNames : Type 0
 UsedOfNames =
     (used : UsedIds) (t : List Row) (i : ItemId) (name : List ℕ) → AreUsedIn t used → AreUsedIn (set_name i name t) used
 
+-- an exchange of the names and items of two buckets needs no update
 abbrev pub UsedOfSwap : Type 0
 UsedOfSwap =
     (used : UsedIds) (t : List Row) (a b : ℕ) → AreUsedIn t used → AreUsedIn (swap_buckets a b t) used
 
--- a row comes last, and the ids that it uses with it
+-- a row is added at the end: the ids that it uses are then used
 abbrev pub UsedFollowRow : Type 0
 UsedFollowRow =
     (old new : UsedIds) (t : List Row) (r : Row) → AreUsedIn t old → ((k : ℕ) → used_answer new k ≡ (used_answer old k || member k (uses r)))
     → AreUsedIn (t ++ r ∷ []) new
 
--- an item's row goes, and the ids that it used with it
+-- an item's row is removed from a lawful table: the ids that it used are then free
 abbrev pub UsedFollowWithout : Type 0
 UsedFollowWithout =
     (old new : UsedIds) (t : List Row) (i : ItemId) (r : Row) → Lawful t → AreUsedIn t old → row_of t i ≡ Some r

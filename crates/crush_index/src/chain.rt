@@ -1,4 +1,4 @@
-//! What is kept where a table lacks memory.
+//! A linked list for entries that are restored to a table when no memory is left for it to grow.
 
 ghost use Rattle.std.specs.Prelude.{◌≡◌, Bool, IfOk, is_some};
 ghost use Rattle.std.specs.Option.{option_map};
@@ -7,26 +7,28 @@ ghost use Rattle.crush_index.specs.Chains.{chain_answer, chain_with, chain_witho
 use std::alloc::{AllocError, Global};
 use std::mem::replace;
 
-/// Tells the keys that it looks for from others.
-pub(crate) trait Finds<K> {
-    ghost finds: { Self → K → Bool };
+/// Decides which stored keys match a key that is looked for.
+pub(crate) trait KeyMatch<K> {
+    /// Whether a stored key matches.
+    ghost matches: { Self → K → Bool };
 
-    fn finds(&self, key: &K) -> bool
-        ensures { result ≡ finds self.now key.now };
+    fn matches(&self, key: &K) -> bool
+        ensures { result ≡ matches self.now key.now };
 }
 
-impl Finds<u32> for u32 {
+impl KeyMatch<u32> for u32 {
     ghost use Rattle.std.specs.Prelude.{nat_eq};
 
-    ghost finds = { nat_eq };
+    ghost matches = { nat_eq };
 
-    fn finds(&self, key: &u32) -> bool {
+    fn matches(&self, key: &u32) -> bool {
         *self == *key
     }
 }
 
-/// What is kept of keys, each in a link of its own, whose memory was ready before: mostly none.
-/// It is searched link by link.
+/// A linked list of keys with their values. The memory of each link was allocated in advance, so
+/// that an entry can be added when no memory is left. The list is nearly always empty, and is
+/// searched link by link.
 pub(crate) enum Chain<K: Drop, V: Drop> {
     End,
     Link {
@@ -36,7 +38,7 @@ pub(crate) enum Chain<K: Drop, V: Drop> {
     },
 }
 
-/// Memory for one link.
+/// The memory for one link, allocated in advance.
 pub(crate) type Spare<K, V> = Box<Chain<K, V>>;
 
 impl<K: Drop, V: Drop> Drop for Chain<K, V> {
@@ -54,13 +56,15 @@ impl<K: Drop, V: Drop> Drop for Chain<K, V> {
     }
 }
 
+/// Allocates the memory for one link.
 pub(crate) fn spare<K: Drop, V: Drop>(alloc: Global) -> Result<Spare<K, V>, AllocError> {
     Ok(Box::new(alloc, Chain::End)?)
 }
 
 impl<K: Drop, V: Copy + Drop> Chain<K, V> {
-    pub(crate) fn get<Q: Finds<K>>(&self, sought: &Q) -> Option<V>
-        ensures { result ≡ chain_answer (Q.finds sought.now) self.now }
+    /// Returns the value of the first key that matches.
+    pub(crate) fn get<Q: KeyMatch<K>>(&self, lookup: &Q) -> Option<V>
+        ensures { result ≡ chain_answer (Q.matches lookup.now) self.now }
     {
         let mut rest = self;
         while let Chain::Link {
@@ -69,7 +73,7 @@ impl<K: Drop, V: Copy + Drop> Chain<K, V> {
             rest: next,
         } = rest
         {
-            if sought.finds(key) {
+            if lookup.matches(key) {
                 return Some(*value);
             }
             rest = next;
@@ -96,30 +100,31 @@ impl<K: Drop, V: Copy + Drop> Chain<K, V> {
         }
     }
 
-    /// Another value for a key that is there; whether it is.
-    pub(crate) fn set<Q: Finds<K>>(&mut self, sought: &Q, value: V) -> bool
-        ensures there { result ≡ is_some (chain_answer (Q.finds sought.now) self.old) }
-        ensures with { self.new ≡ chain_with (Q.finds sought.now) value self.old }
+    /// Replaces the value of the first key that matches, and returns whether there is one.
+    pub(crate) fn set<Q: KeyMatch<K>>(&mut self, lookup: &Q, value: V) -> bool
+        ensures there { result ≡ is_some (chain_answer (Q.matches lookup.now) self.old) }
+        ensures with { self.new ≡ chain_with (Q.matches lookup.now) value self.old }
     {
         match self {
             Chain::End => false,
             Chain::Link {
                 key,
-                value: kept,
+                value: current,
                 rest,
             } => {
-                if sought.finds(key) {
-                    *kept = value;
+                if lookup.matches(key) {
+                    *current = value;
                     true
                 } else {
-                    rest.set(sought, value)
+                    rest.set(lookup, value)
                 }
             }
         }
     }
 
-    pub(crate) fn remove<Q: Finds<K>>(&mut self, sought: &Q)
-        ensures { self.new ≡ chain_without (Q.finds sought.now) self.old }
+    /// Removes all links whose keys match.
+    pub(crate) fn remove<Q: KeyMatch<K>>(&mut self, lookup: &Q)
+        ensures { self.new ≡ chain_without (Q.matches lookup.now) self.old }
     {
         if let Chain::Link {
             key,
@@ -127,15 +132,15 @@ impl<K: Drop, V: Copy + Drop> Chain<K, V> {
             rest,
         } = self
         {
-            rest.remove(sought);
-            if sought.finds(key) {
+            rest.remove(lookup);
+            if lookup.matches(key) {
                 let rest = replace(rest.as_mut(), Chain::End);
                 *self = rest;
             }
         }
     }
 
-    /// It takes no memory.
+    /// Adds a link before the first one, in the memory of `spare`.
     pub(crate) fn push(&mut self, spare: Spare<K, V>, key: K, value: V)
         ensures { Pushes key value self.old self.new }
     {

@@ -1,9 +1,10 @@
-//! Copies of tables.
+//! Copies vectors, for the tables of an index.
 
 ghost use Rattle.std.specs.Prelude.{◌≡◌, IfOk};
 
 use std::alloc::AllocError;
 
+/// Returns a copy of a vector, with the same allocator.
 pub(crate) fn copied<T: Copy>(table: &Vec<T>) -> Result<Vec<T>, AllocError>
     ensures { IfOk result (λ copy. copy.items ≡ table.now.items) }
 {

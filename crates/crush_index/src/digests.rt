@@ -1,11 +1,12 @@
-//! How digests are hashed: each is its own hash.
+//! A hasher for digests: the hash of a digest is the digest itself.
 
 use std::hash::{BuildHasher, Hasher};
 
+/// Creates the hashers of the table of names.
 #[derive(Clone, Copy)]
 pub(crate) struct IdentityHashing;
 
-/// Finishes with the digest that it is written.
+/// Returns the digest that was written to it last as its hash, or 0 if there was none.
 #[derive(Clone, Copy)]
 pub(crate) struct IdentityHasher {
     digest: u64,
@@ -34,7 +35,7 @@ impl Hasher for IdentityHasher {
         self.digest
     }
 
-    // A digest is written as eight bytes.
+    // A digest arrives as eight bytes, the lowest first. Other writes are ignored.
     fn write(&mut self, bytes: &[u8]) {
         if bytes.len() == 8 {
             self.digest = u64::from_le_bytes([

@@ -1,27 +1,28 @@
-//! How keys are hashed.
+//! The choice of keys with which an index hashes.
 
 ghost use Rattle.std.specs.Prelude.{◌≡◌, Some, None};
 
 use std::hash::{BuildHasher, DefaultHasher, RandomState};
 
-/// How the keys of an index are hashed, by SipHash in either case.
+/// How the keys of an index are hashed: by SipHash, with random keys or without.
 ///
-/// Without keys, whoever writes a map can choose names that all hash alike, so that each look-up
-/// compares many; with keys that are drawn at the start that fails.
+/// Without random keys, the author of a map can choose names that all have the same hash, so that
+/// each look-up compares many names. With keys that are drawn at random at the start, this attack
+/// fails.
 #[derive(Clone, Copy)]
 pub struct Hashing {
     keys: Option<RandomState>,
 }
 
 impl Hashing {
-    /// Without keys, for a caller that has nothing to draw them from.
+    /// Returns a hashing without keys, for a caller that has no source of random keys.
     pub fn plain() -> Hashing
         ensures { result.keys ≡ None }
     {
         Hashing { keys: None }
     }
 
-    /// With these keys.
+    /// Returns a hashing with these keys.
     pub fn keyed(keys: RandomState) -> Hashing
         ensures { result.keys ≡ Some keys }
     {

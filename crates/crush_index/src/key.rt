@@ -1,12 +1,12 @@
-//! Names as keys, each with its digest.
+//! The keys of the table of names: a name with its digest.
 
 ghost use Rattle.std.specs.Prelude.{◌≡◌};
 ghost use Rattle.std.specs.Cmp.Rules.{comparing, hashing as hashed};
 ghost use Rattle.std.specs.Hash as fed;
 ghost use Rattle.std.proofs.Common.{ap, rules};
-ghost use Rattle.crush_index.specs.Keys.{sought_key, digest, key_of, same_digests, same_key, same_key_equiv};
+ghost use Rattle.crush_index.specs.Keys.{lookup_key, digest, key_of, same_digests, same_key, same_key_equiv};
 
-use crate::chain::Finds;
+use crate::chain::KeyMatch;
 use crate::hashing::Hashing;
 use crush_units::Name;
 use indexmap::Equivalent;
@@ -14,11 +14,11 @@ use std::alloc::{AllocError, Global};
 use std::hash::{BuildHasher, Hash, Hasher};
 use std::marker::Model;
 
-/// A name with its digest, so that a copy of the index hashes no name anew; a table hashes the
-/// digest alone.
+/// A name with its digest, which is the SipHash of its bytes. The table of names hashes the digest
+/// alone, so that a copy of the index hashes no name again.
 #[derive(Drop)]
 pub(crate) struct Key {
-    machine: Global,
+    global: Global,
     digest: u64,
     name: Name<Global>,
 }
@@ -32,12 +32,13 @@ impl Model for Key {
 }
 
 impl Key {
-    pub(crate) fn of(machine: Global, name: Name<Global>, hashing: &Hashing) -> Key
+    /// Returns the key of a name.
+    pub(crate) fn of(global: Global, name: Name<Global>, hashing: &Hashing) -> Key
         ensures { result ≡ key_of hashing.now name }
     {
         let digest = digest(name.as_bytes(), hashing);
         Key {
-            machine,
+            global,
             digest,
             name,
         }
@@ -48,9 +49,9 @@ impl Clone for Key {
     ghost is_clone = { λ key copy. copy ≡ key };
 
     fn clone(&self) -> Result<Key, AllocError> {
-        let name = self.name.try_copy(self.machine)?;
+        let name = self.name.try_copy(self.global)?;
         Ok(Key {
-            machine: self.machine,
+            global: self.global,
             digest: self.digest,
             name,
         })
@@ -81,40 +82,41 @@ impl Hash for Key {
     }
 }
 
-/// The bytes of a name that is looked for, with their digest.
+/// A key to look for: the bytes of a name, borrowed, with their digest.
 #[derive(Clone, Copy)]
-pub(crate) struct Sought<'a> {
+pub(crate) struct LookupKey<'a> {
     digest: u64,
     bytes: &'a [u8],
 }
 
-impl<'a> Sought<'a> {
-    pub(crate) fn of(bytes: &'a [u8], hashing: &Hashing) -> Sought<'a>
-        ensures { sought_key result ≡ key_of hashing.now bytes.now }
+impl<'a> LookupKey<'a> {
+    /// Returns the key to look for, given the bytes of a name.
+    pub(crate) fn of(bytes: &'a [u8], hashing: &Hashing) -> LookupKey<'a>
+        ensures { lookup_key result ≡ key_of hashing.now bytes.now }
     {
-        Sought {
+        LookupKey {
             digest: digest(bytes, hashing),
             bytes,
         }
     }
 }
 
-impl<'a> PartialEq for Sought<'a> {
-    ghost eq = { λ x y. same_key (sought_key x) (sought_key y) };
+impl<'a> PartialEq for LookupKey<'a> {
+    ghost eq = { λ x y. same_key (lookup_key x) (lookup_key y) };
 
     ghost laws = { Prim.search (comparing, rules) };
 
-    fn eq(&self, other: &Sought<'a>) -> bool {
+    fn eq(&self, other: &LookupKey<'a>) -> bool {
         self.digest == other.digest && self.bytes == other.bytes
     }
 }
 
-impl<'a> Eq for Sought<'a> {
+impl<'a> Eq for LookupKey<'a> {
     ghost laws = { Prim.search (comparing, rules) };
 }
 
-impl<'a> Hash for Sought<'a> {
-    ghost hash_input = { λ sought. fed.u64 sought.digest };
+impl<'a> Hash for LookupKey<'a> {
+    ghost hash_input = { λ lookup. fed.u64 lookup.digest };
 
     ghost respects_eq = { Prim.search (hashed, rules) };
 
@@ -123,27 +125,28 @@ impl<'a> Hash for Sought<'a> {
     }
 }
 
-impl<'a> Equivalent<Key> for Sought<'a> {
-    ghost equivalent = { λ sought. same_key (sought_key sought) };
+impl<'a> Equivalent<Key> for LookupKey<'a> {
+    ghost equivalent = { λ lookup. same_key (lookup_key lookup) };
 
-    ghost respects_hash = { λ sought key h. ap fed.u64 (same_digests (sought_key sought) key h) };
+    ghost respects_hash = { λ lookup key h. ap fed.u64 (same_digests (lookup_key lookup) key h) };
 
-    ghost respects_eq = { λ sought. same_key_equiv.congr (sought_key sought) };
+    ghost respects_eq = { λ lookup. same_key_equiv.congr (lookup_key lookup) };
 
     fn equivalent(&self, key: &Key) -> bool {
         self.digest == key.digest && self.bytes == key.name.as_bytes()
     }
 }
 
-impl<'a> Finds<Key> for Sought<'a> {
-    ghost finds = { λ sought. same_key (sought_key sought) };
+impl<'a> KeyMatch<Key> for LookupKey<'a> {
+    ghost matches = { λ lookup. same_key (lookup_key lookup) };
 
-    fn finds(&self, key: &Key) -> bool {
+    fn matches(&self, key: &Key) -> bool {
         self.equivalent(key)
     }
 }
 
-/// Written at once: [`Name`] is hashed byte by byte, in some five times as long.
+/// Returns the SipHash of a name. It writes all bytes at once, since [`Name`] would be hashed byte
+/// by byte, which takes about five times as long.
 #[tactic(auto, unfolding(crate::specs::Keys::digest))]
 fn digest(name: &[u8], hashing: &Hashing) -> u64
     ensures { result ≡ digest hashing.now name.now }

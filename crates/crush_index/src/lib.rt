@@ -1,8 +1,10 @@
-//! Look-ups beside a hierarchy, each in one step where a forest searches its boxes: the ids of
-//! names, the [`Places`] of items, and the used ids.
+//! An index of a hierarchy, which finds the id of a name, the place of an item and whether an id is
+//! used without searching the hierarchy's nodes.
 //!
-//! An [`Index`] answers as a function of the table, so contracts see no order of entries, no memory
-//! and no hash; [`law`] says how it follows the table.
+//! An [`Index`] is updated after each edit by the owner of the hierarchy, `crush_hierarchy`. The
+//! contracts describe what an index answers, as a function of the table of the hierarchy's rows.
+//! They don't depend on the order of its entries, on its memory or on hash values. [`law`] says
+//! which changes of the table need which update.
 #![tactic(auto)]
 
 mod chain;
@@ -21,5 +23,5 @@ mod used;
 mod word;
 
 pub use hashing::Hashing;
-pub use index::{Index, NameBack, WayBack};
+pub use index::{Index, NameMemory, RestoreMemory};
 pub use places::Places;

@@ -1,4 +1,4 @@
-//! The ids of names.
+//! The table of names: which item has a name.
 
 ghost use Rattle.std.specs.Prelude.{◌≡◌, true, false, Some, None, List, ℕ, ◌++◌, ◌∷◌, [], bytes_eq, IfOk, IsSome};
 ghost use Rattle.crush_model.specs.Table.{Row, is_named, name_of};
@@ -9,19 +9,19 @@ ghost use Rattle.crush_index.specs.NamesAnswers.{id_answer, AnswersOne, AnswersT
 use crate::chain::{Chain, Spare};
 use crate::digests::IdentityHashing;
 use crate::hashing::Hashing;
-use crate::key::{Key, Sought};
+use crate::key::{Key, LookupKey};
 use crush_units::{ItemId, Name};
 use indexmap::IndexMap;
 use std::alloc::{AllocError, Global};
 
-/// The id of each name.
+/// The id of the item that has each name.
 #[derive(Drop)]
 pub(crate) struct Names {
-    machine: Global,
+    global: Global,
     hashing: Hashing,
     ids: IndexMap<Key, ItemId, IdentityHashing>,
-    /// Of names that came back where memory lacked.
-    late: Chain<Key, ItemId>,
+    /// The names that were restored when no memory was left for `ids` to grow.
+    overflow: Chain<Key, ItemId>,
 }
 
 impl Names {
@@ -30,10 +30,10 @@ impl Names {
         ensures hashing { names_hashing result ≡ hashing }
     {
         Names {
-            machine: alloc,
+            global: alloc,
             hashing,
             ids: IndexMap::with_hasher(alloc, IdentityHashing),
-            late: Chain::End,
+            overflow: Chain::End,
         }
     }
 
@@ -41,22 +41,22 @@ impl Names {
         ensures { IfOk result (IsCopyOf self.now) }
     {
         let ids = self.ids.clone()?;
-        let late = self.late.try_copy(self.machine)?;
+        let overflow = self.overflow.try_copy(self.global)?;
         Ok(Names {
-            machine: self.machine,
+            global: self.global,
             hashing: self.hashing,
             ids,
-            late,
+            overflow,
         })
     }
 
     pub(crate) fn id_of(&self, name: &[u8]) -> Option<ItemId>
         ensures { result ≡ id_answer self.now name.now }
     {
-        let sought = Sought::of(name, &self.hashing);
-        match self.ids.get(sought) {
+        let lookup = LookupKey::of(name, &self.hashing);
+        match self.ids.get(lookup) {
             Some(id) => Some(*id),
-            None => self.late.get(&sought),
+            None => self.overflow.get(&lookup),
         }
     }
 
@@ -64,7 +64,7 @@ impl Names {
         ensures { Inserts name id self.old self.new result }
     {
         self.ids
-            .insert(Key::of(self.machine, name, &self.hashing), id)?;
+            .insert(Key::of(self.global, name, &self.hashing), id)?;
         Ok(())
     }
 
@@ -72,23 +72,26 @@ impl Names {
         ensures answers { AnswersOne self.old self.new name.now None }
         ensures hashing { names_hashing self.new ≡ names_hashing self.old }
     {
-        let sought = Sought::of(name, &self.hashing);
-        self.ids.swap_remove(sought);
-        self.late.remove(&sought);
+        let lookup = LookupKey::of(name, &self.hashing);
+        self.ids.swap_remove(lookup);
+        self.overflow.remove(&lookup);
     }
 
-    /// As [`Names::insert`], but where memory lacks, into memory that was ready.
+    /// Inserts as [`Names::insert`] does, but without an error: if memory runs out, it uses
+    /// `spare`.
     pub(crate) fn restore(&mut self, name: Name<Global>, id: ItemId, spare: Spare<Key, ItemId>)
         ensures answers { AnswersOne self.old self.new name (Some id) }
         ensures hashing { names_hashing self.new ≡ names_hashing self.old }
     {
-        let key = Key::of(self.machine, name, &self.hashing);
+        let key = Key::of(self.global, name, &self.hashing);
         if let Err(failed) = self.ids.insert(key, id) {
             let (key, id) = failed.value;
-            self.late.push(spare, key, id);
+            self.overflow.push(spare, key, id);
         }
     }
 
+    /// Exchanges the ids of two names: `first` is that of `a` before the call, `second` that of
+    /// `b`.
     pub(crate) fn exchange(&mut self, a: &[u8], b: &[u8], first: ItemId, second: ItemId)
         requires first { id_answer self.old a.now ≡ Some first }
         requires second { id_answer self.old b.now ≡ Some second }
@@ -99,17 +102,17 @@ impl Names {
         self.set(a, second);
     }
 
-    /// Another id for a name that has one.
+    /// Replaces the id of a name that has one.
     fn set(&mut self, name: &[u8], id: ItemId)
         requires { IsSome (id_answer self.old name.now) }
         ensures answers { AnswersOne self.old self.new name.now (Some id) }
         ensures hashing { names_hashing self.new ≡ names_hashing self.old }
     {
-        let sought = Sought::of(name, &self.hashing);
-        if let Some(known) = self.ids.get_mut(sought) {
+        let lookup = LookupKey::of(name, &self.hashing);
+        if let Some(known) = self.ids.get_mut(lookup) {
             *known = id;
             return;
         }
-        self.late.set(&sought, id);
+        self.overflow.set(&lookup, id);
     }
 }

@@ -1,29 +1,32 @@
-//! Slots of buckets, which are kept of items in place of bucket ids.
+//! Entries of items. An entry names the item's bucket by its slot instead of its id; `slots` says
+//! which bucket has which slot.
 
 use crush_units::BucketId;
 
-/// Among whose items an item stands.
+/// The place of an item, which names a bucket by its slot.
 #[derive(Clone, Copy)]
-pub(crate) enum Among {
+pub(crate) enum SlotParent {
+    /// The buckets that no bucket holds.
     Roots,
+    /// The devices that no bucket holds.
     Unplaced,
     /// The items of the bucket that has this slot.
     Slot(BucketId),
 }
 
-/// What is kept of an item.
+/// What the index stores of an item.
 #[derive(Clone, Copy)]
 pub(crate) struct Entry {
-    pub(crate) among: Among,
-    /// Where the slot is probably kept.
+    pub(crate) parent: SlotParent,
+    /// Where the slot in `parent` is probably stored: looked at first and never trusted.
     pub(crate) slot_hint: u32,
-    /// Which of them it probably is, from 0.
+    /// The item's probable index among its siblings, from 0: looked at first and never trusted.
     pub(crate) hint: u32,
 }
 
-/// The bucket that has a slot, and what is kept of it where it is there.
+/// The bucket that has a slot, and its entry, which a removed bucket lacks.
 #[derive(Clone, Copy)]
 pub(crate) struct Slot {
     pub(crate) bucket: BucketId,
-    pub(crate) kept: Option<Entry>,
+    pub(crate) entry: Option<Entry>,
 }

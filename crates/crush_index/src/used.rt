@@ -1,4 +1,4 @@
-//! Which ids buckets and class ids use.
+//! The set of used ids: the ids of buckets and their class ids.
 
 ghost use Rattle.std.specs.Prelude.{◌≡◌, ◌+◌, ◌*◌, ◌/◌, ◌≤◌, ◌<◌, ◌==◌, if◌then◌else◌, ℕ, false, OnOk, IfOk, IfSome, IfNone, length, slice_index, nat_eq, true};
 ghost use Rattle.indexmap.specs.IndexSet.{contains, hasher_of};
@@ -12,18 +12,21 @@ use crush_units::limits::FARTHEST_BUCKET_ID;
 use indexmap::IndexSet;
 use std::alloc::{AllocError, Global};
 
-/// How many ids have a bit, the nearest free ones among them: a map uses at most 17 for each of
-/// 4,096 buckets, and an edit wants at most 16 more.
-const NEAR: u32 = 69696;
+/// How many ids have a bit, counted from 0. They are enough to include the free ids that are
+/// nearest to 0: a map uses at most 17 ids for each of its 4,096 buckets, and an edit needs at most
+/// 16 more.
+const DENSE_END: u32 = 69696;
 
-/// The used ids, as distances below 0: near ones as bits of words, so that the first free one is
-/// found word by word, others by themselves. Words stay.
+/// The set of used ids, as distances below 0.
+///
+/// Ids below [`DENSE_END`] are bits of words, so that the first free id is found word by word. Other ids
+/// are in a hash set. The words are never removed.
 #[derive(Drop)]
 pub(crate) struct UsedIds {
     words: Vec<u64>,
-    far: IndexSet<u32, Hashing>,
-    /// Those that came back where memory lacked.
-    late: Chain<u32, ()>,
+    sparse: IndexSet<u32, Hashing>,
+    /// The ids that were restored when no memory was left for `words` or `sparse` to grow.
+    overflow: Chain<u32, ()>,
     ghost few: { length words.items ≤ 1089 },
 }
 
@@ -38,8 +41,8 @@ impl UsedIds {
     {
         UsedIds {
             words: Vec::new(alloc),
-            far: IndexSet::with_hasher(alloc, hashing),
-            late: Chain::End,
+            sparse: IndexSet::with_hasher(alloc, hashing),
+            overflow: Chain::End,
         }
     }
 
@@ -47,47 +50,54 @@ impl UsedIds {
         ensures { IfOk result (IsCopyOf self.now) }
     {
         let words = copied(&self.words)?;
-        let far = copy_far(&self.far)?;
-        let late = self.late.try_copy(*self.words.allocator())?;
-        Ok(UsedIds { words, far, late })
+        let sparse = copy_sparse(&self.sparse)?;
+        let overflow = self.overflow.try_copy(*self.words.allocator())?;
+        Ok(UsedIds {
+            words,
+            sparse,
+            overflow,
+        })
     }
 
+    /// Whether an id is used.
     pub(crate) fn has(&self, id: u32) -> bool
         ensures { result ≡ used_answer self.now id }
     {
-        self.has_bit(id) || self.late.get(&id).is_some()
+        self.has_bit(id) || self.overflow.get(&id).is_some()
     }
 
+    /// Whether an id is in `words` or `sparse`, without looking into `overflow`.
     fn has_bit(&self, id: u32) -> bool
-        ensures { result ≡ bit_answer self.now.words.items self.now.far id }
+        ensures { result ≡ bit_answer self.now.words.items self.now.sparse id }
     {
-        if id < NEAR {
+        if id < DENSE_END {
             is_set(word_at(self.words.as_slice(), id as usize / 64), id % 64)
         } else {
-            self.far.contains(&id)
+            self.sparse.contains(&id)
         }
     }
 
     pub(crate) fn insert(&mut self, id: u32) -> Result<(), AllocError>
         ensures { Inserts id self.old self.new result }
     {
-        if id < NEAR {
+        if id < DENSE_END {
             let place = id as usize / 64;
             grow_to(&mut self.words, place)?;
             self.words[place] = with_bit(self.words[place], id % 64);
         } else {
-            self.far.insert(id)?;
+            self.sparse.insert(id)?;
         }
         Ok(())
     }
 
-    /// As [`UsedIds::insert`], but where memory lacks, into memory that was ready.
+    /// Inserts as [`UsedIds::insert`] does, but without an error: if memory runs out, it uses
+    /// `spare`.
     pub(crate) fn restore(&mut self, id: u32, spare: Spare<u32, ()>)
         ensures answers { UsesOne self.old self.new id true }
         ensures hashing { used_hashing self.new ≡ used_hashing self.old }
     {
         if self.insert(id).is_err() {
-            self.late.push(spare, id, ());
+            self.overflow.push(spare, id, ());
         }
     }
 
@@ -95,10 +105,12 @@ impl UsedIds {
         ensures answers { UsesOne self.old self.new id false }
         ensures hashing { used_hashing self.new ≡ used_hashing self.old }
     {
-        remove_bit(&mut self.words, &mut self.far, id);
-        self.late.remove(&id);
+        remove_bit(&mut self.words, &mut self.sparse, id);
+        self.overflow.remove(&id);
     }
 
+    /// Returns the least id from `least` on that isn't used, or `None` if all that a bucket can
+    /// have are used.
     pub(crate) fn first_free(&self, least: u32) -> Option<u32>
         ensures some { IfSome result (IsFirstFree self.now least) }
         ensures none { IfNone result (AreAllUsed self.now least) }
@@ -111,7 +123,8 @@ impl UsedIds {
         None
     }
 
-    /// An id before which all from `least` on are in use: mostly the first one that is free.
+    /// Returns an id from `least` on such that all ids between are used: usually the first free
+    /// one.
     fn first_clear(&self, least: u32) -> u32
         ensures least { least ≤ result }
         ensures used { (k : ℕ) → least ≤ k → k < result → used_answer self.now k ≡ true }
@@ -128,33 +141,34 @@ impl UsedIds {
     }
 }
 
-fn remove_bit(words: &mut Vec<u64>, far: &mut IndexSet<u32, Hashing>, id: u32)
+fn remove_bit(words: &mut Vec<u64>, sparse: &mut IndexSet<u32, Hashing>, id: u32)
     requires { length words.old.items ≤ 1089 }
-    ensures answers { (k : ℕ) → bit_answer words.new.items far.new k
-        ≡ (if id == k then false else bit_answer words.old.items far.old k) }
+    ensures answers { (k : ℕ) → bit_answer words.new.items sparse.new k
+        ≡ (if id == k then false else bit_answer words.old.items sparse.old k) }
     ensures few { length words.new.items ≤ 1089 }
-    ensures hashing { hasher_of far.new ≡ hasher_of far.old }
+    ensures hashing { hasher_of sparse.new ≡ hasher_of sparse.old }
 {
-    if id < NEAR {
+    if id < DENSE_END {
         let place = id as usize / 64;
         if place < words.len() {
             words[place] = without_bit(words[place], id % 64);
         }
     } else {
-        far.swap_remove(&id);
+        sparse.swap_remove(&id);
     }
 }
 
-fn copy_far(far: &IndexSet<u32, Hashing>) -> Result<IndexSet<u32, Hashing>, AllocError>
+fn copy_sparse(sparse: &IndexSet<u32, Hashing>) -> Result<IndexSet<u32, Hashing>, AllocError>
     ensures answers { IfOk result
-        (λ copy. (k : ℕ) → contains nat_eq copy k ≡ contains nat_eq far.now k) }
-    ensures hashing { IfOk result (λ copy. hasher_of copy ≡ hasher_of far.now) }
+        (λ copy. (k : ℕ) → contains nat_eq copy k ≡ contains nat_eq sparse.now k) }
+    ensures hashing { IfOk result (λ copy. hasher_of copy ≡ hasher_of sparse.now) }
 {
-    let mut copy = IndexSet::with_hasher(*far.allocator(), *far.hasher());
-    copy.extend(far)?;
+    let mut copy = IndexSet::with_hasher(*sparse.allocator(), *sparse.hasher());
+    copy.extend(sparse)?;
     Ok(copy)
 }
 
+/// Returns a word, or 0 past the last one.
 fn word_at(words: &[u64], place: usize) -> u64
     ensures { result ≡ slice_index words.now place }
 {
@@ -164,6 +178,7 @@ fn word_at(words: &[u64], place: usize) -> u64
     }
 }
 
+/// Appends words without bits until there is one at `place`.
 fn grow_to(words: &mut Vec<u64>, place: usize) -> Result<(), AllocError>
     requires within { place < 1089 }
     requires few { length words.old.items ≤ 1089 }
@@ -177,6 +192,7 @@ fn grow_to(words: &mut Vec<u64>, place: usize) -> Result<(), AllocError>
     Ok(())
 }
 
+/// Returns the lowest bit of the word at `place` whose id is at least `least`.
 fn first_bit(least: u32, place: usize) -> u32
     requires { least / 64 ≤ place }
     ensures within { result < 64 }

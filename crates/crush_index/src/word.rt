@@ -1,4 +1,4 @@
-//! Numbers below 64, as the bits of one word.
+//! Sets of numbers below 64, as the bits of one word.
 
 ghost use Rattle.std.specs.Prelude.{◌≡◌, ◌≢◌, ◌↔◌, ℕ, ◌<◌, ◌≤◌, IsTrue, IfSome, IfNone};
 ghost use Rattle.std.specs.Int.{bit_at};
@@ -26,6 +26,7 @@ pub(crate) fn without_bit(word: u64, bit: u32) -> u64
     word & !(1 << bit)
 }
 
+/// Returns the lowest bit from `least` on that isn't set, or `None` if all of them are set.
 pub(crate) fn first_clear(word: u64, least: u32) -> Option<u32>
     requires { least < 64 }
     ensures within { IfSome result (λ bit. bit < 64) }

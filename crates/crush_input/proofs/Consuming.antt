@@ -11,17 +11,17 @@ pub Consumes-nothing : (a : Option (List ℕ)) → Consumes a a []
 Consumes-nothing None = tt
 Consumes-nothing (Some xs) = refl
 
--- which is few
+-- a reader that gave nothing gave few bytes
 pub few_nothing : (a b : Option (List ℕ)) → b ≡ a → TakesFew a b
 few_nothing a b same = ([], omega arith, subst (λ (c : Option (List ℕ)). Consumes a c []) (sym same) (Consumes-nothing a))
 
--- what is taken is the prefix of all bytes, of its own length
+-- the bytes that were taken are the prefix, of their length, of all bytes
 pub prefix_of_all : (a b : Option (List ℕ)) (x : List ℕ) (n : ℕ) → Consumes a b x → length x ≡ n → IfSome a (λ all. x ≡ take n all)
 prefix_of_all None b x n h e = tt
 prefix_of_all (Some xs) None x n h e = absurd h
 prefix_of_all (Some xs) (Some ys) x n h e = sym (ap (take n) h ∙ take_at x ys n e)
 
--- all bytes are taken
+-- at the end of the reader all bytes were taken, so they are also the first n bytes for each n that isn't less
 pub all_of_it : (a b : Option (List ℕ)) (x : List ℕ) (n : ℕ) → Consumes a b x → IsAtEnd b → length x ≤ n → IfSome a (λ all. x ≡ take n all)
 all_of_it None b x n h e l = tt
 all_of_it (Some xs) None x n h e l = absurd h
@@ -35,7 +35,7 @@ Consumes-no_more a b c x y n h k e =
     let none : take n y ≡ [] = ap (λ (m : ℕ). take m y) e in
     subst (Consumes a c) (append-nil x) (subst (λ (z : List ℕ). Consumes a c (x ++ z)) none (Consumes-trans a b c x (take n y) h k))
 
--- a read that gave n bytes, put behind those before it
+-- the bytes of a read are appended to those that were taken before
 pub Consumes-piece : (a b c : Option (List ℕ)) (x p z : List ℕ) → Consumes a b x → Consumes b c p → z ≡ x ++ p → Consumes a c z
 Consumes-piece a b c x p z h k e = subst (Consumes a c) (sym e) (Consumes-trans a b c x p h k)
 
@@ -43,6 +43,6 @@ Consumes-piece a b c x p z h k e = subst (Consumes a c) (sym e) (Consumes-trans 
 pub most_kept : (most : ℕ) (a b c : Option (List ℕ)) (x : List ℕ) → Consumes a b x → Keeps b c → length x ≤ most → TakesMost most a c
 most_kept most a b c x h k few = (x, few, Consumes-kept a b c x h k)
 
--- a piece that was read is taken, whatever becomes of it
+-- a piece that was read counts as taken, even if it isn't stored
 pub most_then : (most : ℕ) (a b c : Option (List ℕ)) (x y : List ℕ) → Consumes a b x → Consumes b c y → length x + length y ≤ most → TakesMost most a c
 most_then most a b c x y h k few = (x ++ y, omega (arith, few, length-append x y), Consumes-trans a b c x y h k)

@@ -1,4 +1,4 @@
--- Scripts joined behind a job of which not all may have been read.
+-- Scripts that are appended to a job, of which perhaps not all bytes were read.
 use Rattle.std.proofs.Common.{◌≡◌, ℕ, ◌≤◌, ◌<◌, ◌+◌, List, [], ◌∷◌, ◌++◌, Option, Some, None, length, drop, get_or, map, take, arith, length-append, sym, ap, subst, ◌∙◌}
 use Rattle.std.proofs.lemmas.List.{append_assoc, append-nil, drop_all, drop_more, length-take, take_all}
 use Rattle.std.specs.Prelude.{IfSome, String}
@@ -14,7 +14,7 @@ use Rattle.crush_input.proofs.Noted.{ComeFrom}
 two_lengths : (a b c d : List ℕ) → length a + length d ≤ length (a ++ b ++ c ++ d)
 two_lengths a b c d = omega (arith, length-append (a ++ b ++ c) d, length-append (a ++ b) c, length-append a b)
 
--- what was read of a script, of which no more is read than is left of a job, is all of it where both are no longer than a job
+-- of a script no more is read than the job may still have, and one byte; what was read is the whole script if the job with it is no longer than a job may be
 script_read : (before s t : List ℕ) → s ≡ take (left_behind before) t → length before + length s ≤ LONGEST_JOB → s ≡ t
 script_read before s t is short =
     let few : length t ≤ left_behind before = omega (arith, short, ap length is, length-take (left_behind before) t) in
@@ -36,7 +36,7 @@ joined_input a b s t name job script = record {
       λ i. joined (first i) name (script_whole a s t script (omega (arith, short, few, ap length first)) i);
 }
 
--- what was read of both is read of them together, and stands where it does there
+-- if a job and a script were read as IsJoined and IsReadBehind say, then the joined job was read as IsJoined says, with one more part
 joined_read : (read more : Joined) (b t name : List ℕ) (parts : List PartData) → IsJoined read b parts → IsReadBehind read more name (Some t) → IsJoined more (joined b name t) (parts ++ part_of b name t ∷ [])
 joined_read read more b t name parts job behind = record {
   bytes = subst (λ (z : List ℕ). IsInput z (joined b name t)) (sym behind.bytes) (joined_input read.bytes.items b behind.script t name job.bytes behind.read);
@@ -47,7 +47,7 @@ joined_read read more b t name parts job behind = record {
       behind.parts ∙ (λ i. job.parts (omega (arith, short, few)) i ++ part_of (first i) name (second i) ∷ []);
 }
 
--- so after one script more
+-- the same if the bytes of the job or of the script may be unknown
 pub one_script_more : (known script : Option (List ℕ)) (read more : Joined) (name : List ℕ) (parts : List PartData) → IfSome known (λ b. IsJoined read b parts) → IsReadBehind read more name script
     → IfSome (joined_known known name script) (λ b. IsJoined more b (parts ++ part_known known name script))
 one_script_more None script read more name parts job behind = tt
@@ -55,7 +55,7 @@ one_script_more (Some b) None read more name parts job behind = tt
 one_script_more (Some b) (Some t) read more name parts job behind = joined_read read more b t name parts job behind
 
 module _ {Z : Type 0} (content : List ℕ → Option (List ℕ)) where
-  -- the scripts from a place on are that of the name there, and then the others
+  -- the scripts from an index on are the script at this index, and then those after it
   pub next_script : (known : Option (List ℕ)) (names : List (String Z)) (i : ℕ) (x : String Z) → i < length names → x ≡ get_or names i x
       → with_scripts content known (drop i names) ≡ with_scripts content (joined_known known x.bytes.items (content x.bytes.items)) (drop (i + 1) names)
   next_script known names i x less is =
@@ -69,24 +69,24 @@ module _ {Z : Type 0} (content : List ℕ → Option (List ℕ)) where
       let here : drop i names ≡ x ∷ drop (i + 1) names = drop_more names i x less ∙ ap (λ (y : String Z). y ∷ drop (i + 1) names) (sym is) in
       ap (λ (ns : List (String Z)). before ++ parts_of content known ns) here ∙ sym (append_assoc before _ _)
 
-  -- behind the last name there is no script
+  -- after the last name there are no more scripts
   pub no_script : (known : Option (List ℕ)) (names : List (String Z)) (i : ℕ) → length names ≤ i → with_scripts content known (drop i names) ≡ known
   no_script known names i past = ap (λ (ns : List (String Z)). with_scripts content known ns) (drop_all i names past)
 
   pub no_part : (known : Option (List ℕ)) (names : List (String Z)) (i : ℕ) (before : List PartData) → length names ≤ i → before ++ parts_of content known (drop i names) ≡ before
   no_part known names i before past = ap (λ (ns : List (String Z)). before ++ parts_of content known ns) (drop_all i names past) ∙ append-nil before
 
--- the first bytes of a job, behind which no script stands yet
+-- the bytes that a job begins with were read as IsJoined says, without parts, before the first script
 pub begun : (first : Option (List ℕ)) (read : Joined) → IfSome first (IsInput read.bytes.items) → read.parts.items ≡ [] → IfSome first (λ b. IsJoined read b [])
 begun None read input none = tt
 begun (Some xs) read input none = record { bytes = input; parts = λ short. ap (map part_data) none }
 
--- of what was read of a job the bytes
+-- the bytes of a job that was read as IsJoined says were read as IsInput says
 pub input_of_joined : (all : Option (List ℕ)) (read : Joined) (parts : List PartData) → IfSome all (λ b. IsJoined read b parts) → IfSome all (IsInput read.bytes.items)
 input_of_joined None read parts is = tt
 input_of_joined (Some xs) read parts is = is.bytes
 
--- and its lines come from the same files
+-- the lines of a job that was read come from the same files as those of all bytes
 pub come_from : (name first : List ℕ) (stand : List Part) (all : Option (List ℕ)) (read : Joined) (parts : List PartData) → name ≡ first → stand ≡ read.parts.items → IfSome all (λ b. IsJoined read b parts)
     → IfSome all (ComeFrom (λ line. origin_in (whole_of name) (map part_data stand) line) (λ line. origin_in (whole_of first) parts line) read.bytes.items)
 come_from name first stand None read parts named there is = tt

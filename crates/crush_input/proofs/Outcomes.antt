@@ -1,8 +1,8 @@
--- What follows of one promise of an outcome, and of two.
+-- What follows from one or two statements on a result.
 use Rattle.std.proofs.Common.{Result, Ok, Err}
 use Rattle.std.specs.Prelude.{IfErr, IfOk}
 
--- what follows of one promise of a run that was done, and of two
+-- what follows from one statement on the value of an Ok, or from two
 pub when_ok : {X E : Type 0} (P Q : X → Type 0) (r : Result X E) → ((x : X) → P x → Q x) → IfOk r P → IfOk r Q
 when_ok P Q (Ok x) then_is p = then_is x p
 when_ok P Q (Err e) then_is p = tt
@@ -11,7 +11,7 @@ pub when_both : {X E : Type 0} (P S Q : X → Type 0) (r : Result X E) → ((x :
 when_both P S Q (Ok x) then_is p s = then_is x p s
 when_both P S Q (Err e) then_is p s = tt
 
--- what follows of a fault is said of another that it is
+-- what follows from one statement on an error, or from two
 pub err_as : {X E : Type 0} (P Q : E → Type 0) (r : Result X E) → ((e : E) → P e → Q e) → IfErr r P → IfErr r Q
 err_as P Q (Ok x) then_is p = tt
 err_as P Q (Err e) then_is p = then_is e p

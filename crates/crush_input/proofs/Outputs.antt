@@ -1,4 +1,4 @@
--- What the words ask for beside the job, and what is noted of it.
+-- The other map that the words ask for, and the notes of its faults and of the job's.
 use Rattle.std.proofs.Common.{◌≡◌, ℕ, Bool, false, List, Option, Some, None, Result, Ok, Err, inl, inr, length, refl, ap, subst, ◌∙◌, arith}
 use Rattle.std.specs.Prelude.{IfOk, IfSome}
 use mathlib.Core.Logic.{dite}
@@ -25,11 +25,11 @@ pub flaw_where : (bytes : List ℕ) (f : TextFault) → is_out_of_memory f.kind 
 flaw_where bytes f room (inl want) = let e = ap is_out_of_memory want in absurd cc
 flaw_where bytes f room (inr flaw) = flaw
 
--- what is told of one is its place, and nothing where no reasons are asked for
+-- the notes of a flaw are right: they have its place, and there are none without `--explain`
 pub flaw_noted : (explain : Bool) (w : OtherMap) (name bytes : List ℕ) (f : TextFault) (notes : List ℕ) → notes ≡ flaw_notes explain name bytes f → IsMapNoted explain name (Some bytes) (run.Other w (unread.Text f)) notes
 flaw_noted explain w name bytes f notes is = (λ quiet. is ∙ ap (λ e. flaw_notes e name bytes f) quiet, is)
 
--- what is noted of bytes read is noted of all bytes of a file
+-- the notes of the bytes that were read are those of all bytes of a file
 flaw_of_all : (explain : Bool) (name : List ℕ) (all : Option (List ℕ)) (bytes : List ℕ) (f : TextFault) (notes : List ℕ) → IfSome all (IsInput bytes) → IsOtherFault bytes (unread.Text f) → notes ≡ flaw_notes explain name bytes f
     → IfSome all (λ xs. notes ≡ flaw_notes explain name xs f)
 flaw_of_all explain name None bytes f notes input h is = tt
@@ -54,7 +54,7 @@ map_noted_of_all explain why name all bytes run.NoItem notes input h told = told
 map_noted_of_all explain why name all bytes run.NoType notes input h told = told
 map_noted_of_all explain why name all bytes (run.Other w f) notes input h told = other_of_all explain name all bytes f notes input h.1 told
 
--- what is known of the bytes read is known of all bytes of a file
+-- what holds of the bytes that were read also holds of all bytes of a file
 text_of_all : (m : MapData) (all : Option (List ℕ)) (bytes : List ℕ) → IfSome all (IsInput bytes) → IsTextOf m bytes → IfSome all (IsTextOf m)
 text_of_all m None bytes input is = tt
 text_of_all m (Some xs) bytes input is = subst (IsTextOf m) (input.read is.short) is
@@ -82,12 +82,12 @@ map_fault_of_all why all bytes run.NoItem input h = absurd h
 map_fault_of_all why all bytes run.NoType input h = absurd h
 map_fault_of_all why all bytes (run.Other w s) input h = (h.0, other_fault_of_all all bytes s input h.1)
 
--- a file that couldn't be read is a fault of the map, whatever it has
+-- a failed read is a fault of the map, whatever bytes its file has
 pub unread_map : (why : OtherMap) (all : Option (List ℕ)) → IsMapFault why all (run.Other why unread.Read)
 unread_map why None = (refl, tt)
 unread_map why (Some xs) = (refl, tt)
 
--- any other fault of its reading is out of memory
+-- each other fault while the file is read is out of memory, which is also a fault of the map
 pub other_map : (why : OtherMap) (f : RunFault) (all : Option (List ℕ)) → IsInputFault f → (f ≡ run.Read → ⊥) → IsMapFault why all f
 other_map why (run.Job j) all h other = absurd h
 other_map why run.Read all h other = absurd (other refl)
@@ -114,7 +114,7 @@ other_noted explain name all run.NoItem notes h other told = absurd h
 other_noted explain name all run.NoType notes h other told = absurd h
 other_noted explain name all (run.Other w s) notes h other told = absurd h
 
--- what is noted of a job that wasn't read, or is none, is noted as asked
+-- the notes of a job that couldn't be read, or of bytes that aren't a job, are those of a run with these options
 pub part_as_wanted : (content : List ℕ → Option (List ℕ)) (options : Options) (input : Option (List ℕ)) (f : RunFault) (notes : List ℕ) → IsInputFault f → IsPartNoted options f notes → IsNotedAsWanted content options input (Err f) notes
 part_as_wanted content options input (run.Job j) notes h told = absurd h
 part_as_wanted content options input run.Read notes h told = told

@@ -1,4 +1,4 @@
--- What is noted of the files of a job that weren't read.
+-- The notes of a job's files that couldn't be read.
 use Rattle.std.proofs.Common.{◌≡◌, ◌⊎◌, ℕ, Bool, true, false, List, [], inl, inr, refl}
 use Rattle.crush_options.specs.declared.asked.Options.{Options}
 use Rattle.crush_input.specs.declared.fault.RunFault.{RunFault}
@@ -6,7 +6,7 @@ use Rattle.crush_input.specs.declared.fault.RunFault.TheVariants as run
 use Rattle.crush_input.specs.Notes.{IsFileNoted}
 use Rattle.crush_input.specs.Options.{IsFile, IsPartNoted, IsPartUnread, IsReadNoted, IsScript}
 
--- of a file that the options name what is noted of it
+-- the notes of a file that the options name are notes of the job
 unread_part : (options : Options) (name notes : List ℕ) → IsFile options.file name ⊎ IsScript options.scripts.items name → IsFileNoted options.mode.explain name run.Read notes → IsReadNoted options notes
 unread_part options name notes named told = (told.0, at options.mode.explain refl)
   where
@@ -27,7 +27,7 @@ part_noted options name run.NoItem notes named told = told
 part_noted options name run.NoType notes named told = told
 part_noted options name (run.Other w s) notes named told = told
 
--- where nothing is noted, that is
+-- no notes are right for each fault
 pub quiet_part : (options : Options) (f : RunFault) (notes : List ℕ) → notes ≡ [] → IsPartNoted options f notes
 quiet_part options (run.Job j) notes none = none
 quiet_part options run.Read notes none = (λ quiet. none, inl none)

@@ -1,4 +1,4 @@
--- What is known of the bytes of a job is known of all that there was to read.
+-- What holds of the bytes that were read of a job also holds of all bytes that there were to read.
 use Rattle.std.proofs.Common.{◌≡◌, ℕ, ◌≤◌, Bool, true, false, List, Option, Some, None, Result, Ok, Err, length, take, sym, ap, subst, ◌∙◌, arith}
 use Rattle.std.specs.Prelude.{IfOk, IfSome}
 use mathlib.Core.Logic.{dite}
@@ -19,7 +19,7 @@ use Rattle.crush_input.specs.declared.aborted.ParsedJob.{ParsedJob}
 use Rattle.crush_reasons.specs.Place.{OriginData}
 use Rattle.crush_input.proofs.Noted.{ComeFrom}
 
--- what a reader gives, up to one byte too many, is all that it has, where either is no longer than a job
+-- the bytes that a reader gives, up to one byte too many for a job, are all that it has if either is no longer than a job may be
 input_of_take : (bytes all : List ℕ) → bytes ≡ take MOST_BYTES all → IsInput bytes all
 input_of_take bytes all e = record {
   read = λ short. let few : length all ≤ MOST_BYTES = omega (arith, short, ap length e, length-take MOST_BYTES all) in e ∙ take_all MOST_BYTES all few;
@@ -30,12 +30,12 @@ pub known_of_take : (all : Option (List ℕ)) (bytes : List ℕ) → IfSome all 
 known_of_take None bytes e = tt
 known_of_take (Some xs) bytes e = input_of_take bytes xs e
 
--- what is known of a file is what it gives
+-- if the bytes of a file are known, the open file gives these bytes
 pub known_through : (content given : Option (List ℕ)) (bytes : List ℕ) → IfSome content (λ all. given ≡ Some all) → IfSome given (IsInput bytes) → IfSome content (IsInput bytes)
 known_through None given bytes tells read = tt
 known_through (Some all) given bytes tells read = subst (λ (o : Option (List ℕ)). IfSome o (IsInput bytes)) tells read
 
--- bytes that are a job are all that there is
+-- if the bytes that were read are a job, they are all bytes, so all bytes are a job
 pub has_job : (all : Option (List ℕ)) (bytes : List ℕ) → IfSome all (IsInput bytes) → HasJob bytes → IfSome all HasJob
 has_job None bytes input has = tt
 has_job (Some xs) bytes input has = (has.0, subst (λ (z : List ℕ). IsJob z has.0) (input.read has.1.short) has.1)
@@ -44,19 +44,19 @@ pub has_job_where_done : {X E : Type 0} (r : Result X E) (all : Option (List ℕ
 has_job_where_done (Ok x) all bytes input has = has_job all bytes input has
 has_job_where_done (Err f) all bytes input has = tt
 
--- whatever job all bytes are, the bytes read are that job
+-- if all bytes are a job, the bytes that were read are the same job
 pub job_of_all : (all : Option (List ℕ)) (bytes xs : List ℕ) (job : JobData) → IfSome all (IsInput bytes) → all ≡ Some xs → IsJob xs job → IsJob bytes job
 job_of_all all bytes xs job input is_xs is =
     let same : IsInput bytes xs = subst (λ (o : Option (List ℕ)). IfSome o (IsInput bytes)) is_xs input in
     subst (λ (z : List ℕ). IsJob z job) (sym (same.whole is.short)) is
 
--- and they are the bytes read
+-- if all bytes are a job, they are the bytes that were read
 pub same_of_job : (all : Option (List ℕ)) (bytes xs : List ℕ) (job : JobData) → IfSome all (IsInput bytes) → all ≡ Some xs → IsJob xs job → bytes ≡ xs
 same_of_job all bytes xs job input is_xs is =
     let same : IsInput bytes xs = subst (λ (o : Option (List ℕ)). IfSome o (IsInput bytes)) is_xs input in
     same.whole is.short
 
--- a fault of the bytes read is one of all bytes
+-- a fault of the bytes that were read is also a fault of all bytes
 fault_of_all : (bytes xs : List ℕ) (f : JobFault) → IsInput bytes xs → IsJobFault bytes f → IsJobFault xs f
 fault_of_all bytes xs (BadLine n) input h = subst (λ (z : List ℕ). IsJobFault z (BadLine n)) (input.read h.short) h
 fault_of_all bytes xs (NoSuchCommand n) input h = subst (λ (z : List ℕ). IsJobFault z (NoSuchCommand n)) (input.read h.short) h
@@ -72,7 +72,7 @@ pub refusal_of_all : (all : Option (List ℕ)) (bytes : List ℕ) (f : JobFault)
 refusal_of_all None bytes f input h = (h.0, tt)
 refusal_of_all (Some xs) bytes f input h = (h.0, fault_of_all bytes xs f input h.1)
 
--- a fault of bytes that are no job is one of all that there was to read
+-- a fault of a run whose bytes aren't a job is also one for all bytes that there were to read
 pub no_job_of_all : (f : RunFault) (all : Option (List ℕ)) (bytes : List ℕ) → IfSome all (IsInput bytes) → IsNoJob (Some bytes) f → IsReadFault all f
 no_job_of_all (run.Job f) all bytes input h = refusal_of_all all bytes f input h
 no_job_of_all run.Read all bytes input h = tt
@@ -99,7 +99,7 @@ read_fault_of_input run.NoItem all h = absurd h
 read_fault_of_input run.NoType all h = absurd h
 read_fault_of_input (run.Other w s) all h = absurd h
 
--- what is kept of the text of the bytes read is kept of all bytes, whose lines come from the same files
+-- what is kept of the bytes that were read is what is kept of all bytes, if these are a job, since their lines come from the same files
 pub weighed_of_all : {E : Type 0} (explain : Bool) (o p : ℕ → OriginData) (all : Option (List ℕ)) (bytes xs : List ℕ) (job : JobData) (r : Result ParsedJob E) → IfSome all (ComeFrom o p bytes) → all ≡ Some xs → length bytes ≤ LONGEST_JOB → bytes ≡ xs
     → IfOk r (IsParsedJob explain o bytes job) → IfOk r (IsParsedJob explain p xs job)
 weighed_of_all explain o p all bytes xs job r from is_xs short same weighed =
@@ -107,7 +107,7 @@ weighed_of_all explain o p all bytes xs job r from is_xs short same weighed =
     let origins : o ≡ p = come.1 short in
     subst (λ (z : List ℕ). IfOk r (IsParsedJob explain p z job)) same (subst (λ (q : ℕ → OriginData). IfOk r (IsParsedJob explain q bytes job)) origins weighed)
 
--- and it is no more than a job may have
+-- the bytes that are kept are no more than a job may have
 pub kept_short : (explain : Bool) (bytes : List ℕ) → length bytes ≤ LONGEST_JOB → length (bytes_kept explain bytes) ≤ LONGEST_JOB
 kept_short true bytes short = short
 kept_short false bytes short = omega arith

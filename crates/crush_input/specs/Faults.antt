@@ -1,4 +1,4 @@
--- The faults of a writer and of a job, as those of a run: out of memory is one fault wherever it comes.
+-- The faults of a writer and of a job as faults of a run. Out of memory is always the same fault of a run.
 use Rattle.std.specs.Prelude.{◌≡◌, ℕ, List, Option, false, IfSome}
 use Rattle.crush_units.specs.declared.write.WriteFault.{WriteFault}
 use Rattle.crush_units.specs.declared.write.WriteFault.TheVariants as write
@@ -8,11 +8,11 @@ use Rattle.crush_script.specs.declared.fault.JobFault.{JobFault}
 use Rattle.crush_input.specs.declared.fault.RunFault.{RunFault}
 use Rattle.crush_input.specs.declared.fault.RunFault.TheVariants as run
 
--- a fault of a writer
+-- the fault of a run for a fault of a writer
 abbrev pub of_write : WriteFault → RunFault
 of_write write.Write = run.Write
 of_write write.OutOfMemory = run.Memory
 
--- a fault of the job is one of the bytes, and never out of memory, also not as a fault of its text
+-- a run may end with this fault of its job: the fault doesn't say that memory ran out, also not for the map's text, and if the job's bytes are known it is one of them
 abbrev pub IsRefusal : Option (List ℕ) → JobFault → Type 0
 IsRefusal all fault = (lacks_memory fault ≡ false) × IfSome all (λ bytes. IsJobFault bytes fault)

@@ -1,20 +1,20 @@
--- A job of several files: the first, and behind it the scripts of others.
+-- A job of several files: the first file, followed by the scripts of other files.
 use Rattle.std.specs.Prelude.{ℕ, ◌+◌, ◌-◌, ◌==◌, Bool, true, false, ◌&&◌, ◌||◌, List, [], ◌∷◌, ◌++◌, Option, Some, None, codes, if◌then◌else◌, length, take, drop, slice_index, String}
 use Rattle.std.specs.List.{position_or_len}
 use Rattle.crush_units.specs.Name.{is_name}
 use Rattle.crush_script.specs.Lines.{line_feeds}
 use Rattle.crush_input.specs.declared.joined.Part.{Part}
 
--- a line feed, unless the bytes end in one
+-- a line feed, or nothing if the bytes end with a line feed already
 abbrev pub line_end : List ℕ → List ℕ
 line_end bytes = if slice_index bytes (length bytes - 1) == 10 then [] else codes "\n"
 
--- blanks of a line, a carriage return too
+-- whether a byte is a blank within a line: a space, a tab or a carriage return
 abbrev pub is_line_blank : ℕ → Bool
 is_line_blank b = b == 32 || b == 9 || b == 13
 
--- whether the first line that has more than blanks and a comment begins with `%`; the first argument says whether a line begins
--- here, the second whether a comment goes on
+-- whether the first line that has more than blanks and a comment begins with `%`; `starts` says whether these bytes begin a line, and
+-- `comment` whether they begin inside a comment
 abbrev pub begins_section_in : Bool → Bool → List ℕ → Bool
 begins_section_in starts comment [] = false
 begins_section_in starts comment (b ∷ bs) =
@@ -24,41 +24,43 @@ begins_section_in starts comment (b ∷ bs) =
     else (if is_line_blank b then begins_section_in false false bs
     else (starts && b == 37))))
 
--- how many bytes a file's name has up to its last `/`: so many were looked at, and so many are up to the last before
+-- the number of bytes of a file's name up to its last `/`, and with it; `seen` bytes before these were looked at, and `best` of them are up to the last `/` so far
 abbrev pub folder_length : ℕ → ℕ → List ℕ → ℕ
 folder_length seen best [] = best
 folder_length seen best (b ∷ bs) = folder_length (seen + 1) (if b == 47 then seen + 1 else best) bs
 
--- the last part of a file's name
+-- a file's name without its folders
 abbrev pub last_part : List ℕ → List ℕ
 last_part name = drop (folder_length 0 0 name) name
 
--- the operator of a script in a file of this name: its last part up to the first `.`
+-- the operator of a script by its file's name: the name without its folders, up to the first `.`
 abbrev pub operator_of : List ℕ → List ℕ
 operator_of name = take (position_or_len (λ b. b == 46) (last_part name)) (last_part name)
 
--- the line that begins the section of an operator; bytes that are no name are left out of it, and a job has no line without one
+-- the line `%operator NAME` that begins the section of an operator. If `operator` isn't a name, the line is `%operator` alone, with which no bytes are a job.
 abbrev pub section_head : List ℕ → List ℕ
 section_head operator = if is_name operator then codes "%operator " ++ operator ++ codes "\n" else codes "%operator\n"
 
--- the line that names the operator of a script that doesn't itself
+-- the `%operator` line to put before a script, or nothing if the script begins a section itself
 abbrev pub operator_line : List ℕ → List ℕ → List ℕ
 operator_line name script = if begins_section_in true false script then [] else section_head (operator_of name)
 
--- JOINED: a job, and behind it the script of a file of this name
+-- JOINED: a job, followed by the script of a file of this name on a new line, below a `%operator` line if it needs one
 abbrev pub joined : List ℕ → List ℕ → List ℕ → List ℕ
 joined job name script = job ++ line_end job ++ operator_line name script ++ script
 
--- PART: where the script of a file of this name stands in a job: from which line on, counted from 1, the line included that names
--- its operator where one is put, and how many lines of the job stand before the file's own
+-- PART: which lines of a job are the script of the file `name`. They begin with the line `from`, counted from 1, which is the `%operator`
+-- line if one is put before the script. `before` is the number of lines of the job before the first line of the file itself.
 pub record PartData : Type 0 where
   pub name : List ℕ
   pub from : ℕ
   pub before : ℕ
 
+-- a part as the program holds it, as data
 abbrev pub part_data : Part → PartData
 part_data p = record { name = p.name.now; from = p.from; before = p.before }
 
+-- the part for a script that is appended to a job
 abbrev pub part_of : List ℕ → List ℕ → List ℕ → PartData
 part_of job name script = record {
   name = name;
@@ -66,21 +68,22 @@ part_of job name script = record {
   before = line_feeds (job ++ line_end job ++ operator_line name script);
 }
 
--- the same of bytes that are known, or not
+-- `joined` if the bytes of the job and of the script are known; otherwise the result isn't known
 abbrev pub joined_known : Option (List ℕ) → List ℕ → Option (List ℕ) → Option (List ℕ)
 joined_known (Some job) name (Some script) = Some (joined job name script)
 joined_known job name script = None
 
+-- the part of the script if the bytes of the job and of the script are known, otherwise none
 abbrev pub part_known : Option (List ℕ) → List ℕ → Option (List ℕ) → List PartData
 part_known (Some job) name (Some script) = part_of job name script ∷ []
 part_known job name script = []
 
--- the bytes of a job with the scripts of these files behind it, one after the other
+-- the bytes of a job followed by the scripts of these files, in order, if all of these bytes are known; `content` gives the bytes of a file by its name
 abbrev pub with_scripts : {Z : Type 0} → (List ℕ → Option (List ℕ)) → Option (List ℕ) → List (String Z) → Option (List ℕ)
 with_scripts content job [] = job
 with_scripts content job (name ∷ names) = with_scripts content (joined_known job name.bytes.items (content name.bytes.items)) names
 
--- where each of them stands
+-- the part of each of these scripts in the joined job, if it is known
 abbrev pub parts_of : {Z : Type 0} → (List ℕ → Option (List ℕ)) → Option (List ℕ) → List (String Z) → List PartData
 parts_of content job [] = []
 parts_of content job (name ∷ names) =

@@ -1,4 +1,4 @@
--- What is told below the one line of standard error.
+-- The notes of a run: what standard error gets below its one line.
 use Rattle.std.specs.Prelude.{◌≡◌, ℕ, ◌<◌, Bool, true, false, List, [], ◌++◌, Option, None, Some, Result, Ok, Err, IfSome, codes, if◌then◌else◌}
 use Rattle.crush_edits.specs.Setting.{SettingData}
 use Rattle.crush_map.specs.MapData.{MapData, MapStands}
@@ -22,76 +22,79 @@ use Rattle.crush_input.specs.declared.aborted.TextKept.{TextKept}
 use Rattle.crush_input.specs.Made.{made_text, makings}
 use Rattle.crush_input.specs.Origins.{origin_of, whole_of}
 
--- a map that is kept has this setting, and stands for this table
+-- there is a kept map, and it has this setting and represents this table
 abbrev pub IsKept : Option MapData → SettingData → List Row → Type 0
 IsKept None s t = ⊥
 IsKept (Some m) s t = MapStands m s t
 
--- WHAT IS KEPT OF A JOB'S TEXT, to tell of it: where its lines come from, its bytes, and the lines of its written weights
+-- WHAT IS KEPT OF A JOB'S TEXT to write notes from: the file that each line comes from, the bytes, and the notes on bucket weights in the text that aren't the sum
 pub record TextData : Type 0 where
   pub origin : ℕ → OriginData
   pub bytes : List ℕ
   pub weights : List ℕ
 
+-- what the program keeps, as data
 abbrev pub text_data : TextKept → TextData
 text_data k = record { origin = origin_of k.origins; bytes = k.bytes.items; weights = k.weights.items }
 
--- OF CALLS THAT WERE REFUSED: with reasons where those are asked for, by the job's text and by the setting and the table before the
--- first of all calls, without in another strict run, and else nothing
+-- NOTES OF REFUSED CALLS: with `--explain`, the lines of these calls with reasons, which depend on the job's text and on the setting
+-- and the table before the first call; in any other strict run, the lines without reasons; otherwise nothing
 abbrev pub refused_notes : Mode → TextData → SettingData → List Row → List (List ℕ) → List EntryData → List ℕ
 refused_notes mode text s t names h =
     if mode.explain then explained_job text.origin text.bytes s t names h else (if mode.strict then refused_text names 1 h else [])
 
--- OF WRITTEN WEIGHTS: where reasons are asked for, a line for each bucket item of a job's text whose weight isn't the sum in the
--- job's table
+-- NOTES OF WEIGHTS: with `--explain`, a warning line if the map's text has carriage returns and no line feed, and then a line for each bucket item
+-- of this text whose weight isn't the sum in the job's table; otherwise nothing
 abbrev pub weight_notes : Bool → List ℕ → List Row → List ℕ
 weight_notes explain bytes t = if explain then written_text t (map_part bytes) else []
 
--- THE TEXT of a job of these bytes and this table, whose lines come from there, as a run tells of it: the bytes are kept where reasons
--- are asked for
+-- the bytes that are kept of a job: all of them with `--explain`, otherwise none
 abbrev pub bytes_kept : Bool → List ℕ → List ℕ
 bytes_kept explain bytes = if explain then bytes else []
 
+-- THE TEXT that a run keeps of a job with these bytes and this table, whose lines have these origins
 abbrev pub text_of : Bool → (ℕ → OriginData) → List ℕ → List Row → TextData
 text_of explain origin bytes t = record { origin = origin; bytes = bytes_kept explain bytes; weights = weight_notes explain bytes t }
 
--- of both, the weights behind the calls
+-- the notes of refused calls, followed by those of weights, which were kept
 abbrev pub history_notes : Mode → TextData → SettingData → List Row → List (List ℕ) → List EntryData → List ℕ
 history_notes mode text s t names h = refused_notes mode text s t names h ++ text.weights
 
--- OF A FAULT OF BYTES: where reasons are asked for, its place in the file that its line comes from, and what was wanted there
+-- NOTES OF A FAULT OF BYTES: with `--explain`, the fault's place in the file that its line comes from, and the reason; otherwise nothing
 abbrev pub place_notes : Bool → (ℕ → OriginData) → List ℕ → JobFault → List ℕ
 place_notes explain origin bytes fault = if explain then fault_text (origin (fault_line bytes fault)) bytes fault else []
 
--- OF A FILE THAT CAN'T BE OPENED OR READ: its name, and the reason that the system gives
+-- the note of a file that can't be opened or read: its name and the system's reason
 abbrev pub unread_text : List ℕ → List ℕ → List ℕ
 unread_text name reason = codes "  " ++ name ++ codes ": " ++ reason ++ codes "\n"
 
+-- the notes are such a note of the file `name`, with any reason
 abbrev pub IsUnread : List ℕ → List ℕ → Type 0
 IsUnread name notes = (reason : List ℕ) × (notes ≡ unread_text name reason)
 
--- NOTES OF A FILE of this name that wasn't read: that, where reasons are asked for, and else nothing
+-- NOTES OF A FILE of this name, whose reading ended with a fault: after a failed read the note above with `--explain`; otherwise nothing
 abbrev pub IsFileNoted : Bool → List ℕ → RunFault → List ℕ → Type 0
 IsFileNoted explain name run.Read notes = (explain ≡ false → notes ≡ []) × (explain ≡ true → IsUnread name notes)
 IsFileNoted explain name fault notes = notes ≡ []
 
--- of a flaw of another map its place, with the name of its file
+-- the notes of a flaw of another map: with `--explain`, its place, with the name of the map's file, and the reason; otherwise nothing
 abbrev pub flaw_notes : Bool → List ℕ → List ℕ → TextFault → List ℕ
 flaw_notes explain name bytes fault = if explain then fault_text (whole_of name) bytes (job.Text fault) else []
 
--- of a fault of it that, where its bytes are known; where it isn't read what is noted of its file; and of its length nothing
+-- the notes of a fault of another map: for a flaw those above, if the map's bytes are known; if it is too long, nothing; if its file can't be read, the note of the file
 abbrev pub IsOtherNoted : Bool → List ℕ → Option (List ℕ) → OtherFault → List ℕ → Type 0
 IsOtherNoted explain name all (unread.Text fault) notes = (explain ≡ false → notes ≡ []) × IfSome all (λ bytes. notes ≡ flaw_notes explain name bytes fault)
 IsOtherNoted explain name all unread.TooLong notes = notes ≡ []
 IsOtherNoted explain name all unread.Read notes = IsFileNoted explain name run.Read notes
 
--- NOTES OF ANOTHER MAP of a file of this name: those of its fault, and of any other nothing
+-- NOTES OF ANOTHER MAP in a file of this name: those of its fault as above, and nothing for any other fault of the run
 abbrev pub IsMapNoted : Bool → List ℕ → Option (List ℕ) → RunFault → List ℕ → Type 0
 IsMapNoted explain name all (run.Other which fault) notes = IsOtherNoted explain name all fault notes
 IsMapNoted explain name all fault notes = notes ≡ []
 
--- NOTES OF A HISTORY: those of its calls that were refused, and of the weights that were written; before them the lines of calls
--- that made buckets unasked, or behind them those of what stays behind a plan, where that ends the run
+-- NOTES OF A HISTORY: the notes of refused calls and of weights, if the run is done or ends by a failed write, by refused calls or by a name that the map lacks. If it
+-- ends by made buckets, the lines of the calls that made them precede these notes. If it ends by differences that remain after a plan, `rest`, the lines of these
+-- differences, follows these notes. Nothing is said of other faults.
 abbrev pub HistoryNoted : {X : Type 0} → Mode → TextData → SettingData → List Row → List (List ℕ) → List EntryData → List ℕ → Result X RunFault → List ℕ → Type 0
 HistoryNoted mode text s t names h rest (Ok x) notes = notes ≡ history_notes mode text s t names h
 HistoryNoted mode text s t names h rest (Err run.Write) notes = notes ≡ history_notes mode text s t names h
@@ -102,8 +105,9 @@ HistoryNoted mode text s t names h rest (Err run.NoItem) notes = notes ≡ histo
 HistoryNoted mode text s t names h rest (Err run.NoType) notes = notes ≡ history_notes mode text s t names h
 HistoryNoted mode text s t names h rest (Err fault) notes = Unit {0}
 
--- NOTES WITHOUT A HISTORY: of a fault of bytes, where they are known, its place; of any other fault nothing, and nothing but
--- refused calls where no reasons are asked for
+-- NOTES WITHOUT A HISTORY: what holds of the notes of a fault, whatever the history is. For a fault of the bytes, the notes have its place if the bytes are known, and there
+-- are none without `--explain`. For a failed write, or a name that the map lacks, there are none without `--explain`. Of refused calls, made buckets and remaining
+-- differences nothing is said. For any other fault there are none.
 abbrev pub IsFaultNoted : Bool → (ℕ → OriginData) → Option (List ℕ) → RunFault → List ℕ → Type 0
 IsFaultNoted explain origin all (run.Job fault) notes = (explain ≡ false → notes ≡ []) × IfSome all (λ bytes. notes ≡ place_notes explain origin bytes fault)
 IsFaultNoted explain origin all run.Write notes = explain ≡ false → notes ≡ []
@@ -114,12 +118,14 @@ IsFaultNoted explain origin all run.NoItem notes = explain ≡ false → notes �
 IsFaultNoted explain origin all run.NoType notes = explain ≡ false → notes ≡ []
 IsFaultNoted explain origin all fault notes = notes ≡ []
 
+-- the same for the result of a run: a run that was done has no notes without `--explain`
 abbrev pub IsNoted : {X : Type 0} → Bool → (ℕ → OriginData) → Option (List ℕ) → Result X RunFault → List ℕ → Type 0
 IsNoted explain origin all (Ok x) notes = explain ≡ false → notes ≡ []
 IsNoted explain origin all (Err fault) notes = IsFaultNoted explain origin all fault notes
 
--- STRICT: a strict run that comes to its output, to buckets that were made, to a name that isn't there or to what stays behind a plan,
--- has no refused entry, and one that ends by refusals tells how many there are
+-- STRICT: if a run is strict, its history has no refused entry when it is done, or when it ends by a failed write, by made buckets, by remaining differences or
+-- by a name that the map lacks. A run that ends by refusals is strict, and its fault has their number, at least 1. Only a strict run ends by remaining
+-- differences. Nothing is said of other faults.
 abbrev pub IsStrict : {X : Type 0} → Bool → List EntryData → Result X RunFault → Type 0
 IsStrict strict h (Ok x) = strict ≡ true → refusals h ≡ 0
 IsStrict strict h (Err run.Write) = strict ≡ true → refusals h ≡ 0
@@ -130,8 +136,9 @@ IsStrict strict h (Err run.NoItem) = strict ≡ true → refusals h ≡ 0
 IsStrict strict h (Err run.NoType) = strict ≡ true → refusals h ≡ 0
 IsStrict strict h (Err fault) = Unit {0}
 
--- NO MAKE: a run that is to make no buckets, and comes to its output, to a name that isn't there or to what stays behind a plan, has no
--- entry that made more than its call asks for, and one that ends by such entries tells how many there are
+-- NO MAKE: with `--no-make`, no entry of the history made more buckets than its call has `add-bucket` commands when the run is done, or when it ends by a failed write,
+-- by remaining differences or by a name that the map lacks. A run that ends by such entries has `--no-make`, and its fault has their number, at least 1.
+-- Nothing is said of other faults.
 abbrev pub IsNoMake : {X : Type 0} → Bool → List EntryData → Result X RunFault → Type 0
 IsNoMake no_make h (Ok x) = no_make ≡ true → makings h ≡ 0
 IsNoMake no_make h (Err run.Write) = no_make ≡ true → makings h ≡ 0

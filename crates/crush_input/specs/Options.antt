@@ -1,4 +1,4 @@
--- What a command line gives a run, and what is noted of it.
+-- What a run prints and reads for its command line, and the notes of faults on the way.
 use Rattle.std.specs.Prelude.{◌≡◌, ◌⊎◌, ℕ, ◌<◌, ◌≤◌, Bool, false, List, [], Option, None, Some, Result, Err, IfSome, String, length, option_map, slice_index_or}
 use Rattle.crush_model.specs.Table.{Row}
 use Rattle.crush_model.specs.Stands.{Stands}
@@ -27,7 +27,7 @@ use Rattle.crush_input.specs.Input.{job_bytes}
 use Rattle.crush_input.specs.Notes.{IsMapNoted, IsNoted, IsUnread}
 use Rattle.crush_input.specs.Origins.{job_origin}
 
--- the map is one whose text the bytes are, no more than a job may have
+-- the bytes are no longer than a job may be, and they are the text of this map
 pub record IsTextOf (m : MapData) (bytes : List ℕ) : Type 0 where
   pub short : length bytes ≤ LONGEST_JOB
   pub table : List Row
@@ -35,34 +35,34 @@ pub record IsTextOf (m : MapData) (bytes : List ℕ) : Type 0 where
   pub text : IsMapText bytes m.setting table adjusted
   pub stands : Stands m.forest table
 
--- the text of a name, where there is one
+-- the bytes of a string, if there is one
 abbrev pub name_text : {Z : Type 0} → Option (String Z) → Option (List ℕ)
 name_text name = option_map (λ n. n.bytes.items) name
 
--- the part has the names that the words have
+-- the part has the same names as the part `words` of the command line
 pub record IsPartOf (words part : Part) : Type 0 where
   pub under : name_text part.under ≡ name_text words.under
   pub down_to : name_text part.down_to ≡ name_text words.down_to
 
--- the tree of such a part is asked for
+-- the output is the tree of such a part
 abbrev pub IsTreeOf : Part → Output → Type 0
 IsTreeOf words (output.Tree part) = IsPartOf words part
 IsTreeOf words what = ⊥
 
--- the map is the one of which the words name the file, and told since it is what they say
+-- the old map is that of the file which the words name, if the file's bytes are known, and the rest is as the words say
 pub record IsOldOf (content : List ℕ → Option (List ℕ)) (words : Since) (old : OldMap) : Type 0 where
   pub map : IfSome (content words.map.bytes.items) (IsTextOf old.map)
   pub by_name : old.by_name ≡ words.by_name
   pub under : name_text old.under ≡ name_text words.under
 
--- the map is the wanted one of which the words name the file, and it is as they say that its commands are found and printed
+-- the wanted map is that of the file which the words name, if the file's bytes are known, and the rest is as the words say
 pub record IsWantedOf (content : List ℕ → Option (List ℕ)) (words : Wanted) (wanted : WantedMap) : Type 0 where
   pub map : IfSome (content words.map.bytes.items) (IsTextOf wanted.map)
   pub as_ceph : wanted.as_ceph ≡ words.as_ceph
   pub by_name : wanted.by_name ≡ words.by_name
   pub under : name_text wanted.under ≡ name_text words.under
 
--- what is printed where the words ask for it; of another map, what its file has is its text
+-- the output `what` is the one that the words ask for; another map in it is that of its file, if the file's bytes are known
 abbrev pub IsOutputOf : (List ℕ → Option (List ℕ)) → Printed → Output → Type 0
 IsOutputOf content printed.Map what = what ≡ output.Map
 IsOutputOf content (printed.Tree part) what = IsTreeOf part what
@@ -74,19 +74,19 @@ IsOutputOf content (printed.Changes name) what = ⊥
 IsOutputOf content (printed.To words) (output.To wanted) = IsWantedOf content words wanted
 IsOutputOf content (printed.To words) what = ⊥
 
--- why the bytes of another map give none: they have this flaw, or are more than a job may have
+-- the fault of the bytes of another map's file: they have this flaw, or are more than a job may have. Nothing is said of a failed read.
 abbrev pub IsOtherFault : List ℕ → OtherFault → Type 0
 IsOtherFault bytes (unread.Text fault) = (length bytes ≤ LONGEST_JOB) × IsMapFlaw bytes fault
 IsOtherFault bytes unread.TooLong = LONGEST_JOB < length bytes
 IsOtherFault bytes unread.Read = Unit {0}
 
--- what may fail while such a map is read for this
+-- the faults with which the reading of the map for the option `why` may fail: a fault of this map, which its file's bytes have if they are known, or out of memory
 abbrev pub IsMapFault : OtherMap → Option (List ℕ) → RunFault → Type 0
 IsMapFault why all (run.Other which fault) = (which ≡ why) × IfSome all (λ bytes. IsOtherFault bytes fault)
 IsMapFault why all run.Memory = Unit {0}
 IsMapFault why all fault = ⊥
 
--- and while what the words ask for is made: that where they ask for one, and where they have names else that memory lacks
+-- the faults with which the making of the output may fail: for another map those above, for a tree out of memory, and otherwise none
 abbrev pub IsOutputFault : (List ℕ → Option (List ℕ)) → Printed → RunFault → Type 0
 IsOutputFault content (printed.Tree part) fault = fault ≡ run.Memory
 IsOutputFault content (printed.Since words) fault = IsMapFault beside.Since (content words.map.bytes.items) fault
@@ -94,7 +94,7 @@ IsOutputFault content (printed.Changes name) fault = IsMapFault beside.Since (co
 IsOutputFault content (printed.To words) fault = IsMapFault beside.To (content words.map.bytes.items) fault
 IsOutputFault content what fault = ⊥
 
--- what is noted of a fault of what the words ask for
+-- the notes of such a fault: for another map those of its file, and for a tree none
 abbrev pub IsOutputNoted : (List ℕ → Option (List ℕ)) → Bool → Printed → RunFault → List ℕ → Type 0
 IsOutputNoted content explain (printed.Tree part) fault notes = notes ≡ []
 IsOutputNoted content explain (printed.Since words) fault notes = IsMapNoted explain words.map.bytes.items (content words.map.bytes.items) fault notes
@@ -102,7 +102,7 @@ IsOutputNoted content explain (printed.Changes name) fault notes = IsMapNoted ex
 IsOutputNoted content explain (printed.To words) fault notes = IsMapNoted explain words.map.bytes.items (content words.map.bytes.items) fault notes
 IsOutputNoted content explain what fault notes = ⊥
 
--- one of these names of scripts is this
+-- one of these files of scripts has this name
 pub record IsScript {Z : Type 0} (scripts : List (String Z)) (name : List ℕ) : Type 0 where
   pub place : ℕ
   pub there : place < length scripts
@@ -110,28 +110,28 @@ pub record IsScript {Z : Type 0} (scripts : List (String Z)) (name : List ℕ) :
   pub is : script ≡ slice_index_or scripts place script
   pub bytes : script.bytes.items ≡ name
 
--- the job is read from a file of this name
+-- the job's file has this name; false if the job is read from standard input
 abbrev pub IsFile : {Z : Type 0} → Option (String Z) → List ℕ → Type 0
 IsFile None name = ⊥
 IsFile (Some file) name = file.bytes.items ≡ name
 
--- a file that the options name for a job can't be opened or read
+-- the notes are that a file can't be opened or read, which the options name as the job's file or as a file of a script
 pub record IsPartUnread (options : Options) (notes : List ℕ) : Type 0 where
   pub name : List ℕ
   pub named : IsFile options.file name ⊎ IsScript options.scripts.items name
   pub unread : IsUnread name notes
 
--- NOTES OF A JOB that wasn't read: where reasons are asked for and a file of it wasn't that, and else nothing
+-- NOTES OF A JOB that couldn't be read: nothing without `--explain`; with it, nothing or the note of a file as above
 abbrev pub IsReadNoted : Options → List ℕ → Type 0
 IsReadNoted options notes = (options.mode.explain ≡ false → notes ≡ []) × ((notes ≡ []) ⊎ IsPartUnread options notes)
 
--- and of a job whose reading met any fault
+-- the notes of a fault while the bytes of a job are read: those above for a failed read, and nothing for any other fault
 abbrev pub IsPartNoted : Options → RunFault → List ℕ → Type 0
 IsPartNoted options run.Read notes = IsReadNoted options notes
 IsPartNoted options fault notes = notes ≡ []
 
--- NOTED AS ASKED: a fault of another map by its place there, one of a read by its file, and else as of any run, with the places of
--- a fault in the file that it comes from
+-- NOTED AS ASKED: the notes of a run with these options. A fault of another map has those of that map, and a failed read those of a job that couldn't be read.
+-- Any other result has the notes of any run, which show a place in the file that its line comes from.
 abbrev pub IsNotedAsWanted : (List ℕ → Option (List ℕ)) → Options → Option (List ℕ) → Result Summary RunFault → List ℕ → Type 0
 IsNotedAsWanted content options input (Err (run.Other which fault)) notes = IsOutputNoted content options.mode.explain options.printed (run.Other which fault) notes
 IsNotedAsWanted content options input (Err run.Read) notes = IsReadNoted options notes

@@ -1,4 +1,4 @@
--- What is told of a command line that asks for no run, and the status.
+-- The output and the status for a command line that starts no run.
 use Rattle.std.specs.Prelude.{◌≡◌, ◌⊎◌, ℕ, List, [], Option}
 use Rattle.std.specs.Io.KnownBytes.{Appends, Keeps}
 use Rattle.crush_units.specs.Writes.{AppendsLess}
@@ -8,26 +8,26 @@ use Rattle.crush_input.specs.Report.{run_fault}
 use Rattle.crush_input.specs.Words.{no_words}
 use Rattle.crush_input.specs.declared.fault.RunFault.TheVariants as run
 
--- the status: help may not be written
+-- the status: 0 or 3 for the help, 2 for a refusal, and 4 for out of memory
 abbrev pub IsOptionsStatus : OptionsFault → ℕ → Type 0
 IsOptionsStatus (Help text) status = (status ≡ 0) ⊎ (status ≡ 3)
 IsOptionsStatus (Refused text) status = status ≡ 2
 IsOptionsStatus Memory status = status ≡ 4
 
--- what standard output gets
+-- the text for standard output: the help, if it is asked for
 abbrev pub options_output : OptionsFault → List ℕ
 options_output (Help text) = text.bytes.items
 options_output (Refused text) = []
 options_output Memory = []
 
--- what standard error gets
+-- the text for standard error. For the help it is the line of a failed write, which is needed only if writing the help fails.
 abbrev pub options_error : OptionsFault → List ℕ
 options_error (Help text) = run_fault no_words run.Write
 options_error (Refused text) = text.bytes.items
 options_error Memory = run_fault no_words run.Memory
 
--- help that ends with status 0 stands on standard output as a whole, and nothing on standard error; with status 3 its whole
--- doesn't stand there
+-- if the help ends with status 0, then standard output got all of it, and standard error nothing; if with status 3, then standard output
+-- got less than all of it
 abbrev pub IsHelpWhole : OptionsFault → ℕ → Option (List ℕ) → Option (List ℕ) → Option (List ℕ) → Option (List ℕ) → Type 0
 IsHelpWhole (Help text) status out new_out err new_err = (status ≡ 0 → Appends out new_out text.bytes.items × Keeps err new_err) × (status ≡ 3 → AppendsLess out new_out text.bytes.items)
 IsHelpWhole fault status out new_out err new_err = Unit {0}

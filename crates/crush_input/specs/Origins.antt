@@ -6,32 +6,33 @@ use Rattle.crush_input.specs.declared.origins.Origins.{Origins}
 use Rattle.crush_input.specs.Input.{job_parts}
 use Rattle.crush_input.specs.Joined.{PartData, part_data}
 
--- a file from whose first line on the job stands
+-- the origin of lines from the file that the job begins with: no lines of the job come before it
 abbrev pub whole_of : List ℕ → OriginData
 whole_of name = record { name = name; before = 0 }
 
+-- the origin of the lines of a part
 abbrev pub within : PartData → OriginData
 within p = record { name = p.name; before = p.before }
 
--- of parts in order the last that begins at a line or before it has the line, and else what stands before them
+-- the origin of a line, given the parts in order: the last part that begins at the line or before it, or `found` if there is none
 abbrev pub origin_in : OriginData → List PartData → ℕ → OriginData
 origin_in found [] line = found
 origin_in found (p ∷ ps) line = origin_in (if nat_le p.from line then within p else found) ps line
 
--- the origin of a line, by what a run keeps of its files
+-- the origin of a line, by the files that a run keeps
 abbrev pub origin_of : Origins → ℕ → OriginData
 origin_of o line = origin_in (whole_of o.first.now) (map part_data o.parts.items) line
 
--- no file is told of
+-- the origin of each line if notes don't name a file: the job is one file without a name
 abbrev pub no_origin : ℕ → OriginData
 no_origin line = whole_of []
 
--- the name of the file that a job begins with, which is told where there are others behind it
+-- the name of the job's file as notes show it: empty if the job is read from standard input, or if no scripts follow it
 abbrev pub first_name : {Z : Type 0} → Option (String Z) → List (String Z) → List ℕ
 first_name (Some name) (s ∷ scripts) = name.bytes.items
 first_name file scripts = []
 
--- JOB ORIGIN: the file that a line of the job comes from which the options name
+-- JOB ORIGIN: the file that a line comes from, for the job that the options name
 abbrev pub job_origin : (List ℕ → Option (List ℕ)) → Options → Option (List ℕ) → ℕ → OriginData
 job_origin content options input line =
     origin_in (whole_of (first_name options.file options.scripts.items)) (job_parts content options input) line

@@ -1,4 +1,4 @@
--- What a run tells on standard error, and its status.
+-- What a run writes to standard error, and its status.
 use Rattle.std.specs.Prelude.{ℕ, ◌==◌, Bool, List, [], ◌++◌, Result, Ok, Err, codes, decimal, if◌then◌else◌}
 use Rattle.crush_text.specs.declared.fault.TextFault.{TextFault}
 use Rattle.crush_text.specs.Fault.{fault_name}
@@ -14,23 +14,23 @@ use Rattle.crush_input.specs.declared.fault.OtherMap.TheVariants as beside
 use Rattle.crush_input.specs.declared.summary.Summary.{Summary}
 use Rattle.crush_input.specs.Words.{WordsData}
 
--- out of memory, wherever it was
+-- the line for out of memory, wherever it occurred
 abbrev pub out_of_memory : List ℕ
 out_of_memory = codes "crushedit: out of memory\n"
 
--- how many written weights were replaced
+-- the line with the number of bucket weights in the map's text that sums replaced
 abbrev pub adjusted_line : ℕ → List ℕ
 adjusted_line adjusted = codes "crushedit: adjusted " ++ decimal adjusted ++ codes "\n"
 
--- a fault of a line: its number and the fault's name
+-- the line for a fault of a job's line: the line's number and the fault's name
 abbrev pub line_fault : ℕ → List ℕ → List ℕ
 line_fault number name = codes "crushedit: line " ++ decimal number ++ codes ": " ++ name ++ codes "\n"
 
--- a fault of the map's text: its place and its name
+-- the line for a fault of the map's text: its place and its name
 abbrev pub text_fault : TextFault → List ℕ
 text_fault f = codes "crushedit: byte " ++ decimal f.place ++ codes ": " ++ fault_name f.kind ++ codes "\n"
 
--- a fault of the job
+-- the line for a fault of the job
 abbrev pub job_fault : JobFault → List ℕ
 job_fault (BadLine number) = line_fault number (codes "BadLine")
 job_fault (NoSuchCommand number) = line_fault number (codes "NoSuchCommand")
@@ -42,38 +42,38 @@ job_fault (Text f) = text_fault f
 job_fault TooLong = codes "crushedit: TooLong\n"
 job_fault OutOfMemory = out_of_memory
 
--- how many calls of a strict run were refused
+-- the line with the number of refused calls that ended a strict run
 abbrev pub refused_line : ℕ → List ℕ
 refused_line count = codes "crushedit: refused " ++ decimal count ++ codes "\n"
 
--- how many calls made buckets unasked in a run that was to make none
+-- the line with the number of calls that made more buckets than they have `add-bucket` commands, and so ended a run with `--no-make`
 abbrev pub made_line : ℕ → List ℕ
 made_line count = codes "crushedit: made " ++ decimal count ++ codes "\n"
 
--- how many differences stay behind the plan of a strict run
+-- the line with the number of differences that remain after a plan, and so ended a strict run
 abbrev pub differs_line : ℕ → List ℕ
 differs_line count = codes "crushedit: differs " ++ decimal count ++ codes "\n"
 
--- a fault of another map is told behind the word that asks for it
+-- the word in the line for a fault of another map: the option that names the map
 abbrev pub map_word : OtherMap → List ℕ
 map_word beside.Since = codes "since"
 map_word beside.To = codes "to"
 
--- a fault of its text
+-- the line for a fault of another map's text: the option, its place and its name
 abbrev pub other_text_fault : OtherMap → TextFault → List ℕ
 other_text_fault which f = codes "crushedit: " ++ map_word which ++ codes ": byte " ++ decimal f.place ++ codes ": " ++ fault_name f.kind ++ codes "\n"
 
--- a fault of that map
+-- the line for a fault of another map
 abbrev pub other_fault : OtherMap → OtherFault → List ℕ
 other_fault which (unread.Text f) = if is_out_of_memory f.kind then out_of_memory else other_text_fault which f
 other_fault which unread.TooLong = codes "crushedit: " ++ map_word which ++ codes ": TooLong\n"
 other_fault which unread.Read = codes "crushedit: " ++ map_word which ++ codes ": read fault\n"
 
--- what the map lacks, by its name in the words
+-- the line for an item or a type that the map lacks, with its name from the command line
 abbrev pub lacking_line : List ℕ → List ℕ → List ℕ
 lacking_line what name = codes "crushedit: no " ++ what ++ name ++ codes "\n"
 
--- a run that was not done
+-- the line for a run that was not done
 abbrev pub run_fault : WordsData → RunFault → List ℕ
 run_fault w (run.Job f) = if lacks_memory f then out_of_memory else job_fault f
 run_fault w run.Read = codes "crushedit: read fault\n"
@@ -87,28 +87,32 @@ run_fault w run.NoItem = lacking_line (codes "item ") w.under
 run_fault w run.NoType = lacking_line (codes "type ") w.down_to
 run_fault w (run.Other which f) = other_fault which f
 
--- one line, or nothing where all is well and no weight was replaced
+-- the one line for the result of a run; nothing if the run was done and no weight was replaced
 abbrev pub report_line : WordsData → Result Summary RunFault → List ℕ
 report_line w (Ok s) = if s.adjusted == 0 then [] else adjusted_line s.adjusted
 report_line w (Err f) = run_fault w f
 
--- what is told of a fault of another map, and of a run that was not done: what was wanted, unless the run notes it
+-- the reason for out of memory
 abbrev pub memory_reason : List ℕ
 memory_reason = codes "  there is less memory than the job wants\n"
 
+-- the reason if the file of another map is too long
 abbrev pub long_reason : OtherMap → List ℕ
 long_reason beside.Since = codes "  the file of --since has at most 16777216 bytes\n"
 long_reason beside.To = codes "  the file of --to has at most 16777216 bytes\n"
 
+-- the reason if the file of another map can't be opened or read
 abbrev pub unread_reason : OtherMap → List ℕ
 unread_reason beside.Since = codes "  the file of --since is to be there, and to be read to its end\n"
 unread_reason beside.To = codes "  the file of --to is to be there, and to be read to its end\n"
 
+-- the reason for a fault of another map; nothing for a flaw of its text, whose reason is in the notes
 abbrev pub other_reason : OtherMap → OtherFault → List ℕ
 other_reason which (unread.Text f) = if is_out_of_memory f.kind then memory_reason else []
 other_reason which unread.TooLong = long_reason which
 other_reason which unread.Read = unread_reason which
 
+-- the reason why a run was not done; nothing if the notes of the run have it
 abbrev pub fault_reason : RunFault → List ℕ
 fault_reason (run.Job f) = if lacks_memory f then memory_reason else []
 fault_reason run.Read = codes "  each file, or standard input, is to be there, and to be read to its end\n"
@@ -122,23 +126,26 @@ fault_reason run.NoItem = codes "  --under wants the name of an item of the map 
 fault_reason run.NoType = codes "  --down-to wants the name of a type of the map\n"
 fault_reason (run.Other which f) = other_reason which f
 
+-- the reason for the result of a run; nothing if the run was done
 abbrev pub outcome_reason : Result Summary RunFault → List ℕ
 outcome_reason (Ok s) = []
 outcome_reason (Err f) = fault_reason f
 
--- the line, and below it what was wanted, where that is asked for
+-- the one line, followed by the reason with `--explain`
 abbrev pub report_lines : WordsData → Result Summary RunFault → List ℕ
 report_lines w outcome = report_line w outcome ++ (if w.explain then outcome_reason outcome else [])
 
--- and behind them what the run notes
+-- the whole text of standard error: the lines above, followed by the notes of the run
 abbrev pub report_text : WordsData → Result Summary RunFault → List ℕ → List ℕ
 report_text w outcome notes = report_lines w outcome ++ notes
 
+-- the status for a fault of another map
 abbrev pub other_status : OtherFault → ℕ
 other_status (unread.Text f) = if is_out_of_memory f.kind then 4 else 1
 other_status unread.TooLong = 1
 other_status unread.Read = 3
 
+-- the status for a run that was not done
 abbrev pub fault_status : RunFault → ℕ
 fault_status (run.Job f) = if lacks_memory f then 4 else 1
 fault_status run.Read = 3
@@ -152,9 +159,9 @@ fault_status run.NoItem = 1
 fault_status run.NoType = 1
 fault_status (run.Other which f) = other_status f
 
--- STATUS: 0 where the run was done, and 6 where there is something to tell that the status is to tell; 1 for what is no job or no map, and
--- for names that the map doesn't have, 3 where reading or writing failed, 4 out of memory or without a thread, 5 where calls of a strict run were refused, or differences stay
--- behind its plan, or where buckets were made that were not to be
+-- STATUS: 0 if the run was done, or 6 if its summary says that there is something to report. If it was not done: 1 if the bytes aren't a job or another map isn't a map, or
+-- if the map lacks a name of the command line; 3 if reading or writing failed; 4 if memory ran out or a thread couldn't be started; 5 if calls of a strict
+-- run were refused, differences remain after its plan, or buckets were made in spite of `--no-make`
 abbrev pub status : Result Summary RunFault → ℕ
 status (Ok s) = if s.differs then 6 else 0
 status (Err f) = fault_status f

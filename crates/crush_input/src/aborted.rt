@@ -1,4 +1,4 @@
-//! What was read of a run, or why it stopped.
+//! The job of a run that was parsed, or why the run stopped before.
 
 ghost use Rattle.std.specs.Prelude.{◌≡◌, []};
 
@@ -7,14 +7,15 @@ use crate::origins::Origins;
 use crush_script::Job;
 use std::alloc::Global;
 
-/// What is kept of the text of a job, for notes.
+/// What is kept of a job's text to write notes from.
 #[derive(Drop)]
 pub struct TextKept<'a> {
-    /// Empty without `explain`.
+    /// The bytes of the job; empty without `explain`.
     pub bytes: Vec<u8>,
-    /// Where its lines come from.
+    /// The files that the lines of the job come from.
     pub origins: Origins<'a>,
-    /// The notes on weights that aren't sums.
+    /// The notes on carriage returns in the map's text, and on bucket weights in it that aren't the
+    /// sum; empty without `explain`.
     pub weights: Vec<u8>,
 }
 
@@ -29,7 +30,7 @@ pub struct ParsedJob<'a> {
 #[derive(Debug, Drop)]
 pub struct Aborted {
     pub fault: RunFault,
-    /// The lines below the one line.
+    /// The lines of standard error below its one line.
     pub notes: Vec<u8>,
 }
 

@@ -21,7 +21,7 @@ const OUT_OF_MEMORY: &[u8] = b"crushedit: out of memory\n";
 
 const MEMORY_REASON: &[u8] = b"  there is less memory than the job wants\n";
 
-/// Of a failed write, or of output that couldn't be stored.
+/// The reason for a failed write, or for output that couldn't be stored.
 const WRITE_REASON: &[u8] =
     b"  standard output took less than the whole, or did not store it: what stands there isn't to be used\n";
 
@@ -280,7 +280,7 @@ fn other_reason(which: OtherMap, fault: OtherFault) -> &'static [u8]
     }
 }
 
-/// What was wanted where a run was not done, unless its notes say it.
+/// Returns the line with the reason why a run was not done; empty if the run's notes have it.
 fn fault_reason(fault: RunFault) -> &'static [u8]
     ensures { result.now ≡ fault_reason fault }
 {
@@ -381,20 +381,25 @@ fn status_of(outcome: &Result<Summary, RunFault>) -> u8
 pub struct Reported {
     /// The status with which the program ends.
     pub status: u8,
-    /// Whether standard error took the whole text.
+    /// Whether the whole text was written to standard error.
     pub written: Result<(), WriteFault>,
 }
 
-/// Writes the one line of standard error, below it, where reasons are to be printed, what was
-/// wanted of an outcome without notes, and then the notes of the run, and answers the status.
+/// Writes the text of standard error for a run, and returns the status of the program.
 ///
-/// - 0: the run was done; 6: the same, with something to report, where the status is to say so.
-/// - 1: the input is no job, or a map, item or type of the command line is none.
-/// - 3: reading or writing failed.
-/// - 4: out of memory, or a worker couldn't be started.
-/// - 5: refusals, made buckets or differences ended the run; the notes have their lines.
+/// The text is at most one line on the outcome; then, with `--explain`, a line with the reason for
+/// a fault, unless the notes have it; then `notes`. The status is:
 ///
-/// A failed write on standard error changes no status.
+/// - 0: The run was done.
+/// - 6: The run was done, and with `--exit-code` there is something to report.
+/// - 1: The input isn't a job, the file of `--since` or `--to` isn't a map, or the map after the
+///   scripts lacks the item of `--under` or the type of `--down-to`.
+/// - 3: Reading or writing failed.
+/// - 4: Memory ran out, or a thread couldn't be started.
+/// - 5: Refused calls, made buckets or remaining differences ended the run. The notes have their
+///   lines.
+///
+/// If writing to standard error fails, `written` says so, and the status is the same.
 pub fn report<E: Write>(
     words: Words<'_>,
     outcome: &Result<Summary, RunFault>,
@@ -412,9 +417,14 @@ pub fn report<E: Write>(
     }
 }
 
-/// Writes the text of a command line that starts no run, and answers the status: 0 where standard
-/// output took the help, and 3 where it didn't; 2 for a refusal, on standard error; and 4 out of
-/// memory.
+/// Writes the text for a command line that starts no run, and returns the status of the program.
+///
+/// - 0: The help or the version was asked for, and was written to standard output as a whole.
+/// - 3: The same, but it couldn't be written as a whole. Standard error gets a line that says so.
+/// - 2: The command line was refused. Standard error gets the reason.
+/// - 4: Memory ran out. Standard error gets a line that says so.
+///
+/// A failed write to standard error is ignored.
 pub fn report_options<W: Write, E: Write>(fault: &OptionsFault, out: &mut W, err: &mut E) -> u8
     ensures status { IsOptionsStatus fault.now result }
     ensures out { AppendsPrefix (W.contents out.old) (W.contents out.new)

@@ -6,55 +6,57 @@ use crush_units::WriteFault;
 use std::alloc::{AllocError, AllocFailed};
 use thiserror::Error;
 
-/// What a map is read for beside the job's.
+/// For which option a map other than the job's is read.
 #[derive(Clone, Copy, Debug, PartialEq, Eq)]
 pub enum OtherMap {
-    /// Changes since it are printed.
+    /// `--since`: the changes since this map are printed.
     Since,
-    /// Commands lead to it.
+    /// `--to`: the commands that lead to this map are printed.
     To,
 }
 
-/// Why a map beside the job's was not read.
+/// Why the map of `--since` or `--to` was not read.
 #[derive(Clone, Copy, Debug, PartialEq, Eq, Error)]
 pub enum OtherFault {
-    /// A flaw, at a byte of its file; never out of memory.
+    /// The map's text has this flaw; its place is a byte of the file, from 0. It is never out of
+    /// memory.
     #[error("{0}")]
     Text(TextFault),
-    /// Its file has more than 16,777,216 bytes.
+    /// The map's file has more than 16,777,216 bytes.
     #[error("TooLong")]
     TooLong,
-    /// Its file couldn't be opened or read.
+    /// The map's file couldn't be opened or read.
     #[error("read fault")]
     Read,
 }
 
-/// Why a run was not done. Nothing was written, but before [`RunFault::Write`].
+/// Why a run was not done. Nothing was written, except in the case of [`RunFault::Write`].
 #[derive(Clone, Copy, Debug, PartialEq, Eq, Error)]
 pub enum RunFault {
-    /// What was read is no job; never out of memory.
+    /// The bytes that were read aren't a job. The fault never says that memory ran out.
     #[error("{0}")]
     Job(JobFault),
+    /// Standard input or a file of the job couldn't be opened or read.
     #[error("read fault")]
     Read,
-    /// A prefix of the output was written.
+    /// Writing the output failed; a prefix of it was written.
     #[error("write fault")]
     Write,
     #[error("out of memory")]
     Memory,
-    /// A worker couldn't be started.
+    /// A thread for an operator couldn't be started.
     #[error("no thread")]
     Thread,
-    /// In a strict run so many calls were refused.
+    /// In a strict run, this many calls were refused.
     #[error("refused {0}")]
     Refused(u32),
-    /// So many calls made buckets without `add-bucket`, where none are to be made.
+    /// With `--no-make`, this many calls made more buckets than they have `add-bucket` commands.
     #[error("made {0}")]
     Made(usize),
-    /// The job was read, but not the map for this.
+    /// The job was read, but the map of `--since` or `--to` was not.
     #[error("another map: {1}")]
     Other(OtherMap, OtherFault),
-    /// In a strict run so many differences stay behind a plan.
+    /// In a strict run, this many differences remain after the commands of the plan.
     #[error("differs {0}")]
     Differs(usize),
     /// `--under` names no item of the map after the scripts.

@@ -1,4 +1,4 @@
-//! What opens files by their names.
+//! Opens files by name.
 
 ghost use Rattle.std.specs.Prelude.{◌≡◌, ℕ, List, None, Option, Some, IfOk, IfSome};
 
@@ -6,21 +6,21 @@ use std::fs::File;
 use std::io::{self, Read};
 use std::rt::Files;
 
-/// Opens files by their names, to be read.
+/// Opens files by name, for reading.
 pub trait Opens {
-    /// An open file.
+    /// A file that is open for reading.
     type Opened: Read + Drop;
 
-    // The bytes of a named file, where they are known.
+    // The bytes of the file of a name, if contracts know them.
     ghost content: { Self → List ℕ → Option (List ℕ) };
 
-    /// Opens the file of this name.
+    /// Opens the file of this name. Fails with the system's error if it can't be opened.
     fn open(&self, name: &str) -> io::Result<Self::Opened>
         ensures { IfOk result (λ file. IfSome (content self.now name.now)
             (λ bytes. Self.Opened.remaining file ≡ Some bytes)) };
 }
 
-/// The files of a system, whose bytes contracts don't know.
+/// The files of the operating system. Contracts don't know their bytes.
 #[derive(Drop)]
 pub struct SystemFiles<'a, F>(pub &'a F);
 

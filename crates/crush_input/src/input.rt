@@ -1,4 +1,4 @@
-//! The bytes of a job.
+//! Reads the bytes of a job, from standard input and from files.
 
 ghost use Rattle.std.specs.Prelude.{◌≡◌, ◌≤◌, ◌<◌, ◌≢◌, ◌++◌, ◌∷◌, ℕ, List, [], Option, None, OnOk, IfOk, IfErr, IfSome, length, map, take};
 ghost use Rattle.std.specs.Io.KnownBytes.{Consumes};
@@ -18,14 +18,17 @@ use crush_units::limits::LONGEST_JOB;
 use std::alloc::{AllocError, Global};
 use std::io::{self, Read};
 
-/// One byte more than a job may have, so that a longer one shows.
+/// The most bytes that are read: one more than a job may have, so that a longer job is noticed.
 pub const MOST_BYTES: usize = LONGEST_JOB + 1;
 
-/// Of one read.
+/// The most bytes that one read asks for.
 const PIECE: usize = 65_536;
 
-/// Reads to the end, or to the first byte that no job can have, by at most [`MOST_BYTES`] reads. A
-/// read that fails isn't tried again.
+/// Reads the bytes of a job, up to their end or up to the first byte too many for a job.
+///
+/// Takes at most [`MOST_BYTES`] (16,777,217) bytes, by at most as many reads, even if it fails.
+/// Fails with [`RunFault::Read`] if a read fails, which isn't tried again, and with
+/// [`RunFault::Memory`] if memory runs out.
 pub fn read_bytes<R: Read>(alloc: Global, reader: &mut R) -> Result<Vec<u8>, RunFault>
     ensures few { IfOk result (λ bytes. length bytes.items ≤ MOST_BYTES) }
     ensures fault { IfErr result IsInputFault }
@@ -70,7 +73,8 @@ impl From<AllocError> for ReadFailure {
     }
 }
 
-/// By at most `most` reads. Not inlined, so that no piece is on the stack while a job is run.
+/// Reads at most `most` bytes, by at most `most` reads. Not inlined, so that the buffer `piece`
+/// isn't on the stack while a job runs.
 #[inline(never)]
 fn read_most<R: Read>(alloc: Global, most: usize, reader: &mut R) -> Result<Vec<u8>, ReadFailure>
     ensures few { IfOk result (λ bytes. length bytes.items ≤ most) }
@@ -115,7 +119,8 @@ fn read_quietly<R: Read>(alloc: Global, most: usize, reader: &mut R) -> Result<V
     }
 }
 
-/// With `explain`, a failure is noted with the system's reason.
+/// Reads at most `most` bytes of an open file. With `explain`, a failed read is noted with the
+/// file's name and the system's reason.
 fn read_named<R: Read>(
     alloc: Global,
     explain: bool,
@@ -157,7 +162,7 @@ pub(crate) fn read_file<F: Opens>(
     }
 }
 
-/// The job's file, or without one standard input.
+/// Reads the job's file, or standard input if the options name no file.
 fn read_first<F: Opens, R: Read>(
     alloc: Global,
     files: &F,
@@ -179,7 +184,7 @@ fn read_first<F: Opens, R: Read>(
     }
 }
 
-/// A job, and where the scripts of files stand in it.
+/// The bytes of a job, and where the script of each file is in them.
 #[derive(Drop)]
 pub(crate) struct Joined<'a> {
     pub(crate) bytes: Vec<u8>,

@@ -1,4 +1,4 @@
-//! The job that is read.
+//! Reads and parses the job of a run.
 
 ghost use Rattle.std.specs.Prelude.{◌≡◌, ◌≢◌, ◌≤◌, ℕ, List, [], Err, None, Some, IfErr, IfOk, IfSome, false, length};
 ghost use Rattle.crush_script.specs.Job.{HasJob, IsJob, JobData};
@@ -22,7 +22,7 @@ use std::hash::RandomState;
 use std::io::Read;
 use std::random::RandomSource;
 
-/// With keys that the system draws, or without where it can't.
+/// Returns hashing with random keys from the system, or without keys if the system has none.
 pub(crate) fn drawn_hashing<H: RandomSource>(rt: &H) -> Hashing {
     match RandomState::new(rt) {
         Ok(keys) => Hashing::keyed(keys),
@@ -30,7 +30,11 @@ pub(crate) fn drawn_hashing<H: RandomSource>(rt: &H) -> Hashing {
     }
 }
 
-/// Reads the job that these bytes are, whose lines come from `origins`.
+/// Parses the bytes of a job, whose lines come from the files in `origins`.
+///
+/// With `explain`, keeps the bytes, and notes each weight in the map's text that isn't the sum.
+/// Fails with [`RunFault::Job`] if the bytes aren't a job; with `explain`, notes say where and why.
+/// Fails with [`RunFault::Memory`], without notes, if memory runs out.
 pub fn job_of<'a, H: AllocGlobal + RandomSource>(
     rt: &H,
     explain: bool,
@@ -59,7 +63,12 @@ pub fn job_of<'a, H: AllocGlobal + RandomSource>(
     }
 }
 
-/// Reads the job that the options name, with the scripts of its files.
+/// Reads and parses the job that the options name, followed by the scripts of the files they name.
+///
+/// Reads the job from its file, or from `input` if the options name no file. Takes at most
+/// 16,777,217 bytes from `input`, and none if there is a file. Fails with [`RunFault::Read`] if a
+/// file or `input` can't be read, and otherwise as [`job_of`] does. With `explain`, a file that
+/// can't be opened or read is noted with the system's reason.
 pub fn read_whole<'a, H: AllocGlobal + RandomSource, F: Opens, R: Read>(
     rt: &H,
     files: &F,

@@ -1,4 +1,4 @@
-//! Scripts in files of their own, joined behind a job.
+//! Appends scripts from files of their own to a job.
 
 ghost use Rattle.std.specs.Prelude.{◌≡◌, ◌≤◌, ◌++◌, ◌==◌, ◌-◌, IfOk, OnOk, false, length, slice_index, true};
 ghost use Rattle.std.specs.List.{position_or_len};
@@ -8,13 +8,14 @@ use crush_script::line_feeds;
 use crush_units::is_name;
 use std::alloc::AllocError;
 
-/// Where the script of a file stands in a job.
+/// The lines of a job that are the script of a file.
 #[derive(Clone, Copy)]
 pub(crate) struct Part<'a> {
     pub(crate) name: &'a [u8],
-    /// Its first line in the job, from 1, with that of its operator.
+    /// The number of the script's first line in the job, from 1. If a line `%operator NAME` was
+    /// put before the script, it is that line.
     pub(crate) from: usize,
-    /// How many lines stand before the file's own.
+    /// The number of lines of the job before the first line of the file itself.
     pub(crate) before: usize,
 }
 
@@ -89,7 +90,8 @@ fn dot_at(name: &[u8]) -> usize
     name.len()
 }
 
-/// The last part of a file's name, up to the first `.`.
+/// Returns the operator of a script from the name of its file: the name without its folders, up to
+/// the first `.`.
 fn operator_of(name: &[u8]) -> &[u8]
     ensures { result.now ≡ operator_of name.now }
 {
@@ -98,7 +100,8 @@ fn operator_of(name: &[u8]) -> &[u8]
     operator
 }
 
-/// A line without a name is refused later.
+/// Appends the line `%operator NAME`. If `operator` isn't a name, appends `%operator` alone, which
+/// is refused when the job is parsed.
 fn push_section_head(operator: &[u8], bytes: &mut Vec<u8>) -> Result<(), AllocError>
     ensures { OnOk result (bytes.new.items ≡ bytes.old.items ++ section_head operator.now) }
 {
@@ -120,7 +123,8 @@ fn push_operator_line(name: &[u8], script: &[u8], bytes: &mut Vec<u8>) -> Result
     push_section_head(operator_of(name), bytes)
 }
 
-/// On a line of its own, below its operator's unless it begins a section.
+/// Appends a script to the bytes of a job, on a new line, and returns which lines it is. Puts a
+/// line `%operator NAME` before it, unless the script begins a section itself.
 pub(crate) fn push_script<'a>(
     name: &'a [u8],
     script: &[u8],

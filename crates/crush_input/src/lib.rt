@@ -1,7 +1,9 @@
-//! What a run is given, and what is noted of it, without an editor or a thread. [`read_whole`]
-//! reads the job that a command line names, [`output_of`] what is printed of it; a [`RunFault`] says
-//! why a run was not done, and [`report`] writes its line and answers the status. The rules stand in
-//! `specs/Input.antt`, `specs/Notes.antt` and `specs/Report.antt`.
+//! The input of a run, and its report and notes on standard error, without an editor or a thread.
+//!
+//! [`read_whole`] reads the job that a command line names, and [`output_of`] reads the other map
+//! that its output needs. A [`RunFault`] says why a run was not done. [`report`] writes to standard
+//! error and returns the status. The definitions are in `specs/Input.antt`, `specs/Notes.antt` and
+//! `specs/Report.antt`.
 #![tactic(auto)]
 
 mod aborted;

@@ -1,4 +1,5 @@
-//! The calls that made a bucket without `add-bucket`: a location named one that wasn't there.
+//! The calls that made more buckets than they have `add-bucket` commands. Such a call has a
+//! location with a bucket that wasn't in the map.
 
 ghost use Rattle.std.specs.Prelude.{◌≡◌, ◌<◌, ◌≤◌, ◌^◌, ◌++◌, IfErr, IfOk, OnOk, length, true};
 ghost use Rattle.std.specs.List.{count_by};
@@ -73,8 +74,10 @@ fn count_making(entries: &[Entry]) -> usize
     count
 }
 
-/// [`RunFault::Made`] with how many calls made buckets without `add-bucket`, where none are to be
-/// made.
+/// Checks, if `no_make` is set, that no call made more buckets than it has `add-bucket` commands.
+///
+/// Fails with [`RunFault::Made`], which has the number of such calls, if there are any. Without
+/// `no_make` it always succeeds.
 pub fn check_made(no_make: bool, entries: &[Entry]) -> Result<(), RunFault>
     ensures made { IsNoMake no_make entries.now result }
     ensures fault { IfErr result (IsMadeFault no_make) }
@@ -104,7 +107,7 @@ fn push_made(
     write_entry(number, operator, &entry.call, entry.reply, text).map_err(|_| AllocError)
 }
 
-/// Each with its number in the history.
+/// Returns the history lines of these calls, each with its number in the history.
 fn made_text(alloc: Global, scripts: &[Script], entries: &[Entry]) -> Result<Vec<u8>, AllocError>
     requires few { length entries.now ≤ MOST_ENTRIES }
     requires operators { AreOf (length scripts.now) entries.now }
@@ -120,7 +123,9 @@ fn made_text(alloc: Global, scripts: &[Script], entries: &[Entry]) -> Result<Vec
     Ok(text)
 }
 
-/// The lines of the calls that [`check_made`] counts, before the notes; empty without `no_make`.
+/// Returns the history lines of the calls that [`check_made`] counts, followed by `notes`.
+///
+/// Without `no_make` it returns no bytes. Fails if memory runs out.
 pub fn made_notes(
     alloc: Global,
     no_make: bool,

@@ -1,4 +1,4 @@
-//! The notes below the one line.
+//! The notes of a run: the lines of standard error below its one line.
 
 ghost use Rattle.std.specs.Prelude.{◌≡◌, ◌≤◌, List, [], IfErr, IfOk, false, is_some, length, true};
 ghost use Rattle.crush_model.specs.Stands.{Stands};
@@ -26,7 +26,10 @@ use crush_units::limits::LONGEST_JOB;
 use std::alloc::{AllocError, Global};
 use std::io;
 
-/// [`RunFault::Refused`] with how many calls a strict run refused.
+/// Checks, if `strict` is set, that no call was refused.
+///
+/// Fails with [`RunFault::Refused`], which has the number of refused calls, if there are any.
+/// Without `strict` it always succeeds.
 pub fn check_strict(strict: bool, entries: &[Entry]) -> Result<(), RunFault>
     requires { length entries.now ≤ MOST_ENTRIES }
     ensures strict { IsStrict strict entries.now result }
@@ -45,14 +48,19 @@ pub fn check_strict(strict: bool, entries: &[Entry]) -> Result<(), RunFault>
 /// The calls of a run, and the map before them.
 #[derive(Clone, Copy)]
 pub struct History<'a> {
-    /// By which reasons are found.
+    /// The map before the first call, needed with `explain` to find the reasons of refusals.
     pub opening: &'a Option<CrushMap<Global>>,
+    /// The scripts that the calls are from.
     pub scripts: &'a [Script],
-    /// In order.
+    /// The calls with their replies, in the order of the history.
     pub entries: &'a [Entry],
 }
 
-/// The lines of refused calls, and behind them those of written weights.
+/// Returns the notes of a run's history: the lines of refused calls, followed by the notes on
+/// weights in the map's text that aren't the sum.
+///
+/// The lines of refused calls have reasons with `explain`, and no reasons in a strict run without
+/// it; otherwise there are none. Fails if memory runs out.
 pub fn history_notes(
     alloc: Global,
     mode: Mode,
@@ -73,7 +81,8 @@ pub fn history_notes(
     Ok(lines)
 }
 
-/// With reasons by `explain`, without in another strict run.
+/// Returns the lines of refused calls: with reasons if `explain` is set, without reasons in any
+/// other strict run, and no lines otherwise.
 fn refused_notes(
     alloc: Global,
     mode: Mode,
@@ -123,7 +132,8 @@ fn reasons_of(
     explained_job(alloc, job, opening, history.scripts, history.entries)
 }
 
-/// The weights in a job's text that aren't the sums.
+/// Returns the notes on bucket weights in a job's text that aren't the sum, after a warning line if
+/// the map's text has carriage returns and no line feed; empty without `explain`.
 fn weight_notes(
     alloc: Global,
     explain: bool,
@@ -223,7 +233,8 @@ fn job_prefix(bytes: &[u8]) -> &[u8]
     bytes.split_at(LONGEST_JOB).0
 }
 
-/// Of too many bytes a prefix is enough: their fault has no place.
+/// Returns the notes on a fault of a job; empty without `explain`. If the job is too long, a prefix
+/// of its bytes is enough, since this fault has no place.
 fn place_notes(
     alloc: Global,
     explain: bool,
@@ -243,7 +254,8 @@ fn place_notes(
     Ok(Vec::new(alloc))
 }
 
-/// Out of memory also where there is none for the notes.
+/// Returns the fault of a run whose bytes aren't a job, with its notes. The fault is out of memory
+/// also if there is no memory for the notes.
 pub(crate) fn stopped_by(
     alloc: Global,
     explain: bool,

@@ -10,16 +10,16 @@ use crush_options::Options;
 use crush_reasons::{Locates, Origin};
 use std::alloc::Global;
 
-/// The first file of a job, and the scripts behind it.
+/// The files of a job: the file that it begins with, and those whose scripts follow.
 #[derive(Drop)]
 pub struct Origins<'a> {
-    /// Empty where it isn't named.
+    /// The name of the first file; empty if notes aren't to name it.
     pub(crate) first: &'a [u8],
     pub(crate) parts: Vec<Part<'a>>,
 }
 
 impl Origins<'_> {
-    /// Those of a job whose file isn't named.
+    /// Returns the origins of a job that is one file, which notes don't name.
     pub fn none(alloc: Global) -> Origins<'static>
         ensures { origin_of result ≡ no_origin }
     {
@@ -67,7 +67,8 @@ impl<'a> Part<'a> {
     }
 }
 
-/// Empty where no scripts stand behind it.
+/// Returns the name of the job's file, as notes show it: empty if the job is read from standard
+/// input, or if no scripts follow it.
 pub(crate) fn first_name(options: &Options) -> &[u8]
     ensures { result.now ≡ first_name options.now.file options.now.scripts.items }
 {

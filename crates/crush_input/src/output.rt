@@ -1,4 +1,4 @@
-//! What a run is to print.
+//! What a run prints, with the other map that this needs.
 
 ghost use Rattle.std.specs.Prelude.{◌≡◌, IfErr, IfOk, []};
 ghost use Rattle.crush_input.specs.Notes.{IsMapNoted};
@@ -13,45 +13,48 @@ use crush_options::{Mode, Part, Printed, Since, Wanted};
 use std::alloc::{AllocError, Global};
 use std::random::RandomSource;
 
-/// The map since which changes are printed.
+/// The old map, since which changes are printed, and the items whose changes are printed.
 #[derive(Drop)]
 pub struct OldMap {
     pub map: CrushMap<Global>,
-    /// Items are matched by name, and not by id.
+    /// Whether items of both maps are matched by name instead of by id.
     pub by_name: bool,
-    /// For this item and what stands or stood below it; `None` for all.
+    /// The name of the item whose changes are printed, with the changes of all items that are or
+    /// were below it; `None` for all items.
     pub under: Option<String>,
 }
 
-/// The map that commands are to lead to.
+/// The map that commands are to lead to, and how they are found and printed.
 #[derive(Drop)]
 pub struct WantedMap {
     pub map: CrushMap<Global>,
-    /// As Ceph's own commands.
+    /// Whether the commands are printed as Ceph's own.
     pub as_ceph: bool,
-    /// Buckets are known by name and type, and not by id.
+    /// Whether buckets of both maps are matched by name and type alone, and not by id.
     pub by_name: bool,
-    /// For this item and what stands or shall stand below it; `None` for all.
+    /// The name of the item that commands are for, with all items that are below it or shall be;
+    /// `None` for all items.
     pub under: Option<String>,
 }
 
-/// What is printed of the map after the scripts.
+/// What is printed about the map after the scripts have run.
 #[derive(Drop)]
 pub enum Output {
+    /// The text of the map.
     Map,
-    /// Its tree, or a part of it.
+    /// The tree of the map, or a part of it.
     Tree(Part),
-    /// What has changed in it since this map.
+    /// What has changed since this old map, item by item.
     Since(OldMap),
-    /// The same as a tree.
+    /// What has changed since this old map, as a tree.
     Changes(CrushMap<Global>),
-    /// The commands that changed it, as Ceph's own.
+    /// The commands that changed the map, as Ceph's own.
     AsCeph,
-    /// The commands that lead from it to this map.
+    /// The commands that lead from the map to this wanted map.
     To(WantedMap),
 }
 
-/// How the job is run, and what is printed.
+/// How the job is run, and what is printed after the run.
 #[derive(Drop)]
 pub struct Request {
     pub mode: Mode,
@@ -139,7 +142,11 @@ fn wanted_of<H: AllocGlobal + RandomSource, F: Opens>(
     }
 }
 
-/// What a command line wants printed, with the other map that it names.
+/// Returns what a run prints, and reads the other map for it if the command line names one.
+///
+/// Fails with [`RunFault::Other`] if the other map's file can't be opened or read, is too long or
+/// isn't a map. With `explain`, notes say where the map's flaw is, or why its file can't be read.
+/// Fails with [`RunFault::Memory`], without notes, if memory runs out.
 pub fn output_of<H: AllocGlobal + RandomSource, F: Opens>(
     rt: &H,
     files: &F,

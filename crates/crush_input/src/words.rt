@@ -1,4 +1,4 @@
-//! The words of a command line that its report repeats.
+//! The words of a command line that the report of its run needs.
 
 ghost use Rattle.std.specs.Prelude.{◌≡◌, [], Bool, unwrap_or};
 ghost use Rattle.crush_options.specs.Printed.{name_text, said_by};
@@ -6,19 +6,19 @@ ghost use Rattle.crush_input.specs.Words.{no_words, words_data, words_of};
 
 use crush_options::{Options, Printed};
 
-/// What of a command line the report of a run needs.
+/// The words of a command line that the report of its run needs.
 #[derive(Clone, Copy, Debug)]
 pub struct Words<'a> {
-    /// Whether what was wanted is printed below the one line.
+    /// Whether a reason is printed below the one line of standard error (`--explain`).
     pub explain: bool,
-    /// The name of `--under`, empty where there is none.
+    /// The name that `--under` gives; empty if it isn't given.
     pub under: &'a str,
-    /// The name of `--down-to`, empty where there is none.
+    /// The name that `--down-to` gives; empty if it isn't given.
     pub down_to: &'a str,
 }
 
 impl<'a> Words<'a> {
-    /// No reasons, and no names.
+    /// Returns the words of a report without reasons and without names.
     pub fn none() -> Words<'a>
         ensures { words_data result ≡ no_words }
     {
@@ -29,7 +29,7 @@ impl<'a> Words<'a> {
         }
     }
 
-    /// Those of a command line with these options.
+    /// Returns the words of the command line that has these options.
     pub fn of(options: &'a Options) -> Words<'a>
         ensures { words_data result ≡ words_of options.now }
     {

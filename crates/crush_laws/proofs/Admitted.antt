@@ -1,4 +1,4 @@
--- What may stand where it does, in a line that ends lawfully, has no fault.
+-- A word that has the form that is due at its place, in a line that ends lawfully, has no fault.
 use Rattle.std.proofs.Common.{◌≡◌, ℕ, ◌<◌, ◌≤◌, ◌⊎◌, Bool, true, false, List, [], ◌∷◌, Option, Some, None, Ok, refl, sym, ap, subst, ◌∙◌, arith, inl, inr}
 use Rattle.std.proofs.lemmas.Bool.{and_from, and_right, or_from, or_right, not_from_true, le-leb, lt-ltb, lt-leb, eq-eqb}
 use Rattle.std.proofs.lemmas.Bool.Decides.{nat_tests}
@@ -43,7 +43,7 @@ abbrev pub Pass : List Test → Type 0
 Pass [] = Unit {0}
 Pass ((f when b) ∷ ts) = (b ≡ false) × Pass ts
 
--- then the value is told
+-- if no test holds, then the result is the value
 pub all_pass : {A : Type 0} (ts : List Test) (v : A) → Pass ts → unless ts v ≡ Ok v
 all_pass [] v h = refl
 all_pass ((f when true) ∷ ts) v h = let no = h.0 in absurd cc
@@ -70,7 +70,7 @@ number_in most w digits le = and_from _ _ digits (le-leb _ _ le)
 pub right_number : (d : Draft) (most : ℕ) (w : List ℕ) → is_number most w ≡ true → IsRight d (number most) w
 right_number d most w h = passed d (number most) w (no_brace (is_number most) w refl refl h, (not_from_true _ h, tt))
 
--- a name where any word may stand
+-- a name, where the form allows any word
 pub right_any : (d : Draft) (w : List ℕ) → IsName w → IsRight d any_word w
 right_any d w form = passed d any_word w (name_no_brace w form, tt)
 
@@ -133,7 +133,7 @@ module _ (d : Draft) (m : IsMap d) where
     λ x fx px. (passed d lone_item x (item_name x fx, (not_from_true _ (ap is_some fx.0), (fx.1, (is_light (with_next_item d (item_of d x) None).table px.0.map.lawful, tt)))), tt),
   )
 
-  -- a word that tells whether an item comes, or the end
+  -- a word that says whether an item or the end follows
   right_item_or_end : (any : Bool) (w : List ℕ) → IsFor d (item_or_end any) w → IsRight d (item_or_end any) w
   right_item_or_end any w (inl e) = subst (IsRight d (item_or_end any)) (sym e) (passed d (item_or_end any) (codes "item") (refl, (refl, tt)))
   right_item_or_end any w (inr e) = subst (IsRight d (item_or_end any)) (sym e) (passed d (item_or_end any) (codes "}") (refl, (refl, tt)))
@@ -147,7 +147,7 @@ module _ (d : Draft) (m : IsMap d) where
       by_alg Straw2 = passed d algorithm (alg_text Straw2) (refl, (refl, tt))
       by_alg Linked = passed d algorithm (alg_text Linked) (refl, (refl, tt))
 
-  -- and the words behind it
+  -- and the words after it
   right_alg_line : Rightly d (alg_line d)
   right_alg_line = λ a fa pa. (right_alg a fa, (λ h fh ph. (right_key d (codes "hash") h fh, λ z fz pz. (right_number d 0 z fz, tt)), tt))
 
@@ -174,7 +174,7 @@ module _ (d : Draft) (m : IsMap d) where
     ),
   )
 
-  -- where a line of a class id ends lawfully it is free
+  -- if the line of a class id ends lawfully, then the class id is free
   class_built : (s : Stage numbered d) (w c : List ℕ) → IsLawfulDraft (with_class_id d (digits_value 10 (drop 1 w)) c) → ClassFree d.table s.2 s.3 (record { id = digits_value 10 (drop 1 w); class = c })
   class_built s w c l =
       let new : ShadowData = record { id = digits_value 10 (drop 1 w); class = c } in
@@ -198,7 +198,7 @@ module _ (d : Draft) (m : IsMap d) where
     ),
   )
 
-  -- a word that tells whether a class id comes, or the algorithm
+  -- a word that says whether a class id or the algorithm follows
   right_id_or_alg : (s : Stage numbered d) (w : List ℕ) → IsFor d id_or_alg w → Possible d (id_or_alg_line d (bytes_eq w (codes "id"))) → IsRight d id_or_alg w
   right_id_or_alg s w (inl e) p =
       let q : Possible d (class_id_line d) = subst (λ (x : List ℕ). Possible d (id_or_alg_line d (bytes_eq x (codes "id")))) e p in
@@ -223,7 +223,7 @@ module _ (d : Draft) (m : IsMap d) where
   right_bucket : d.pending ≡ nothing → (k : ℕ) → Rightly d (bucket_line d k)
   right_bucket idle k = λ x fx px. (right_name x px.0.pending.form (or_from _ _ px.0.pending.free (ap (λ (q : Pending). has_pending_name q x) idle)), tt)
 
-  -- where a device's line ends lawfully its number and its name are free
+  -- if a device's line ends lawfully, then its number and its name are free
   device_built : d.pending ≡ nothing → (n : ℕ) (x : List ℕ) → Possible d (device_class d n x) → DeviceFree d n x
   device_built idle n x (inl h) = device_free d n x (Some h.2.0) idle h.2.2.0.map
   device_built idle n x (inr h) = device_free d n x None idle h.0.map
@@ -266,7 +266,7 @@ module _ (d : Draft) (m : IsMap d) where
           by_it true e = refl
           by_it false e = let some : 0 < n = grind (arith, nat_tests) in let no = f some in absurd cc
 
-  -- where a rule's head ends lawfully the rule is free
+  -- if a rule's head ends lawfully, then the rule is free, with some sizes
   abbrev Headed : List ℕ → ℕ → List ℕ → Type 0
   Headed x n k = (least : Option ℕ) × (most : Option ℕ) × RuleFree d (new_rule x n k least most)
 
@@ -309,7 +309,7 @@ module _ (d : Draft) (m : IsMap d) where
   )
 
   module _ (r : RuleData) where
-    -- where a step's line ends lawfully there was room for it
+    -- if a step's line ends lawfully, then there was room for the step
     step_built : (w : StepWord) → Possible d (step_behind d r w) → (s : StepData) × StepFree d r s
     step_built takes (b, fb, inl h) = (take (bucket_of_word d b) (Some h.2.0), step_free d r (take (bucket_of_word d b) (Some h.2.0)) h.2.2.1)
     step_built takes (b, fb, inr h) = (take (bucket_of_word d b) None, step_free d r (take (bucket_of_word d b) None) h.1)
@@ -317,7 +317,7 @@ module _ (d : Draft) (m : IsMap d) where
     step_built (sets x) h = (set x (digits_value 10 h.0), step_free d r (set x (digits_value 10 h.0)) h.2.1)
     step_built emits h = (emit, step_free d r emit h.1)
 
-    -- a word that tells whether a step comes, or the end
+    -- a word that says whether a step or the end follows
     right_step_or_end : (w : List ℕ) → IsFor d (step_or_end (length r.steps)) w → Possible d (step_or_brace d r (bytes_eq w (codes "step"))) → IsRight d (step_or_end (length r.steps)) w
     right_step_or_end w (inl e) p =
         let q : Possible d (step_or_brace d r true) = subst (λ (x : List ℕ). Possible d (step_or_brace d r (bytes_eq x (codes "step")))) e p in

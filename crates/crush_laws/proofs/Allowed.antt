@@ -1,4 +1,4 @@
--- What a draft has before a line, told by the table and the setting with that line.
+-- What a draft has before a line, as far as the table and the setting with that line determine it.
 use Rattle.std.proofs.Common.{◌≡◌, ℕ, ◌+◌, ◌<◌, ◌≤◌, Bool, true, false, List, [], ◌∷◌, ◌++◌, Option, Some, length, refl, sym, ap, subst, ◌∙◌, arith}
 use Rattle.std.proofs.lemmas.Bool.{le-ltb, lt-leb, eq-eqb}
 use Rattle.std.proofs.lemmas.List.{length-append, map-append}
@@ -72,7 +72,7 @@ pub last_of : {X : Type 0} (P : X → Type 0) (xs : List X) (y : X) → All P (x
 last_of P [] y h = All-head P y [] h
 last_of P (x ∷ xs) y h = last_of P xs y (All-tail P x (xs ++ y ∷ []) h)
 
--- the type that comes last is free before its line
+-- the last type is free before its line
 pub kind_free : (d : Draft) (n : ℕ) (x : List ℕ) → IsMap (with_kind d n x) → KindFree d n x
 kind_free d n x m =
     let kind : KindData = record { number = n; name = x } in
@@ -89,7 +89,7 @@ pub record TunableFree (d : Draft) (x : List ℕ) (v : ℕ) : Type 0 where
   pub few : is_full_of_tunables d ≡ false
   pub tunable : IsTunable (record { name = x; value = v })
 
--- the tunable that comes last is free before its line
+-- the last tunable is free before its line
 pub tunable_free : (d : Draft) (x : List ℕ) (v : ℕ) → IsMap (with_tunable d x v) → TunableFree d x v
 tunable_free d x v m =
     let new : TunableData = record { name = x; value = v } in
@@ -106,7 +106,7 @@ pub record RuleFree (d : Draft) (r : RuleData) : Type 0 where
   pub few : is_full_of_rules d ≡ false
   pub rule : IsRule (add_rule d r).setting r
 
--- the rule that comes last is free before its lines
+-- the last rule is free before its lines
 pub rule_free : (d : Draft) (r : RuleData) → IsMap (add_rule d r) → RuleFree d r
 rule_free d r m = record {
   name = any_none (λ (x : RuleData). bytes_eq x.name r.name) d.setting.rules (none_before (λ (x : RuleData). bytes_eq x.name r.name) d.setting.rules r (bytes_itself r.name) (m.fits.setting.rule_names r.name));
@@ -141,7 +141,7 @@ member_any : (k : ℕ) (xs : List ℕ) → member k xs ≡ list_any (λ u. u == 
 member_any k [] = refl
 member_any k (x ∷ xs) = ap (λ b. (x == k) || b) (member_any k xs)
 
--- the class id that comes last is free before its line
+-- the last class id is free before its line
 pub class_free : (t : List Row) (b : ℕ) (cs : List ShadowData) (c : ShadowData) → CanNumber t b (cs ++ c ∷ []) → ClassFree t b cs c
 class_free t b cs c n =
     let own : own_ids b (cs ++ c ∷ []) ≡ own_ids b cs ++ c.id ∷ [] = ap (λ (xs : List ℕ). b ∷ xs) (map-append (λ (x : ShadowData). x.id) cs (c ∷ [])) in
@@ -205,7 +205,7 @@ pub record DeviceFree (d : Draft) (n : ℕ) (x : List ℕ) : Type 0 where
   pub most : n < DEVICE_IDS
   pub form : IsName x
 
--- the row that comes last is a free device before its line
+-- the device of the last row is free before its line
 device_free_by : (d : Draft) (n : ℕ) (r : Row) → r.id ≡ Device n → d.pending ≡ nothing → Lawful (d.table ++ r ∷ []) → DeviceFree d n r.name
 device_free_by d n r is idle l =
     let none : times (Device n) d.table ≡ 0 = none_before (λ (x : Row). same_id x.id (Device n)) d.table r (ap (λ (i : ItemId). same_id i (Device n)) is ∙ same_id_refl (Device n)) (l.ids (Device n)) in
@@ -261,7 +261,7 @@ row_light n b w (r ∷ t) all there = by_id (same_id r.id (Device n)) refl all t
     by_id true e all there ih = of_row (same_id_equal r.id (Device n) e) (All-head IsRow (placed_row b w r) (map (placed_row b w) (filter (λ (x : Row). same_id x.id (Device n)) t)) all)
     by_id false e all there ih = ih all there
 
--- so the table with a device in the bucket that is being filled tells that it may weigh that
+-- so if the table with a device in the bucket that is being filled is lawful, then the device may have that weight
 pub light_device : (d : Draft) (b n w : ℕ) → d.pending ≡ filling b → is_there d.table (Device n) ≡ true → IsMap (with_next_item d (Device n) (Some w)) → w ≤ HEAVIEST_DEVICE
 light_device d b n w p there m =
     let l : Lawful (put_below b (Device n) w d.table) = subst (λ (q : Pending). Lawful (table_with_item q (Device n) w d.table)) p m.lawful in

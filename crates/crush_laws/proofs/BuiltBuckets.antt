@@ -69,7 +69,7 @@ row_there None h = absurd (let no : false ≡ true = h in cc)
 row_there (Some x) h = (x, refl)
 
 module _ (s : SettingData) (names : ℕ → List ℕ) (t : List Row) (l : Lawful t) (h : HasKinds s names t) where
-  -- the words of a bucket, but for the names of types
+  -- the words of a bucket, except for the names of types
   abbrev words_with : ℕ → List (List ℕ)
   words_with b = option_map_or (λ (x : Row). bucket_words (names x.kind) x (flat_map (kid_words t) (kids t b))) (row_of t (Bucket b)) []
 
@@ -97,7 +97,7 @@ module _ (s : SettingData) (names : ℕ → List ℕ) (t : List Row) (l : Lawful
             (read_draft s names t l h (add seen b) (add seen b) (with_one q (Bucket b)) filled.places (whole_kids t (add seen b)) filled.table read nothing tt)));
       }
 
-  -- ALL BUCKETS, each behind those among its items
+  -- ALL BUCKETS, each after the buckets among its items
   record RestLeads (late : Bool) (u : List Row) (words others : List (List ℕ)) : Type 0 where
     table : List Row
     behind : Bool

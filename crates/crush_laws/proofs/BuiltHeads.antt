@@ -44,7 +44,7 @@ use Rattle.crush_laws.proofs.Allowed.{type_named}
 use Rattle.crush_laws.proofs.BuiltLines.{Goes, goes_both, idle, head_goes, class_id_goes, alg_goes}
 use Rattle.crush_laws.proofs.BuiltParts.{whole_kids, open_kids, IsRead, read_closed, read_more, read_lawful, read_row, fresh, unplaced, read_opened}
 
--- what is built where no weight was adjusted
+-- what is built if no weight was adjusted
 abbrev pub built : SettingData → List Row → Pending → Draft
 built s u p = record { setting = s; table = u; pending = p; adjusted = 0 }
 
@@ -92,7 +92,7 @@ module _ (s : SettingData) (names : ℕ → List ℕ) (t : List Row) (l : Lawful
   pub read_draft : (seen there : ℕ → Bool) (q P : ItemId → Bool) (items : ℕ → List ItemId) (u : List Row) → IsRead t seen there q P items u → (p : Pending) → IsPending s u p → IsLawfulDraft (built s u p)
   read_draft seen there q P items u r p k = record { map = record { lawful = read_lawful t l seen there q P items u r; fits = fits_part q P u r.rows }; pending = k }
 
--- a front of class ids can be there where all can
+-- if all class ids can be in the table, then so can a prefix of them
 pub front_number : (u : List Row) (b : ℕ) (xs ys : List ShadowData) → CanNumber u b (xs ++ ys) → CanNumber u b xs
 front_number u b xs ys n = record {
   some = n.some;

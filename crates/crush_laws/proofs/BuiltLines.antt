@@ -1,4 +1,4 @@
--- The words of each printed line lead from one draft to the next, wherever what the line builds is lawful.
+-- The words of each printed line lead from one draft to the next, if what the line builds is lawful.
 use Rattle.std.proofs.Common.{◌≡◌, ℕ, ◌<◌, ◌≤◌, ◌^◌, Bool, true, false, List, [], ◌∷◌, ◌++◌, length, Option, Some, None, Ok, refl, sym, ap, subst, ◌∙◌, append_assoc, append-nil, arith, inl, inr}
 use Rattle.std.proofs.lemmas.Bool.Decides.{nat_tests}
 use Rattle.std.proofs.lemmas.Bool.{ne_eqb}
@@ -31,21 +31,21 @@ use Rattle.crush_text.specs.Flow.{State, between, amid, arrive}
 use Rattle.crush_text.specs.Document.{IsWhole}
 use Rattle.crush_laws.specs.Admitted.{IsLawfulDraft, IsLawfulState, LeadsFrom, WordLeads, Build}
 
--- words, wherever they stand
+-- words of these texts, each with the place 0
 abbrev pub plain : List (List ℕ) → List Word
 plain ts = map (λ (t : List ℕ). record { place = 0; text = t }) ts
 
--- WORDS LEAD from one state to another, where others follow
+-- WORDS LEAD from one state to another, if these other words follow
 abbrev pub Goes : State → List (List ℕ) → List (List ℕ) → State → Type 0
 Goes s [] others m = s ≡ m
 Goes s (w ∷ ws) others m = (u : State) × WordLeads s w (plain (ws ++ others)) u × IsLawfulState u × Goes u ws others m
 
--- one way behind another
+-- one way after another
 pub goes_both : (s : State) (a b others : List (List ℕ)) (m n : State) → Goes s a (b ++ others) m → Goes m b others n → Goes s (a ++ b) others n
 goes_both s [] b others m n f g = subst (λ x. Goes x b others n) (sym f) g
 goes_both s (w ∷ a) b others m n f g = (f.0, subst (λ l. WordLeads s w (plain l) f.0) (sym (append_assoc a b others)) f.1, f.2, goes_both f.0 a b others m n f.3 g)
 
--- where a form leads depends on the words behind it alone, not on their places
+-- the state to which a form leads depends on the words after it, and not on their places
 key_of : List ℕ → List (List ℕ) → Bool
 key_of k [] = false
 key_of k (t ∷ ts) = bytes_eq t k
@@ -148,11 +148,11 @@ kind_goes d n x others le l = (
   ),
 )
 
--- the class behind a device's name
+-- the class after a device's name
 abbrev class_form : Draft → ℕ → List ℕ → Form
 class_form d n x = word (key (codes "class")) (λ _. word any_word (λ c. done (at first (with_device d n x (Some c)))))
 
--- a device's, behind which no class follows
+-- a device's line, after which no class follows
 pub device_goes : (d : Draft) (n : ℕ) (x : List ℕ) (class : Option (List ℕ)) (others : List (List ℕ)) → n < 10 ^ 10 → begins_with_key (codes "class") (plain others) ≡ false → IsLawfulDraft (with_device d n x class)
     → Goes (between (at first d)) (codes "device" ∷ decimal n ∷ x ∷ class_words class) others (between (at first (with_device d n x class)))
 device_goes d n x None others le other l = (
@@ -188,7 +188,7 @@ device_goes d n x (Some c) others le other l = (
   ),
 )
 
--- between two statements, before the first bucket or rule or behind one
+-- between two statements, before the first bucket or rule or after one
 abbrev pub idle : Bool → Mode
 idle late = if late then second else first
 
@@ -242,7 +242,7 @@ class_id_goes d b class others le l = (
   ),
 )
 
--- the hash behind a bucket's algorithm
+-- the hash after a bucket's algorithm
 abbrev hash_form : Draft → Alg → Form
 hash_form d a = word (key (codes "hash")) (λ _. word (number 0) (λ _. done (at (filling false) (with_alg d a))))
 

@@ -1,4 +1,4 @@
--- What is printed of a map is the text of that map.
+-- The printed text of a map is the text of that map.
 use Rattle.std.proofs.Common.{◌≡◌, ℕ, Bool, true, false, List, [], ◌∷◌, ◌++◌, Option, Some, None, refl, sym, ap, subst, ◌∙◌, arith}
 use Rattle.std.proofs.lemmas.List.{append-nil}
 use Rattle.std.proofs.lemmas.List.Elements.{All-head, All-tail}
@@ -81,7 +81,7 @@ module _ (s : SettingData) (t : List Row) (l : Lawful t) (f : Fits s t) where
           let some = form.kind_some in
           ap (λ n. bytes_eq n (codes "class")) (kind_text-is s r.kind k) ∙ free_name k.kind.name (kind.free (omega (arith, number, some)))
 
-  -- BEHIND THE BUCKETS stand the rules
+  -- AFTER THE BUCKETS come the rules
   abbrev rules_behind : List (List ℕ)
   rules_behind = flat_map (rule_words t) s.rules ++ []
 
@@ -137,7 +137,7 @@ module _ (s : SettingData) (t : List Row) (l : Lawful t) (f : Fits s t) where
   may_end true = refl
   may_end false = refl
 
-  -- THE WHOLE MAP is read back, where its buckets are built, whatever stands behind it that has no words
+  -- THE WHOLE MAP is read back if its buckets are built, whatever text without words follows it
   read_as : (rest : List ℕ) → Holds rest [] → BucketsLead s t false due rules_behind → IsTextOf (map_text s t ++ rest) (in_order s) t
   read_as rest none b =
       let u = b.last.table in
@@ -162,10 +162,10 @@ module _ (s : SettingData) (t : List Row) (l : Lawful t) (f : Fits s t) where
   pub map_read_back : BucketsAreBuilt → (rest : List ℕ) → Holds rest [] → IsTextOf (map_text s t ++ rest) (in_order s) t
   map_read_back built rest none = read_as rest none (built s t l false due rules_behind before.ready)
 
--- what is printed is read so, where its buckets are built
+-- the printed text is read in this way if its buckets are built
 pub types_are_read_in_order : BucketsAreBuilt → TypesAreReadInOrder
 types_are_read_in_order built s t l f = subst (λ bytes. IsTextOf bytes (in_order s) t) (append-nil (map_text s t)) (map_read_back s t l f built [] holds_nothing)
 
--- and with comments behind it
+-- and so it is if comments follow it
 pub comments_behind : BucketsAreBuilt → (s : SettingData) (t : List Row) (comments : List ℕ) → Lawful t → Fits s t → AreCommentLines comments → IsTextOf (map_text s t ++ comments) (in_order s) t
 comments_behind built s t comments l f are = map_read_back s t l f built comments (comment_lines-hold comments are)

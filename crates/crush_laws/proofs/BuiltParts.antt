@@ -1,4 +1,4 @@
--- The table while the printed buckets are read: what is there, and what is where it will be.
+-- The table while the printed buckets are read: which rows it has, and which of them already have their final place.
 use Rattle.std.proofs.Common.{◌≡◌, ℕ, ◌≤◌, Bool, true, false, List, [], ◌∷◌, ◌++◌, Option, Some, None, refl, sym, ap, subst, ◌∙◌, append-nil, arith}
 use Rattle.std.proofs.lemmas.Bool.{or_parts, eqb-true}
 use Rattle.std.proofs.lemmas.List.Elements.{All-head, All-tail, All-weaker}
@@ -46,7 +46,7 @@ pub record IsRead (t : List Row) (seen there : ℕ → Bool) (q P : ItemId → B
   pub rows : IsReordered (part_of q P t) u
   pub kids : (c : ℕ) → kids u c ≡ items c
 
--- no test comes out both ways
+-- no test is both true and false
 pub both_ways : (b : Bool) → b ≡ true → b ≡ false → ⊥
 both_ways b e f = let no : true ≡ false = sym e ∙ f in cc
 
@@ -210,7 +210,7 @@ module _ (t : List Row) (b : ℕ) (seen : ℕ → Bool) (q P : ItemId → Bool) 
     items c v true k m = (λ j. if m j then kids t b else whole_kids t seen c) ∙ ap (kids t) (eqb-true b c m) ∙ sym ((λ j. if seen c || m j then kids t c else []) ∙ (λ j. if or_right (seen c) true refl j then kids t c else []))
     items c v false k m = (λ j. if m j then kids t b else whole_kids t seen c) ∙ sym ((λ j. if seen c || m j then kids t c else []) ∙ (λ j. if or_none (seen c) j then kids t c else []))
 
--- each item stands in its bucket once
+-- each item is in its bucket once
 pub kids_once : (t : List Row) → Lawful t → (b : ℕ) (i : ItemId) → count_by (λ (j : ItemId). same_id j i) (kids t b) ≤ 1
 kids_once t l b i = omega (
   arith,

@@ -1,4 +1,4 @@
--- The words of each printed line of a rule lead on, wherever the rule that is read so far can be in the map.
+-- The words of each printed line of a rule lead on, if the map may have the rule as far as it is read.
 use Rattle.std.proofs.Common.{◌≡◌, ℕ, suc, ◌<◌, ◌≤◌, ◌^◌, Bool, true, false, List, [], ◌∷◌, ◌++◌, length, Option, Some, None, refl, sym, ap, subst, ◌∙◌, arith, inl, inr}
 use Rattle.std.proofs.lemmas.Bool.{ne_eqb}
 use Rattle.std.proofs.lemmas.Slice.Eq.{bytes_eq-Decides}
@@ -74,7 +74,7 @@ sizes_lawful : (d : Draft) (x : List ℕ) (n : ℕ) (k : List ℕ) (least : Opti
 sizes_lawful d x n k None rest other l = subst IsLawfulState (sym (ap (λ b. if b then amid d (least_form d x n k) else arrive d (plain rest) (max_size d x n k None)) other)) l
 sizes_lawful d x n k (Some v) rest other l = tt
 
--- a rule's name, its id, the word for what it serves, and its sizes, behind which no size follows
+-- a rule's name, its id, the word for its kind, and its sizes, after which no other size follows
 pub rule_head_goes : (late : Bool) (d : Draft) (x : List ℕ) (n : ℕ) (k : List ℕ) (least most : Option ℕ) (others : List (List ℕ)) → n < 10 ^ 10 → IfSome least (λ v. v ≤ LARGEST_RULE_NUMBER) → IfSome most (λ v. v ≤ LARGEST_RULE_NUMBER)
     → begins_with_key (codes "min_size") (plain others) ≡ false → begins_with_key (codes "max_size") (plain others) ≡ false → IsLawfulState (between (at (ruled (new_rule x n k least most)) d))
     → Goes (between (at (idle late) d)) (codes "rule" ∷ x ∷ codes "{" ∷ codes "id" ∷ decimal n ∷ codes "type" ∷ k ∷ (size_words (codes "min_size") least ++ size_words (codes "max_size") most)) others (between (at (ruled (new_rule x n k least most)) d))

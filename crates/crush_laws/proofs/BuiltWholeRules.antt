@@ -1,4 +1,4 @@
--- The printed lines of rules lead from a map without rules to one with them: a bucket that a rule takes is found again by its printed name.
+-- The printed lines of rules lead from a map without rules to one with them. A bucket that a rule takes is found by its printed name.
 use Rattle.std.proofs.Common.{◌≡◌, ℕ, ◌<◌, ◌^◌, Bool, true, false, List, [], ◌∷◌, ◌++◌, length, Some, refl, sym, ap, subst, ◌∙◌, arith, eq-eqb}
 use Rattle.std.proofs.lemmas.List.Concat.{flat_map-append}
 use Rattle.std.proofs.lemmas.List.Elements.{All-head, All-weaker}
@@ -33,7 +33,7 @@ use Rattle.crush_laws.proofs.BuiltRules.{rule_head_goes, take_goes, choose_goes,
 use Rattle.crush_laws.proofs.BuiltEach.{quiet, quiet_lawful, Led, EachLeads, each_goes, Avoids, avoids_both, avoids_all, new_at, has_room, shorter, All-at}
 use Rattle.crush_laws.proofs.BuiltKinds.{ordered_number}
 
--- no step begins with a word but `step`
+-- each step begins with the word `step`
 step_avoids : (t : List Row) (k : List ℕ) → bytes_eq (codes "step") k ≡ false → (x : StepData) → Avoids k (step_words t x)
 step_avoids t k h (take b class) = h
 step_avoids t k h (choose leaf firstn count kind) = h
@@ -45,7 +45,7 @@ part_at : {X : Type 0} (P : ℕ → Type 0) (g : X → List ℕ) (front : List X
 part_at P g front x rest all e a =
     All-left P (g x) (flat_map g rest) (All-right P (flat_map g front) (flat_map g (x ∷ rest)) (subst (All P) (flat_map-append g front (x ∷ rest)) (subst (λ xs. All P (flat_map g xs)) (sym e) a)))
 
--- behind a rule, buckets and rules may come
+-- after a rule, buckets and rules may follow
 abbrev pub behind : Bool → List RuleData → Bool
 behind late [] = late
 behind late (r ∷ rs) = true

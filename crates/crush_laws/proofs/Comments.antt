@@ -1,4 +1,4 @@
--- Lines of comments have no words, and one behind the other they are such lines.
+-- Comment lines have no words, and several comment lines one after the other are comment lines.
 use Rattle.std.proofs.Common.{◌≡◌, ℕ, ◌+◌, Bool, true, false, not, ◌==◌, List, [], ◌∷◌, ◌++◌, refl, ap, sym, ◌∙◌, rules, tests}
 use Rattle.std.proofs.lemmas.Bool.{and_parts}
 use Rattle.std.specs.List.{list_all}
@@ -7,7 +7,7 @@ use Rattle.crush_units.proofs.Printed.{Holds}
 use Rattle.crush_units.proofs.Split.{opens, inside, closes, at_end}
 use Rattle.crush_laws.specs.ReadingBack.{are_comments, AreCommentLines}
 
--- no word is among them, wherever they begin
+-- they have no words, wherever they begin
 no_words : (begun : Bool) (bytes : List ℕ) (p : ℕ) → are_comments begun bytes ≡ true → (q : ℕ) × (words_in begun p bytes ≡ stopped (ended q))
 no_words begun [] p h = (p, at_end begun p)
 no_words false (b ∷ bs) p h =

@@ -1,4 +1,4 @@
--- A bucket before its row stands in the table: what the table with that row says of its first lines.
+-- A bucket before its row is in the table: what the table with that row says of the bucket's first lines.
 use Rattle.std.proofs.Common.{◌≡◌, ℕ, ◌+◌, ◌≤◌, false, List, [], ◌∷◌, ◌++◌, refl, ap, ◌∙◌, arith}
 use Rattle.std.proofs.lemmas.Bool.{and_from, lt-ltb, eq-eqb}
 use Rattle.std.proofs.lemmas.List.Elements.{All-weaker}

@@ -1,4 +1,4 @@
--- Lawful backwards: where a line may end lawfully, what was built before it is lawful.
+-- Lawful backwards: if what is built after a line is lawful, then what was built before it is lawful.
 use Rattle.std.proofs.Common.{◌≡◌, ℕ, Bool, true, false, List, [], ◌∷◌, ◌++◌, Option, Some, None, refl, sym, ap, subst, inl, inr}
 use Rattle.std.specs.Prelude.{All, bytes_eq, codes, drop}
 use Rattle.std.specs.Str.Parse.{digits_value}
@@ -40,7 +40,7 @@ module _ (d : Draft) where
   class_kinds n x (inl h) = h.2.2.0.map.fits.setting.kinds
   class_kinds n x (inr h) = h.0.map.fits.setting.kinds
 
-  -- where a rule's head ends lawfully the map before it is one
+  -- if a rule's head ends lawfully, then what was built before it is a map
   max_map : (x : List ℕ) (n : ℕ) (k : List ℕ) (least : Option ℕ) → Possible d (max_size d x n k least) → IsMap d
   max_map x n k least (inl h) = h.2.2.0.map
   max_map x n k least (inr h) = h.0.map

@@ -1,4 +1,4 @@
--- A setting before its last line: what is a map with one type, tunable, rule or step more is one without.
+-- A setting before its last line: a map with one type, tunable, rule or step more is also a map without it.
 use Rattle.std.proofs.Common.{◌≡◌, ℕ, ◌≤◌, Bool, List, [], ◌∷◌, ◌++◌, length, sym, subst, arith, length-append}
 use Rattle.std.proofs.lemmas.List.Elements.{All-nil, All-weaker}
 use Rattle.std.proofs.lemmas.List.Sums.{sum_by-append}
@@ -25,7 +25,7 @@ fewer p xs ys n h = omega (arith, h, sum_by-append (λ x. one_if (p x)) xs ys)
 pub shorter : {X : Type 0} (xs ys : List X) (n : ℕ) → length (xs ++ ys) ≤ n → length xs ≤ n
 shorter xs ys n h = omega (arith, h, length-append xs ys)
 
--- types, tunables and devices stand before buckets and rules: there is no rule yet, and each row is a device's
+-- types, tunables and devices come before buckets and rules: there is no rule yet, and each row is a device's
 pub record IsEarly (d : Draft) : Type 0 where
   pub unruled : d.setting.rules ≡ []
   pub devices : All (λ (r : Row). r.kind ≡ 0) d.table
@@ -92,11 +92,11 @@ tunable_back d x v early m =
       };
     }
 
--- a rule keeps its form without those behind it
+-- a rule keeps its form without the rules after it
 rule_before : (d : Draft) (r x : RuleData) → IsRule (add_rule d r).setting x → IsRule d.setting x
 rule_before d r x h = rule_kept (add_rule d r).setting d.setting.rules x h
 
--- before a rule, where the buckets that are taken are there
+-- before a rule, if the buckets that it takes exist
 pub rule_back : (d : Draft) (r : RuleData) → All (IsThere d.table) (taken_buckets d.setting) → IsMap (add_rule d r) → IsMap d
 rule_back d r taken m =
     let s : SettingData = d.setting in

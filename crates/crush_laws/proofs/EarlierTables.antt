@@ -1,4 +1,4 @@
--- A table before its last line: what is lawful with one row more, or with an item put into its bucket, is lawful without.
+-- A table before its last line: a table that is lawful with one row more, or with an item put into its bucket, is lawful without that.
 use Rattle.std.proofs.Common.{◌≡◌, ℕ, ◌+◌, ◌≤◌, Bool, true, false, List, [], ◌∷◌, ◌++◌, Option, Some, None, refl, sym, ap, subst, ◌∙◌, arith}
 use Rattle.std.proofs.lemmas.List.Elements.{All-map, All-filter, All-weaker, filter-append, filter_passes}
 use Rattle.std.proofs.lemmas.List.{append-nil}
@@ -85,7 +85,7 @@ row_back t r all l =
 abbrev pub IsLoose : Row → Type 0
 IsLoose r = r.parent ≡ None → r.weight ≡ 0
 
--- a row where it was put, taken out again
+-- a root's row without weight that was put into a bucket is the same row without that bucket and weight
 out_again : (b w : ℕ) (r : Row) → r.parent ≡ None → r.weight ≡ 0 → bare (placed_row b w r) ≡ r
 out_again b w r root light = λ k. record r { parent = sym root k; weight = sym light k }
 
@@ -98,7 +98,7 @@ module _ (t : List Row) (i : ItemId) (b w : ℕ) where
   apart : IsReordered (without_row i t ++ own) t
   apart = through (reordered_comm (without_row i t) own) (reordered_split (λ (r : Row). same_id r.id i) t)
 
-  -- no row comes or goes
+  -- no row is added or removed
   pub times_put : (j : ItemId) → times j (put_below b i w t) ≡ times j t
   times_put j =
       times-append j (without_row i t) (map (placed_row b w) own)
@@ -110,7 +110,7 @@ module _ (t : List Row) (i : ItemId) (b w : ℕ) where
   pub there_put : (j : ItemId) → is_there t j ≡ true → is_there (put_below b i w t) j ≡ true
   there_put j h = times-is_there (put_below b i w t) j (subst (λ (n : ℕ). 1 ≤ n) (sym (times_put j)) (is_there-times t j h))
 
-  -- all items but this one
+  -- all items except this one
   abbrev Others : ItemId → Bool
   Others j = not (same_id j i)
 
@@ -151,7 +151,7 @@ module _ (t : List Row) (i : ItemId) (b w : ℕ) where
             let none : r.parent ≡ None = ap (option_and_then (λ (x : Row). x.parent)) (sym found) ∙ ap (parent_of t) (same_id_equal r.id i is) ∙ root (parent_of t i) free in
             own_row r is none (light none)
 
-    -- and all rows are, but for their order
+    -- and so are all rows, except for their order
     all_back : map (shown Others) (put_below b i w t) ≡ without_row i t ++ own
     all_back = map_append (shown Others) (without_row i t) (map (placed_row b w) own) ∙ (λ k. others_back k ++ own_back k)
 

@@ -1,4 +1,4 @@
--- The texts of maps are those whose words lead to a lawful map: what is lawful in the end was lawful wherever a line ended.
+-- The texts of maps are those whose words lead to a map that is lawful in the end: then it was also lawful at the end of each line.
 use Rattle.std.proofs.Common.{◌≡◌, ℕ, true, false, List, [], ◌∷◌, refl, sym, subst}
 use Rattle.std.specs.Prelude.{drop}
 use Rattle.std.proofs.lemmas.Bool.{cond_both}
@@ -71,7 +71,7 @@ state_before : (s : State) (w : List ℕ) (rest : List Word) (u : State) → Has
 state_before (between p) w rest u k h e = line_back p.draft k.tied p.mode k.stage (form_before p.draft (next p) w rest u h e)
 state_before (amid d f) w rest u k h e = form_before d f w rest u h e
 
--- what may end is lawful where a line ends
+-- what may end lawfully is lawful at the end of a line
 ended_lawful : (s : State) → MayEnd s → IsLawfulState s
 ended_lawful (between p) h = h
 ended_lawful (amid d f) h = tt

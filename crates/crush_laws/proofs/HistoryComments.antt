@@ -31,7 +31,7 @@ use Rattle.crush_laws.specs.Written.{IsNamed, IsNamedCall, HistoryLinesAreCommen
 abbrev pub IsInLine : List ℕ → Type 0
 IsInLine part = list_all (λ b. not (b == 10)) part ≡ true
 
--- two parts, one behind the other
+-- two parts, one after the other
 pub both_in_line : (a b : List ℕ) → IsInLine a → IsInLine b → IsInLine (a ++ b)
 both_in_line a b ha hb = list_all-append (λ x. not (x == 10)) a b ∙ rw (ha, hb) refl
 
@@ -132,7 +132,7 @@ call_in_line (Batch es) is = both_in_line (codes "begin ; ") (rest_text es) refl
 call_in_line (Guarded seen es) is =
     both_in_line (guard_text seen) (rest_text es) (three_in_line (codes "begin at ") (decimal seen) (codes " ; ") refl (number_in_line seen) refl) (both_in_line (edits_text es) (codes "commit") (edits_in_line es is) refl)
 
--- REPLIES: the line ends behind them
+-- REPLIES: the line ends after them
 abbrev EndsLine : List ℕ → Type 0
 EndsLine text = (rest : List ℕ) → are_comments true (text ++ rest) ≡ are_comments false rest
 

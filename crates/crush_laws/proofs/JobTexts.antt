@@ -1,4 +1,4 @@
--- The map after the run of a job: it is lawful, and what is written of it is read back.
+-- The map after the run of a job is lawful, and the output of the run is read back as that map.
 use Rattle.std.proofs.Common.{◌≡◌, ℕ, ◌<◌, ◌&&◌, Bool, true, false, cond, List, Option, Some, None, nat_le, refl, arith}
 use Rattle.std.proofs.lemmas.Bool.Decides.{nat_tests}
 use Rattle.std.proofs.lemmas.List.Elements.{All-map, All-weaker}
@@ -22,8 +22,7 @@ use Rattle.crush_history.specs.LawRun.{IsCall}
 use Rattle.crush_history.proofs.RunLaws.{history_keeps, turns_calls, turns_keep}
 use Rattle.crush_script.specs.Job.{JobData, IsJob}
 use Rattle.crush_script.specs.Lines.{map_part}
-use Rattle.crush_script.specs.Words.{is_plain, device_named}
-use Rattle.crush_script.specs.Printed.{IsSaidPlacing, IsSaid}
+use Rattle.crush_history.specs.Said.{is_plain, device_named, IsSaidPlacing, IsSaid}
 use Rattle.crush_laws.specs.Written.{IsNamed, IsNamedCall, IsNamedHistory, JobsStayLawful, JobTextsAreReadBack, JobMapsAreReadBack, HistoryTextsAreReadBack}
 use Rattle.crush_laws.proofs.HistoryComments.{written_is_read_back}
 use Rattle.crush_script.specs.ScriptsText.{IsSaidCall, IsSaidScript}

@@ -1,4 +1,4 @@
--- What each line keeps holds of all that is read, and so each document is a map.
+-- What each line preserves holds for all that is read, so each document is a map.
 use Rattle.std.proofs.Common.{◌≡◌, ◌≢◌, ℕ, zero, suc, ◌<◌, ◌≤◌, Bool, true, false, cond, List, [], ◌∷◌, ◌++◌, Option, Some, None, Result, Ok, Err, refl, sym, ap, subst, ◌∙◌, arith, inl, inr}
 use Rattle.std.proofs.lemmas.Bool.{cond_both, and_parts, or_parts, ltb-true, leb-true}
 use Rattle.std.proofs.lemmas.Slice.Eq.{bytes_eq-Decides}
@@ -180,7 +180,7 @@ bucket_there d w h = by_item (item_named d w) refl h
     by_item (Some (Device x)) e k = absurd (k refl)
     by_item (Some (Bucket b)) e k = (listable d w (Bucket b) e).there
 
--- a weight without a fault may stand behind its item
+-- a weight without a fault may follow its item
 weight_for : (i : ItemId) (r : Result ℕ WeightFault) → (IsNoWeightOf i r → ⊥) → IsLight i (units_or_none r)
 weight_for i (Err f) a = absurd (a tt)
 weight_for (Device n) (Ok w) a = omega (arith, a)
@@ -215,7 +215,7 @@ if_at_most false = omega arith
 differs : (w k : List ℕ) → bytes_eq w k ≡ false → w ≢ k
 differs w k other e = let t = (bytes_eq-Decides w k).1 e in absurd cc
 
--- a first word without a fault begins a bucket where it begins nothing else
+-- a first word without a fault that begins nothing else begins a bucket
 pub begins_bucket : (d : Draft) (late : Bool) (w : List ℕ) → IsRight d (opening late) w → bytes_eq w (codes "tunable") ≡ false → bytes_eq w (codes "device") ≡ false → bytes_eq w (codes "type") ≡ false → bytes_eq w (codes "rule") ≡ false
     → BeginsBucket d w
 begins_bucket d late w r tunable device kind rule =

@@ -1,4 +1,4 @@
--- With a line that has no fault, table and setting are lawful.
+-- After a line without a fault, the table and the setting are lawful.
 use Rattle.std.proofs.Common.{◌≡◌, ℕ, ◌<◌, ◌≤◌, Bool, true, false, List, [], ◌∷◌, ◌++◌, Option, Some, None, refl, sym, ap, subst, ◌∙◌, arith}
 use Rattle.std.proofs.lemmas.Bool.{eq-eqb, or_parts, or_right}
 use Rattle.std.proofs.lemmas.List.Elements.{All-head, All-tail}

@@ -62,7 +62,7 @@ arrives d rest (word r more) h = h
 arrives d rest (optional k f g) h = cond_both (begins_with_key k rest) (arrive d rest f) (arrive d rest g) Goes (λ _. arrives d rest f h.0) (λ _. arrives d rest g h.1)
 arrives d rest (ahead k f g) h = cond_both (begins_with_key k (drop 1 rest)) (arrive d rest f) (arrive d rest g) Goes (λ _. arrives d rest f h.0) (λ _. arrives d rest g h.1)
 
--- where words build a map a line's end is among them
+-- if words build a map from a lawful state, then the line of that state may end
 ends : (s : State) (ws : List Word) (e : Draft) → IsLawfulState s → Build s ws e → MayEnd s
 ends (between p) ws e l b = l
 ends (amid d f) [] e l b = absurd b

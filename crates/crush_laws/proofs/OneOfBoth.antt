@@ -34,7 +34,7 @@ at_most_one_flaw bytes f g x y =
     let k = sym (fault_of (words 0 bytes) f x) ∙ fault_of (words 0 bytes) g y in
     cc
 
--- no word but `weight` is looked for ahead
+-- the only word that is looked for ahead is `weight`
 abbrev LooksForWeights : Form → Type 0
 LooksForWeights (done p) = Unit {0}
 LooksForWeights (word r more) = (v : El r) → LooksForWeights (more v)
@@ -100,7 +100,7 @@ step_leads : (s : State) (text : List ℕ) (rest : List Word) (u : State) → Lo
 step_leads (between p) text rest u k h = form_looks p.draft (next_line p) text rest u (lines_look p.draft p.mode) h
 step_leads (amid d f) text rest u k h = form_looks d f text rest u k h
 
--- what is due depends on no more than the next word, and whether `weight` stands behind it
+-- what is due depends only on the next word, and on whether `weight` follows it
 next_alone : (d : Draft) (f : Form) (w : Word) (ws us : List Word) → LooksForWeights f → begins_with_key (codes "weight") ws ≡ begins_with_key (codes "weight") us → arrive d (w ∷ ws) f ≡ arrive d (w ∷ us) f
 next_alone d (done p) w ws us k same = refl
 next_alone d (word r more) w ws us k same = refl
@@ -109,7 +109,7 @@ next_alone d (ahead c f g) w ws us k same =
     let so : begins_with_key c ws ≡ begins_with_key c us = ap (λ (x : List ℕ). begins_with_key x ws) k.0 ∙ same ∙ ap (λ (x : List ℕ). begins_with_key x us) (sym k.0) in
     λ i. cond (so i) (next_alone d f w ws us k.1 same i) (next_alone d g w ws us k.2 same i)
 
--- so where a word leads does, too
+-- so does the state to which a word leads
 form_alone : (d : Draft) (f : Form) (text : List ℕ) (w : Word) (ws us : List Word) (u : State) → LooksForWeights f → begins_with_key (codes "weight") ws ≡ begins_with_key (codes "weight") us → SpellsForm d f text (w ∷ ws) u → SpellsForm d f text (w ∷ us) u
 form_alone d (word r more) text w ws us u k same h = (h.0, h.1 ∙ next_alone d (more (value d r text)) w ws us (k (value d r text)) same)
 form_alone d (done p) text w ws us u k same h = absurd h
@@ -120,12 +120,12 @@ step_alone : (s : State) (text : List ℕ) (w : Word) (ws us : List Word) (u : S
 step_alone (between p) text w ws us u k same h = form_alone p.draft (next_line p) text w ws us u (lines_look p.draft p.mode) same h
 step_alone (amid d f) text w ws us u k same h = form_alone d f text w ws us u k same h
 
--- the same word comes first where the same words follow
+-- whether words begin with `weight` doesn't depend on what follows a word w after them
 same_first : (ws : List Word) (w : Word) (next more : List Word) → begins_with_key (codes "weight") (ws ++ w ∷ next) ≡ begins_with_key (codes "weight") (ws ++ w ∷ more)
 same_first [] w next more = refl
 same_first (v ∷ ws) w next more = refl
 
--- words spell the same way where the same word follows them, and `weight` behind it or not
+-- words spell the same if the same word follows them, and if after that word `weight` follows in both cases or in neither
 spelled_so : (s : State) (ws : List Word) (w : Word) (next more : List Word) (u : State) → Looks s → begins_with_key (codes "weight") next ≡ begins_with_key (codes "weight") more → Spell s ws (w ∷ next) u → Spell s ws (w ∷ more) u
 spelled_so s [] w next more u k same h = h
 spelled_so s (v ∷ []) w next more u k same h = (h.0, step_alone s v.text w next more h.0 k same h.1, h.2)
@@ -155,7 +155,7 @@ at_most_one_map bytes s r t u n m x y =
     let k : x.draft ≡ y.draft = one_draft x.draft y.draft (words 0 bytes) (outcome_of (words 0 bytes) x.draft x.document) (outcome_of (words 0 bytes) y.draft y.document) in
     (sym x.setting ∙ ap (λ (d : Draft). d.setting) k ∙ y.setting, sym x.table ∙ ap (λ (d : Draft). d.table) k ∙ y.table, sym x.count ∙ ap (λ (d : Draft). d.adjusted) k ∙ y.count)
 
--- what comes of the text is a draft or a fault
+-- the result of the text is a draft or a fault
 pub a_map_or_a_flaw : AMapOrAFlaw
 a_map_or_a_flaw bytes = by_outcome (outcome start (words 0 bytes)) refl
   where

@@ -1,4 +1,4 @@
--- The text of a plan is read as a script of its edits, and makes them.
+-- The text of a plan is read as a script of its edits, and the run of this script makes them.
 use Rattle.std.proofs.Common.{◌≡◌, ℕ, suc, ◌+◌, ◌-◌, ◌<◌, ◌≤◌, ◌&&◌, ◌==◌, Bool, true, false, not, cond, List, [], ◌∷◌, ◌++◌, Option, None, Ok, length, map, take, drop, nat_le, refl, sym, ap, ◌∙◌, subst, arith, rules, tests, append_assoc, append-nil}
 use Rattle.std.specs.Prelude.{All, codes, decimal, flat_map, slice_index}
 use Rattle.std.specs.List.{list_all, onto_first}
@@ -21,13 +21,13 @@ use Rattle.crush_history.specs.HistoryText.{edit_text}
 use Rattle.crush_history.specs.History.{Counted, EntryData, counted_after, edit_outcome, entry_on, is_change, later, turn, turns_from, untouched}
 use Rattle.crush_script.specs.Command.{command, end_at, name_at, operator}
 use Rattle.crush_script.specs.Lines.{begins_section, length_to_section, line_words, lines, map_part, section_line, section_part, without_comment, words_between_blanks}
-use Rattle.crush_script.specs.Printed.{IsSaid}
+use Rattle.crush_history.specs.Said.{IsSaid}
 use Rattle.crush_script.specs.ScriptsText.{ends_line}
 use Rattle.crush_script.specs.Sections.{SectionsData, no_sections, with_line, with_lines, without_batch}
 use Rattle.crush_script.proofs.MapTexts.{map_texts_have_no_section}
 use Rattle.crush_script.proofs.PrintedLaws.{name_word, printed_is_read}
 use Rattle.crush_script.proofs.PrintedWords.{IsWord, line_words-joined}
-use Rattle.crush_reasons.specs.Ceph.{ceph_heading}
+use Rattle.crush_history.specs.Ceph.{ceph_heading}
 use Rattle.crush_names.specs.Aside.{aside_text}
 use Rattle.crush_plan.specs.Leads.{Leads}
 use Rattle.crush_plan.specs.Part.{IsAllowed}
@@ -61,7 +61,7 @@ begin_comments true (b ∷ bs) = begin_comments (not (b == 10)) bs
 abbrev IsComment : List ℕ → Type 0
 IsComment line = (rest : List ℕ) × (line ≡ 35 ∷ rest)
 
--- lines of which all but the first are such
+-- all lines after the first are comments
 abbrev AreBehind : List (List ℕ) → Type 0
 AreBehind [] = Unit {0}
 AreBehind (line ∷ rest) = All IsComment rest
@@ -108,7 +108,7 @@ within (b ∷ part) rest h =
     let k = and_parts (not (b == 10)) (list_all (λ x. not (x == 10)) part) h in
     ap (λ (t : Bool). begin_comments t (part ++ rest)) k.0 ∙ within part rest k.1
 
--- and so is all that stands behind the edits
+-- and so is all that follows the edits
 stay_is : (rest more : List ℕ) → ((begun : Bool) → begin_comments begun more ≡ true) → begin_comments false (stay_text rest ++ more) ≡ true
 unfolding stay_heading
 stay_is [] more h = h false
@@ -277,7 +277,7 @@ plans_are_scripts under old new text adjusted name plan map_text last is found r
       scripts = refl;
     }
 
--- RUN, each edit is made where it leads
+-- RUN: each edit is made on the table to which those before it lead
 abbrev IsChange : EntryData → Type 0
 IsChange e = is_change e.reply ≡ true
 

@@ -1,4 +1,4 @@
--- With its types in order a setting prints the same.
+-- A setting has the same printed text with its types in the order of their numbers.
 use Rattle.std.proofs.Common.{◌≡◌, ℕ, List, [], ◌∷◌, ◌++◌, refl, sym, ap, ◌∙◌}
 use Rattle.std.specs.Prelude.{map, flat_map, codes, unwrap_or, ◌==◌}
 use Rattle.std.specs.Option.{option_map}

@@ -1,4 +1,4 @@
--- What is printed of a map is read as that map.
+-- The printed text of a map is read back as that map.
 use Rattle.std.proofs.Common.{List, ℕ, refl}
 use Rattle.crush_model.specs.Lawful.{Lawful}
 use Rattle.crush_model.specs.Table.{Row}

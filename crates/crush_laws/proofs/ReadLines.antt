@@ -1,4 +1,4 @@
--- What was spelled word by word was spelled line by line.
+-- Words that are spelled word by word are spelled line by line.
 use Rattle.std.proofs.Common.{◌≡◌, ◌⊎◌, ℕ, zero, suc, true, List, [], ◌∷◌, ◌++◌, refl, sym, subst, inl, inr}
 use Rattle.std.proofs.lemmas.Bool.{cond_both}
 use Rattle.std.specs.Prelude.{drop}
@@ -11,7 +11,7 @@ use Rattle.crush_text.specs.Flow.{State, between, amid, arrive, takes_statement}
 use Rattle.crush_text.specs.Document.{SpellsForm, Spell, IsWhole}
 use Rattle.crush_text.specs.Rows.{IsRight}
 
--- A LINE, and the words behind it: each of its words is right, and an optional part is there or isn't
+-- A LINE, and the words after it: each of its words is right, and each optional part is there or isn't
 abbrev pub Line : Draft → Form → List (List ℕ) → List (List ℕ) → Progress → Type 0
 Line d (done q) ws v p = (ws ≡ v) × (q ≡ p)
 Line d (word r more) ws v p = (w : List ℕ) × (us : List (List ℕ)) × (ws ≡ w ∷ us) × IsRight d r w × Line d (more (value d r w)) us v p
@@ -59,6 +59,6 @@ spelled_lines (between p) (w ∷ ws) last e h whole =
     (suc y.2, (y.0, y.1, y.3, y.4))
 spelled_lines (amid d f) (w ∷ ws) last e h whole = before d f w.text (texts ws) (ws ++ []) h.0 e h.1 (spelled_lines h.0 ws last e h.2 whole)
 
--- what comes of one and the same line
+-- lines spelled from one progress are spelled from an equal one
 pub along : (n : ℕ) (p q : Progress) (ws : List (List ℕ)) (e : Draft) → p ≡ q → Lines n q ws e → Lines n p ws e
 along n p q ws e is h = subst (λ (x : Progress). Lines n x ws e) (sym is) h

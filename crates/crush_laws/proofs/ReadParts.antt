@@ -1,4 +1,4 @@
--- What a line reads is what a production of the grammar spells.
+-- The words that a line reads are those that a production of the grammar spells.
 use Rattle.std.proofs.Common.{◌≡◌, ◌⊎◌, ℕ, Bool, true, false, List, ◌∷◌, Option, Some, None, refl, sym, ap, ◌∙◌, inl, inr}
 use Rattle.std.proofs.lemmas.Slice.Eq.{bytes_eq-Decides}
 use Rattle.std.specs.Prelude.{codes, bytes_eq, unwrap_or, option_and_then, if◌then◌else◌}
@@ -25,7 +25,7 @@ use Rattle.crush_laws.proofs.ReadLines.{Line}
 pub cons_is : (ws : List (List ℕ)) (w k : List ℕ) (us vs : List (List ℕ)) → ws ≡ w ∷ us → w ≡ k → us ≡ vs → ws ≡ k ∷ vs
 cons_is ws w k us vs e a b = e ∙ (λ i. a i ∷ b i)
 
--- one of two words, where it isn't the first
+-- one of two words, if it isn't the first
 pub second_word : (w k l : List ℕ) → bytes_eq w k ≡ false → (w ≡ k) ⊎ (w ≡ l) → w ≡ l
 second_word w k l other (inl e) = absurd (let no : true ≡ false = sym ((bytes_eq-Decides w k).1 e) ∙ other in cc)
 second_word w k l other (inr e) = e
@@ -34,7 +34,7 @@ pub is_word : (w k : List ℕ) → bytes_eq w k ≡ true → w ≡ k
 is_word w k e = (bytes_eq-Decides w k).0 e
 
 -- WHAT STANDS FIRST
--- what was read, as a statement, behind which the draft is this one
+-- what was read as a statement, after which the draft is this one
 pub record FirstRead (d : Draft) (words v : List (List ℕ)) (q : Progress) (made : First → Draft) : Type 0 where
   pub statement : First
   pub spelled : SpellsFirst statement words v

@@ -1,4 +1,4 @@
--- What the rest of a text spells, and how it grows by the line before it.
+-- What the rest of a text spells, and how the line before the rest adds to it.
 use Rattle.std.proofs.Common.{◌≡◌, ℕ, ◌+◌, ◌<◌, Bool, true, false, List, [], ◌∷◌, ◌++◌, Option, None, refl, sym, ap, subst, ◌∙◌, append_assoc, append-nil, add_assoc, arith, inl, inr}
 use Rattle.std.proofs.lemmas.Bool.{and_parts, ltb-true}
 use Rattle.std.proofs.lemmas.List.Elements.{All-cons}
@@ -90,7 +90,7 @@ pub record FirstsRead (ks : List KindData) (ts : List TunableData) (t : List Row
   pub spelled : SpellsEach SpellsFirst firsts ws more
   pub seconds : SecondsRead (record { kinds = ks ++ flat_map first_kinds firsts; tunables = ts ++ flat_map first_tunables firsts; rules = [] }) (t ++ flat_map first_rows firsts) 0 more e
 
--- behind each line
+-- after each line
 abbrev pub Goal : Mode → Draft → List (List ℕ) → Draft → Type 0
 Goal first d ws e = d.pending ≡ nothing → d.setting.rules ≡ [] → d.adjusted ≡ 0 → FirstsRead d.setting.kinds d.setting.tunables d.table ws e
 Goal second d ws e = d.pending ≡ nothing → SecondsRead d.setting d.table d.adjusted ws e

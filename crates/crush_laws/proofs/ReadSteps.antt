@@ -1,4 +1,4 @@
--- What a step reads is what the grammar spells.
+-- The words that a step reads are those that the grammar spells.
 use Rattle.std.proofs.Common.{◌≡◌, ◌⊎◌, ℕ, Bool, true, false, List, ◌∷◌, Option, Some, None, refl, sym, ap, ◌∙◌, inl, inr}
 use Rattle.std.proofs.lemmas.Slice.Eq.{bytes_eq-Decides}
 use Rattle.std.specs.Prelude.{codes, bytes_eq, cond, unwrap_or, nat_eq, option_and_then}
@@ -26,7 +26,7 @@ use Rattle.crush_laws.proofs.LawfulTexts.{is_for}
 use Rattle.crush_laws.proofs.ReadLines.{Line}
 use Rattle.crush_laws.proofs.ReadParts.{cons_is, is_word}
 
--- what was read, as a step, behind which the rule goes on
+-- what was read as a step, after which the rule goes on
 pub record StepRead (d : Draft) (r : RuleData) (words v : List (List ℕ)) (q : Progress) : Type 0 where
   pub step : StepLine
   pub spelled : SpellsStep step words v

@@ -1,4 +1,4 @@
--- A rule that is read line by line: with each line it is one that the map may have, and what the map has with it, it has before.
+-- A rule that is read line by line: if the map may have the rule with a line, then it may have the rule without that line.
 use Rattle.std.proofs.Common.{◌≡◌, ℕ, ◌<◌, ◌≤◌, false, List, [], ◌∷◌, ◌++◌, Option, length, sym, subst, arith, length-append}
 use Rattle.std.proofs.lemmas.Bool.{eqb-true}
 use Rattle.std.proofs.lemmas.Grind.{flat_map-append}

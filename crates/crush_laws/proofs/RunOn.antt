@@ -1,4 +1,4 @@
--- What is printed of a map, and written of a run, runs on with sections behind it.
+-- The printed text of a map, and the output of a run, are jobs again when sections of scripts are appended.
 use Rattle.std.proofs.Common.{◌≡◌, ℕ, ◌==◌, Bool, true, false, not, List, [], ◌∷◌, ◌++◌, refl, ap, ◌∙◌, arith}
 use Rattle.std.specs.Prelude.{codes}
 use Rattle.std.proofs.lemmas.Bool.{and_parts}

@@ -1,4 +1,4 @@
--- What the words of a text keep by their forms alone, be the map lawful or not.
+-- What the words of a text preserve by their forms alone, whether or not the map is lawful.
 use Rattle.std.proofs.Common.{◌≡◌, ℕ, Bool, true, false, List, [], ◌∷◌, ◌++◌, Option, Some, None, refl, sym, ap, subst, ◌∙◌, arith, inl, inr}
 use Rattle.std.proofs.lemmas.Grind.{flat_map-append}
 use Rattle.std.proofs.lemmas.List.Elements.{All-nil, All-cons, All-push, All-append, All-filter, All-map, All-weaker}

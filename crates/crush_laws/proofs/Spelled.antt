@@ -1,4 +1,4 @@
--- What spells a lawful document is the text of its map.
+-- A text that spells a lawful document is the text of its map.
 use Rattle.std.proofs.Common.{◌≡◌, ℕ, ◌+◌, Bool, true, false, List, [], ◌∷◌, ◌++◌, refl, sym, subst, ◌∙◌, append_assoc, append-nil, add_assoc, arith}
 use Rattle.std.specs.Prelude.{All, flat_map}
 use Rattle.crush_model.specs.Table.{Row}
@@ -23,7 +23,7 @@ use Rattle.crush_laws.proofs.SpelledBuckets.{bucket_leads}
 use Rattle.crush_laws.proofs.SpelledRules.{rule_leads}
 
 module _ (ks : List KindData) (kinds : All IsKind ks) (ts : List TunableData) (e : Draft) where
-  -- a bucket or a rule, behind what stands first or behind others
+  -- a bucket or a rule, after the lines of the first part or after other buckets and rules
   second_leads : (late : Bool) (x : Second) (rs : List RuleData) (t : List Row) (a : ℕ) (ws rest : List (List ℕ)) → SpellsSecond x ws rest → UsesNames ks x t
       → LeadTo (between (at second (draft ks ts (rs ++ rules_in t x) (with_second ks x t) (a + adjusted_in ks x t)))) (plain rest) e → LeadTo (between (at (idle late) (draft ks ts rs t a))) (plain ws) e
   second_leads late (bucket b) rs t a ws rest h uses k =

@@ -1,4 +1,4 @@
--- The words of a bucket lead on as a document says.
+-- The words of a bucket lead to the draft that the document says.
 use Rattle.std.proofs.Common.{◌≡◌, ℕ, ◌+◌, ◌<◌, Bool, true, false, List, [], ◌∷◌, ◌++◌, Option, Some, None, Ok, refl, sym, ap, subst, ◌∙◌, append_assoc, append-nil, add_assoc, arith, inl, inr}
 use Rattle.std.proofs.lemmas.Bool.{and_parts, eqb-true}
 use Rattle.std.specs.Prelude.{codes, drop, unwrap_or, slice_index, ◌==◌, ◌&&◌, option_and_then, if◌then◌else◌}
@@ -55,7 +55,7 @@ module _ (ks : List KindData) (ts : List TunableData) (rs : List RuleData) (e : 
   free : (t : List Row) (a b : ℕ) (x : List ℕ) → IsListable b t x → IsFree (amid_bucket t a (is_filling b)) x
   free t a b x h = let is = found_item t a b x h in (found t a b x h ∙ ap (λ (i : ItemId). Some i) (sym is), ap (is_placed t) is ∙ h.once)
 
-  -- one item: the word behind one without a weight isn't `weight`
+  -- one item: the word after an item without a weight isn't `weight`
   item_leads : (any : Bool) (b : ℕ) (x : List ℕ) (w : Option ℕ) (t : List Row) (a : ℕ) (ws rest : List (List ℕ)) → SpellsWeighed x w ws rest → begins_with_key (codes "weight") (plain rest) ≡ false → IsListable b t x
       → LeadTo (between (at (filling true) (with_next_item (amid_bucket t a (is_filling b)) (item_in t x) w))) (plain rest) e → LeadTo (between (at (filling any) (amid_bucket t a (is_filling b)))) (plain ws) e
   item_leads any b x None t a ws rest h other l k =

@@ -1,4 +1,4 @@
--- The words of a line lead on as a document says: what several lines share, and the lines that stand first.
+-- The words of a line lead to the draft that the document says: what several kinds of lines share, and the lines of the first part.
 use Rattle.std.proofs.Common.{◌≡◌, ℕ, true, false, List, [], ◌∷◌, ◌++◌, Option, Some, None, refl, sym, subst, append_assoc, append-nil, inl, inr}
 use Rattle.std.proofs.lemmas.Bool.{and_parts}
 use Rattle.std.specs.Prelude.{codes, flat_map, drop}
@@ -29,7 +29,7 @@ lead_alike s (v ∷ vs) (w ∷ ws) e same h =
     let tail : texts vs ≡ texts ws = cc in
     (h.0, subst (λ (x : List ℕ). WordLeads s x ws h.0) head (leads_alike s v.text vs ws h.0 tail h.1), lead_alike h.0 vs ws e tail h.2)
 
--- SEVERAL WORDS of a line, and others behind them: what each is for, and where it leads
+-- SEVERAL WORDS of a line, and other words after them: what each is read as, and where it leads
 abbrev FormTakes : Draft → Form → List ℕ → Type 0
 FormTakes d (word r more) w = IsFor d r w
 FormTakes d (done p) w = ⊥
@@ -95,7 +95,7 @@ lacking d (done p) rest e h s = absurd h
 pub number_digits : (most n : ℕ) (w : List ℕ) → IsNumber most n w → are_digits 10 w ≡ true
 number_digits most n w h = (and_parts (are_digits 10 w) _ h.0).0
 
--- no `class` stands next
+-- the next word isn't `class`
 abbrev pub NoClass : List (List ℕ) → Type 0
 NoClass ws = begins_with_key (codes "class") (plain ws) ≡ false
 

@@ -1,4 +1,4 @@
--- The words of a rule lead on as a document says.
+-- The words of a rule lead to the draft that the document says.
 use Rattle.std.proofs.Common.{◌≡◌, ℕ, Bool, true, false, List, [], ◌∷◌, ◌++◌, Option, Some, None, refl, sym, ap, subst, ◌∙◌, append_assoc, append-nil, inl, inr}
 use Rattle.std.proofs.lemmas.List.Elements.{All-head, All-tail}
 use Rattle.std.specs.Prelude.{ℤ, All, codes, map, unwrap_or, option_and_then}
@@ -33,7 +33,7 @@ module _ (ks : List KindData) (ts : List TunableData) (rs : List RuleData) (t : 
   abbrev here : Draft
   here = draft ks ts rs t a
 
-  -- in a rule that goes so far
+  -- in a rule as far as it is read
   abbrev inside : RuleData → State
   inside r = between (at (ruled r) here)
 
@@ -88,7 +88,7 @@ module _ (ks : List KindData) (ts : List TunableData) (rs : List RuleData) (t : 
   step_leads emits r ws rest h takes_one other k =
       subst (λ (v : List (List ℕ)). LeadTo (inside r) (plain v) e) (sym h) (words_lead (inside r) (codes "step" ∷ codes "emit" ∷ []) rest e (inl refl, (inr (inr (inr (inl refl))), tt)) k)
 
-  -- steps begin with `step`, and behind them stands a brace
+  -- steps begin with `step`, and a brace follows them
   step_begins : (x : StepLine) (ws rest : List (List ℕ)) (P : List (List ℕ) → Type 0) → ((more : List (List ℕ)) → P (codes "step" ∷ more)) → SpellsStep x ws rest → P ws
   step_begins (takes x class) ws rest P all h = subst P (sym h.1) (all (codes "take" ∷ x ∷ h.0))
   step_begins (chooses leaf firstn n kind) ws rest P all h = subst P (sym h.2) (all (choice_word leaf ∷ order_word firstn ∷ h.0 ∷ codes "type" ∷ kind ∷ rest))
@@ -136,7 +136,7 @@ module _ (ks : List KindData) (ts : List TunableData) (rs : List RuleData) (t : 
       (words_lead (arrive here (plain all) (sizes here x n kind)) (codes "min_size" ∷ h.0 ∷ []) rest e (refl, (h.1.0, tt))
       (subst (λ (v : ℕ). LeadTo (arrive here (plain rest) (max_size here x n kind (Some v))) (plain rest) e) (sym h.1.1) k))
 
-  -- a greatest size, or what stands behind it
+  -- a greatest size, or what follows it
   most_begins : (most : Option ℕ) (ws rest : List (List ℕ)) → SpellsSize (codes "max_size") most ws rest → Begins (codes "min_size") rest → Begins (codes "min_size") ws
   most_begins None ws rest h other = subst (Begins (codes "min_size")) (sym h) other
   most_begins (Some m) ws rest h other = subst (Begins (codes "min_size")) (sym h.2) refl

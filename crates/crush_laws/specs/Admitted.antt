@@ -1,4 +1,4 @@
--- WHICH TEXTS ARE LAWFUL: each word is of the form that is due, and line by line a map is built. No fault is spoken of.
+-- WHICH TEXTS ARE LAWFUL: each word has the form that is due at its place, and the lines build a map that is lawful after each of them. These definitions don't mention faults.
 use Rattle.std.specs.Prelude.{◌≡◌, ◌⊎◌, ℕ, ◌<◌, Bool, true, false, nat_eq, List, [], ◌∷◌, Some, Ok, codes, drop, slice_index}
 use Rattle.std.specs.List.{starts_with}
 use Rattle.crush_units.specs.declared.alg.Alg.{Alg}
@@ -17,27 +17,27 @@ use Rattle.crush_text.specs.Grammar.{next}
 use Rattle.crush_text.specs.Flow.{State, between, amid, arrive}
 use Rattle.crush_text.specs.Document.{IsMap, IsWhole, start}
 
--- the table is lawful, the setting fits it, and what of a bucket isn't in the table yet can be put there
+-- the table is lawful, the setting fits it, and what was read of a bucket that isn't in the table yet can be put there
 pub record IsLawfulDraft (d : Draft) : Type 0 where
   pub map : IsMap d
   pub pending : IsPending d.setting d.table d.pending
 
--- tunables, types and devices stand before buckets and rules; a rule begins so, and a bucket with the name of its type, which
--- isn't type 0
+-- the word begins a statement: `tunable`, `device` or `type`, if no bucket or rule has begun before (`late`); or `rule`; or the name of a
+-- type other than type 0, which begins a bucket
 abbrev pub BeginsStatement : Draft → Bool → List ℕ → Type 0
 BeginsStatement d late w = ((late ≡ false) × ((w ≡ codes "tunable") ⊎ ((w ≡ codes "device") ⊎ (w ≡ codes "type")))) ⊎ ((w ≡ codes "rule") ⊎ (0 < kind_of_word d w))
 
--- the words with which a step begins
+-- the word begins a step of a rule: `take`, `choose`, `chooseleaf`, `emit`, or a word that starts with `set_`
 abbrev pub BeginsStep : List ℕ → Type 0
 BeginsStep w = (w ≡ codes "take") ⊎ ((w ≡ codes "choose") ⊎ ((w ≡ codes "chooseleaf") ⊎ ((w ≡ codes "emit") ⊎ (starts_with nat_eq w (codes "set_") ≡ true))))
 
--- an item that is there, closed and in no bucket
+-- the word names an item that can be listed: a device, or a bucket whose lines have ended, that is in no bucket
 abbrev pub IsFree : Draft → List ℕ → Type 0
 IsFree d w = (item_named d w ≡ Some (item_of d w)) × (is_placed d.table (item_of d w) ≡ false)
 
--- a word is of the form of what it is for: a word of the grammar, digits, `-` and digits, an item that is there, closed and in
--- no bucket, a closed bucket, a weight. All limits, the forms of names and what is in use already are told by the map that the
--- line builds
+-- the word w has the form of what is due, r: a given word of the grammar, a number, digits, `-` and digits, an item that can be listed, a
+-- bucket whose lines have ended, or a weight. Limits, the forms of names, and whether a name or an id is already used are not checked here:
+-- they are conditions on the map that the line builds.
 abbrev pub IsFor : Draft → Role → List ℕ → Type 0
 IsFor d (key k) w = w ≡ k
 IsFor d any_word w = Unit {0}
@@ -66,19 +66,19 @@ IsFor d step_order w = (w ≡ codes "firstn") ⊎ (w ≡ codes "indep")
 IsFor d step_count w = is_signed w ≡ true
 IsFor d step_type w = Unit {0}
 
--- a word where a form is due leads on, as its value says
+-- the word w, followed by the words rest, leads from the form that is due to the state m: w has that form, and its value says what is due next
 abbrev pub LeadsFrom : Draft → Form → List ℕ → List Word → State → Type 0
 LeadsFrom d (word r more) w rest m = IsFor d r w × (m ≡ arrive d rest (more (value d r w)))
 LeadsFrom d (done p) w rest m = ⊥
 LeadsFrom d (optional k f g) w rest m = ⊥
 LeadsFrom d (ahead k f g) w rest m = ⊥
 
--- between two lines the next one is due
+-- the word leads from a state to the state m. Between two lines, the forms of the next line are due.
 abbrev pub WordLeads : State → List ℕ → List Word → State → Type 0
 WordLeads (between p) w rest m = LeadsFrom p.draft (next p) w rest m
 WordLeads (amid d f) w rest m = LeadsFrom d f w rest m
 
--- in the middle of a rule, the map with the rule that was read so far
+-- in the middle of a rule: the map is lawful with the steps of the rule that were read so far
 abbrev pub IsLawfulMode : Draft → Mode → Type 0
 IsLawfulMode d first = Unit {0}
 IsLawfulMode d second = Unit {0}
@@ -87,17 +87,17 @@ IsLawfulMode d numbered = Unit {0}
 IsLawfulMode d (filling any) = Unit {0}
 IsLawfulMode d (ruled r) = IsMap (add_rule d r)
 
--- where a line ends, what was built so far is lawful
+-- at the end of a line, what was built so far is lawful; within a line nothing is required
 abbrev pub IsLawfulState : State → Type 0
 IsLawfulState (between p) = IsLawfulDraft p.draft × IsLawfulMode p.draft p.mode
 IsLawfulState (amid d f) = Unit {0}
 
--- WORDS BUILD a map, line by line, from a state on
+-- WORDS BUILD the draft d from the state s: each word leads to the next state, which is lawful, and the last line is whole and has built d
 abbrev pub Build : State → List Word → Draft → Type 0
 Build s [] d = IsWhole s d
 Build s (w ∷ ws) d = (u : State) × WordLeads s w.text ws u × IsLawfulState u × Build u ws d
 
--- A LAWFUL TEXT: its words build this setting and this table of nothing, and adjust so many weights
+-- A LAWFUL TEXT: its words build, from an empty draft, this setting, this table and this number of adjusted weights
 pub record IsLawfulText (bytes : List ℕ) (s : SettingData) (t : List Row) (adjusted : ℕ) : Type 0 where
   pub draft : Draft
   pub built : Build start (words 0 bytes).words draft

@@ -1,14 +1,14 @@
--- A TEXT AS A DOCUMENT: its statements in order, with all names as they are written.
+-- A TEXT AS A DOCUMENT: its statements in order, with all names as they are written in the text.
 use Rattle.std.specs.Prelude.{ℕ, ℤ, Bool, List, Option}
 use Rattle.crush_units.specs.declared.alg.Alg.{Alg}
 use Rattle.crush_model.specs.Items.{ShadowData}
 
--- an item of a bucket, with its written weight in units or with none
+-- a line for an item of a bucket: its name, and its written weight in units, if there is one
 pub record ItemLine : Type 0 where
   pub name : List ℕ
   pub weight : Option ℕ
 
--- a bucket: the name of its type, its own, its id by how far it is below 0, its class ids, its algorithm and its items
+-- a bucket: the name of its type, its own name, its id by how far it is below 0 (2 for -2), its class ids, its algorithm and its items
 pub record BucketLines : Type 0 where
   pub kind : List ℕ
   pub name : List ℕ
@@ -17,15 +17,15 @@ pub record BucketLines : Type 0 where
   pub alg : Alg
   pub items : List ItemLine
 
--- a step of a rule: it takes a bucket, with or without a class; chooses, among the devices below the items or the items
--- themselves, in one of two orders, so many of a type; sets what its word names; or hands out
+-- a step of a rule. `takes` a bucket's name, and a class if there is one. `chooses` whether it is `chooseleaf`, whether it is `firstn`, a
+-- number, and the name of a type. `sets` the word of the step, and a number. `emits` is the step `emit`.
 pub data StepLine : Type 0 where
   takes : List ℕ → Option (List ℕ) → StepLine
   chooses : Bool → Bool → ℤ → List ℕ → StepLine
   sets : List ℕ → ℕ → StepLine
   emits : StepLine
 
--- a rule
+-- a rule: its name, its id, the word after `type`, its two sizes if they are written, and its steps
 pub record RuleLines : Type 0 where
   pub name : List ℕ
   pub id : ℕ
@@ -34,18 +34,18 @@ pub record RuleLines : Type 0 where
   pub max_size : Option ℕ
   pub steps : List StepLine
 
--- what stands first: a tunable and its value, a type's number and its name, a device's id, its name and its class
+-- a line of the first part: a tunable's name and value; a type's number and name; or a device's id, name and class, if it has one
 pub data First : Type 0 where
   tunable : List ℕ → ℕ → First
   kind : ℕ → List ℕ → First
   device : ℕ → List ℕ → Option (List ℕ) → First
 
--- what stands behind
+-- a statement of the second part: a bucket or a rule
 pub data Second : Type 0 where
   bucket : BucketLines → Second
   rule : RuleLines → Second
 
--- THE DOCUMENT
+-- THE DOCUMENT: its first part and its second part
 pub record Document : Type 0 where
   pub first : List First
   pub second : List Second

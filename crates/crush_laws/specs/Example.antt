@@ -1,5 +1,5 @@
--- A SMALL DOCUMENT, worked by hand: two devices; a host, in which one of them is listed with a weight and one without; a root, in
--- which the host is listed with a weight that isn't its sum; and a rule with each kind of step.
+-- A SMALL DOCUMENT, worked by hand. It has two devices; a host that lists one of them with a weight and one without; a root that lists the
+-- host with a weight that isn't the host's sum; and a rule with each kind of step.
 use Rattle.std.specs.Prelude.{◌≡◌, ℕ, pos, neg_ℤ, List, [], ◌∷◌, true, false, Some, None, codes}
 use Rattle.crush_units.specs.declared.alg.Alg.TheVariants.{Straw2}
 use Rattle.crush_units.specs.declared.id.ItemId.TheVariants.{Device, Bucket}
@@ -9,7 +9,7 @@ use Rattle.crush_laws.specs.Document.{Document, takes, chooses, sets, emits, tun
 use Rattle.crush_laws.specs.Spells.{Spells}
 use Rattle.crush_laws.specs.Meaning.{setting_of, table_of, adjusted}
 
--- what stands first, and then the host, the root and the rule
+-- the words of its text: the first lines, then the host, the root and the rule
 abbrev pub example_words : List (List ℕ)
 example_words =
     codes "tunable" ∷ codes "tries" ∷ codes "50" ∷ codes "type" ∷ codes "1" ∷ codes "host" ∷ codes "type" ∷ codes "11" ∷ codes "root"
@@ -22,6 +22,7 @@ example_words =
     ∷ codes "step" ∷ codes "choose" ∷ codes "indep" ∷ codes "-1" ∷ codes "type" ∷ codes "host" ∷ codes "step" ∷ codes "emit"
     ∷ codes "step" ∷ codes "take" ∷ codes "h1" ∷ codes "step" ∷ codes "chooseleaf" ∷ codes "firstn" ∷ codes "0" ∷ codes "type" ∷ codes "osd" ∷ codes "}" ∷ []
 
+-- the document that these words spell
 abbrev pub example : Document
 example = record {
   first = tunable (codes "tries") 50 ∷ kind 1 (codes "host") ∷ kind 11 (codes "root") ∷ device 0 (codes "osd.0") (Some (codes "ssd")) ∷ device 1 (codes "osd.1") None ∷ [];
@@ -47,6 +48,7 @@ example = record {
       ∷ [];
 }
 
+-- the setting that the document means
 abbrev pub example_setting : SettingData
 example_setting = record {
   kinds = record { number = 1; name = codes "host" } ∷ record { number = 11; name = codes "root" } ∷ [];
@@ -61,7 +63,7 @@ example_setting = record {
   } ∷ [];
 }
 
--- the devices stand behind the host, as they are listed, and the host behind the root
+-- the table that the document means: the host's row comes after the root's, which lists it, and the devices' rows are in the order in which the host lists them
 abbrev pub example_table : List Row
 example_table =
     record { id = Device 1; kind = 0; name = codes "osd.1"; parent = Some 2; weight = 32768; class = None; alg = None; class_ids = [] }
@@ -70,7 +72,7 @@ example_table =
     ∷ record { id = Bucket 2; kind = 1; name = codes "h1"; parent = Some 1; weight = 0; class = None; alg = Some Straw2; class_ids = record { id = 3; class = codes "ssd" } ∷ [] }
     ∷ []
 
--- the words spell it; it means this setting and this table, and one weight is adjusted
+-- the words spell the document; the document means this setting and this table, and one weight is adjusted
 pub record ExampleIsRight : Type 0 where
   pub spelled : Spells example_words example
   pub setting : setting_of example ≡ example_setting

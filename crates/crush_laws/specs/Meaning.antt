@@ -14,127 +14,144 @@ use Rattle.crush_units.specs.Words.{words, texts, ended}
 use Rattle.crush_laws.specs.Document.{ItemLine, BucketLines, StepLine, takes, chooses, sets, emits, RuleLines, First, tunable, kind, device, Second, bucket, rule, Document}
 use Rattle.crush_laws.specs.Spells.{Spells}
 
--- WHAT STANDS FIRST: types and tunables of the setting; each device appends a row without parent
+-- THE FIRST LINES of a document are types, tunables and devices. Here: the type that a line declares, if it declares one
 abbrev pub first_kinds : First → List KindData
 first_kinds (kind n name) = record { number = n; name = name } ∷ []
 first_kinds (tunable name n) = []
 first_kinds (device n name class) = []
 
+-- the tunable that a line sets, if it sets one
 abbrev pub first_tunables : First → List TunableData
 first_tunables (tunable name n) = record { name = name; value = n } ∷ []
 first_tunables (kind n name) = []
 first_tunables (device n name class) = []
 
+-- the row that a line appends to the table: a device's line appends the device, without a parent and with weight 0; another line appends none
 abbrev pub first_rows : First → List Row
 first_rows (device n name class) = device_row None (record { id = n; name = name; weight = 0; class = class }) ∷ []
 first_rows (tunable name n) = []
 first_rows (kind n name) = []
 
--- NAMES: the number of a type's name, and the item of a name in the table so far
+-- NAMES: the number of the type that has the name, or 0 if no type has it
 abbrev pub kind_number_in : List KindData → List ℕ → ℕ
 kind_number_in kinds name = unwrap_or (kind_number (record { kinds = kinds; tunables = []; rules = [] }) name) 0
 
+-- the id of the item that has the name in the table so far; device 0 if no item has it
 abbrev pub item_in : List Row → List ℕ → ItemId
 item_in t name = unwrap_or (id_named t name) (Device 0)
 
--- A BUCKET appends its row, and then each of its items is taken out and appended with this parent, a device also with its weight
+-- THE ITEMS OF A BUCKET: the table after the lines of its items. Each item's row is removed and appended again with the bucket b as its parent. A device gets the written weight, or 1.0 if none is written.
 abbrev pub with_items : ℕ → List ItemLine → List Row → List Row
 with_items b [] t = t
 with_items b (i ∷ items) t = with_items b items (put_below b (item_in t i.name) (weight_or_one i.weight) t)
 
+-- A BUCKET: the table after its row is appended, without a parent and before its items are listed
 abbrev pub with_bucket : List KindData → BucketLines → List Row → List Row
 with_bucket kinds b t = t ++ bucket_row None (record { id = b.id; kind = kind_number_in kinds b.kind; name = b.name; alg = b.alg; class_ids = b.class_ids }) ∷ []
 
+-- the table after a bucket with its items; a rule doesn't change it
 abbrev pub with_second : List KindData → Second → List Row → List Row
 with_second kinds (bucket b) t = with_items b.id b.items (with_bucket kinds b t)
 with_second kinds (rule r) t = t
 
+-- the table after several buckets and rules, in order
 abbrev pub with_seconds : List KindData → List Second → List Row → List Row
 with_seconds kinds [] t = t
 with_seconds kinds (x ∷ xs) t = with_seconds kinds xs (with_second kinds x t)
 
--- how many of its items are buckets whose written weight isn't their sum
+-- ADJUSTMENTS: how many of the items of a bucket are buckets whose written weight isn't the sum of their items
 abbrev pub adjusted_items : ℕ → List ItemLine → List Row → ℕ
 adjusted_items b [] t = 0
 adjusted_items b (i ∷ items) t = adjustment t (item_in t i.name) i.weight + adjusted_items b items (put_below b (item_in t i.name) (weight_or_one i.weight) t)
 
+-- the same of a bucket's lines, when the table before them is t; a rule has none
 abbrev pub adjusted_in : List KindData → Second → List Row → ℕ
 adjusted_in kinds (bucket b) t = adjusted_items b.id b.items (with_bucket kinds b t)
 adjusted_in kinds (rule r) t = 0
 
+-- the same of several buckets and rules, in order
 abbrev pub adjusted_by : List KindData → List Second → List Row → ℕ
 adjusted_by kinds [] t = 0
 adjusted_by kinds (x ∷ xs) t = adjusted_in kinds x t + adjusted_by kinds xs (with_second kinds x t)
 
--- A RULE, with the buckets that it takes by their ids
+-- A STEP of a rule as the setting has it: the bucket that it takes is given by its id instead of its name
 abbrev pub step_in : List Row → StepLine → StepData
 step_in t (takes name class) = take (unwrap_or (bucket_named t name) 0) class
 step_in t (chooses leaf firstn n type) = choose leaf firstn n type
 step_in t (sets name n) = set name n
 step_in t emits = emit
 
+-- A RULE as the setting has it
 abbrev pub rule_in : List Row → RuleLines → RuleData
 rule_in t r = record { name = r.name; id = r.id; kind = r.kind; min_size = r.min_size; max_size = r.max_size; steps = map (step_in t) r.steps }
 
+-- the rule of these lines, if they are a rule's
 abbrev pub rules_in : List Row → Second → List RuleData
 rules_in t (bucket b) = []
 rules_in t (rule r) = rule_in t r ∷ []
 
+-- the rules among several buckets and rules, in order; each sees the table after those before it
 abbrev pub rules_by : List KindData → List Second → List Row → List RuleData
 rules_by kinds [] t = []
 rules_by kinds (x ∷ xs) t = rules_in t x ++ rules_by kinds xs (with_second kinds x t)
 
--- THE MAP of a document
+-- THE MAP of a document: its types
 abbrev pub kinds_of : Document → List KindData
 kinds_of doc = flat_map first_kinds doc.first
 
+-- its devices, before buckets list them
 abbrev pub devices_of : Document → List Row
 devices_of doc = flat_map first_rows doc.first
 
+-- its setting: types, tunables and rules
 abbrev pub setting_of : Document → SettingData
 setting_of doc = record { kinds = kinds_of doc; tunables = flat_map first_tunables doc.first; rules = rules_by (kinds_of doc) doc.second (devices_of doc) }
 
+-- its table
 abbrev pub table_of : Document → List Row
 table_of doc = with_seconds (kinds_of doc) doc.second (devices_of doc)
 
+-- how many of its written bucket weights aren't sums, and are replaced by the sums
 abbrev pub adjusted : Document → ℕ
 adjusted doc = adjusted_by (kinds_of doc) doc.second (devices_of doc)
 
--- A NAME IS USED BEHIND ITS LINE, a bucket's behind its closing brace. Items: one that is there, but the bucket itself, and that no
--- bucket lists yet
+-- A NAME IS USED AFTER THE LINE THAT DECLARES IT, a bucket's name after the bucket's closing brace. The bucket b may list the name if some
+-- item of the table has it (`there`), which isn't b itself (`closed`), and which no bucket lists yet (`once`).
 pub record IsListable (b : ℕ) (t : List Row) (name : List ℕ) : Type 0 where
   pub there : id_named t name ≡ Some (item_in t name)
   pub closed : same_id (Bucket b) (item_in t name) ≡ false
   pub once : is_placed t (item_in t name) ≡ false
 
+-- the bucket b may list all these items, one after the other
 abbrev pub AreListable : ℕ → List ItemLine → List Row → Type 0
 AreListable b [] t = Unit {0}
 AreListable b (i ∷ items) t = IsListable b t i.name × AreListable b items (put_below b (item_in t i.name) (weight_or_one i.weight) t)
 
--- what a step takes is a bucket
+-- if the step takes something, then a bucket of the table has that name
 abbrev pub TakesBucket : List Row → StepLine → Type 0
 TakesBucket t (takes name class) = bucket_named t name ≡ Some (unwrap_or (bucket_named t name) 0)
 TakesBucket t (chooses leaf firstn n type) = Unit {0}
 TakesBucket t (sets name n) = Unit {0}
 TakesBucket t emits = Unit {0}
 
--- a bucket's type is none but type 0, and its items can be listed
+-- the names in these lines can be used when the table before them is t. A bucket: its type is known and isn't type 0, and its items can be listed. A rule: what its steps take are buckets.
 abbrev pub UsesNames : List KindData → Second → List Row → Type 0
 UsesNames kinds (bucket b) t = (0 < kind_number_in kinds b.kind) × AreListable b.id b.items (with_bucket kinds b t)
 UsesNames kinds (rule r) t = All (TakesBucket t) r.steps
 
+-- the same of several buckets and rules, in order
 abbrev pub UseNames : List KindData → List Second → List Row → Type 0
 UseNames kinds [] t = Unit {0}
 UseNames kinds (x ∷ xs) t = UsesNames kinds x t × UseNames kinds xs (with_second kinds x t)
 
--- A LAWFUL DOCUMENT: names are used behind their lines, and no item is listed twice; its table is lawful, and its setting fits it,
--- both within the limits of a map
+-- A LAWFUL DOCUMENT: each name is used after the line that declares it, and no item is listed twice (`names`); its table is lawful, and its
+-- setting fits the table, both within the limits of a map
 pub record LawfulDocument (doc : Document) : Type 0 where
   pub names : UseNames (kinds_of doc) doc.second (devices_of doc)
   pub lawful : Lawful (table_of doc)
   pub fits : Fits (setting_of doc) (table_of doc)
 
--- the words of bytes spell a lawful document with this setting, this table and so many adjustments
+-- the bytes can be split into words up to their end, and the words spell a lawful document with this setting, this table and n adjusted weights
 pub record SpellsMap (bytes : List ℕ) (s : SettingData) (t : List Row) (n : ℕ) : Type 0 where
   pub document : Document
   pub spelled : Spells (texts (words 0 bytes).words) document

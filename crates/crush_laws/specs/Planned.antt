@@ -1,4 +1,4 @@
--- The text of a plan is a script of its edits.
+-- The laws that the text of a plan is a script of the plan's edits, and that its run makes them.
 use Rattle.std.specs.Prelude.{◌≡◌, ℕ, ◌≤◌, List, [], ◌∷◌, ◌++◌, All, Option, true, codes, length, map}
 use Rattle.crush_units.specs.Name.{IsName}
 use Rattle.crush_units.specs.declared.limits.TheConstants.{LONGEST_JOB, MOST_CALLS}
@@ -18,25 +18,27 @@ use Rattle.crush_plan.specs.Plan.{IsPlan, PlanData}
 use Rattle.crush_plan.specs.PlanText.{plan_text}
 use Rattle.crush_plan.specs.declared.text.PlanWords.TheVariants.{Script}
 
--- the script of an operator with a call for each edit
+-- the script of the operator of this name, with one call for each edit
 abbrev pub script_of : List ℕ → List Edit → ScriptData
 script_of name es = record { name = name; calls = map One es }
 
--- the text of a map, and behind it that of a plan as the section of an operator
+-- the text of a map, followed by the text of a plan as the section of the operator of this name
 abbrev pub planned_job : List ℕ → List ℕ → PlanData → List ℕ
 planned_job text name plan = text ++ (codes "%operator " ++ name ++ codes "\n" ++ plan_text Script plan)
 
--- PLANS ARE SCRIPTS: such a text of a plan, of whatever part and whatever way it was found, is the job of that map with a call for each
--- edit of the plan, and no other; what is told to stay is nothing to a reader, whatever it is
+-- PLANS ARE SCRIPTS: take the text of a map, which ends a line, and any plan from this map to another, for the whole or for a part. The text
+-- of the map followed by the plan as a section is the job of that map with one call for each edit of the plan and no other call, if it has at
+-- most as many calls and bytes as a job may have. The plan's lines of remaining differences are comments, and add nothing to the job.
 abbrev pub PlansAreScripts : Type 0
 PlansAreScripts = (under : Option (List ℕ)) (old new : PlainMap) (text : List ℕ) (adjusted : ℕ) (name : List ℕ) (plan : PlanData) → IsMapText text old.setting old.table adjusted → ends_line true text ≡ true
     → IsName name → IsPlan under old new plan → length plan.edits ≤ MOST_CALLS → length (planned_job text name plan) ≤ LONGEST_JOB
     → IsJob (planned_job text name plan) (record { setting = old.setting; table = old.table; adjusted = adjusted; scripts = script_of name plan.edits ∷ [] })
 
--- PLANS ARE RUN: edits that lead from a table to another lead there as the script of an operator too, and each is done and is a change
+-- a history leads from the table t to the table u, and each of its entries changed the map
 pub record IsRun (u : List Row) (s : SettingData) (t : List Row) (h : List EntryData) : Type 0 where
   pub table : table_after s t h ≡ u
   pub changes : All (λ (e : EntryData). is_change e.reply ≡ true) h
 
+-- PLANS ARE RUN: if these edits lead from the table t to the table u, then so does the run of the script with one call for each of them, and each call is a change
 abbrev pub PlansAreRun : Type 0
 PlansAreRun = (old new : List Row) (under : Option (List ℕ)) (s : SettingData) (t : List Row) (name : List ℕ) (es : List Edit) (u : List Row) → Leads (IsAllowed old new under) s t es u → IsRun u s t (turns s t (script_of name es ∷ []))

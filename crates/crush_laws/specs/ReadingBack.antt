@@ -1,4 +1,4 @@
--- What is printed of a map is read back as that map.
+-- The laws that the printed text of a map is read back as that map.
 use Rattle.std.specs.Prelude.{◌≡◌, ℕ, ◌==◌, Bool, true, false, not, ◌&&◌, List, [], ◌∷◌, ◌++◌, map}
 use Rattle.crush_model.specs.Table.{Row}
 use Rattle.crush_model.specs.Lawful.{Lawful}
@@ -9,59 +9,59 @@ use Rattle.crush_edits.specs.Fits.{Fits}
 use Rattle.crush_print.specs.MapText.{kind_numbers, kind_text, map_text}
 use Rattle.crush_text.specs.Document.{IsMapText}
 
--- two settings are the same but for the order of their types
+-- two settings are the same, except that the order of their types may differ
 pub record SameSetting (s r : SettingData) : Type 0 where
   pub kinds : IsReordered s.kinds r.kinds
   pub tunables : s.tunables ≡ r.tunables
   pub rules : s.rules ≡ r.rules
 
--- the bytes are the text of a map with this setting and the same table, in which each written weight of a bucket is its sum
+-- the bytes are the text of a map with the setting s and a table that is the same as t, and each written weight of a bucket is its sum
 pub record IsTextOf (bytes : List ℕ) (s : SettingData) (t : List Row) : Type 0 where
   pub table : List Row
   pub text : IsMapText bytes s table 0
   pub same : Same table t
 
--- READ AS: the text of such a map, whose setting is the same but for the order of its types; and that map prints the same text
+-- READ AS: the bytes are the text of such a map, whose setting is the same as s except for the order of its types; and the printed text of that map is the printed text of s and t
 pub record IsReadAs (bytes : List ℕ) (s : SettingData) (t : List Row) : Type 0 where
   pub setting : SettingData
   pub settings : SameSetting s setting
   pub map : IsTextOf bytes setting t
   pub again : map_text setting map.table ≡ map_text s t
 
--- READING BACK: what is printed of a lawful table and a setting that fits it is read as that map
+-- READING BACK: the printed text of a lawful table, with a setting that fits it, is read back as that map
 abbrev pub PrintedTextsAreReadBack : Type 0
 PrintedTextsAreReadBack = (s : SettingData) (t : List Row) → Lawful t → Fits s t → IsReadAs (map_text s t) s t
 
--- the type of a number, by its printed name
+-- the type with this number, with the name that is printed for it
 abbrev pub printed_kind : SettingData → ℕ → KindData
 printed_kind s n = record { number = n; name = kind_text s n }
 
--- the setting with its types by ascending number; tunables and rules stay as they are
+-- the setting with its types in the order of their numbers; tunables and rules are unchanged
 abbrev pub in_order : SettingData → SettingData
 in_order s = record s { kinds = map (printed_kind s) (kind_numbers s) }
 
--- a setting that fits is the same with its types in order
+-- a setting that fits a table and the same setting with its types in order are the same, as SameSetting says
 abbrev pub InOrderIsTheSame : Type 0
 InOrderIsTheSame = (s : SettingData) (t : List Row) → Fits s t → SameSetting s (in_order s)
 
--- and so the types of what is printed are read
+-- the types of a printed text are read in the order of their numbers
 abbrev pub TypesAreReadInOrder : Type 0
 TypesAreReadInOrder = (s : SettingData) (t : List Row) → Lawful t → Fits s t → IsTextOf (map_text s t) (in_order s) t
 
--- with them, whatever table is the same prints the same text
+-- the setting with its types in order, and any table that is the same, have the same printed text
 abbrev pub ReadBackPrintsAlike : Type 0
 ReadBackPrintsAlike = (s : SettingData) (t u : List Row) → Lawful t → Fits s t → Same u t → map_text (in_order s) u ≡ map_text s t
 
--- whether bytes are whole lines, each of which begins with `#`; the first argument says whether one has begun
+-- whether the bytes are whole lines that begin with `#`; the first argument says whether the bytes begin within such a line
 abbrev pub are_comments : Bool → List ℕ → Bool
 are_comments inside [] = not inside
 are_comments false (b ∷ bs) = b == 35 && are_comments true bs
 are_comments true (b ∷ bs) = are_comments (not (b == 10)) bs
 
--- COMMENT LINES
+-- COMMENT LINES: the bytes are whole lines that begin with `#`
 abbrev pub AreCommentLines : List ℕ → Type 0
 AreCommentLines bytes = are_comments false bytes ≡ true
 
--- what is printed is read as the same map, whatever comment lines stand behind it
+-- the printed text of a map, followed by any comment lines, is read back as that map
 abbrev pub CommentsBehindAreNoMatter : Type 0
 CommentsBehindAreNoMatter = (s : SettingData) (t : List Row) (comments : List ℕ) → Lawful t → Fits s t → AreCommentLines comments → IsReadAs (map_text s t ++ comments) s t

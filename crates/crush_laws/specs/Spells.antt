@@ -1,6 +1,6 @@
--- WHICH WORDS SPELL A DOCUMENT: a case for each production of the grammar. In each the words are those of what is spelled, and
--- then the rest. A name, a class or a word is any word here; that none of them is a brace is told by the form of names in lawful
--- documents, as it is that no type is called by a word that begins a statement.
+-- WHICH WORDS SPELL A DOCUMENT: one definition for each production of the grammar, which is written above it. Each says that `words` are the
+-- words of that production, followed by the words `rest`. A name, a class or a WORD can be any word here. Lawful documents require the form of
+-- names, so that none of them is a brace, and that no type has the name of a word that begins a statement.
 use Rattle.std.specs.Prelude.{◌≡◌, ◌⊎◌, ℕ, ℤ, Bool, true, false, nat_eq, List, [], ◌∷◌, Option, Some, None, Ok, codes, drop}
 use Rattle.std.specs.List.{starts_with}
 use Rattle.std.specs.Str.Parse.{digits_value}
@@ -11,29 +11,29 @@ use Rattle.crush_model.specs.Items.{ShadowData}
 use Rattle.crush_units.specs.Numbers.{is_number, is_negative, is_signed, signed_value}
 use Rattle.crush_laws.specs.Document.{ItemLine, BucketLines, StepLine, takes, chooses, sets, emits, RuleLines, First, tunable, kind, device, Second, bucket, rule, Document}
 
--- N, up to a greatest one
+-- N: the word w is the number n, which is at most `most`
 abbrev pub IsNumber : ℕ → ℕ → List ℕ → Type 0
 IsNumber most n w = (is_number most w ≡ true) × (digits_value 10 w ≡ n)
 
--- NEG
+-- NEG: the word w is the negative number -n
 abbrev pub IsBucketNumber : ℕ → List ℕ → Type 0
 IsBucketNumber n w = (is_negative w ≡ true) × (digits_value 10 (drop 1 w) ≡ n)
 
--- INT
+-- INT: the word w is the integer n
 abbrev pub IsSigned : ℤ → List ℕ → Type 0
 IsSigned n w = (is_signed w ≡ true) × (signed_value w ≡ n)
 
--- {x}: one behind the other
+-- {x}: any number of x, one after the other, each spelled as S says
 abbrev pub SpellsEach : {A : Type 0} → (A → List (List ℕ) → List (List ℕ) → Type 0) → List A → List (List ℕ) → List (List ℕ) → Type 0
 SpellsEach S [] words rest = words ≡ rest
 SpellsEach S (x ∷ xs) words rest = (more : List (List ℕ)) × S x words more × SpellsEach S xs more rest
 
--- [`class` CLASS]
+-- [`class` CLASS]: optional
 abbrev pub SpellsClass : Option (List ℕ) → List (List ℕ) → List (List ℕ) → Type 0
 SpellsClass None words rest = words ≡ rest
 SpellsClass (Some class) words rest = words ≡ codes "class" ∷ class ∷ rest
 
--- [KEY N]
+-- [KEY N]: optional
 abbrev pub SpellsSize : List ℕ → Option ℕ → List (List ℕ) → List (List ℕ) → Type 0
 SpellsSize key None words rest = words ≡ rest
 SpellsSize key (Some n) words rest = (w : List ℕ) × IsNumber LARGEST_RULE_NUMBER n w × (words ≡ key ∷ w ∷ rest)
@@ -48,15 +48,16 @@ SpellsFirst (device n name class) words rest = (w : List ℕ) × (more : List (L
 abbrev pub SpellsClassId : ShadowData → List (List ℕ) → List (List ℕ) → Type 0
 SpellsClassId c words rest = (w : List ℕ) × IsBucketNumber c.id w × (words ≡ codes "id" ∷ w ∷ codes "class" ∷ c.class ∷ rest)
 
--- [`hash` `0`], with leading zeros or without
+-- [`hash` `0`]: optional; the 0 may have leading zeros
 abbrev pub SpellsHash : List (List ℕ) → List (List ℕ) → Type 0
 SpellsHash words rest = (words ≡ rest) ⊎ ((w : List ℕ) × IsNumber 0 0 w × (words ≡ codes "hash" ∷ w ∷ rest))
 
--- `item` NAME [`weight` WEIGHT]
+-- `item` NAME [`weight` WEIGHT], with the name and the weight, if there is one
 abbrev pub SpellsWeighed : List ℕ → Option ℕ → List (List ℕ) → List (List ℕ) → Type 0
 SpellsWeighed name None words rest = words ≡ codes "item" ∷ name ∷ rest
 SpellsWeighed name (Some units) words rest = (w : List ℕ) × (weight_of_text w ≡ Ok units) × (words ≡ codes "item" ∷ name ∷ codes "weight" ∷ w ∷ rest)
 
+-- the same for a line of the document
 abbrev pub SpellsItem : ItemLine → List (List ℕ) → List (List ℕ) → Type 0
 SpellsItem i words rest = SpellsWeighed i.name i.weight words rest
 
@@ -72,11 +73,12 @@ pub record SpellsBucket (b : BucketLines) (words rest : List (List ℕ)) : Type 
   pub hash : SpellsHash behind_alg behind_hash
   pub items : SpellsEach SpellsItem b.items behind_hash (codes "}" ∷ rest)
 
--- the words for what is chosen, and for the order
+-- the word for what is chosen: items themselves, or the devices below them
 abbrev pub choice_word : Bool → List ℕ
 choice_word false = codes "choose"
 choice_word true = codes "chooseleaf"
 
+-- the word for the order in which they are chosen
 abbrev pub order_word : Bool → List ℕ
 order_word true = codes "firstn"
 order_word false = codes "indep"

@@ -1,4 +1,4 @@
--- What is written of a run, and that it is read back.
+-- The laws that the output of a run is read back as the map after it.
 use Rattle.std.specs.Prelude.{ℕ, ◌≤◌, ◌++◌, List, All, length}
 use Rattle.crush_units.specs.Name.{IsName}
 use Rattle.crush_model.specs.Table.{Row}
@@ -21,7 +21,7 @@ use Rattle.crush_history.specs.Script.{ScriptData}
 use Rattle.crush_script.specs.Job.{JobData, IsJob}
 use Rattle.crush_script.specs.ScriptsText.{AreScripts, scripts_text}
 
--- the names of an edit are names and its location is one, as their types keep
+-- the names of an edit have the form of names, and its location has the form of a location; the types of the code ensure that
 abbrev pub IsNamed : Edit → Type 0
 IsNamed (Insert d n w l) = IsName n × IsLocation l
 IsNamed (CreateOrMove d n w l) = IsName n × IsLocation l
@@ -36,59 +36,59 @@ IsNamed (Rename from to) = IsName from × IsName to
 IsNamed (SetClass n c) = IsName n × IsName c
 IsNamed (RemoveClass n) = IsName n
 
--- so are those of a call
+-- the same of each edit of a call
 abbrev pub IsNamedCall : Call → Type 0
 IsNamedCall (One e) = IsNamed e
 IsNamedCall (Batch es) = All IsNamed es
 IsNamedCall (Guarded seen es) = All IsNamed es
 
--- and those of a history
+-- the same of each call of a history
 abbrev pub IsNamedHistory : List EntryData → Type 0
 IsNamedHistory h = All (λ (e : EntryData). IsNamedCall e.call) h
 
--- HISTORY LINES ARE COMMENTS: whole lines, each of which begins with `#`
+-- HISTORY LINES ARE COMMENTS: the lines of a history are whole lines that begin with `#`
 abbrev pub HistoryLinesAreComments : Type 0
 HistoryLinesAreComments = (names : List (List ℕ)) (number : ℕ) (h : List EntryData) → All IsName names → IsNamedHistory h → AreCommentLines (entries_text names number h)
 
--- WHAT IS WRITTEN IS READ BACK: the printed map and the lines of any history behind it are read as that map
+-- WHAT IS WRITTEN IS READ BACK: the printed text of a lawful map, followed by the lines of any history, is read back as that map
 abbrev pub WhatIsWrittenIsReadBack : Type 0
 WhatIsWrittenIsReadBack = (s : SettingData) (t : List Row) (names : List (List ℕ)) (number : ℕ) (h : List EntryData) → Lawful t → Fits s t
     → All IsName names → IsNamedHistory h → IsReadAs (map_text s t ++ entries_text names number h) s t
 
--- the text of a map after a history, and a line for each entry
+-- the printed text of the map after a history, followed by a line for each entry
 abbrev pub text_after : SettingData → List Row → List (List ℕ) → List EntryData → List ℕ
 text_after s t names h = map_text s (table_after s t h) ++ entries_text names 1 h
 
--- THE TEXT OF ANY HISTORY: the map after it, and its lines, are read back as that map
+-- THE TEXT OF ANY HISTORY: the map after a history of a lawful map, followed by the history's lines, is read back as that map, if the calls have the forms that edits keep
 abbrev pub HistoryTextsAreReadBack : Type 0
 HistoryTextsAreReadBack = (s : SettingData) (t : List Row) (names : List (List ℕ)) (h : List EntryData) → Lawful t → Fits s t
     → All IsName names → IsNamedHistory h → All (λ (e : EntryData). IsCall e.call) h → IsReadAs (text_after s t names h) s (table_after s t h)
 
--- THE MAP AFTER A JOB: whatever job bytes are, the table after its run is lawful, and the setting fits it
+-- THE MAP AFTER A JOB: after the scripts of any job have run one after the other, the table is lawful, and the setting fits it
 abbrev pub JobsStayLawful : Type 0
 JobsStayLawful = (bytes : List ℕ) (job : JobData) → IsJob bytes job → Keeps job.setting (table_after job.setting job.table (turns job.setting job.table job.scripts))
 
--- THE TEXT OF A JOB that has run is read back as that map, with its history
+-- THE OUTPUT OF A JOB with the lines of its history is read back as the map after the job
 abbrev pub JobTextsAreReadBack : Type 0
 JobTextsAreReadBack = (bytes : List ℕ) (job : JobData) → IsJob bytes job
     → let h = turns job.setting job.table job.scripts in IsReadAs (text_after job.setting job.table (names_of job.scripts) h) job.setting (table_after job.setting job.table h)
 
--- and without
+-- the output of a job without the lines of its history is read back as the map after the job
 abbrev pub JobMapsAreReadBack : Type 0
 JobMapsAreReadBack = (bytes : List ℕ) (job : JobData) → IsJob bytes job
     → let u = table_after job.setting job.table (turns job.setting job.table job.scripts) in IsReadAs (map_text job.setting u) job.setting u
 
--- RUNS ON: the bytes are read as a map, and with the sections of scripts behind them they are the job of that map with these scripts
+-- RUNS ON: the bytes are read as this map. If the sections of any scripts are appended, and the result isn't longer than a job may be, then it is the job of that map with these scripts.
 pub record RunsOn (bytes : List ℕ) (s : SettingData) (t : List Row) : Type 0 where
   pub read : IsReadAs bytes s t
   pub job : (scripts : List ScriptData) → AreScripts scripts → length (bytes ++ scripts_text scripts) ≤ LONGEST_JOB
       → IsJob (bytes ++ scripts_text scripts) (record { setting = read.setting; table = read.map.table; adjusted = 0; scripts = scripts })
 
--- PRINT, WRITE A SECTION BEHIND IT, RUN: so it is with what is printed of a map, whatever comment lines stand behind it
+-- PRINT, APPEND A SECTION, RUN: the printed text of a lawful map runs on, whatever comment lines follow it
 abbrev pub PrintedMapsRunOn : Type 0
 PrintedMapsRunOn = (s : SettingData) (t : List Row) (comments : List ℕ) → Lawful t → Fits s t → AreCommentLines comments → RunsOn (map_text s t ++ comments) s t
 
--- and with what is written of a job that has run
+-- the output of a job, with the lines of its history, runs on
 abbrev pub JobTextsRunOn : Type 0
 JobTextsRunOn = (bytes : List ℕ) (job : JobData) → IsJob bytes job
     → let h = turns job.setting job.table job.scripts in RunsOn (text_after job.setting job.table (names_of job.scripts) h) job.setting (table_after job.setting job.table h)

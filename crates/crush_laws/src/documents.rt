@@ -1,10 +1,11 @@
-//! Texts as documents.
+//! The law that the texts of maps are the lawful documents.
 
 ghost use Rattle.crush_laws.specs.MapOrFlaw.{TextsAreLawfulDocuments};
 ghost use Rattle.crush_laws.specs.Example.{ExampleIsRight};
 
-/// Bytes are the text of a map exactly where their words spell, by the grammar, a lawful document
-/// with its setting, its table and as many adjusted weights. The example was worked by hand.
+/// The law that the texts of maps are the lawful documents. Bytes are the text of a map if and only
+/// if their words spell, by the grammar, a lawful document that has the map's setting, its table,
+/// and the same number of adjusted weights. `example` is one document that was worked by hand.
 pub fn a_text_is_a_document()
     ensures law { TextsAreLawfulDocuments }
     ensures example { ExampleIsRight }

@@ -1,6 +1,9 @@
-//! Laws of texts: functions that run nothing, whose contract is the law. Each text is one map or
-//! has one flaw, a map's is a lawful document, and what is printed or written is read back.
-//! `specs/Spells.antt` and `specs/Meaning.antt` say what a document is.
+//! Laws of map texts. Each law is the contract of a function that does nothing and needs no call.
+//!
+//! Each text either is the text of one map or has one flaw. The text of a map is a lawful document
+//! (`specs/Document.antt`, `specs/Spells.antt` and `specs/Meaning.antt` say what that is). What is
+//! printed of a map, or written after a run, is read back as the same map. The text of a plan is a
+//! script.
 #![tactic(auto)]
 
 mod documents;

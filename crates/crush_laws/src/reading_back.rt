@@ -1,12 +1,13 @@
-//! What is printed or written is read back.
+//! The laws that what is printed or written is read back.
 
 ghost use Rattle.crush_laws.specs.ReadingBack.{CommentsBehindAreNoMatter, InOrderIsTheSame, PrintedTextsAreReadBack, ReadBackPrintsAlike, TypesAreReadInOrder};
 ghost use Rattle.crush_laws.specs.Written.{HistoryLinesAreComments, WhatIsWrittenIsReadBack, HistoryTextsAreReadBack};
 ghost use Rattle.crush_laws.specs.Written.{JobsStayLawful, JobTextsAreReadBack, JobMapsAreReadBack, JobTextsRunOn, PrintedMapsRunOn};
 
-/// What is printed of a map is read as the same table and setting, but that its types stand by
-/// ascending number, and prints the same text again: also with comments behind it, and with
-/// sections of scripts as the job of that map.
+/// The law that the printed text of a map is read back as that map. The table and the setting are
+/// the same, except that the types are then in the order of their numbers, and the map that was
+/// read prints the same text again. That also holds with comment lines after the text. With
+/// sections of scripts after it, the text is the job of that map with these scripts.
 pub fn what_is_printed_is_read_back()
     ensures read { PrintedTextsAreReadBack }
     ensures behind { CommentsBehindAreNoMatter }
@@ -16,9 +17,11 @@ pub fn what_is_printed_is_read_back()
     ensures again { ReadBackPrintsAlike }
 {}
 
-/// The lines of a history are comments: the text of one whose calls have the forms that edits keep
-/// is read back as the map after it. After any job the map is lawful, and what is written is read
-/// back as it, also as the start of a further job.
+/// The law that the output of a run is read back. The lines of a history are comments. The text of
+/// a history, which is the printed map after it followed by its lines, is read back as that map, if
+/// its calls have the forms that edits keep. After any job the map is lawful, and the output of the
+/// job, with the lines of its history or without, is read back as that map. A further job may begin
+/// with this output.
 pub fn what_is_written_is_read_back()
     ensures comments { HistoryLinesAreComments }
     ensures read { WhatIsWrittenIsReadBack }

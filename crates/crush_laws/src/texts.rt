@@ -1,10 +1,11 @@
-//! Texts: each is one map or has one flaw.
+//! The law that each text is the text of one map or has one flaw.
 
 ghost use Rattle.crush_laws.specs.MapOrFlaw.{WordsAreJudgedByTheTable, AFlawExcludesTheMap, AtMostOneFlaw, SameWordsSameFlaw, AtMostOneMap, EachMapIsLawful, MapsAreTheLawfulTexts, MapsAreTheLawfulEnds, AMapOrAFlaw};
 
-/// Bytes are the text of one lawful map or have one flaw, never both. Every text whose words build
-/// a map that is lawful in the end is that map's: no row of the table of faults refuses more. A
-/// word has the fault of the least number whose row holds.
+/// The law that bytes either are the text of one lawful map or have one flaw, and never both. If
+/// the words of a text build a map that is lawful in the end, then the text is that map's: no row
+/// of the table of faults rejects more. If several rows hold for a word, then it has the fault with
+/// the least number.
 pub fn a_text_has_one_map_or_one_flaw()
     ensures table { WordsAreJudgedByTheTable }
     ensures excludes { AFlawExcludesTheMap }

@@ -1,4 +1,4 @@
--- Maps as values of one plain type, from which each can be told again.
+-- An encoding of maps as values of one plain type, from which each map can be decoded again.
 use Rattle.std.specs.Prelude.{refl}
 use Rattle.std.specs.Coded.{Coded, code_by, coded×}
 use Rattle.crush_model.specs.Forest.{ForestData}
@@ -7,6 +7,6 @@ use Rattle.crush_edits.specs.Setting.{SettingData}
 use Rattle.crush_edits.specs.Codes.{coded_setting}
 use Rattle.crush_map.specs.MapData.{MapData}
 
--- a map by its fields
+-- a map is encoded as the pair of its two fields
 abbrev pub coded_map : Coded MapData
 coded_map = code_by (SettingData × ForestData) (coded× coded_setting coded_forest) (λ m. (m.setting, m.forest)) (λ p. record { setting = p.0; forest = p.1 }) (λ _. refl)

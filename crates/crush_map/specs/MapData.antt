@@ -1,4 +1,4 @@
--- A map: its setting and its hierarchy.
+-- A map as contracts see it, the invariant of a map, and the setting and table that a map represents.
 use Rattle.std.specs.Prelude.{◌≡◌, List}
 use Rattle.crush_model.specs.Table.{Row}
 use Rattle.crush_model.specs.Forest.{ForestData, rows_of}
@@ -6,15 +6,16 @@ use Rattle.crush_model.specs.Stands.{Stands}
 use Rattle.crush_edits.specs.Setting.{SettingData}
 use Rattle.crush_edits.specs.Fits.{Fits}
 
+-- a map: its setting (types, tunables and rules), and the forest of its devices and buckets
 pub record MapData : Type 0 where
   pub setting : SettingData
   pub forest : ForestData
 
--- what each map keeps beside what its forest keeps: the types of its buckets are among its types
+-- the invariant of a map, in addition to its forest's: its setting fits its rows. That is, the setting is valid by itself, declares the type of each bucket, and each bucket that a rule takes exists
 abbrev pub MapFits : MapData → Type 0
 MapFits m = Fits m.setting (rows_of m.forest)
 
--- the map has the setting, and its forest stands for the table
+-- the map has this setting, and its forest represents this table
 pub record MapStands (m : MapData) (s : SettingData) (t : List Row) : Type 0 where
   pub setting : m.setting ≡ s
   pub forest : Stands m.forest t

@@ -1,4 +1,4 @@
--- What an item that is written in a bucket makes of a table.
+-- How an `item` line in a bucket of a map's text changes the table.
 use Rattle.std.specs.Prelude.{ℕ, ◌==◌, List, ◌++◌, Option, Some, None, not, if◌then◌else◌, map, filter}
 use Rattle.crush_units.specs.declared.id.ItemId.{ItemId}
 use Rattle.crush_units.specs.declared.id.ItemId.TheVariants.{Device, Bucket}
@@ -8,19 +8,20 @@ use Rattle.crush_model.specs.Count.{one_if}
 use Rattle.crush_model.specs.Table.{Row, is_device, sum_below}
 use Rattle.crush_model.specs.Columns.{without_row}
 
--- an item put into a bucket: its row is taken out and put last with its new parent, a device's with its weight
+-- the row of an item after it is put into bucket b: its parent is b, and a device gets the weight w
 abbrev pub placed_row : ℕ → ℕ → Row → Row
 placed_row b w r = record r { parent = Some b; weight = if is_device r then w else r.weight }
 
+-- the table after the item i is put into bucket b: its row is taken out, changed as above, and appended at the end
 abbrev pub put_below : ℕ → ItemId → ℕ → List Row → List Row
 put_below b i w t = without_row i t ++ map (placed_row b w) (filter (λ (r : Row). same_id r.id i) t)
 
--- what a device weighs: what is written, or 1.0
+-- the weight of a device in units: the weight that the line gives, or 1.0 if it gives none
 abbrev pub weight_or_one : Option ℕ → ℕ
 weight_or_one None = UNITS_OF_ONE
 weight_or_one (Some w) = w
 
--- one for a bucket whose written weight isn't its sum
+-- 1 if the item is a bucket and the line gives a weight that differs from the sum of the devices below it; otherwise 0
 abbrev pub adjustment : List Row → ItemId → Option ℕ → ℕ
 adjustment t (Device x) w = 0
 adjustment t (Bucket b) None = 0

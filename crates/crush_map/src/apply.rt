@@ -1,4 +1,4 @@
-//! Edits of a map.
+//! The calls that edit a map: one edit, or a batch of edits.
 
 ghost use Rattle.std.specs.Prelude.{◌≡◌, ℕ, ◌≤◌, List, length, IfOk, OnErr, true, false};
 ghost use Rattle.crush_units.specs.declared.limits.TheConstants.{MOST_EDITS};
@@ -21,11 +21,14 @@ use crush_units::Name;
 use std::alloc::{Allocator, Global};
 
 impl<A: Allocator> CrushMap<A> {
-    /// Makes the edit, or tells why it isn't made.
+    /// Applies one edit to the map, and returns whether it changed the map and how many buckets it
+    /// made.
     ///
-    /// Of several refusals the one of least number is answered, and out of memory only where
-    /// nothing refuses an edit that would change something: so never of new weights, of an exchange
-    /// or of a removal. After an Err the map is as before, also its room.
+    /// Returns [`EditFault::Refused`] if a rule of the editor forbids the edit; if several do, the
+    /// refusal with the least number. Returns [`EditFault::OutOfMemory`] only if no rule forbids
+    /// the edit and it would change the map. Edits that set weights, swap two buckets, or remove an
+    /// item or a class never run out of memory. After an error the map is exactly as before,
+    /// including the spare capacity of its vectors.
     pub fn apply(&mut self, requested: &Edit) -> Result<Done, EditFault>
     where
         A: Clone,
@@ -47,11 +50,12 @@ impl<A: Allocator> CrushMap<A> {
         apply_edit(&mut self.hierarchy, &self.setting, requested)
     }
 
-    /// The name of an edit that its refusal is about, where this map has refused it: of a location
-    /// the type or the bucket that is at fault, of two names the one, and else the item that is to
-    /// be edited.
+    /// Returns the name in a refused edit that the refusal is about, for example to print it.
     ///
-    /// An edit of a batch is refused by the map that the edits before it made, and not by this one.
+    /// The name is that of a type or a bucket if the edit's location is at fault, and that of the
+    /// type if the type of a new bucket is. If the edit names two items, it is the one at fault.
+    /// Otherwise it is the name of the item to edit. Call it on the map that refused the edit. An
+    /// edit of a batch was refused by the map after the edits before it, which is not this map.
     pub fn culprit<'a>(&self, requested: &'a Edit, refusal: Refusal) -> &'a Name<Global>
         ensures { (t : List Row) → Stands self.now.forest t
             → result.now ≡ culprit self.now.setting t requested.now refusal }
@@ -59,11 +63,13 @@ impl<A: Allocator> CrushMap<A> {
         culprit(&self.hierarchy, &self.setting, requested, refusal)
     }
 
-    /// Makes the edits one after the other, each on what the ones before it made, or none of them:
-    /// at most 65,536.
+    /// Applies a batch of at most 65,536 edits in order, all or none of them.
     ///
-    /// A refusal comes with the index of its edit, from 0. Out of memory may hide a later refusal.
-    /// After either the map is what it was: they are made in place, and taken back.
+    /// Each edit applies to the map that the edits before it made. Returns how many edits were
+    /// made, how many of them changed the map, and how many buckets they made. Returns
+    /// [`BatchFault::Refused`] with the first refused edit's index, from 0, and its refusal.
+    /// Returns [`BatchFault::OutOfMemory`] if memory runs out, even if a later edit would be
+    /// refused. After an error the map is as before: the edits are made in place, and undone.
     pub fn apply_batch(&mut self, edits: &[Edit]) -> Result<Dones, BatchFault>
     where
         A: Clone,

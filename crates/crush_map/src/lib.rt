@@ -1,7 +1,8 @@
-//! The map: its setting, its hierarchy of buckets and devices, and the edits of `ceph osd crush`.
+//! A CRUSH map: its setting (types, tunables and rules), its hierarchy of buckets and devices, and
+//! the edits of `ceph osd crush`.
 //!
-//! `crush_text` reads a [`CrushMap`], `crush_print` writes one, and `crush_editor` shares one among
-//! operators.
+//! `crush_text` reads a [`CrushMap`] from a text, `crush_print` prints one, and `crush_editor` lets
+//! several operators edit one at the same time.
 #![tactic(auto)]
 
 mod apply;

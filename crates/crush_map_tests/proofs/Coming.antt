@@ -1,4 +1,4 @@
--- An item that comes: a device without a class, and an empty bucket, each of a new id and a new name.
+-- A new item: a device without a class, or an empty bucket, with an id and a name that aren't used.
 use Rattle.std.proofs.Common.{◌≡◌, ℕ, ◌+◌, ◌<◌, ◌≤◌, Bool, true, false, not, List, [], ◌∷◌, ◌++◌, refl, ap, sym, subst, ◌∙◌, arith}
 use Rattle.std.proofs.lemmas.Bool.Decides.{nat_tests}
 use Rattle.std.proofs.lemmas.List.Sums.{sum_by_push}
@@ -44,7 +44,7 @@ bucket_room t r l dev buck few =
     let buckets : nat_lt MOST_BUCKETS (bucket_count (t ++ r ∷ [])) ≡ false = not_less MOST_BUCKETS (bucket_count (t ++ r ∷ [])) (omega (arith, one, few, sum_by_push (λ (x : Row). one_if (is_bucket x)) t r)) in
     λ i. devices i || buckets i
 
--- a row that a bucket holds is new where it is as a root without weight
+-- a row in a bucket is new if the same row, as a root without weight, is new
 abbrev alone : Row → Row
 alone r = record r { parent = None; weight = 0 }
 
@@ -58,7 +58,7 @@ module _ (t : List Row) (r : Row) (l : Lawful (t ++ alone r ∷ [])) where
   uses_apart : (k : ℕ) → times_used k (t ++ r ∷ []) ≤ 1
   uses_apart k = subst (λ n. n ≤ 1) (times_used-push k t (alone r) ∙ sym (times_used-push k t r)) (l.used k)
 
--- the test for sums, which they pass
+-- the test that sums stay in range, which these items pass
 abbrev Passes : List Row → ℕ → ℕ → Type 0
 Passes t b w = (n : Items) → weight_sum n ≡ w → CanCome t (AtBucket b) n → true ≡ not (is_too_heavy (t ++ rows (Some b) n))
 

@@ -1,4 +1,4 @@
--- A device that is put into a bucket with another weight.
+-- A device that moves to a bucket and gets another weight.
 use Rattle.std.proofs.Common.{◌≡◌, ℕ, ◌≤◌, Bool, true, false, not, refl, List, [], ◌∷◌, ◌++◌, ap, sym, ◌∙◌, arith}
 use Rattle.std.specs.Prelude.{Some, None, is_some, if◌then◌else◌}
 use Rattle.crush_units.specs.Id.{same_id}
@@ -32,7 +32,7 @@ use Rattle.crush_map_tests.proofs.Passed.{found, passed}
 pub left_there : (t : List Row) (d b : ℕ) → is_there t (Bucket b) ≡ true → is_there (table_without (Device d) t) (Bucket b) ≡ true
 left_there t d b there = ap is_some (row_of-only (λ j. not (is_part t (Device d) j)) t (Bucket b)) ∙ there
 
--- what is taken out is that one device
+-- the only item that is removed is the device
 devices_if : (c : Bool) (x : LeafData) (s : Items) → OnlyDevices s → OnlyDevices (if c then device x s else s)
 devices_if true x s h = h
 devices_if false x s h = h
@@ -42,7 +42,7 @@ part_devices d none = tt
 part_devices d (device x s) = devices_if (same_id (Device x.id) (Device d)) x (part_of (Device d) s) (part_devices d s)
 part_devices d (bucket h w m k s) = OnlyDevices-join (part_of (Device d) k) (part_of (Device d) s) (part_devices d k) (part_devices d s)
 
--- the test for sums, which it passes
+-- the test that sums stay in range, which the move passes
 abbrev Passes : List Row → ℕ → ℕ → ℕ → Type 0
 Passes t d b w =
     (m : Items) → weight_sum m ≡ w → CanCome (table_without (Device d) t) (AtBucket b) m → true ≡ not (is_too_heavy (table_without (Device d) t ++ rows (Some b) m))
@@ -51,7 +51,7 @@ module _ (t : List Row) (l : Lawful t) (d b w : ℕ) (r : Row) (is : row_of t (D
   abbrev last : List Row
   last = without_row (Device d) t ++ at_parent (Some b) w r ∷ []
 
-  -- its row comes last, and no id is there twice
+  -- the device's row is the last, and no id occurs twice
   distinct : Distinct last
   distinct = Distinct-same (placed_last (Device d) (Some b) w t r (l.ids (Device d)) is) (Distinct-map (place (Device d) (Some b) w) (place-id (Device d) (Some b) w) t l.ids)
 

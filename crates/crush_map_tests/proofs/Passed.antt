@@ -1,4 +1,4 @@
--- What a test tells that was passed.
+-- What is known after a test was passed.
 use Rattle.std.proofs.Common.{◌≡◌, ℕ, Bool, true, false, not, refl, arith}
 use Rattle.std.specs.Prelude.{Option, Some, None, ◌==◌, is_some}
 use Rattle.std.proofs.lemmas.Bool.Decides.{eqb_tells}
@@ -10,11 +10,11 @@ pub passed : (b : Bool) → true ≡ not b → b ≡ false
 passed true e = absurd cc
 passed false e = refl
 
--- an item that is there
+-- an item that exists
 pub found : {X : Type 0} (o : Option X) → is_some o ≡ true → (x : X) × (o ≡ Some x)
 found None h = absurd cc
 found (Some x) h = (x, refl)
 
--- whether two buckets are one, either way round
+-- whether two buckets are the same, in either order
 pub same_bucket : (a b : ℕ) → same_id (Bucket a) (Bucket b) ≡ same_id (Bucket b) (Bucket a)
 same_bucket a b = grind (arith, eqb_tells)

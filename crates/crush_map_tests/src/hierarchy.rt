@@ -1,4 +1,4 @@
-//! Each call of an index and of a hierarchy once.
+//! Tests that call each method of an index and of a hierarchy once.
 
 mod asked;
 mod asked_changes;

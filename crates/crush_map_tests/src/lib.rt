@@ -1,6 +1,6 @@
-//! Tests of a map and of all below it: `units` and `edits` are of `crush_units` and `crush_edits`,
-//! `tree` of forests, `hierarchy` of a hierarchy and its index, `map` of `crush_map` and
-//! `crush_builder`.
+//! Tests of maps and of the crates below them. `units` and `edits` test `crush_units` and
+//! `crush_edits`; `tree` tests forests; `hierarchy` tests a hierarchy and its index; `map` tests
+//! `crush_map` and `crush_builder`.
 #![tactic(auto)]
 
 #[cfg(test)]

@@ -1,6 +1,6 @@
-//! The example map, its building and its edits, in the machine's memory and in small heaps. The
-//! jobs of `examples/worked` have what edits answer beside. An owner of a map, a builder or an edit
-//! ends it by `drop`, so that proofs take its parts apart in one place.
+//! The example map, how it is built, and edits of it, in the global allocator and in small heaps.
+//! The jobs of `examples/worked` show the results of more edits. A test ends each map, builder and
+//! edit that it owns by `drop`, so that proofs take its parts apart in one place.
 
 mod asking;
 mod blaming;

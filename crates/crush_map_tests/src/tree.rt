@@ -1,4 +1,4 @@
-//! Forests that are built item by item.
+//! Tests of forests that are built item by item.
 
 mod alike;
 mod asks;

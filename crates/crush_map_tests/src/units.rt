@@ -1,4 +1,4 @@
-//! Limits, ids and algorithms, and the worked examples of weights and names.
+//! Limits, ids and algorithms, and examples of weights and names that were worked by hand.
 
 use crush_units::limits::*;
 use crush_units::*;
@@ -167,7 +167,7 @@ fn bytes_of_names(rt: HostRuntime) {
     assert!(rt; may_stand(b"azAZ09-_.", true) && may_stand(b"@[`{/:,+ ", false));
 }
 
-/// A text, its units, and how these are printed.
+/// A weight as text, its number of units, and the text that is printed for it.
 const WEIGHTS: &[(&str, u32, &str)] = &[
     ("0", 0, "0.00000"),
     ("1", 65536, "1.00000"),

@@ -1,4 +1,4 @@
--- What the devices of a class weigh.
+-- The weight of the devices of a class.
 use Rattle.std.specs.Prelude.{ℕ, List, Option, Some, None, Bool, if◌then◌else◌, bytes_eq}
 use Rattle.std.specs.List.{sum_by}
 use Rattle.std.specs.Option.{option_eq}
@@ -6,11 +6,11 @@ use Rattle.crush_units.specs.declared.id.ItemId.{ItemId}
 use Rattle.crush_model.specs.Table.{Row, is_there, summed_weight}
 use Rattle.crush_model.specs.Columns.{is_part}
 
--- whether a row has the class: a bucket's has none
+-- whether a row has the class. In a lawful table only devices have one
 abbrev pub has_class : List ℕ → Row → Bool
 has_class c r = option_eq bytes_eq r.class (Some c)
 
--- what a row adds to the weight of a class: a device of the class its weight
+-- what a row adds to the weight of a class: the weight of a device of the class, and 0 for any other row
 abbrev pub classed_weight : List ℕ → Row → ℕ
 classed_weight c r = if has_class c r then summed_weight r else 0
 
@@ -18,6 +18,6 @@ classed_weight c r = if has_class c r then summed_weight r else 0
 abbrev pub class_sum : List Row → ItemId → List ℕ → ℕ
 class_sum t i c = sum_by (λ (r : Row). if is_part t i r.id then classed_weight c r else 0) t
 
--- the same of an item that is there
+-- that weight for an item that is in the table, and none for any other
 abbrev pub class_weight_of : List Row → ItemId → List ℕ → Option ℕ
 class_weight_of t i c = if is_there t i then Some (class_sum t i c) else None

@@ -1,4 +1,4 @@
--- Laws of what is read off a table.
+-- Laws about what is read from a table.
 use Rattle.std.specs.Prelude.{◌≡◌, ℕ, ◌+◌, ◌*◌, ◌<◌, ◌≤◌, List, ◌++◌, false, length, unwrap_or, All, ◌==◌}
 use Rattle.std.specs.List.{sum_by, count_by}
 use Rattle.crush_units.specs.declared.id.ItemId.{ItemId}
@@ -12,17 +12,15 @@ use Rattle.crush_model.specs.Stands.{Stands}
 use Rattle.crush_units.specs.declared.limits.TheConstants.{FARTHEST_BUCKET_ID, MOST_BUCKETS, MOST_CLASS_IDS}
 pub use Rattle.crush_model.specs.MoveLaw.{IsOne}
 
--- what a bucket weighs, as the sum over all devices that climb to it, is the sum of the weights of
--- its items
+-- the weight of a bucket, which is the sum over all devices below it at any depth, equals the sum of the weights of its items
 abbrev pub SumsItems : List Row → Type 0
 SumsItems t = (b : ℕ) → sum_below t b ≡ sum_by (λ i. unwrap_or (weight_of t i) 0) (kids t b)
 
--- to climb more often than there are rows leads no further
+-- following parents more often than there are rows finds no more buckets above an item
 abbrev pub ClimbEnds : List Row → Type 0
 ClimbEnds t = (n : ℕ) (i : ItemId) → length t ≤ n → climb t n i ≡ above t i
 
--- what is read off both tables is equal: the row of each id and each name, and so all columns; the
--- items of a bucket in order; what is above an item; weights, also of a class, counts and ids in use
+-- reading gives equal results on both tables: the row of each id and of each name, and so all columns; the items of each bucket in order; the buckets above each item; each bucket's sum, each item's weight, and the weight of each class in it; the total; the numbers of devices and buckets; which ids are in use, and the first n free ids
 pub record AreReadAlike (t u : List Row) : Type 0 where
   pub row : (i : ItemId) → row_of t i ≡ row_of u i
   pub named : (n : List ℕ) → row_named t n ≡ row_named u n
@@ -37,39 +35,38 @@ pub record AreReadAlike (t u : List Row) : Type 0 where
   pub used : (k : ℕ) → member k (used_ids t) ≡ member k (used_ids u)
   pub free : (n : ℕ) → free_ids t n ≡ free_ids u n
 
--- so it is of a lawful table and each that is the same, and both are lawful
+-- if a table is lawful and another is the same, then reading gives equal results on both, and the other is lawful too
 abbrev pub SameIsAlike : Type 0
 SameIsAlike = (t u : List Row) → Lawful t → Same t u → AreReadAlike t u × Lawful u
 
--- sums out of range and want of room are equal on tables that are the same, lawful or not, where
--- each id is there once
+-- if two tables are the same and have no id twice, lawful or not, then both have some sum or the total above its limit, or neither has
 abbrev pub HeavyIsAlike : Type 0
 HeavyIsAlike = (t u : List Row) → ((i : ItemId) → count_by (λ (r : Row). same_id r.id i) t ≤ 1)
     → Same t u → is_too_heavy t ≡ is_too_heavy u
 
+-- if two tables are the same, lawful or not, then both have too many devices or buckets, or neither has
 abbrev pub RoomIsAlike : Type 0
 RoomIsAlike = (t u : List Row) → Same t u → has_too_many t ≡ has_too_many u
 
--- a change makes the same of tables that are the same
+-- a change, made to a lawful table and to another that is the same, results in tables that are the same
 abbrev pub KeepsSame : (List Row → List Row) → Type 0
 KeepsSame change = (t u : List Row) → Lawful t → Same t u → Same (change t) (change u)
 
--- the tables for which a forest stands: its own rows, and with one all that are the same and no
--- others
+-- the tables that a forest represents: if the forest is sound, its own rows are one; any two of them are the same; and each table that is the same as one of them is one too
 abbrev pub StandsForOne : ForestData → Type 0
 StandsForOne f =
     (IsSound f → Stands f (rows_of f))
     × ((t u : List Row) → Stands f t → Stands f u → Same t u)
     × ((t u : List Row) → Same t u → Stands f t → Stands f u)
 
--- rows that come last add what they count, weigh and use
+-- rows u that are appended to a table t add their numbers of devices and buckets and their total; their used ids are appended to those of t
 pub record AddsRows (t u : List Row) : Type 0 where
   pub devices : device_count (t ++ u) ≡ device_count t + device_count u
   pub buckets : bucket_count (t ++ u) ≡ bucket_count t + bucket_count u
   pub total : total (t ++ u) ≡ total t + total u
   pub used : used_ids (t ++ u) ≡ used_ids t ++ used_ids u
 
--- the first n free ids: so many, in range, unused, each once
+-- the ids are free ids of the table: there are n, each is from 1 to 2^31 below 0 and not in use, and none is there twice
 pub record AreFreeIds (t : List Row) (n : ℕ) (ids : List ℕ) : Type 0 where
   pub many : length ids ≡ n
   pub some : All (λ k. 0 < k) ids
@@ -77,11 +74,12 @@ pub record AreFreeIds (t : List Row) (n : ℕ) (ids : List ℕ) : Type 0 where
   pub unused : All (λ k. member k (used_ids t) ≡ false) ids
   pub once : (k : ℕ) → count_by (λ u. u == k) ids ≤ 1
 
+-- the first n free ids are in range, unused and distinct, if the number of used ids plus n is at most the number of bucket ids, 2^31
 abbrev pub FreeIdsAreFree : Type 0
 FreeIdsAreFree = (t : List Row) (n : ℕ) → length (used_ids t) + n ≤ FARTHEST_BUCKET_ID
     → AreFreeIds t n (free_ids t n)
 
--- a lawful table uses few: an id for each bucket, and its class ids
+-- a lawful table uses at most MOST_BUCKETS * (MOST_CLASS_IDS + 1) ids: each bucket uses its own id and its class ids
 abbrev pub FewIdsAreUsed : Type 0
 FewIdsAreUsed = (t : List Row) → Lawful t
     → length (used_ids t) ≤ MOST_BUCKETS * (MOST_CLASS_IDS + 1)

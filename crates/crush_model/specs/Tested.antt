@@ -1,4 +1,4 @@
--- A test that computes on a table that is written out: what passes it is lawful.
+-- A test that computes whether a table is lawful, for tables that are written out in full.
 use Rattle.std.specs.Prelude.{ℕ, List, [], ◌∷◌, Option, Some, None, Bool, true, false, not, ◌==◌, ◌&&◌, ◌||◌, length, map, is_some, is_none, bytes_eq, nat_lt, nat_le}
 use Rattle.std.specs.List.{list_any, list_all}
 use Rattle.crush_units.specs.declared.id.ItemId.{ItemId}
@@ -10,30 +10,33 @@ use Rattle.crush_model.specs.Table.{Row, is_there, is_below, used_ids}
 use Rattle.crush_model.specs.Lawful.{is_too_heavy, has_too_many}
 use Rattle.crush_units.specs.declared.limits.TheConstants.{DEVICE_IDS, FARTHEST_BUCKET_ID, HEAVIEST_DEVICE, LAST_TYPE, MOST_CLASS_IDS}
 
--- each of several tests holds
+-- whether each of several tests holds
 abbrev pub all_hold : List Bool → Bool
 all_hold [] = true
 all_hold (b ∷ bs) = b && all_hold bs
 
--- no two are the same
+-- whether no two elements of a list are the same, by the given comparison
 abbrev pub are_apart : {X : Type 0} → (X → X → Bool) → List X → Bool
 are_apart same [] = true
 are_apart same (x ∷ xs) = not (list_any (same x) xs) && are_apart same xs
 
+-- whether there are no bytes, or they are a name
 abbrev pub name_or_none : Option (List ℕ) → Bool
 name_or_none None = true
 name_or_none (Some n) = is_name n
 
+-- whether a class id is well-formed (IsShadowId)
 abbrev pub is_shadow_id : ShadowData → Bool
 is_shadow_id c = all_hold (nat_lt 0 c.id ∷ nat_le c.id FARTHEST_BUCKET_ID ∷ is_name c.class ∷ [])
 
--- a row by itself: a device's, and a bucket's
+-- the tests of a device's row, in the order of the conditions of IsDeviceRow
 abbrev pub device_tests : ℕ → Row → List Bool
 device_tests d r =
     nat_lt d DEVICE_IDS ∷ (r.kind == 0) ∷ nat_le r.weight HEAVIEST_DEVICE
     ∷ (is_some r.parent || (r.weight == 0)) ∷ is_none r.alg ∷ (length r.class_ids == 0)
     ∷ name_or_none r.class ∷ []
 
+-- the tests of a bucket's row, in the order of the conditions of IsBucketRow
 abbrev pub bucket_tests : ℕ → Row → List Bool
 bucket_tests b r =
     nat_lt 0 b ∷ nat_le b FARTHEST_BUCKET_ID ∷ nat_lt 0 r.kind ∷ nat_le r.kind LAST_TYPE
@@ -41,23 +44,26 @@ bucket_tests b r =
     ∷ nat_le (length r.class_ids) MOST_CLASS_IDS
     ∷ are_apart bytes_eq (map (λ (c : ShadowData). c.class) r.class_ids) ∷ []
 
+-- whether a row passes the tests of a device's or a bucket's row, as the id says
 abbrev pub is_row_of : ItemId → Row → Bool
 is_row_of (Device d) r = all_hold (device_tests d r)
 is_row_of (Bucket b) r = all_hold (bucket_tests b r)
 
+-- whether a row is well-formed by itself (IsRow)
 abbrev pub is_row : Row → Bool
 is_row r = all_hold (is_name r.name ∷ is_row_of r.id r ∷ [])
 
--- its parent is there, and it isn't below itself
+-- whether the parent, if any, is a bucket of the table
 abbrev pub parent_is_there : List Row → Option ℕ → Bool
 parent_is_there t None = true
 parent_is_there t (Some p) = is_there t (Bucket p)
 
+-- whether an item is a bucket that is below itself
 abbrev pub is_loop : List Row → ItemId → Bool
 is_loop t (Device d) = false
 is_loop t (Bucket b) = is_below t b (Bucket b)
 
--- the whole table: ids, names and used ids distinct, rows, parents, loops, sums and total, counts
+-- the tests of a whole table: ids, names and used ids are distinct; each row is well-formed; each parent is in the table; no bucket is below itself; no sum or total is above its limit; there are not too many devices or buckets
 abbrev pub table_tests : List Row → List Bool
 table_tests t =
     are_apart same_id (map (λ (r : Row). r.id) t)
@@ -69,5 +75,6 @@ table_tests t =
     ∷ not (is_too_heavy t)
     ∷ not (has_too_many t) ∷ []
 
+-- whether a table passes all these tests, that is, whether it is lawful
 abbrev pub is_lawful : List Row → Bool
 is_lawful t = all_hold (table_tests t)

@@ -1,4 +1,5 @@
-//! Laws, as contracts of functions that do nothing.
+//! Laws about tables. Each law is stated as the contract of a function that does nothing, so no
+//! program needs to call these functions.
 
 ghost use Rattle.std.specs.Prelude.{◌≡◌, ◌↔◌, ℕ, List, Option, ◌++◌, true};
 ghost use Rattle.crush_units.specs.declared.id.ItemId.{ItemId};
@@ -11,18 +12,22 @@ ghost use Rattle.crush_model.specs.Forest.{ForestData};
 ghost use Rattle.crush_model.specs.Table.{Row};
 ghost use Rattle.crush_model.specs.Tested.{is_lawful};
 
-/// A bucket weighs what its items weigh; ways up end.
+/// The law that, in a lawful table, a bucket's weight is the sum of its items' weights. The parents
+/// above an item end: following them more often than there are rows finds no more of them.
 pub fn sums_are_those_of_items()
     ensures sums { (t : List Row) → Lawful t → SumsItems t }
     ensures ends { (t : List Row) → Lawful t → ClimbEnds t }
 {}
 
-/// Tables that are the same are read alike.
+/// The law that reading gives equal results on a lawful table and on each table that is the same,
+/// which is lawful too. Two tables are the same if they have the same rows in whatever order, and
+/// the items of each bucket in the same order.
 pub fn same_tables_are_read_alike()
     ensures { SameIsAlike }
 {}
 
-/// Changes make the same of tables that are the same.
+/// The law that each of these changes, made to two lawful tables that are the same, results in
+/// tables that are the same.
 pub fn changes_keep_same()
     ensures weight { (i : ItemId) (w : ℕ) → KeepsSame (set_weight i w) }
     ensures subtree { (b w : ℕ) → KeepsSame (set_subtree b w) }
@@ -36,12 +41,13 @@ pub fn changes_keep_same()
     ensures swap { (a b : ℕ) → KeepsSame (swap_buckets a b) }
 {}
 
-/// The tables for which a forest stands are the same.
+/// The law that all tables that one forest represents are the same, and that it represents each
+/// table that is the same as one of them. A sound forest represents its own rows.
 pub fn stands_for_one_table()
     ensures { (f : ForestData) → StandsForOne f }
 {}
 
-/// Which changes leave a table lawful, and where.
+/// The laws of which changes keep a table lawful, and under which conditions.
 pub fn changes_keep_lawful()
     ensures without { (i : ItemId) → KeepsLawful (table_without i) }
     ensures weight { WeightKeepsLawful }
@@ -56,35 +62,41 @@ pub fn changes_keep_lawful()
     ensures part { PartKeepsLawful }
 {}
 
-/// Rows keep their form in other buckets.
+/// The law that a row keeps its form if it gets a bucket as its parent, and that a device's row
+/// also does if its weight changes too.
 pub fn placed_rows_keep_their_form()
     ensures row { PlacedRowKeepsForm }
     ensures device { PlacedDeviceKeepsForm }
 {}
 
-/// An item that moves is one row with another parent, now the last.
+/// The law that moving an item of a lawful table with all items below it changes just the item's
+/// own row: the row gets another parent and becomes the last.
 pub fn moves_are_of_one_row()
     ensures { (t : List Row) → Lawful t → Relocates t }
 {}
 
-/// The same of a device that gets another weight.
+/// The law that moving a device of a lawful table and giving it another weight changes just the
+/// device's own row: the row gets another parent and weight and becomes the last.
 pub fn moves_of_devices_are_of_one_row()
     ensures { (t : List Row) → Lawful t → RelocatesDevice t }
 {}
 
-/// Free ids are unused and distinct bucket ids.
+/// The law that the free ids are unused bucket ids, and distinct. It also bounds how many ids a
+/// lawful table uses.
 pub fn free_ids_are_free()
     ensures free { FreeIdsAreFree }
     ensures few { FewIdsAreUsed }
 {}
 
-/// Tests of sums and room are alike on tables that are the same.
+/// The law that the tests for sums and for the number of items have equal results on tables that
+/// are the same. For the sums no id may be in a table twice.
 pub fn tests_are_alike()
     ensures sums { HeavyIsAlike }
     ensures room { RoomIsAlike }
 {}
 
-/// A bucket without items is one row, and weighs nothing.
+/// The law that taking out a bucket without items, or a device, takes out just its own row. A
+/// bucket without items adds nothing to any sum.
 pub fn empty_bucket_is_one_row()
     ensures bucket { EmptyIsRow }
     ensures device { DeviceIsRow }
@@ -93,12 +105,13 @@ pub fn empty_bucket_is_one_row()
     ensures sums { EmptyKeepsSums }
 {}
 
-/// Rows that come last add their counts, weights and ids.
+/// The law that rows appended to a table add their numbers of devices and buckets, their total
+/// weight and their used ids.
 pub fn counts_add()
     ensures { (t u : List Row) → AddsRows t u }
 {}
 
-/// A table is lawful exactly where it passes the test.
+/// The law that a table is lawful if and only if it passes the test `is_lawful`, which computes.
 pub fn lawful_is_what_passes()
     ensures { (t : List Row) → (is_lawful t ≡ true) ↔ Lawful t }
 {}

@@ -1,6 +1,10 @@
-//! The table that a forest of buckets and devices stands for: a flat list of rows without stored
-//! sums. `specs/` has definitions, [`law`] laws; in `proofs/`, `Unlawful`, `TooMany` and `TooHeavy`
-//! break one condition each.
+//! The table that a forest of buckets and devices represents: a flat list of rows, one for each
+//! item, without stored sums. Contracts describe each change of a map by what it does to this
+//! table.
+//!
+//! This crate has no code that runs. `specs/` has the definitions; read `Table` and `Lawful` first.
+//! [`law`] has the laws. In `proofs/`, the modules `Unlawful`, `TooMany` and `TooHeavy` have tables
+//! each of which breaks just one condition of a lawful table.
 #![tactic(auto)]
 
 pub mod law;

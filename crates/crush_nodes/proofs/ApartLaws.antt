@@ -1,4 +1,4 @@
--- What the tests of ids and names tell: how often each key of a row is there, among items and in a table.
+-- What follows from the tests of ids and names: how often each key of a row occurs, among items and in a table.
 use Rattle.std.proofs.Common.{◌≡◌, ℕ, zero, suc, ◌+◌, ◌≤◌, Bool, true, false, List, [], ◌∷◌, ◌++◌, ap, sym, subst, ◌∙◌, refl, arith, eq-eqb, ⊎_elim, inl, inr, ◌⊎◌}
 use Rattle.std.specs.Prelude.{◌==◌, ◌&&◌, ◌||◌, not, if◌then◌else◌, Option, Some, None, is_some, bytes_eq, nat_lt}
 use Rattle.std.specs.Option.{option_map}
@@ -81,7 +81,7 @@ often-same (Id i) t u p = reordered-count (λ (r : Row). same_id r.id i) p
 often-same (Name n) t u p = reordered-count (λ (r : Row). bytes_eq r.name n) p
 often-same (Use k) t u p = times_used-same t u p k
 
--- each key is there once at most
+-- each key occurs at most once
 abbrev Once : List Row → Type 0
 Once t = (k : Key) → often k t ≤ 1
 
@@ -173,7 +173,7 @@ nobody (r ∷ t) n h = by_name (bytes_eq r.name n) (named-cons n r t) (nobody t 
 no_name : (n : List ℕ) (q : Option ℕ) (o : Items) → named n (rows q o) ≡ 0 → is_some (id_in n o) ≡ false
 no_name n q o h = ap is_some (id_in-rows n q o) ∙ nobody (rows q o) n h
 
--- a number that is in a list passes the test that each fails; where each that is there fails it, none passes
+-- if no number of a list passes a test, then a number isn't in the list or fails the test
 out_of : (f : ℕ → Bool) (xs : List ℕ) (u : ℕ) → list_any f xs ≡ false → (count_by (λ x. x == u) xs ≡ 0) ⊎ (f u ≡ false)
 out_of f [] u h = inl refl
 out_of f (x ∷ xs) u h = ⊎_elim
@@ -303,7 +303,7 @@ not_so : (a : Bool) → not a ≡ true → a ≡ false
 not_so true h = absurd cc
 not_so false h = refl
 
--- the row of a bucket stands apart from those below it, and both from those after
+-- the row of a bucket shares no key with the rows below it, and neither shares one with the rows after them
 three : (a b c : ℕ) → a ≤ 1 → b ≤ 1 → c ≤ 1 → Either0 a b → Either0 (a + (b + 0)) c → a + (b + c) ≤ 1
 three a b c x y z e f = ⊎_elim (λ u. ⊎_elim (λ v. omega (arith, u, v)) (λ v. omega (arith, u, v)) f) (λ u. ⊎_elim (λ v. omega (arith, u, v)) (λ v. omega (arith, u, v)) f) e
 
@@ -342,7 +342,7 @@ once_distinct (bucket x w m s r) p o =
     let rest = once_distinct r p (λ k. omega (arith, parts k)) in
     λ j. not (apart j) && ((own j && not (below j)) && (kids j && rest j))
 
--- THE FOREST: what stands apart from both of its lists does so from each table for which it stands
+-- THE FOREST: an item that shares no key with both lists of a forest shares none with each table that the forest represents
 module _ (f : ForestData) (t : List Row) (n : Items) (p : Option ℕ) (s : Stands f t) where
   often_there : (k : Key) → often k t ≡ often k (rows None f.unplaced) + often k (rows None f.roots)
   often_there k = sym (often-same k (rows_of f) t s.same.rows) ∙ ap (often k) (rows-join None f.unplaced f.roots) ∙ often-append k (rows None f.unplaced) (rows None f.roots)
@@ -372,7 +372,7 @@ module _ (f : ForestData) (t : List Row) (n : Items) (p : Option ℕ) (s : Stand
     pub apart_unplaced : shares_a_key n f.unplaced ≡ false
     apart_unplaced = unmet_shares n f.unplaced p None (λ k. either _ _ (omega (arith, both k)))
 
--- the parent of what comes doesn't matter
+-- the parent of the new rows doesn't matter
 pub AreApart-parent : (t : List Row) (n : Items) (p q : Option ℕ) → AreApart (t ++ rows p n) → AreApart (t ++ rows q n)
 AreApart-parent t n p q a = once_apart (t ++ rows q n) (λ k. omega (arith, apart_is_once (t ++ rows p n) a k, often-append k t (rows p n), often-append k t (rows q n), often-parent k p q n))
 

@@ -17,7 +17,7 @@ pub any_number : {A : _} (f : ℕ → Bool) (cs : List (ShadowId A)) → list_an
 any_number f [] = refl
 any_number f (c ∷ cs) = ap (λ z. f c.id || z) (any_number f cs)
 
--- and of its class
+-- the same for its class
 pub any_class : {A : _} (f : List ℕ → Bool) (cs : List (ShadowId A)) → list_any (λ c. f c.class) cs ≡ list_any f (shadow_classes cs)
 any_class f [] = refl
 any_class f (c ∷ cs) = ap (λ z. f c.class || z) (any_class f cs)
@@ -33,7 +33,7 @@ class_ids_more cs i x lt e a is =
 pub class_ids_all : {A : _} (cs : List (ShadowId A)) (i : ℕ) → length cs ≤ i → All IsShadowId (map shadow_data (take i cs)) → All IsShadowId (map shadow_data cs)
 class_ids_all cs i le a = subst (λ z. All IsShadowId (map shadow_data z)) (take_all i cs le) a
 
--- numbers from one class id on are distinct where its own is none of those after it, and those are
+-- the numbers from one class id on are distinct if its own isn't among those after it, and if those are distinct
 pub numbers_at : {A : _} (same : ℕ → ℕ → Bool) (cs : List (ShadowId A)) (i : ℕ) (x : ShadowId A) → i < length cs → x ≡ get_or cs i x
     → are_apart same (shadow_numbers (drop i cs)) ≡ (not (list_any (same x.id) (shadow_numbers (drop (i + 1) cs))) && are_apart same (shadow_numbers (drop (i + 1) cs)))
 numbers_at same cs i x lt e = ap (λ zs. are_apart same (shadow_numbers zs)) (drop_at cs i x lt e)
@@ -41,7 +41,7 @@ numbers_at same cs i x lt e = ap (λ zs. are_apart same (shadow_numbers zs)) (dr
 pub numbers_end : {A : _} (same : ℕ → ℕ → Bool) (cs : List (ShadowId A)) (i : ℕ) → length cs ≤ i → are_apart same (shadow_numbers (drop i cs)) ≡ true
 numbers_end same cs i le = ap (λ zs. are_apart same (shadow_numbers zs)) (drop_all i cs le)
 
--- and so classes
+-- the same for classes
 pub classes_at : {A : _} (same : List ℕ → List ℕ → Bool) (cs : List (ShadowId A)) (i : ℕ) (x : ShadowId A) → i < length cs → x ≡ get_or cs i x
     → are_apart same (shadow_classes (drop i cs)) ≡ (not (list_any (same x.class) (shadow_classes (drop (i + 1) cs))) && are_apart same (shadow_classes (drop (i + 1) cs)))
 classes_at same cs i x lt e = ap (λ zs. are_apart same (shadow_classes zs)) (drop_at cs i x lt e)

@@ -23,7 +23,7 @@ pub class_sum_in-at : {A : _} (c : List ℕ) (ns : List (Node A)) (i : ℕ) (x :
     → class_sum_in c (items_of (drop i ns)) ≡ class_sum_in c (items_of (x ∷ [])) + class_sum_in c (items_of (drop (i + 1) ns))
 class_sum_in-at c ns i x lt e = ap (class_sum_in c) (items_at ns i x lt e ∙ items_of-cons x (drop (i + 1) ns)) ∙ class_sum_in-join c (items_of (x ∷ [])) (items_of (drop (i + 1) ns))
 
--- no more than all devices, and so than what buckets store
+-- the sum is no more than that of all devices, and so no more than what buckets store
 leaf_less : (b : Bool) (w : ℕ) → (if b then w else 0) ≤ w
 leaf_less true w = omega arith
 leaf_less false w = omega arith

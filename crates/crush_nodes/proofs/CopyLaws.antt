@@ -1,4 +1,4 @@
--- Copies, which are the same but for memory.
+-- Copies, which are the same except for memory.
 use Rattle.std.proofs.Common.{◌≡◌, ℕ, ◌+◌, ◌-◌, ◌<◌, Bool, true, false, List, [], ◌∷◌, ◌++◌, length, get_or, take, map, ap, sym, subst, ◌∙◌, refl, arith}
 use Rattle.std.specs.Prelude.{◌==◌, if◌then◌else◌}
 use Rattle.std.proofs.lemmas.List.{map-append, take_more}
@@ -24,14 +24,14 @@ without_capacity-copied more ms ns i y x lt at written e same =
     ap (λ z. without_capacity (items_of z)) written ∙ ap without_capacity (items_of-append ms (y ∷ [])) ∙ without_capacity-join (items_of ms) (items_of (y ∷ [])) ∙ (λ k. join (e k) (same k))
     ∙ sym (without_capacity-join (items_of (take i ns)) (items_of (x ∷ []))) ∙ sym (ap without_capacity (items_of-taken ns i x lt at))
 
--- one element more, told by what is seen of each
+-- one element more, stated by the plain data of each
 pub map-copied : {X Y : Type 0} (f : X → Y) (more ms ns : List X) (i : ℕ) (y x : X) → i < length ns → x ≡ get_or ns i x → more ≡ ms ++ y ∷ [] → map f ms ≡ map f (take i ns) → f y ≡ f x
     → map f more ≡ map f (take (i + 1) ns)
 map-copied f more ms ns i y x lt at written e same =
     ap (map f) written ∙ map-append f ms (y ∷ []) ∙ (λ k. e k ++ same k ∷ []) ∙ sym (map-append f (take i ns) (x ∷ []))
     ∙ sym (ap (map f) (take_more ns i x lt ∙ ap (λ z. take i ns ++ z ∷ []) (sym at)))
 
--- a bucket has no room that has memory for its items alone, and nor have those below it
+-- a bucket that has memory only for its items has no room, and neither have those below it
 full_room : (q : Bool) (m n : ℕ) → m ≡ n → (if q then m - n else 0) ≡ 0
 full_room true m n e = omega arith
 full_room false m n e = refl
@@ -57,7 +57,7 @@ copied_same old new ns i x copy lt at before = without_capacity-copied new old n
 pub copied_full : {A : _} (old new : List (Node A)) (x : Node A) → Copied old new x → (b : ℕ) → bucket_room b (items_of old) ≡ 0 → bucket_room b (items_of new) ≡ 0
 copied_full old new x copy b before = bucket_room-copied b new old copy.pushed.node copy.pushed.last before (ap (bucket_room b) copy.pushed.item ∙ copy.full b)
 
--- a forest has no room that has memory for its items alone
+-- a forest that has memory only for its items has no room
 pub room-full : (f : ForestData) → f.root_capacity ≡ count f.roots → f.unplaced_capacity ≡ count f.unplaced → ((b : ℕ) → bucket_room b f.roots ≡ 0) → ((b : ℕ) → bucket_room b f.unplaced ≡ 0) → (p : Place) → room f p ≡ 0
 room-full f roots unplaced below_roots below_unplaced (AtBucket b) = omega (arith, bucket_room-join b f.unplaced f.roots, below_roots b, below_unplaced b)
 room-full f roots unplaced below_roots below_unplaced Root = omega (arith, roots)
@@ -79,7 +79,7 @@ same_devices t u h e =
     let only : OnlyDevices (without_capacity u) = OnlyDevices-without_capacity u h in
     sym (without_capacity-devices t (subst OnlyDevices (sym e) only)) ∙ e ∙ without_capacity-devices u only
 
--- a forest that is the same but for memory
+-- a forest that is the same except for memory
 module _ (f g : ForestData) (sound : IsSound f) (e₁ : without_capacity g.roots ≡ without_capacity f.roots) (e₂ : without_capacity g.unplaced ≡ without_capacity f.unplaced) where
   pub sound-copied : IsSound g
   sound-copied = sound-widened f g e₁ (same_devices g.unplaced f.unplaced sound.unplaced e₂) sound

@@ -1,4 +1,4 @@
--- What the tests of forms tell: each row of the items is of its form.
+-- What follows from the tests of forms: each row of the items has the right form.
 use Rattle.std.proofs.Common.{◌≡◌, ℕ, ◌+◌, ◌<◌, ◌≤◌, Bool, true, false, List, [], ◌∷◌, ◌++◌, length, get_or, take, ap, sym, subst, ◌∙◌, refl, arith}
 use Rattle.std.specs.Prelude.{◌&&◌, ◌||◌, not, Option, Some, None, IfSome, All, map, bytes_eq, nat_lt, nat_le}
 use Rattle.std.specs.List.{count_by, list_any}
@@ -113,7 +113,7 @@ bucket_formed p h r =
 formed_device : (p : Option ℕ) (d : LeafData) → nat_le d.weight HEAVIEST_DEVICE ≡ true → d.id < DEVICE_IDS → IsName d.name → IfSome d.class IsName → (p ≡ None → d.weight ≡ 0) → IsRow (device_row p d)
 formed_device p d e i n c w = record { name = n; form = record { id = i; kind = refl; light = leb-true d.weight HEAVIEST_DEVICE e; unplaced = w; alg = refl; class_ids = refl; class = c } }
 
--- devices that nothing holds have no weight
+-- devices that no bucket holds have weight 0
 abbrev pub Weightless : Items → Type 0
 Weightless none = Unit {0}
 Weightless (device d r) = (d.weight ≡ 0) × Weightless r

@@ -1,4 +1,4 @@
--- What two tests together tell of each.
+-- If two tests hold together, then each of them holds.
 use Rattle.std.proofs.Common.{◌≡◌, Bool, true, false, refl}
 use Rattle.std.specs.Prelude.{◌&&◌}
 

@@ -1,4 +1,5 @@
-//! Whether a node can come to a place of the forest.
+//! Tests whether an item can be put at a place of the forest: the kind of the item, and how many
+//! devices and buckets it has.
 
 ghost use Rattle.std.specs.Prelude.{◌≡◌, ◌+◌, ◌<◌, ◌≤◌, ◌∷◌, [], ◌↔◌, IfNone, IfSome, nat_le};
 ghost use Rattle.crush_model.specs.Items.{size_of};
@@ -10,21 +11,22 @@ use crate::node::{Bucket, Node};
 use crate::place::Place;
 use std::alloc::Allocator;
 
-/// Whether there are at most so many devices.
+/// Whether the item and all that is below it have at most `most` devices.
 pub fn has_few_devices<A: Allocator>(node: &Node<A>, most: u32) -> bool
     ensures { result ≡ nat_le (devices_in (items_of (node.now ∷ []))) most }
 {
     devices_left(node, most).is_some()
 }
 
-/// Whether there are at most so many buckets.
+/// Whether the item and all that is below it have at most `most` buckets.
 pub fn has_few_buckets<A: Allocator>(node: &Node<A>, most: u32) -> bool
     ensures { result ≡ nat_le (size_of (items_of (node.now ∷ []))) most }
 {
     buckets_left(node, most).is_some()
 }
 
-/// Whether the place takes the node: roots are buckets, and unplaced devices weigh nothing.
+/// Whether an item of this kind can be at the place. Roots are buckets, unplaced devices are
+/// devices with weight 0, and a bucket can hold both kinds.
 pub fn takes<A: Allocator>(place: &Place, node: &Node<A>) -> bool
     ensures { result ≡ takes place.now (items_of (node.now ∷ [])) }
 {
@@ -41,6 +43,8 @@ pub fn takes<A: Allocator>(place: &Place, node: &Node<A>) -> bool
     }
 }
 
+/// Returns `most` minus the number of devices in the item, at any depth, or `None` if there are
+/// more than `most`.
 fn devices_left<A: Allocator>(node: &Node<A>, most: u32) -> Option<u32>
     ensures some { IfSome result (λ left. left + devices_in (items_of (node.now ∷ [])) ≡ most) }
     ensures none { IfNone result (most < devices_in (items_of (node.now ∷ []))) }
@@ -62,6 +66,8 @@ fn devices_left<A: Allocator>(node: &Node<A>, most: u32) -> Option<u32>
     }
 }
 
+/// Returns `most` minus the number of buckets in the item, at any depth, or `None` if there are
+/// more than `most`.
 fn buckets_left<A: Allocator>(node: &Node<A>, most: u32) -> Option<u32>
     ensures some { IfSome result (λ left. left + size_of (items_of (node.now ∷ [])) ≡ most) }
     ensures none { IfNone result (most < size_of (items_of (node.now ∷ []))) }

@@ -1,4 +1,4 @@
-//! What the devices of a class weigh.
+//! The weight of the devices of one class.
 
 ghost use Rattle.std.specs.Prelude.{◌≡◌, ◌≤◌, ◌∷◌, [], IfSome};
 ghost use Rattle.crush_units.specs.Name.{IsName};
@@ -11,7 +11,8 @@ use crate::sums::with_more;
 use crush_units::{Name, Weight};
 use std::alloc::Allocator;
 
-/// The weight of the class's devices in the item, at any depth.
+/// Returns the sum of the weights of the item's devices that have the class, at any depth. The cost
+/// is linear in the number of items.
 pub fn class_weight_in<A: Allocator>(node: &Node<A>, class: &[u8]) -> Weight
     requires { class_sum_in class.now (items_of (node.now ∷ [])) ≤ HEAVIEST_BUCKET }
     ensures { result ≡ class_sum_in class.now (items_of (node.now ∷ [])) }
@@ -30,6 +31,7 @@ pub fn class_weight_in<A: Allocator>(node: &Node<A>, class: &[u8]) -> Weight
     }
 }
 
+/// Returns the device's weight if it has the class, otherwise 0.
 fn leaf_class_weight<A: Allocator>(leaf: &Leaf<A>, class: &[u8]) -> Weight
     ensures { result ≡ leaf_class_weight class.now (leaf_data leaf.now) }
 {
@@ -45,7 +47,8 @@ fn leaf_class_weight<A: Allocator>(leaf: &Leaf<A>, class: &[u8]) -> Weight
     }
 }
 
-/// A law of a class: it is a name.
+/// Gives the fact that a class is in the form of a name, which follows from its type's invariant.
+/// It is called for the proof and changes nothing.
 pub fn recall_class<A: Allocator>(class: &Option<Name<A>>)
     ensures { IfSome class.now IsName }
 {

@@ -1,6 +1,7 @@
-//! Copies of items.
+//! Copies of items with all that is below them.
 //!
-//! Calls nest as deep as buckets do: hence `inline(never)` for what else they do.
+//! Calls nest as deep as buckets do, and each level needs stack. So the other work of a level is in
+//! functions that are `inline(never)`, which keeps their variables out of the nested frames.
 
 ghost use Rattle.std.specs.Prelude.{◌≡◌, ℕ, ◌<◌, ◌+◌, ◌∷◌, [], map, IfOk, OnOk, vec_len, vec_capacity};
 ghost use Rattle.crush_model.specs.Items.{bucket, device, none};
@@ -13,7 +14,8 @@ use crate::node::{Bucket, Header, Leaf, Node, ShadowId};
 use crush_units::Weight;
 use std::alloc::{AllocError, Allocator};
 
-/// Copies items with all that is below them, without spare room.
+/// Copies items with all that is below them. The copies have no memory for further items. Fails
+/// with `AllocError` if memory can't be allocated. The cost is linear in the number of items.
 pub fn copy_items<A: Allocator + Clone>(
     alloc: &A,
     items: &[Node<A>],
@@ -37,6 +39,7 @@ pub fn copy_items<A: Allocator + Clone>(
     Ok(copies)
 }
 
+/// Appends a copy of a device to the copies, which have room.
 #[inline(never)]
 fn push_leaf<A: Allocator + Clone>(
     copies: &mut Vec<Node<A>, A>,
@@ -54,6 +57,7 @@ fn push_leaf<A: Allocator + Clone>(
     Ok(())
 }
 
+/// Appends a copy of a bucket to the copies, which have room. `below` are the copies of its items.
 #[inline(never)]
 fn push_bucket<A: Allocator + Clone>(
     copies: &mut Vec<Node<A>, A>,

@@ -1,4 +1,4 @@
-//! Whether items are of their form.
+//! Tests of each item by itself: weights, types and class ids.
 
 ghost use Rattle.std.specs.Prelude.{◌≡◌, ◌<◌, ◌≤◌, ◌∷◌, [], All, IfSome, map, nat_le, bytes_eq};
 ghost use Rattle.std.specs.Bool.{OnTrue};
@@ -15,8 +15,8 @@ use crate::node::{Bucket, Header, Leaf, Node, ShadowId};
 use crush_units::limits::{HEAVIEST_DEVICE, MOST_CLASS_IDS};
 use std::alloc::Allocator;
 
-/// Whether, at any depth, devices have weights in range, and buckets a type and at most 16 class
-/// ids of distinct classes.
+/// Whether each item, at any depth, is well formed: a device's weight is in range, and a bucket has
+/// a type above 0 and at most 16 class ids, of distinct classes.
 pub fn is_formed_node<A: Allocator>(node: &Node<A>) -> bool
     ensures tested { result ≡ are_formed (items_of (node.now ∷ [])) }
     ensures typed { OnTrue result (AreTyped (items_of (node.now ∷ []))) }
@@ -40,6 +40,8 @@ pub fn is_formed_node<A: Allocator>(node: &Node<A>) -> bool
     }
 }
 
+/// Whether a device's weight is in range. Reads the other fields only because their types'
+/// invariants give the rest of the contract.
 fn is_formed_leaf<A: Allocator>(leaf: &Leaf<A>) -> bool
     ensures tested { result ≡ nat_le leaf.now.weight HEAVIEST_DEVICE }
     ensures id { leaf.now.id < DEVICE_IDS }
@@ -52,6 +54,7 @@ fn is_formed_leaf<A: Allocator>(leaf: &Leaf<A>) -> bool
     leaf.weight.units() <= HEAVIEST_DEVICE
 }
 
+/// Whether a bucket has a type above 0 and at most 16 class ids, of distinct classes.
 fn is_formed<A: Allocator>(header: &Header<A>) -> bool
     ensures tested { result ≡ is_formed (header_data header.now) }
     ensures typed { OnTrue result (IsTyped (header_data header.now)) }
@@ -69,6 +72,7 @@ fn is_formed<A: Allocator>(header: &Header<A>) -> bool
     have_distinct_classes(class_ids)
 }
 
+/// Whether no two class ids have the same class.
 fn have_distinct_classes<A: Allocator>(class_ids: &[ShadowId<A>]) -> bool
     ensures { result ≡ are_apart (λ a b. bytes_eq b a) (shadow_classes class_ids.now) }
 {
@@ -80,6 +84,7 @@ fn have_distinct_classes<A: Allocator>(class_ids: &[ShadowId<A>]) -> bool
     true
 }
 
+/// Whether one of the class ids has the same class as `class_id`.
 fn has_class_of<A: Allocator>(class_ids: &[ShadowId<A>], class_id: &ShadowId<A>) -> bool
     ensures { result
         ≡ list_any (λ b. bytes_eq b class_id.now.class) (shadow_classes class_ids.now) }
@@ -87,6 +92,7 @@ fn has_class_of<A: Allocator>(class_ids: &[ShadowId<A>], class_id: &ShadowId<A>)
     has_class(class_ids, class_id.class.as_bytes())
 }
 
+/// Gives the contract's facts, which follow from the types' invariants; changes nothing.
 fn recall_shadow_ids<A: Allocator>(class_ids: &[ShadowId<A>])
     ensures { All IsShadowId (map shadow_data class_ids.now) }
 {
@@ -95,6 +101,7 @@ fn recall_shadow_ids<A: Allocator>(class_ids: &[ShadowId<A>])
     }
 }
 
+/// Gives the facts for one class id; changes nothing.
 fn recall_shadow_id<A: Allocator>(class_id: &ShadowId<A>)
     ensures { IsShadowId (shadow_data class_id.now) }
 {
@@ -102,6 +109,7 @@ fn recall_shadow_id<A: Allocator>(class_id: &ShadowId<A>)
     let _bytes = class_id.class.as_bytes();
 }
 
+/// Whether one of the class ids has the class.
 fn has_class<A: Allocator>(class_ids: &[ShadowId<A>], class: &[u8]) -> bool
     ensures { result ≡ list_any (λ c. bytes_eq c.class class.now) class_ids.now }
 {

@@ -1,4 +1,4 @@
-//! Buckets that are filled before they stand in a forest.
+//! Filling a bucket before it is put into a forest.
 
 ghost use Rattle.std.specs.Prelude.{◌≡◌, ℕ, ◌+◌, ◌<◌, ◌≤◌, ◌∷◌, [], ◌++◌, Option, nat_lt};
 ghost use Rattle.crush_model.specs.ItemRows.{rows};
@@ -15,8 +15,8 @@ use crate::sums::with_more;
 use std::alloc::Allocator;
 
 impl<A: Allocator> Node<A> {
-    /// Whether the item is a bucket that has memory for one item more, so that [`Node::hold`] may
-    /// be called.
+    /// Whether the item is a bucket with memory for one more item, so that [`Node::hold`] may be
+    /// called.
     pub fn has_room(&self) -> bool
         ensures { result ≡ nat_lt 0 (first_room (items_of (self.now ∷ []))) }
     {
@@ -29,8 +29,8 @@ impl<A: Allocator> Node<A> {
         }
     }
 
-    /// Puts a child last into a bucket that has room for it, which [`Node::has_room`] tests, and
-    /// adds its weight.
+    /// Appends a child to a bucket and adds the child's weight to the bucket's. The bucket must
+    /// have room, which [`Node::has_room`] tests, and the new weight must be in range.
     pub fn hold(&mut self, child: Node<A>)
         requires room { 0 < first_room (items_of (self.old ∷ [])) }
         requires fits { weight_sum (items_of (self.old ∷ []))

@@ -1,8 +1,9 @@
-//! Items of the hierarchy, devices and buckets with what is below them, and walks that read, test
-//! or copy them.
+//! The items of the hierarchy, which are devices and buckets, and functions that read, test or copy
+//! items and all that is below them.
 //!
-//! [`node`] has the types, [`way`] the ways down to an item, [`path`] the one by a [`guide`].
-//! `crush_walks` changes items, and `crush_tree` has the forest of all.
+//! Read [`node`] first: it has the types. [`descent`] defines how a walk finds its way down to an item,
+//! and [`path`] is the way that is found by a [`guide`]. The crate `crush_walks` changes items, and
+//! `crush_tree` has the forest of all items.
 #![tactic(auto)]
 
 pub mod apart;
@@ -10,6 +11,7 @@ pub mod attachable;
 pub mod child;
 pub mod classed;
 pub mod copy;
+pub mod descent;
 pub mod form;
 pub mod guide;
 pub mod hold;
@@ -20,7 +22,6 @@ pub mod search;
 pub mod stored;
 pub mod sums;
 pub mod view;
-pub mod way;
 
 pub use node::{Bucket, Header, Leaf, Node, ShadowId};
 pub use place::Place;

@@ -1,4 +1,4 @@
-//! Whether buckets store their sums.
+//! Tests whether buckets store the sums of their items.
 
 ghost use Rattle.std.specs.Prelude.{◌≡◌, ◌==◌, ◌∷◌, [], ◌↔◌, IsTrue};
 ghost use Rattle.crush_model.specs.Stored.{StoresSums, weight_sum};
@@ -9,8 +9,9 @@ use crush_units::Weight;
 use std::alloc::Allocator;
 
 impl<A: Allocator> Node<A> {
-    /// Whether each bucket of the item, itself or at any depth below it, stores the sum of the
-    /// weights of its items, as a hierarchy requires of an item that comes into it.
+    /// Whether each bucket, the item itself or one below it at any depth, stores the sum of the
+    /// weights of its items. A hierarchy requires this of an item that is put into it. The cost is
+    /// linear in the number of items.
     pub fn stores_sums(&self) -> bool
         ensures { IsTrue result ↔ StoresSums (items_of (self.now ∷ [])) }
     {
@@ -30,6 +31,8 @@ impl<A: Allocator> Node<A> {
     }
 }
 
+/// Whether `sum` is the sum of the weights that the items store. Subtracts instead of adding, so
+/// that nothing can overflow.
 fn is_sum_of<A: Allocator>(sum: Weight, items: &[Node<A>]) -> bool
     ensures { result ≡ (weight_sum (items_of items.now) == sum) }
 {

@@ -1,11 +1,11 @@
-//! Sums of weights, as buckets store them.
+//! Sums of weights, as buckets store them. The contracts require that no sum leaves its range.
 
 ghost use Rattle.std.specs.Prelude.{◌≡◌, ◌+◌, ◌-◌, ◌≤◌};
 ghost use Rattle.crush_units.specs.declared.limits.TheConstants.{HEAVIEST_BUCKET};
 
 use crush_units::Weight;
 
-/// A sum with one more weight.
+/// Returns a sum with one more weight added.
 pub fn with_more(sum: Weight, more: Weight) -> Weight
     requires { sum + more ≤ HEAVIEST_BUCKET }
     ensures { result ≡ sum + more }
@@ -13,7 +13,7 @@ pub fn with_more(sum: Weight, more: Weight) -> Weight
     Weight::from_units(sum.units() + more.units())
 }
 
-/// A sum without one of its weights.
+/// Returns a sum without one of its weights.
 pub fn with_less(sum: Weight, less: Weight) -> Weight
     requires { less ≤ sum }
     ensures { result ≡ sum - less }
@@ -21,7 +21,7 @@ pub fn with_less(sum: Weight, less: Weight) -> Weight
     Weight::from_units(sum.units() - less.units())
 }
 
-/// A sum with another weight for one of its weights.
+/// Returns a sum in which `new` replaces `old`, one of its weights.
 pub fn with_other(sum: Weight, old: Weight, new: Weight) -> Weight
     requires held { old ≤ sum }
     requires fits { sum - old + new ≤ HEAVIEST_BUCKET }

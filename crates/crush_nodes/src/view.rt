@@ -1,4 +1,4 @@
-//! What reads of a forest answer.
+//! The results of reads of a forest: one item without what is below it, and counts.
 
 ghost use Rattle.std.specs.Prelude.{◌≡◌};
 
@@ -6,20 +6,21 @@ use crate::node::{Bucket, Leaf, Node};
 use crush_units::{Alg, BucketId, ItemId, TypeId, Weight};
 use std::alloc::Allocator;
 
-/// An item of a forest with its place, without what is below it.
+/// An item of a forest with its parent, without what is below it.
 #[derive(Clone, Copy, Debug)]
 pub struct View<'a> {
     pub id: ItemId,
     /// The number of its type, which is 0 for a device.
     pub kind: TypeId,
     pub name: &'a str,
-    /// Of a bucket the sum over all devices below it.
+    /// Its stored weight. A bucket of a forest stores the sum of the weights of all devices below
+    /// it.
     pub weight: Weight,
-    /// `None` for a root and an unplaced device.
+    /// The bucket that holds it, or `None` for a root and for an unplaced device.
     pub parent: Option<BucketId>,
-    /// A bucket has none.
+    /// A device's class, or `None` if it has none. It is `None` for a bucket.
     pub class: Option<&'a str>,
-    /// A device has none.
+    /// A bucket's algorithm, or `None` for a device.
     pub alg: Option<Alg>,
 }
 
@@ -37,7 +38,7 @@ impl<'a> View<'a> {
     ghost use Rattle.crush_nodes.specs.Views.{device_view, bucket_view};
     ghost use Rattle.crush_nodes.specs.SeenView.{view_data};
 
-    /// A device below the parent.
+    /// Creates the view of a device that has this parent.
     pub fn device<A: Allocator>(leaf: &'a Leaf<A>, parent: Option<BucketId>) -> View<'a>
         ensures { view_data result ≡ device_view parent (leaf_data leaf.now) }
     {
@@ -56,7 +57,7 @@ impl<'a> View<'a> {
         }
     }
 
-    /// A bucket below the parent.
+    /// Creates the view of a bucket that has this parent.
     pub fn bucket<A: Allocator>(bucket: &'a Bucket<A>, parent: Option<BucketId>) -> View<'a>
         ensures { view_data result ≡ bucket_view parent bucket.now.header bucket.now.weight }
     {
@@ -71,7 +72,7 @@ impl<'a> View<'a> {
         }
     }
 
-    /// An item below the parent.
+    /// Creates the view of an item that has this parent.
     pub fn item<A: Allocator>(node: &'a Node<A>, parent: Option<BucketId>) -> View<'a>
         ensures { Some (view_data result) ≡ first_view parent (items_of (node.now ∷ [])) }
     {

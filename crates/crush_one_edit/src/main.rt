@@ -1,6 +1,6 @@
-//! An example for a program of one thread that uses the library: it makes two edits of a map's
-//! text, of which the second is refused, and prints the text after the first and the answer of
-//! each.
+//! An example of a single-threaded program that uses the library. It reads the text of a map,
+//! applies one edit, and prints the new text. It does so twice: the first edit is done, the second
+//! is refused. After each edit it prints a line with the result.
 #![tactic(auto)]
 
 ghost use Rattle.std.specs.Prelude.{◌≡◌, ℕ, List, IfOk};
@@ -24,7 +24,8 @@ use std::alloc::Global;
 use std::io::Write;
 use thiserror::Error;
 
-/// A printed text has a heading for each kind of line.
+/// The text of the map that is edited. The text that the program prints has comment lines too: a
+/// heading before each kind of line.
 const MAP: &[u8] = b"device 0 osd.0
 device 1 osd.1
 type 1 host
@@ -33,28 +34,32 @@ host h1 { id -2 alg straw2 item osd.0 weight 1.0 item osd.1 weight 1.5 }
 root default { id -1 alg straw2 item h1 }
 ";
 
+/// Why an edit of a text wasn't done.
 #[derive(Clone, Copy, Debug, PartialEq, Eq, Error)]
 enum Fault {
-    /// A flaw of the text, or no memory for its map.
+    /// The text isn't the text of a map, or there was no memory for the map.
     #[error("{0}")]
     Text(TextFault),
-    /// A refusal, or no memory for the edit.
+    /// The edit was refused, or there was no memory for it.
     #[error("{0}")]
     Edit(EditFault),
-    /// The writer failed, or there was no memory for the text.
+    /// The writer failed, or there was no memory for the text that is printed.
     #[error("{0}")]
     Write(WriteFault),
 }
 
 fn main(rt: HostRuntime) -> anyhow::Result<()> {
+    // An edit is a plain value. Its names and weights are checked when they are read from text.
     let osd = Name::read(rt.alloc(), b"osd.1")?;
     let weight = Weight::read("0.5")?;
     print_edited(&rt, MAP, &Edit::Reweight { name: osd, weight })?;
+    // A bucket can only be removed if it is empty, and h1 has two devices: this edit is refused.
     let host = Name::read(rt.alloc(), b"h1")?;
     print_edited(&rt, MAP, &Edit::Remove { name: host })
 }
 
-/// A refusal is an answer and printed; any other fault ends the program.
+/// Edits the text, and prints the result. A refusal is an expected result and is printed like a
+/// success; any other fault ends the program with an error.
 fn print_edited(rt: &HostRuntime, text: &[u8], asked: &Edit) -> anyhow::Result<()> {
     match edit_text(rt.alloc(), text, asked, &mut rt.stdout()) {
         Ok(done) => {
@@ -68,6 +73,18 @@ fn print_edited(rt: &HostRuntime, text: &[u8], asked: &Edit) -> anyhow::Result<(
     Ok(())
 }
 
+/// Reads the map of a text, applies one edit to it, writes the new text to `out`, and returns what
+/// the edit did. If the edit isn't done, then nothing is written.
+///
+/// The clauses of the contract say what a caller can rely on:
+///
+/// - `done`: if the text is the text of a map and the result is `Ok`, then the rules of edits make
+///   this edit of the map's table, with the same result, and exactly the text of the table after it
+///   was appended to `out`.
+/// - `refused`: if the result is a refusal and the text is the text of a map, then the rules refuse
+///   this edit of the map's table, for the same reason.
+/// - `flaw`: if the result is a fault of the text, then the text has this flaw, or memory ran out.
+/// - `nothing`: if the edit was refused or memory ran out for it, then `out` is unchanged.
 fn edit_text<W: Write>(alloc: Global, text: &[u8], asked: &Edit, out: &mut W) -> Result<Done, Fault>
     ensures done { (s : SettingData) (t : List Row) (n : ℕ) → IsMapText text.now s t n
         → IfOk result (λ d. (u : List Row) × (edit s t asked.now ≡ done d.changed d.made u)
@@ -79,14 +96,18 @@ fn edit_text<W: Write>(alloc: Global, text: &[u8], asked: &Edit, out: &mut W) ->
     ensures nothing { (f : DeclaredFault) → result ≡ Err (Fault.Edit f)
         → Keeps (W.contents out.old) (W.contents out.new) }
 {
+    // Parses the text. `_adjusted` is the number of buckets that the text lists with a weight other
+    // than the sum of their items; the map has the sums.
     let (mut map, _adjusted) = match read_map(alloc, text) {
         Ok(read) => read,
         Err(fault) => return Err(Fault::Text(fault)),
     };
+    // Changes the map. If the edit isn't done, `apply` leaves the map as it was.
     let done = match map.apply(asked) {
         Ok(done) => done,
         Err(fault) => return Err(Fault::Edit(fault)),
     };
+    // Prints the map as a text that can be read again.
     match write_map(alloc, &map, out) {
         Ok(()) => Ok(done),
         Err(fault) => Err(Fault::Write(fault)),

@@ -1,4 +1,4 @@
--- What is read of the words that were matched, and what a refusal of them says.
+-- What is read of the parsed words, and the fault with which they are refused.
 use Rattle.std.proofs.Common.{◌≡◌, Bool, [], List, Option, Some, None, ap, inl, inr, sym, subst, ◌∙◌}
 use Rattle.std.specs.Borrow.{Bor}
 use Rattle.std.specs.Prelude.{option_map}
@@ -9,32 +9,32 @@ use Rattle.crush_options.specs.declared.asked.OptionsFault.TheVariants.{Help, Re
 use Rattle.crush_options.specs.Options.{AsksTooMuch, IsFaultIn, IsRefusedFor, IsRefusedIf, IsTooMuch, program}
 use Rattle.crush_options.specs.Printed.{AreSaid, IsPrinted, SaidData, complaint, said_by}
 
--- a value that isn't there
+-- if the program reads no value, the parsed words have none
 pub none_read : (r : Option (Bor Text)) (x y : Option Text) → r ≡ None → option_map (λ s. s.now) r ≡ x → x ≡ y → y ≡ None
 none_read r x y is e f = sym f ∙ sym e ∙ ap (option_map (λ (s : Bor Text). s.now)) is
 
--- one that is, of which there is a copy
+-- if the program reads a value and copies it, the parsed words have the copy as their value
 pub some_read : (r : Option (Bor Text)) (s : Bor Text) (x y : Option Text) (copy : Text) → r ≡ Some s → copy ≡ s.now → option_map (λ (z : Bor Text). z.now) r ≡ x → x ≡ y → y ≡ Some copy
 some_read r s x y copy is same e f = sym f ∙ sym e ∙ ap (option_map (λ (z : Bor Text). z.now)) is ∙ ap Some (sym same)
 
--- too many words are a fault of the words
+-- the fault for words that can't be given together is a fault of the command line
 pub much_is_fault : (words : List Text) (rows : List Row) (fault : OptionsFault) → fault_of program words ≡ [] → rows ≡ matches_of program words → AsksTooMuch rows fault → IsFaultIn words fault
 much_is_fault words rows (Help text) right is much = absurd much
 much_is_fault words rows (Refused text) right is much = inr (record { right = right; much = subst (λ z. IsTooMuch z text.bytes.items) is much })
 much_is_fault words rows Memory right is much = tt
 
--- a refusal of too many words
+-- a refusal with a reason for which words can't be given together is a fault for such words
 pub refused_much : (rows : List Row) (why : Text) (fault : OptionsFault) → IsTooMuch rows why → IsRefusedFor why fault → AsksTooMuch rows fault
 refused_much rows why (Help text) much told = told
 refused_much rows why (Refused text) much told = subst (IsTooMuch rows) (sym told) much
 refused_much rows why Memory much told = tt
 
--- one of words that don't go together
+-- so is a refusal with the error line of words that can't be given together
 pub apart_much : (rows : List Row) (said : SaidData) (why : Option Text) (fault : OptionsFault) → AreSaid rows said → why ≡ complaint said → IsRefusedIf why fault → AsksTooMuch rows fault
 apart_much rows said (Some text) fault are is told = refused_much rows text fault (inl (record { said = said; are = are; apart = sym is })) told
 apart_much rows said None fault are is told = subst (AsksTooMuch rows) (sym told) tt
 
--- what is printed by words that go together, as a document where they say so
+-- words that can be given together, and that ask for this output, have it as what is printed
 pub printed_is : (rows : List Row) (said : SaidData) (json : Bool) (printed : Printed) → AreSaid rows said → json ≡ said.json → said_by said.json printed ≡ said → complaint said ≡ None → IsPrinted rows json printed
 printed_is rows said json printed are same is fits =
     let by : said_by json printed ≡ said = ap (λ j. said_by j printed) same ∙ is in

@@ -1,4 +1,4 @@
--- Which words say what is printed, and which of them go together.
+-- Which words of a command line say what is printed, and which of them can be given together.
 use Rattle.std.specs.Prelude.{◌≡◌, Bool, true, false, not, ◌&&◌, ◌||◌, Option, Some, None, String, codes, if◌then◌else◌, is_some, option_map}
 use Rattle.clap.specs.Words.{Row, Text, first_of, one_of}
 use Rattle.std.specs.Prelude.{List}
@@ -6,13 +6,13 @@ use Rattle.crush_options.specs.declared.asked.Printed.{Printed}
 use Rattle.crush_options.specs.declared.asked.Printed.TheVariants.{Map, Tree, Since, Changes, AsCeph, To}
 use Rattle.crush_options.specs.declared.command_line.Said.{Said}
 
--- a flag is set where the words have it, and else not, also where nothing tells of it
+-- the value of a flag, by the text that the parser has for it: true for "true", and false for "false" or without a text
 pub record IsFlag (text : Option Text) (flag : Bool) : Type 0 where
   pub given : text ≡ Some (codes "true") → flag ≡ true
   pub absent : text ≡ Some (codes "false") → flag ≡ false
   pub none : text ≡ None → flag ≡ false
 
--- which flags are there of `--tree`, `--as-ceph`, `--by-name` and `--json`, and the values of `--since`, `--to`, `--under` and `--down-to`
+-- the words that decide what is printed: whether `--tree`, `--as-ceph`, `--by-name` and `--json` are given, and the values of `--since`, `--to`, `--under` and `--down-to` that are given
 pub record SaidData : Type 0 where
   pub tree : Bool
   pub since : Option Text
@@ -23,6 +23,7 @@ pub record SaidData : Type 0 where
   pub under : Option Text
   pub down_to : Option Text
 
+-- the parsed words have exactly these flags and values
 pub record AreSaid (rows : List Row) (said : SaidData) : Type 0 where
   pub tree : IsFlag (one_of (codes "tree") rows) said.tree
   pub since : first_of (codes "since") rows ≡ said.since
@@ -33,10 +34,11 @@ pub record AreSaid (rows : List Row) (said : SaidData) : Type 0 where
   pub under : first_of (codes "under") rows ≡ said.under
   pub down_to : first_of (codes "down-to") rows ≡ said.down_to
 
--- the text of a name, where there is one
+-- the bytes of a string, if there is one
 abbrev pub name_text : {Z : Type 0} → Option (String Z) → Option Text
 name_text name = option_map (λ n. n.bytes.items) name
 
+-- these words as the program holds them, as data
 abbrev pub said_data : Said → SaidData
 said_data s = record {
   tree = s.tree;
@@ -49,11 +51,11 @@ said_data s = record {
   down_to = option_map (λ name. name.now) s.down_to;
 }
 
--- no word but `--json`, which is there or not
+-- none of these words is given, except for `--json`, which may be
 abbrev pub said_nothing : Bool → SaidData
 said_nothing json = record { tree = false; since = None; as_ceph = false; to = None; by_name = false; json = json; under = None; down_to = None }
 
--- the words by which something is printed in the place of the map, as a document or not, and no others
+-- exactly the words that ask for this to be printed, with or without `--json`
 abbrev pub said_by : Bool → Printed → SaidData
 said_by json Map = said_nothing json
 said_by json (Tree part) = record (said_nothing json) { tree = true; under = name_text part.under; down_to = name_text part.down_to }
@@ -62,32 +64,35 @@ said_by json (Changes name) = record (said_nothing json) { tree = true; since = 
 said_by json AsCeph = record (said_nothing json) { as_ceph = true }
 said_by json (To wanted) = record (said_nothing json) { as_ceph = wanted.as_ceph; to = Some wanted.map.bytes.items; by_name = wanted.by_name; under = name_text wanted.under }
 
--- two things are asked for, of which `--tree` and `--since` together are one, and `--as-ceph` and `--to`
+-- whether the words ask for two things to be printed; `--tree` with `--since` asks for one thing, and so does `--as-ceph` with `--to`
 abbrev pub ask_for_two : SaidData → Bool
 ask_for_two said = (said.tree || is_some said.since) && (said.as_ceph || is_some said.to)
 
--- a tree of changes, but not of all
+-- whether the words ask for a tree of changes that isn't whole or isn't by ids
 abbrev pub ask_for_some_changes : SaidData → Bool
 ask_for_some_changes said = said.tree && is_some said.since && (said.by_name || is_some said.under || is_some said.down_to)
 
--- `--by-name` where there is no other map, `--under` where nothing is printed of which there are parts, `--down-to` where no tree is
+-- whether `--by-name` is given without another map, so without `--since` and `--to`
 abbrev pub have_names_alone : SaidData → Bool
 have_names_alone said = said.by_name && not (is_some said.since) && not (is_some said.to)
 
+-- whether `--under` is given, but nothing that can be printed in part: none of `--tree`, `--since` and `--to`
 abbrev pub have_part_alone : SaidData → Bool
 have_part_alone said = is_some said.under && not said.tree && not (is_some said.since) && not (is_some said.to)
 
+-- whether `--down-to` is given without `--tree`
 abbrev pub have_type_alone : SaidData → Bool
 have_type_alone said = is_some said.down_to && not said.tree
 
--- lines for a shell are no document, and there is none of what has changed by names
+-- whether the words ask for a JSON document of lines for a shell, which doesn't exist
 abbrev pub json_of_lines : SaidData → Bool
 json_of_lines said = said.json && said.as_ceph
 
+-- whether the words ask for a JSON document of changes by names, which doesn't exist
 abbrev pub json_of_names : SaidData → Bool
 json_of_names said = said.json && is_some said.since && said.by_name
 
--- WORDS THAT DON'T GO TOGETHER: the first of these that is so of them, as a line; nothing where they go together
+-- WORDS THAT DON'T GO TOGETHER: the error line of the first of these conditions that holds of the words; nothing if none holds, so that the words can be given together
 abbrev pub complaint : SaidData → Option Text
 complaint said =
     if ask_for_two said then Some (codes "error: at most one of --tree, --since, --as-ceph and --to, but --tree with --since and --to with --as-ceph\n") else (
@@ -98,12 +103,12 @@ complaint said =
     if json_of_lines said then Some (codes "error: --json doesn't go with --as-ceph\n") else (
     if json_of_names said then Some (codes "error: --json and --since don't go with --by-name\n") else None))))))
 
--- WHAT IS PRINTED: the words are those by which it is, and they go together
+-- WHAT IS PRINTED: the parsed words are exactly those that ask for this, and they can be given together
 pub record IsPrinted (rows : List Row) (json : Bool) (printed : Printed) : Type 0 where
   pub said : AreSaid rows (said_by json printed)
   pub together : complaint (said_by json printed) ≡ None
 
--- the words don't go together, as this line says
+-- the parsed words can't be given together, as the line `why` says
 pub record AreApart (rows : List Row) (why : Text) : Type 0 where
   pub said : SaidData
   pub are : AreSaid rows said

@@ -1,97 +1,104 @@
-//! What a command line selects.
+//! The options that a command line selects.
 
 use std::alloc::AllocError;
 use thiserror::Error;
 
-/// How a job is to be run.
+/// How a job is run.
 #[derive(Clone, Copy, Debug, PartialEq, Eq)]
 pub struct Mode {
-    /// The scripts run one after the other, in the order of their sections, and not at once.
+    /// Whether the scripts run one after the other, in the order of their sections, rather than at
+    /// once (`--in-turn`).
     pub in_turn: bool,
-    /// The history is printed too.
+    /// Whether the history is printed too; false with `--no-history`.
     pub history: bool,
-    /// A run with a refusal, or with a difference to a wanted map that stays, prints nothing.
+    /// Whether a run prints nothing if a command or a batch was refused, or if a difference from
+    /// the wanted map remains (`--strict`).
     pub strict: bool,
-    /// A run with a call that makes a bucket without an `add-bucket` prints nothing.
+    /// Whether a run prints nothing if a command or a batch made more buckets than it has
+    /// `add-bucket` commands (`--no-make`).
     pub no_make: bool,
-    /// The status is 6 where there is a change or a difference to report.
+    /// Whether the status is 6 instead of 0 if there is a change or a difference to report
+    /// (`--exit-code`).
     pub exit_code: bool,
-    /// Standard error gets places and reasons below its one line.
+    /// Whether standard error gets places and reasons below its one line (`--explain`).
     pub explain: bool,
-    /// Standard output is one JSON document.
+    /// Whether standard output is one JSON document (`--json`).
     pub json: bool,
 }
 
-/// The part of a tree that is printed: without either name the whole.
+/// The part of a tree that is printed. If neither name is given, the whole tree is printed.
 #[derive(Debug, Drop)]
 pub struct Part {
-    /// The item that is printed with what is below it.
+    /// The name of the item that is printed, with all that is below it (`--under`).
     pub under: Option<String>,
-    /// The type of the buckets below which nothing is printed.
+    /// The type of the buckets below which nothing is printed (`--down-to`).
     pub down_to: Option<String>,
 }
 
-/// The map since which changes are printed, and of which items.
+/// The old map, since which changes are printed, and the items whose changes are printed.
 #[derive(Debug, Drop)]
 pub struct Since {
-    /// The name of its file.
+    /// The name of the old map's file (`--since`).
     pub map: String,
-    /// Items are the same by their names, and not by their ids.
+    /// Whether items of both maps are matched by name instead of by id (`--by-name`).
     pub by_name: bool,
-    /// The item whose changes are printed, with those of what is or was below it; without one all
-    /// are.
+    /// The name of the item whose changes are printed, with the changes of all items that are or
+    /// were below it (`--under`). Without a name all changes are printed.
     pub under: Option<String>,
 }
 
 /// The map that commands are to lead to, and how they are found and printed.
 #[derive(Debug, Drop)]
 pub struct Wanted {
-    /// The name of its file.
+    /// The name of the wanted map's file (`--to`).
     pub map: String,
-    /// The commands are printed as Ceph's own.
+    /// Whether the commands are printed as Ceph's own (`--as-ceph`).
     pub as_ceph: bool,
-    /// A bucket is the same by its name and type alone, and not by its id.
+    /// Whether buckets of both maps are matched by name and type alone, and not by id
+    /// (`--by-name`).
     pub by_name: bool,
-    /// The item that commands are for, with what is or shall be below it; without one they are for
-    /// all.
+    /// The name of the item that commands are for, with all items that are below it or shall be
+    /// (`--under`). Without a name the commands are for all items.
     pub under: Option<String>,
 }
 
-/// What is printed of the map after the scripts.
+/// What is printed about the map after the scripts have run.
 #[derive(Debug, Drop)]
 pub enum Printed {
-    /// Its text.
+    /// The text of the map.
     Map,
-    /// Its tree, a line for each item.
+    /// The tree of the map, with a line for each item.
     Tree(Part),
-    /// The changes since another map.
+    /// The changes since another map, item by item.
     Since(Since),
-    /// The same as a tree, since the map of the file of this name.
+    /// The changes since another map as a tree. The string is the name of that map's file.
     Changes(String),
-    /// The commands that changed it, as Ceph's own.
+    /// The commands that changed the map, as Ceph's own.
     AsCeph,
-    /// The commands that lead from it to a wanted map.
+    /// The commands that lead from the map to a wanted map.
     To(Wanted),
 }
 
 /// What the program is to do.
 #[derive(Debug, Drop)]
 pub struct Options {
+    /// How the job is run.
     pub mode: Mode,
+    /// What is printed after the run.
     pub printed: Printed,
-    /// At most 16 files, whose scripts follow the job in this order.
+    /// The names of at most 16 files, whose scripts follow the job in this order (`--script`).
     pub scripts: Vec<String>,
-    /// The job's file; without one standard input.
+    /// The name of the job's file. Without a name the job is read from standard input.
     pub file: Option<String>,
 }
 
-/// Why the words of a command line give no options.
+/// Why the words of a command line start no run.
 #[derive(Debug, Drop, Error)]
 pub enum OptionsFault {
-    /// The text of the help or the version, which a word selects.
+    /// A word asks for the help or for the version; the string is that text.
     #[error("{0}")]
     Help(String),
-    /// Why the words are no command line of the program, as printed.
+    /// The words aren't a command line of the program; the string is the error's text, as printed.
     #[error("{0}")]
     Refused(String),
     #[error("out of memory")]

@@ -1,4 +1,4 @@
-//! The command line.
+//! Reads the command line with `clap`, and has the text of the help.
 
 ghost use Rattle.std.specs.Prelude.{◌≡◌, ◌≤◌, IfErr, IfOk, None, Some, codes, false, length, map, option_map, true};
 ghost use Rattle.clap.specs.Words.{all_of, app_of, fault_of, first_of, found_of, kind_of, one_of, rows_of, rule_of, with_rule};
@@ -11,103 +11,122 @@ use clap::{Arg, ArgAction, ArgMatches, Command, Error};
 use std::alloc::{AllocError, Global};
 use std::convert::AsStr;
 
-const ABOUT: &str = "Edits the hierarchy of a CRUSH map by the scripts of its operators";
+const ABOUT: &str =
+    "Edits the hierarchy of a Ceph CRUSH map offline, by commands of ceph osd crush";
 
-/// The toolchain is that of the proofs, as `rt version` prints it.
-const VERSION: &str = "0.1.0 (rattle-kit-13f logic dac8208d650f15bf)";
+/// The program's version, with the toolchain that checked the proofs, as `rt version` prints it.
+const VERSION: &str = "0.2.0 (rattle-kit-13f logic dac8208d650f15bf)";
 
-/// The help beside the flags, of which `docs/manual.py` makes the manual page. Its lines have at
-/// most 80 columns, which leaves 55 for the text of a flag.
+/// The part of the help after the list of flags. `docs/manual.py` makes the manual page from the
+/// help. Its lines have at most 80 columns, which leaves 55 columns for the text of a flag.
 const MORE: &str = "\
-A job is the text of a CRUSH map, in the form of `crushtool --decompile`, and
-behind it the scripts of up to 16 operators, each a line `%operator NAME` and
-then one command a line. The line is needed for one operator too. `#` begins a
-comment.
+A job is the text of a CRUSH map, as `crushtool -d` prints it, followed by the
+scripts of up to 16 operators. A script begins with a line `%operator NAME`, and
+has one command on each line. The line `%operator NAME` is needed for one
+operator, too. `#` begins a comment.
 
     .. the map's text ..
     %operator alice
     add osd.12 1.8 host=node3 rack=r2 root=default
     reweight osd.2 1.0
 
-The scripts of several operators run at once; with `--in-turn` they run one
-after the other, in the order of the job, so that the output is the same each
-time. A FILE `-` is a file of that name.
+The scripts of several operators run at the same time. With `--in-turn` they run
+one after the other, in the order of the job, so that the output is the same
+each time. A FILE `-` is a file of that name.
 
-A script can stand in a file of its own, which `-s` names: it follows the job as
-if it stood there. Where it doesn't begin with `%operator NAME`, its operator is
-called as the file up to its first point.
+`-s` appends a script that is in a file of its own. If the script doesn't begin
+with a line `%operator NAME`, its operator is named like the file, up to the
+first point.
+
+Every run that makes a map should have the options `--in-turn`, `--strict`,
+`--no-make` and `--explain`.
 
 Commands, those of `ceph osd crush`:
-    add osd.N WEIGHT PAIR ..             puts a new or unplaced device there
-    set osd.N WEIGHT PAIR ..             puts any device there, with the weight
+    add osd.N WEIGHT PAIR ..             adds a device that no bucket holds
+    set osd.N WEIGHT PAIR ..             puts a device there with this weight
     create-or-move osd.N WEIGHT PAIR ..  the same; a placed one keeps its weight
-    move NAME PAIR ..                    puts an item there, with all below it
+    move NAME PAIR ..                    moves an item, and all that is below it
     swap-bucket NAME NAME                swaps two buckets' names and items
-    reweight NAME WEIGHT                 the placed device NAME weighs WEIGHT
-    reweight-subtree NAME WEIGHT         each device below NAME weighs WEIGHT
+    reweight NAME WEIGHT                 sets the weight of a device
+    reweight-subtree NAME WEIGHT         sets that of each device below NAME
     rm NAME, remove NAME                 removes a device, or an empty bucket
-    add-bucket NAME TYPE                 makes an empty bucket that is a root
+    add-bucket NAME TYPE                 creates an empty bucket, as a root
     rename-bucket NAME NAME              gives a bucket another name
-    set-device-class CLASS NAME          gives a device without a class one
-    rm-device-class NAME                 takes the class of a device away
-    begin, commit                        those between are made all or none
+    set-device-class CLASS NAME          gives a class to a device without one
+    rm-device-class NAME                 takes away the class of a device
+    begin, commit                        all commands between are made, or none
     begin at N                           the same, if N calls changed the map
 
-N is the device's id, and WEIGHT is in Ceph's decimals, 0 to 32767.99998. A PAIR
-is TYPE=BUCKET, and up to 16 of them are a location: from the lowest type
-upward, the first bucket that is in the map receives, and those below it are
-made. Of those above it form and type alone are looked at.
+The word `osd.N` is the device whose id is N. WEIGHT is in TiB, from 0 to
+32767.99998. A PAIR is TYPE=BUCKET, and up to 16 pairs are a location. Going up
+from the lowest type, the first bucket that is in the map receives the item. The
+buckets of the pairs below it are created. The pairs above it have no effect,
+but they have to name types of the map. A device is placed if a bucket holds it.
+A call is a command outside of batches, or a batch: what is between `begin` and
+`commit`.
 
 Output:
-Standard output gets the map after the scripts, and behind it, as comments, a
-line for each command or batch with its answer, in the order in which they were
-made:
+Standard output gets the map after the scripts. After the map comes a comment
+line for each call, with its reply, in the order in which they were made:
 
     # 1 alice reweight osd.2 1.00000 = done changed 1 made 0
     # 2 alice reweight h2 1.00000 = refused NotADevice 22
 
-`changed` counts the edits that made the map another, and `made` the buckets
-that were made. ` = refused ` marks a command that changed nothing, with a name
-and an error number of Linux; the next one is tried all the same.
+`changed` counts the commands that changed the map, and `made` the buckets that
+were created. ` = refused ` marks a call that changed nothing. The name of the
+reason follows, and an error number of Linux. The next call is tried all the
+same.
 
-In the place of the map `--tree` prints its tree, `--since MAP` what has changed
-since the map of a file, `--as-ceph` the commands that changed it, as lines for
-a shell, and `--to MAP` the commands that lead from it to the map of a file, and
-what differs then, which no command changes; at most one of the four, but
-`--tree` with `--since`, a tree of what has changed, and `--to` with
-`--as-ceph`. `--since` compares by ids, and `--to` does so first: for the maps
-of two clusters `--by-name` has both tell items by their names alone.
+In place of the map, `--tree` prints its tree. `--since MAP` prints what has
+changed since the map in the file MAP. `--as-ceph` prints commands for a shell,
+which make the same changes in a cluster. `--to MAP` prints the commands that
+lead to the map in the file MAP, and what differs even then, because no command
+changes it. At most one of the four may be given, except for two pairs: `--tree`
+with `--since` prints a tree of what has changed, and `--to` with `--as-ceph`
+prints its commands for a shell.
 
-Of `--tree`, `--since` or `--to`, `--under NAME` prints what is of the item NAME
-and of those below it, and of `--tree`, `--down-to TYPE` nothing that is below a
-bucket of this type; but a tree of what has changed is printed as a whole, and
-by ids. With `--json` standard output gets one JSON document in the place of all
-else, with Ceph's keys, but not with `--as-ceph`, nor with `--since` by names.
+`--since` compares items by their ids, and `--to` does so first. For the maps of
+two clusters `--by-name` compares them by their names alone.
 
-Standard error gets `crushedit: adjusted N` where N buckets were written with
-another weight than the sum of their devices, and got the sum. With `--strict`
-it gets `crushedit: refused N` where N commands or batches were refused, and
-their lines, or `crushedit: differs N` where N differences to the map of `--to`
-stay, and their lines. With `--no-make` it gets `crushedit: made N` where N
-commands or batches made more buckets than their `add-bucket`s, as a location
-does in which a name is mistyped, and their lines. Where the map after the
-scripts has no such NAME or TYPE it gets `crushedit: no item NAME` or
-`crushedit: no type TYPE`. With `--explain` it tells more below: where a fault
-of the input stands and what was wanted there, and of each refused command or
-batch its line and what was wanted.
+With `--tree`, `--since` or `--to`, `--under NAME` prints only what concerns the
+item NAME and the items below it. With `--tree`, `--down-to TYPE` prints nothing
+below buckets of this type. None of `--by-name`, `--under` and `--down-to` goes
+with a tree of what has changed. `--json` prints one JSON document in place of
+everything else. It doesn't go with `--as-ceph`, nor with `--since` by name.
 
-With `--exit-code` the status is 6 in place of 0 where a command changed the map
-that was read, with `--since` where an item or a setting is told, and with
-`--to` where a command or a difference is.
+With `--exit-code` the status is 6 in place of 0 if a command changed the map;
+with `--since`, if an item or a setting is reported; with `--to`, if a command
+or a difference is.
+
+Standard error:
+    crushedit: adjusted N    N written weights were replaced by the sums
+    crushedit: refused N     with --strict: N calls were refused
+    crushedit: made N        with --no-make: N calls created buckets unasked
+    crushedit: differs N     with --strict and --to: N differences remain
+    crushedit: no item NAME  --under: the map has no such item
+    crushedit: no type TYPE  --down-to: the map has no such type
+
+Below `refused`, `made` and `differs` come the lines of these calls and
+differences. With `--explain` more lines follow. They say where an error in the
+input is, and what is expected there. For each refused call they have its line
+and the reason.
 
 Exit status:
-    0    the run was done, also where commands were refused, without --strict
-    1    the input is no job, or MAP, NAME or TYPE none; nothing was written
+    0    the job was run; without --strict, commands may have been refused
+    1    the job, MAP, NAME or TYPE is invalid; nothing was printed
     2    the command line is refused
-    3    a file can't be opened, or reading or writing failed
-    4    out of memory, or no thread could be started; nothing was written
-    5    --strict or --no-make ended the run; nothing was written
-    6    with --exit-code: there is something to tell
+    3    a file can't be opened, or a read or a write failed
+    4    out of memory, or a thread couldn't be started; nothing was printed
+    5    --strict or --no-make ended the run; nothing was printed
+    6    with --exit-code: something changed or differs
+
+Examples:
+    # what the script in the file alice changes in the map
+    crushedit --in-turn --strict --no-make --explain --since map -s alice map
+    # the new map
+    crushedit --in-turn --strict --no-make --explain -s alice map > new
+    # the commands that lead from the map to another one
+    crushedit --strict --explain --to wanted map
 ";
 
 const TWO_PRINTED: &str =
@@ -126,12 +145,12 @@ const JSON_LINES: &str = "error: --json doesn't go with --as-ceph\n";
 
 const JSON_NAMES: &str = "error: --json and --since don't go with --by-name\n";
 
-/// As many as a job has operators.
+/// The most files with scripts on one command line: as many as a job may have operators.
 const MOST_SCRIPTS: usize = 16;
 
 const MANY_SCRIPTS: &str = "error: at most 16 times --script\n";
 
-/// A flag `--NAME`.
+/// A flag `--NAME`, without a value.
 fn flag<'a>(alloc: Global, name: &'a str, help: &'a str) -> Arg<'a>
     ensures rule { rule_of result ≡ flag name.entry.now }
     ensures own { result.global ≡ false }
@@ -142,7 +161,7 @@ fn flag<'a>(alloc: Global, name: &'a str, help: &'a str) -> Arg<'a>
         .help(help)
 }
 
-/// An option `--NAME VALUE`, which can stand once.
+/// An option `--NAME VALUE`, which can be given once.
 fn option<'a>(alloc: Global, name: &'a str, value: &'a str, help: &'a str) -> Arg<'a>
     ensures rule { rule_of result ≡ option name.entry.now }
     ensures own { result.global ≡ false }
@@ -163,7 +182,7 @@ fn scripts<'a>(alloc: Global) -> Arg<'a>
         .long("script")
         .action(ArgAction::Append)
         .value_name("SCRIPT")
-        .help("Put this file's script behind the job, up to 16 times")
+        .help("Append the script in this file; up to 16 times")
 }
 
 fn file<'a>(alloc: Global) -> Arg<'a>
@@ -179,9 +198,9 @@ fn with_modes<'a>(alloc: Global) -> Result<Command<'a>, AllocError>
     ensures { IfOk result (λ command. app_of command ≡ with_modes) }
 {
     let in_turn = "Run the scripts one after the other, in the job's order";
-    let no_history = "Write no line for each command behind the map";
-    let strict = "Write nothing where a command is refused: status 5";
-    let no_make = "Write nothing where a location makes a bucket: status 5";
+    let no_history = "Leave out the lines with the replies to the commands";
+    let strict = "Print nothing if a command is refused (status 5)";
+    let no_make = "Print nothing if a location makes a bucket (status 5)";
     Command::new(alloc, "crushedit")
         .no_binary_name(true)
         .version(VERSION)
@@ -196,10 +215,10 @@ fn with_modes<'a>(alloc: Global) -> Result<Command<'a>, AllocError>
 fn with_printed<'a>(alloc: Global) -> Result<Command<'a>, AllocError>
     ensures { IfOk result (λ command. app_of command ≡ with_printed) }
 {
-    let tree = "Print the map's tree in its place";
-    let since = "Print what has changed since the map of this file";
-    let as_ceph = "Print the commands that changed the map, as Ceph's own";
-    let to = "Print the commands that lead to the map of this file";
+    let tree = "Print the tree of the map, in place of its text";
+    let since = "Print what has changed since the map in this file";
+    let as_ceph = "Print ceph commands that make the same changes";
+    let to = "Print commands that lead to the map in this file";
     with_modes(alloc)?
         .arg(flag(alloc, "tree", tree))?
         .arg(option(alloc, "since", "MAP", since))?
@@ -210,9 +229,9 @@ fn with_printed<'a>(alloc: Global) -> Result<Command<'a>, AllocError>
 fn with_parts<'a>(alloc: Global) -> Result<Command<'a>, AllocError>
     ensures { IfOk result (λ command. app_of command ≡ with_parts) }
 {
-    let by_name = "With --since or --to: tell items by their names alone";
-    let json = "Print all as one JSON document, for programs";
-    let under = "Print of this item and of what is below it alone";
+    let by_name = "With --since or --to: compare items by name alone";
+    let json = "Print one JSON document, for programs";
+    let under = "Print only this item and what is below it";
     let down_to = "With --tree: print nothing below buckets of this type";
     with_printed(alloc)?
         .arg(flag(alloc, "by-name", by_name))?
@@ -224,8 +243,8 @@ fn with_parts<'a>(alloc: Global) -> Result<Command<'a>, AllocError>
 fn command<'a>(alloc: Global) -> Result<Command<'a>, AllocError>
     ensures { IfOk result (λ command. app_of command ≡ program) }
 {
-    let exit_code = "End with status 6 where there is something to tell";
-    let explain = "Tell where and why below the line on standard error";
+    let exit_code = "Exit with status 6 if something changed or differs";
+    let explain = "Say on standard error where an error is, and why";
     with_parts(alloc)?
         .arg(flag(alloc, "exit-code", exit_code))?
         .arg(flag(alloc, "explain", explain))?
@@ -248,7 +267,7 @@ fn refused(alloc: Global, text: &str) -> OptionsFault
     }
 }
 
-/// What the words say of what is printed.
+/// The words of a command line that decide what is printed.
 #[derive(Clone, Copy)]
 struct Said<'a> {
     tree: bool,
@@ -308,7 +327,7 @@ fn have_type_alone(said: Said<'_>) -> bool
     said.down_to.is_some() && !said.tree
 }
 
-/// The error line of words that don't go together.
+/// Returns the error line of words that can't be given together, or `None` if they can.
 fn complaint(said: Said<'_>) -> Option<&'static str>
     ensures { option_map (λ text. text.now) result ≡ complaint (said_data said.entry) }
 {
@@ -468,7 +487,7 @@ fn options_of(alloc: Global, matches: &ArgMatches<'_>) -> Result<Options, Option
     })
 }
 
-/// An error of `clap`, with its text.
+/// Returns the fault for an error of `clap`, with the error's text.
 fn fault_of(alloc: Global, error: &Error) -> OptionsFault
     ensures { IsFaultOf (kind_of error.now) result }
 {
@@ -482,8 +501,12 @@ fn fault_of(alloc: Global, error: &Error) -> OptionsFault
     }
 }
 
-/// Reads the words of a command line behind the program's name, in any order, by the rules that the
-/// help prints. Each word is one of the program's or refused: none is ignored.
+/// Reads the words of a command line, without the program's name, by the rules that the help shows.
+///
+/// The words may be in any order, and none is ignored: a word that isn't the program's is refused.
+/// Fails with [`OptionsFault::Help`] if a word asks for the help or the version, with
+/// [`OptionsFault::Refused`] if a word is wrong or words can't be given together, and with
+/// [`OptionsFault::Memory`] if memory runs out.
 pub fn options<S: AsStr>(alloc: Global, words: &[S]) -> Result<Options, OptionsFault>
     ensures asked { IfOk result (IsAsked (map S.text words.now)) }
     ensures fault { IfErr result (IsFaultIn (map S.text words.now)) }

@@ -1,7 +1,7 @@
 //! The command line of `crushedit`: its words, its options and its help.
 //!
-//! [`options`] reads words into [`Options`], which `crush_run` runs, or an [`OptionsFault`], which
-//! `crush_input` prints.
+//! [`options`] reads the words into [`Options`], which `crush_run` runs. If it can't, it fails with
+//! an [`OptionsFault`], which `crush_input` prints.
 #![tactic(auto)]
 
 mod asked;

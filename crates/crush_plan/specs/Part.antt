@@ -6,7 +6,7 @@ use Rattle.crush_model.specs.Table.{Row, id_named}
 use Rattle.crush_edits.specs.declared.edit.Edit.{Edit}
 use Rattle.crush_edits.specs.declared.edit.Edit.TheVariants.{Insert, CreateOrMove, Update, Move, Swap, Reweight, ReweightSubtree, Remove, AddBucket, Rename, SetClass, RemoveClass}
 use Rattle.crush_names.specs.Named.{is_in}
-use Rattle.crush_script.specs.Printed.{IsSaid}
+use Rattle.crush_history.specs.Said.{IsSaid}
 
 -- the name by which an edit calls an item, and the name that this one has behind it, if it is there then
 pub record Called : Type 0 where

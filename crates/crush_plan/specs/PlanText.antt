@@ -2,7 +2,7 @@
 use Rattle.std.specs.Prelude.{ℕ, ◌==◌, Bool, true, List, [], ◌∷◌, ◌++◌, if◌then◌else◌, codes, decimal, flat_map, length}
 use Rattle.crush_edits.specs.declared.edit.Edit.{Edit}
 use Rattle.crush_history.specs.HistoryText.{edit_text}
-use Rattle.crush_reasons.specs.Ceph.{ceph_heading, ceph_line}
+use Rattle.crush_history.specs.Ceph.{ceph_heading, ceph_line}
 use Rattle.crush_names.specs.Aside.{aside_text}
 use Rattle.crush_plan.specs.Plan.{PlanData, line_count}
 use Rattle.crush_plan.specs.declared.text.PlanWords.{PlanWords}

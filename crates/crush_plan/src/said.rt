@@ -2,12 +2,11 @@
 
 ghost use Rattle.std.specs.Prelude.{◌≡◌, ◌<◌, ◌^◌, Some, true};
 ghost use Rattle.crush_edits.specs.Pushed.{IsLocation};
-ghost use Rattle.crush_script.specs.Printed.{IsSaid, IsSaidPlacing};
-ghost use Rattle.crush_script.specs.Words.{device_named};
+ghost use Rattle.crush_history.specs.Said.{IsSaid, IsSaidPlacing, device_named};
 ghost use Rattle.crush_units.specs.Name.{IsName};
 
 use crush_edits::{Edit, Location};
-use crush_script::device_named;
+use crush_history::device_named;
 use crush_units::{DeviceId, Name, Weight};
 use std::alloc::Global;
 

@@ -8,9 +8,8 @@ ghost use Rattle.crush_plan.specs.PlanText.{commented, mark, plan_line, plan_tex
 
 use crate::plan::{Plan, count_lines};
 use crush_edits::Edit;
-use crush_history::write_edit;
+use crush_history::{push_ceph_heading, push_ceph_line, write_edit};
 use crush_names::{Counts, push_aside};
-use crush_reasons::{push_ceph_heading, push_ceph_line};
 use crush_units::put_all;
 use itoa::Buffer;
 use std::alloc::{AllocError, Global};

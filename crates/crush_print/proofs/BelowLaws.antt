@@ -1,4 +1,4 @@
--- What is below one bucket, as a table tells it.
+-- What a table says of the items below one bucket.
 use Rattle.std.proofs.Common.{◌≡◌, ℕ, ◌+◌, ◌<◌, ◌≤◌, ◌^◌, Bool, true, false, List, [], ◌∷◌, ◌++◌, length, map, ap, sym, subst, ◌∙◌, refl, arith, ⊎_elim}
 use Rattle.std.specs.Prelude.{flat_map, All, IfSome, Option, None, Some, ◌==◌, if◌then◌else◌, filter}
 use Rattle.std.specs.Option.{option_or}
@@ -21,7 +21,7 @@ use Rattle.crush_print.proofs.WalkLaws.{node_steps, steps_told}
 use Rattle.crush_print.specs.SeenPart.{HasSteps}
 use Rattle.crush_print.specs.Tree.{StepData, steps_at, steps_of}
 
--- what a table tells of items it tells of those of a bucket among them
+-- what a table says of items, it says of the items of a bucket among them
 pub told_kids : (t : List Row) (p : Option ℕ) (n k : Items) (b : ℕ) → Told t p n → kids_in b n ≡ Some k → Told t (Some b) k
 told_kids t p none k b told e = absurd cc
 told_kids t p (device d rest) k b told e = told_kids t p rest k b told.1 e

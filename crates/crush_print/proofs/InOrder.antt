@@ -24,12 +24,12 @@ use Rattle.crush_print.proofs.Sorting.{sorted_is_ascending, lines_by_number, lin
 use Rattle.crush_print.proofs.ItemLines.{leaves-join}
 use Rattle.crush_print.proofs.Told.{Told, IsTold, buckets_print, bucket_id, buckets_numbered, leaves_print, leaf_numbers, root_ids, root_numbers_are, root_ids-join, size_le_rows, size_of-join, told_join, stands_told}
 
--- what is seen of what is seen is seen at once
+-- mapping twice is mapping once with both functions
 map-map : {X Y : Type 0} (f : Y → ℕ) (g : X → Y) (xs : List X) → map (λ x. f (g x)) xs ≡ map f (map g xs)
 map-map f g [] = refl
 map-map f g (x ∷ xs) = ap (λ (l : List ℕ). f (g x) ∷ l) (map-map f g xs)
 
--- what holds of all that is seen holds of what it is seen of
+-- what is true of all mapped elements is true of the elements when mapped
 All-unmap : {X Y : Type 0} (P : Y → Type 0) (g : X → Y) (xs : List X) → All P (map g xs) → All (λ x. P (g x)) xs
 All-unmap P g [] h = All-nil (λ x. P (g x))
 All-unmap P g (x ∷ xs) h = All-cons (λ x. P (g x)) x xs (All-head P (g x) (map g xs) h) (All-unmap P g xs (All-tail P (g x) (map g xs) h))
@@ -104,7 +104,7 @@ root_node_numbers [] only = refl
 root_node_numbers (Device l ∷ ns) only = absurd only
 root_node_numbers (Bucket b ∷ ns) only = ap (λ (l : List ℕ). b.value.header.id ∷ l) (root_node_numbers ns only)
 
--- what the table tells of the roots
+-- what the table says of the roots
 roots_told : {A : _} (f : ForestData) (t : List Row) (ns : List (Node A)) → items_of ns ≡ f.roots → Stands f t → Told t None (items_of ns)
 roots_told f t ns are stands = subst (Told t None) (sym are) (told_join t None f.unplaced f.roots (stands_told f t stands))
 
@@ -127,7 +127,7 @@ All-flat_map : {X Y : Type 0} (P : Y → Type 0) (g : X → List Y) (xs : List X
 All-flat_map P g [] h = All-nil P
 All-flat_map P g (x ∷ xs) h = All-append P (g x) (flat_map g xs) (All-head (λ y. All P (g y)) x xs h) (All-flat_map P g xs (All-tail (λ y. All P (g y)) x xs h))
 
--- THE BUCKETS: those of the roots in ascending order, each behind those among its items, have the numbers of the table's buckets
+-- THE BUCKETS: those of the roots in ascending order, each after those among its items, have the numbers of the table's buckets
 pub buckets_numbered_in_order : {A : _} {X Y : Type 0} (see : X → Node A) (look : Y → BucketData) (f : ForestData) (t : List Row) (ns : List (Node A)) (refs : List X) (found : List Y)
     → items_of ns ≡ f.roots → IsSound f → Stands f t → IsPermutation ns (map see refs) → map (λ r. id_number (node_id (see r))) refs ≡ ascending (map (λ node. id_number (node_id node)) ns)
     → map look found ≡ flat_map (λ r. buckets_among (items_of (see r ∷ []))) refs → map (λ b. bucket_id (look b)) found ≡ bucket_numbers t

@@ -49,7 +49,7 @@ pub leaves-more : {A : _} (ns : List (Node A)) (i : ℕ) (x : Node A) → i < le
     → leaves (items_of (take (i + 1) ns)) ≡ leaves (items_of (take i ns)) ++ leaves (items_of (x ∷ []))
 leaves-more ns i x lt is = ap leaves (items_of-taken ns i x lt is) ∙ leaves-join (items_of (take i ns)) (items_of (x ∷ []))
 
--- what is behind the lines so far
+-- what follows the lines so far
 pub one_more : {X : Type 0} (old now new first next all : List X) → now ≡ old ++ first → new ≡ now ++ next → all ≡ first ++ next → new ≡ old ++ all
 one_more old now new first next all before after is = after ∙ ap (λ l. l ++ next) before ∙ append_assoc old first next ∙ ap (λ l. old ++ l) (sym is)
 
@@ -100,7 +100,7 @@ found_below ns i x b d kids old now new lt is at same kid_same before after =
     ∙ ap (λ (r : List LeafData). old ++ (leaves (items_of (take i ns)) ++ r)) (ap leaves (kid_same ∙ ap (λ (d : BucketData). d.kids) same) ∙ sym (append-nil (leaves b.value.kids)))
     ∙ ap (λ (r : List LeafData). old ++ r) (sym (leaves-more ns i x lt is ∙ ap (λ y. leaves (items_of (take i ns)) ++ leaves (items_of (y ∷ []))) at))
 
--- a bucket is found behind those below it
+-- a bucket is found after those below it
 pub found_bucket : {A : _} (x : Node A) (b : _) (d : BucketData) (kids : Items) (old now new : List BucketData) → x ≡ Bucket b → d ≡ b.value → kids ≡ d.kids → now ≡ old ++ buckets_among kids → new ≡ now ++ d ∷ []
     → new ≡ old ++ buckets_among (items_of (x ∷ []))
 found_bucket x b d kids old now new at same kid_same before after =

@@ -16,7 +16,7 @@ use Rattle.crush_model.proofs.Changes.{kids-append, kids-filter}
 use Rattle.crush_model.proofs.Relocated.{All-kids}
 use Rattle.crush_print.proofs.PartTables.{bare, shown, shown-id, part_of, Lawful-part, row_of-part}
 
--- one filter behind another
+-- one filter after another
 cons_if : {X : Type 0} (p s : X → Bool) (b : Bool) (x : X) (xs ys : List X) → (if b then p x else false) ≡ s x → filter p xs ≡ ys → filter p (if b then x ∷ xs else xs) ≡ (if s x then x ∷ ys else ys)
 cons_if p s true x xs ys e h = λ k. if e k then x ∷ h k else h k
 cons_if p s false x xs ys e h = λ k. if e k then x ∷ h k else h k

@@ -1,4 +1,4 @@
--- Where an item stands, by the nodes beside it.
+-- The place of an item, by the nodes beside it.
 use Rattle.std.proofs.Common.{◌≡◌, ℕ, zero, suc, ◌∷◌, ◌++◌, ◌+◌, ◌<◌, [], List, Bool, true, false, map, length, get_or, take, ap, sym, subst, refl, ◌∙◌, arith, ⊎_elim}
 use Rattle.std.specs.Prelude.{All, Option, None, Some, ◌&&◌, not, is_none, is_some, filter, flat_map, if◌then◌else◌, option_and_then, ◌==◌}
 use Rattle.std.specs.Option.{option_map, option_map_or}

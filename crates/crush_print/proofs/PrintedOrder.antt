@@ -1,4 +1,4 @@
--- The order of the printed buckets: each bucket of the table stands there once, behind those among its items.
+-- The order of the printed buckets: each bucket of the table is there once, after those among its items.
 use Rattle.std.proofs.Common.{◌≡◌, ℕ, zero, suc, ◌+◌, ◌≤◌, Bool, true, false, List, [], ◌∷◌, ◌++◌, length, Option, Some, None, refl, sym, ap, subst, ◌∙◌, arith, eq-eqb, ⊎_elim}
 use Rattle.std.proofs.lemmas.List.Sums.{sum_by-cons, sum_by-append}
 use Rattle.std.proofs.lemmas.Bool.Decides.{eqb_tells}
@@ -29,7 +29,7 @@ device_never d (x ∷ xs) = omega (arith, device_never d xs)
 one_time : (j b : ℕ) → times j (b ∷ []) ≡ one_if (b == j)
 one_time j b = sum_by-cons (λ x. one_if (x == j)) b [] ∙ omega arith
 
--- HOW OFTEN a bucket stands in the order of another: once, if it is that or below it
+-- HOW OFTEN a bucket is in the order of another one: once, if it is that bucket or below it
 module _ (t : List Row) (l : Lawful t) (j : ℕ) where
   no_order : (i : ItemId) → times j (bucket_numbers_at t zero i) ≡ 0
   no_order (Device d) = refl
@@ -164,7 +164,7 @@ module _ (t : List Row) (l : Lawful t) where
           (λ p. let none : one_if (c == b) ≡ 0 = ap one_if p.0 in omega (arith, none, above_once t l (Bucket b) c))
           (eqb_tells c b)
 
-  -- EACH BUCKET stands in the order once
+  -- EACH BUCKET is in the order once
   climb_short : (m j : ℕ) → length t ≡ suc m → length (climb t (suc m) (Bucket j)) ≤ m
   climb_short m j e = by_there (is_there t (Bucket j)) refl
     where
@@ -265,7 +265,7 @@ module _ (t : List Row) (l : Lawful t) where
   roots_ready [] seen = tt
   roots_ready (b ∷ rs) seen = ready_both t seen (bucket_numbers_at t (length t) (Bucket b)) (flat_map (λ c. bucket_numbers_at t (length t) (Bucket c)) rs) (order_ready (length t) (Bucket b) seen (omega arith)) (roots_ready rs (after seen (bucket_numbers_at t (length t) (Bucket b))))
 
-  -- EACH BUCKET stands behind those among its items
+  -- EACH BUCKET is after those among its items
   pub root_order-ready : Ready t (λ _. false) (root_order t)
   unfolding bucket_numbers
   root_order-ready = roots_ready (root_numbers t) (λ _. false)

@@ -22,7 +22,7 @@ use Rattle.crush_print.proofs.TakenNames.{named}
 use Rattle.crush_print.proofs.PrintedWords.{Spells, spells_nothing, spells_both, spells_blank, spells_comment, spells_all, spells_each}
 use Rattle.crush_print.proofs.PrintedLines.{tunable_words, device_words, kind_words, item_words, bucket_words, rule_words, words_of, kid_words, whole_words, NamesOfStep, tunable_spells, device_spells, kind_spells, item_spells, bucket_spells, rule_spells}
 
--- THE ORDER of the printed buckets: each behind the buckets among its items
+-- THE ORDER of the printed buckets: each after the buckets among its items
 abbrev pub root_order : List Row → List ℕ
 root_order t = bucket_numbers t
 
@@ -90,7 +90,7 @@ name_found (k ∷ ks) n a h = by_test (bytes_eq k.name n) refl h (λ r. name_fou
     by_test true e r rest = let form = All-head IsKind k ks a in subst IsName (bytes_equal k.name n e) form.name
     by_test false e r rest = rest r
 
--- what holds of all holds of a prefix and of what stands behind it
+-- what is true of all elements is true of those of a prefix and of those after it
 pub All-left : {X : Type 0} (P : X → Type 0) (xs ys : List X) → All P (xs ++ ys) → All P xs
 All-left P [] ys h = All-nil P
 All-left P (x ∷ xs) ys h = All-cons P x xs (All-head P x (xs ++ ys) h) (All-left P xs ys (All-tail P x (xs ++ ys) h))
@@ -187,14 +187,14 @@ map_words s t =
 end_spells : Spells (codes "\n# end crush map\n") []
 end_spells = spells_blank 10 _ _ refl refl (spells_comment (codes " end crush map") [] [] refl spells_nothing)
 
--- the printed text of a map has these words, whatever stands behind it
+-- the printed text of a map has these words, whatever follows it
 pub map_text-spells : (s : SettingData) (t : List Row) → Lawful t → Fits s t → Spells (map_text s t) (map_words s t)
 unfolding map_text
 map_text-spells s t l f =
     let all = spells_both _ _ _ _ (spells_both _ _ _ _ (spells_both _ _ _ _ (spells_both _ _ _ _ (spells_both _ _ _ _ (tunables_spell s t l f) (devices_spell s t l f)) (kinds_spell s t l f)) (buckets_spell s t l f)) (rules_section_spell s t l f)) end_spells in
     subst (λ ws. Spells (map_text s t) ws) (append-nil _) all
 
--- and behind it stand lines without words
+-- and lines without words follow it
 pub map_text-holds : (s : SettingData) (t : List Row) → Lawful t → Fits s t → (rest : List ℕ) → Holds rest [] → Holds (map_text s t ++ rest) (map_words s t)
 map_text-holds s t l f rest h =
     let all = map_text-spells s t l f in

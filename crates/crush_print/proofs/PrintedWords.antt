@@ -19,14 +19,14 @@ use Rattle.crush_units.proofs.Parts.{whole_part_short}
 use Rattle.crush_units.specs.Words.{is_blank, is_brace}
 use Rattle.crush_units.proofs.Printed.{Holds, holds_blank, holds_brace, holds_word, holds_comment}
 
--- a piece of text has these words, whatever stands behind it
+-- a piece of text has these words, whatever follows it
 pub record Spells (text : List ℕ) (ws : List (List ℕ)) : Type 0 where
   pub before : (rest : List ℕ) (more : List (List ℕ)) → Holds rest more → Holds (text ++ rest) (ws ++ more)
 
 pub spells_nothing : Spells [] []
 spells_nothing = record { before = λ rest more h. h }
 
--- two pieces, one behind the other
+-- two pieces, one after the other
 pub spells_both : (a b : List ℕ) (x y : List (List ℕ)) → Spells a x → Spells b y → Spells (a ++ b) (x ++ y)
 spells_both a b x y f g = record {
   before = λ rest more h.
@@ -34,7 +34,7 @@ spells_both a b x y f g = record {
       (subst (λ (l : List ℕ). Holds l (x ++ (y ++ more))) (sym (append_assoc a b rest)) (f.before (b ++ rest) (y ++ more) (g.before rest more h)));
 }
 
--- a word and a blank, and what stands behind them
+-- a word, a blank and what follows them
 pub spells_word : (w : List ℕ) (s : ℕ) (b : List ℕ) (y : List (List ℕ)) → IsName w → is_blank s ≡ true → Spells b y → Spells (w ++ s ∷ b) (w ∷ y)
 spells_word w s b y n k g = record {
   before = λ rest more h. subst (λ (l : List ℕ). Holds l (w ∷ (y ++ more))) (sym (append_assoc w (s ∷ b) rest)) (holds_word w s (b ++ rest) (y ++ more) n k (g.before rest more h));

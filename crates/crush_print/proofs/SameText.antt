@@ -1,4 +1,4 @@
--- Tables that are the same, but for the order of their rows, print the same text.
+-- Tables that are the same, except for the order of their rows, print the same text.
 use Rattle.std.proofs.Common.{◌≡◌, ◌<◌, ℕ, zero, suc, arith, List, [], ◌∷◌, ◌++◌, refl, ap, ◌∙◌}
 use Rattle.std.specs.Prelude.{flat_map, length, codes, unwrap_or}
 use Rattle.std.specs.Option.{option_map, option_map_or}

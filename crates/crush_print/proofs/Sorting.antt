@@ -27,7 +27,7 @@ abbrev pub Rising : List ℕ → Type 0
 Rising [] = Unit {0}
 Rising (x ∷ xs) = AtLeast x xs × Rising xs
 
--- a number that a list begins with is there once more
+-- a number is once more in a list that begins with it than in the rest of the list
 times_here : (n : ℕ) (xs : List ℕ) → times n (n ∷ xs) ≡ 1 + times n xs
 times_here n xs = let one : one_if (n == n) ≡ 1 = ap one_if (eq-eqb n n refl) in omega (arith, one, sum_by-cons (λ x. one_if (x == n)) n xs)
 
@@ -74,7 +74,7 @@ put_in_least m n (x ∷ xs) le h = at (nat_le n x) (put_in_least m n xs le h.1) 
   at true rest = (le, h)
   at false rest = (h.0, rest)
 
--- a list in order stays in order
+-- a number inserted into a list in order leaves the list in order
 put_in_rises : (n : ℕ) (xs : List ℕ) → Rising xs → Rising (put_in n xs)
 put_in_rises n [] h = (tt, tt)
 put_in_rises n (x ∷ xs) h = ⊎_elim

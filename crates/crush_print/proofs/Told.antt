@@ -126,7 +126,7 @@ root_numbers_are none = refl
 root_numbers_are (device d rest) = root_numbers_are rest
 root_numbers_are (bucket h w m k rest) = ap (λ (l : List ℕ). h.id ∷ l) (flat_map-append root_number (rows (Some h.id) k) (rows None rest) ∙ (λ i. no_root_below h.id k i ++ root_numbers_are rest i))
 
--- which are those of the second items where the first are devices alone
+-- which are those of the second items if the first are only devices
 pub root_ids-join : (a b : Items) → OnlyDevices a → root_ids (join a b) ≡ root_ids b
 root_ids-join none b only = refl
 root_ids-join (device d a) b only = root_ids-join a b only
@@ -182,7 +182,7 @@ All_right P (x ∷ xs) ys h = All_right P xs ys (All-tail P x (xs ++ ys) h)
 abbrev IsFound : List Row → Row → Type 0
 IsFound t r = row_of t r.id ≡ Some r
 
--- what is found of rows, of weights and of kids is all that is told
+-- if the rows, the weights and the items of buckets are in the table, then the table says all this of the items
 told_from : (t : List Row) (p : Option ℕ) (n : Items) → All (IsFound t) (rows p n) → ((b : ℕ) → buckets b n ≤ 1) → ((b : ℕ) → 1 ≤ buckets b n → stored_weight b n ≡ sum_below t b)
     → ((b : ℕ) (k : Items) → kids_in b n ≡ Some k → kids t b ≡ ids_of k) → Told t p n
 told_from t p none found once stored are = tt
@@ -215,7 +215,7 @@ told_from t p (bucket h w m k rest) found once stored are =
       told_from t p rest (All_right (IsFound t) (rows (Some h.id) k) (rows p rest) others) (λ b. omega (arith, once b)) rest_stored rest_are,
     )
 
--- so the table for which a forest stands tells its items
+-- so the table for which a forest stands says this of the forest's items
 pub stands_told : (f : ForestData) (t : List Row) → Stands f t → Told t None (all_items f)
 stands_told f t s =
     let ids = (stands_lawful f t s).ids in

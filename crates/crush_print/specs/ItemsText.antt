@@ -1,4 +1,4 @@
--- The lines of items and the texts of buckets, written from items as plain data.
+-- The lines of items and the texts of buckets, computed from items as plain data.
 use Rattle.std.specs.Prelude.{ℕ, List, [], ◌∷◌, ◌++◌, None}
 use Rattle.crush_units.specs.declared.id.ItemId.{ItemId}
 use Rattle.crush_units.specs.declared.id.ItemId.TheVariants.{Device, Bucket}
@@ -8,29 +8,29 @@ use Rattle.crush_edits.specs.Setting.{SettingData}
 use Rattle.crush_print.specs.Lines.{item_line, bucket_lines}
 use Rattle.crush_print.specs.MapText.{kind_text}
 
--- the lines of items side by side, with the weights that buckets store
+-- the lines of these items, but not of those below them; a bucket has the weight that it stores
 abbrev pub item_lines : Items → List ℕ
 item_lines none = []
 item_lines (device d rest) = item_line d.name d.weight ++ item_lines rest
 item_lines (bucket h w m kids rest) = item_line h.name w ++ item_lines rest
 
--- a bucket by itself
+-- the text of a bucket, without the buckets below it
 abbrev pub own_text : SettingData → BucketData → List ℕ
 own_text s b = bucket_lines (kind_text s b.header.kind) (bucket_row None b.header) b.weight (item_lines b.kids)
 
--- the buckets among items and below them, each behind those among its items
+-- the buckets among these items and below them, each after the buckets below it
 abbrev pub buckets_among : Items → List BucketData
 buckets_among none = []
 buckets_among (device d rest) = buckets_among rest
 buckets_among (bucket h w m kids rest) = (buckets_among kids ++ (record { header = h; weight = w; capacity = m; kids = kids }) ∷ []) ++ buckets_among rest
 
--- the devices among items and below them
+-- the devices among these items and below them, in their order
 abbrev pub leaves : Items → List LeafData
 leaves none = []
 leaves (device d rest) = d ∷ leaves rest
 leaves (bucket h w m kids rest) = leaves kids ++ leaves rest
 
--- the number of an id, whichever of the two it is
+-- the distance of an id from 0: a device's number, or a bucket's number without its sign
 abbrev pub id_number : ItemId → ℕ
 id_number (Device d) = d
 id_number (Bucket b) = b

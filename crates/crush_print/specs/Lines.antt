@@ -1,4 +1,4 @@
--- The lines of a printed map, each written from the row that it shows.
+-- The lines of a printed map, each computed from the row or the setting that it shows.
 use Rattle.std.specs.Prelude.{ℕ, List, [], ◌∷◌, ◌++◌, Option, Some, None, codes, decimal, flat_map}
 use Rattle.std.specs.Option.{option_map_or}
 use Rattle.crush_units.specs.declared.id.ItemId.{ItemId}
@@ -9,12 +9,12 @@ use Rattle.crush_model.specs.Items.{ShadowData}
 use Rattle.crush_model.specs.Table.{Row}
 use Rattle.crush_edits.specs.Setting.{TunableData}
 
--- an item's id: that of a bucket is below 0
+-- an item's id as it is printed: that of a bucket has a minus sign
 abbrev pub id_text : ItemId → List ℕ
 id_text (Device d) = decimal d
 id_text (Bucket b) = 45 ∷ decimal b
 
--- ` class C` behind a device that has one
+-- ` class C` if there is a class, otherwise nothing
 abbrev pub class_text : Option (List ℕ) → List ℕ
 class_text None = []
 class_text (Some c) = codes " class " ++ c
@@ -23,7 +23,7 @@ class_text (Some c) = codes " class " ++ c
 unfoldable pub tunable_line : TunableData → List ℕ
 tunable_line k = codes "tunable " ++ k.name ++ codes " " ++ decimal k.value ++ codes "\n"
 
--- `device N NAME`, and its class
+-- `device N NAME`, and ` class C` if the device has a class
 unfoldable pub device_line : Row → List ℕ
 device_line r = codes "device " ++ id_text r.id ++ codes " " ++ r.name ++ class_text r.class ++ codes "\n"
 
@@ -35,18 +35,18 @@ kind_line n name = codes "type " ++ decimal n ++ codes " " ++ name ++ codes "\n"
 unfoldable pub item_line : List ℕ → ℕ → List ℕ
 item_line name weight = codes "\titem " ++ name ++ codes " weight " ++ weight_text weight ++ codes "\n"
 
--- `id -M class C`, with the remark that stands behind each id of a bucket
+-- `id -M class C`, and the comment that follows each id of a bucket
 unfoldable pub class_id_line : ShadowData → List ℕ
 class_id_line c = codes "\tid " ++ id_text (Bucket c.id) ++ codes " class " ++ c.class ++ codes "\t\t# do not change unnecessarily\n"
 
--- how a bucket begins: its type's name, its name and its id
+-- the first lines of a bucket: its type's name, its name and `{`, and the line of its id
 unfoldable pub bucket_head : List ℕ → List ℕ → ItemId → List ℕ
 bucket_head kind name id = kind ++ codes " " ++ name ++ codes " {\n\tid " ++ id_text id ++ codes "\t\t# do not change unnecessarily\n"
 
--- its weight, its algorithm and its hash
+-- the lines of a bucket's weight, which is a comment, its algorithm and its hash
 unfoldable pub bucket_choice : Row → ℕ → List ℕ
 bucket_choice r weight = codes "\t# weight " ++ weight_text weight ++ codes "\n\talg " ++ option_map_or alg_text r.alg [] ++ codes "\n\thash 0\t# rjenkins1\n"
 
--- a bucket, round its items' lines
+-- the lines of a bucket, with these lines for its items
 unfoldable pub bucket_lines : List ℕ → Row → ℕ → List ℕ → List ℕ
 bucket_lines kind r weight items = bucket_head kind r.name r.id ++ flat_map class_id_line r.class_ids ++ bucket_choice r weight ++ items ++ codes "}\n"

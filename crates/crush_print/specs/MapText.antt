@@ -1,4 +1,4 @@
--- The printed form of a map, written from its table: docs/FORMATS.md has the same in words.
+-- The text of a map, computed from its setting and its table. docs/FORMATS.md has the same in words.
 use Rattle.std.specs.Prelude.{◌≡◌, ℕ, zero, suc, List, [], ◌∷◌, ◌++◌, if◌then◌else◌, Some, is_some, nat_le, length, All, map, flat_map, unwrap_or, codes}
 use Rattle.std.specs.Option.{option_map_or}
 use Rattle.crush_units.specs.declared.id.ItemId.{ItemId}
@@ -11,88 +11,88 @@ use Rattle.crush_model.specs.Table.{Row, row_of, kids, sum_below, item_weight, b
 use Rattle.crush_print.specs.Lines.{tunable_line, device_line, kind_line, item_line, bucket_lines}
 use Rattle.crush_print.specs.RuleLines.{bucket_name, rule_lines}
 
--- a number among numbers that stand from the least to the greatest
+-- the number n inserted into numbers that are in ascending order
 abbrev pub put_in : ℕ → List ℕ → List ℕ
 put_in n [] = n ∷ []
 put_in n (x ∷ xs) = if nat_le n x then n ∷ (x ∷ xs) else x ∷ put_in n xs
 
--- numbers from the least to the greatest
+-- the numbers in ascending order
 abbrev pub ascending : List ℕ → List ℕ
 ascending [] = []
 ascending (n ∷ ns) = put_in n (ascending ns)
 
--- the number of a device
+-- the number of a device, as a list; nothing for a bucket
 abbrev pub device_number : ItemId → List ℕ
 device_number (Device d) = d ∷ []
 device_number (Bucket b) = []
 
--- the number of a root, which is a bucket that no bucket holds
+-- the number of a root, as a list: a bucket that no bucket holds; nothing for any other row
 abbrev pub root_number : Row → List ℕ
 root_number r = if is_some r.parent then [] else bucket_ids r.id
 
--- the devices by ascending number
+-- the numbers of all devices, in ascending order
 unfoldable pub device_numbers : List Row → List ℕ
 device_numbers t = ascending (flat_map (λ (r : Row). device_number r.id) t)
 
--- the types by ascending number
+-- the numbers of all types, in ascending order
 unfoldable pub kind_numbers : SettingData → List ℕ
 kind_numbers s = ascending (map (λ (k : KindData). k.number) s.kinds)
 
--- the roots from -1 downward
+-- the numbers of the roots, in the order of their ids from -1 downward
 unfoldable pub root_numbers : List Row → List ℕ
 root_numbers t = ascending (flat_map root_number t)
 
--- what the row of an item prints
+-- what `line` gives for the row of the item i; nothing if the table doesn't have the item
 unfoldable pub of_row : List Row → ItemId → (Row → List ℕ) → List ℕ
 of_row t i line = option_map_or line (row_of t i) []
 
--- the name of a type
+-- the name of the type n; empty if the setting doesn't have the type
 unfoldable pub kind_text : SettingData → ℕ → List ℕ
 kind_text s n = unwrap_or (kind_name s n) []
 
--- the lines of a bucket's items in their order: an item weighs its own weight or its sum
+-- the lines of the items of the bucket b, in their order. The weight in a line is a device's own weight, or a bucket's sum
 unfoldable pub kids_lines : List Row → ℕ → List ℕ
 kids_lines t b = flat_map (λ i. of_row t i (λ (r : Row). item_line r.name (item_weight t i r.weight))) (kids t b)
 
--- a bucket, by its row, its sum and its items
+-- the text of the bucket b: its row, its sum and the lines of its items
 unfoldable pub bucket_text : SettingData → List Row → ℕ → List ℕ
 bucket_text s t b = of_row t (Bucket b) (λ (r : Row). bucket_lines (kind_text s r.kind) r (sum_below t b) (kids_lines t b))
 
--- the numbers of an item and of the buckets below it, n deep at most: a bucket stands behind the buckets among its items, and these in their order
+-- the numbers of the buckets at the item i and below it, at most n levels deep: each bucket after the buckets below it, and those in the order of its items
 abbrev pub bucket_numbers_at : List Row → ℕ → ItemId → List ℕ
 bucket_numbers_at t n (Device d) = []
 bucket_numbers_at t zero (Bucket b) = []
 bucket_numbers_at t (suc n) (Bucket b) = flat_map (bucket_numbers_at t n) (kids t b) ++ b ∷ []
 
--- the buckets as they are printed, root by root: a root is at most as deep as there are rows
+-- the numbers of all buckets in the order of the text, root by root. The depth is bounded by the number of rows, which no root exceeds
 unfoldable pub bucket_numbers : List Row → List ℕ
 bucket_numbers t = flat_map (λ b. bucket_numbers_at t (length t) (Bucket b)) (root_numbers t)
 
--- the devices, each with its line
+-- the lines of all devices
 unfoldable pub device_lines : List Row → List ℕ
 device_lines t = flat_map (λ d. of_row t (Device d) device_line) (device_numbers t)
 
--- the buckets, each with its text
+-- the texts of all buckets
 unfoldable pub root_texts : SettingData → List Row → List ℕ
 root_texts s t = flat_map (bucket_text s t) (bucket_numbers t)
 
--- the sections, each with its heading: tunables, in the order in which they were declared
+-- THE SECTIONS, each with its heading. The tunables, in the order in which they were declared
 unfoldable pub tunable_section : SettingData → List ℕ
 tunable_section s = codes "# begin crush map\n" ++ flat_map tunable_line s.tunables
 
--- devices
+-- the devices
 unfoldable pub device_section : List Row → List ℕ
 device_section t = codes "\n# devices\n" ++ device_lines t
 
--- types
+-- the types
 unfoldable pub kind_section : SettingData → List ℕ
 kind_section s = codes "\n# types\n" ++ flat_map (λ n. kind_line n (kind_text s n)) (kind_numbers s)
 
--- buckets
+-- the buckets
 unfoldable pub bucket_section : SettingData → List Row → List ℕ
 bucket_section s t = codes "\n# buckets\n" ++ root_texts s t
 
--- rules, in the order in which they were declared, with the names that the buckets have in the table
+-- the rules, in the order in which they were declared, with the names that their buckets have in the table
 unfoldable pub rule_section : SettingData → List Row → List ℕ
 rule_section s t = codes "\n# rules\n" ++ flat_map (rule_lines t) s.rules
 
@@ -100,14 +100,14 @@ rule_section s t = codes "\n# rules\n" ++ flat_map (rule_lines t) s.rules
 unfoldable pub map_text : SettingData → List Row → List ℕ
 map_text s t = tunable_section s ++ device_section t ++ kind_section s ++ bucket_section s t ++ rule_section s t ++ codes "\n# end crush map\n"
 
--- tables that are the same, but for the order of their rows, print the same text
+-- the law: if a lawful table t has the same rows as the table u, except for their order, then both have the same text with every setting
 abbrev pub SameTablesPrintAlike : Type 0
 SameTablesPrintAlike = (s : SettingData) (t u : List Row) → Lawful t → Same t u → map_text s t ≡ map_text s u
 
--- a bucket that is there is printed by the name of its row
+-- the table has the bucket b, and rules print it with the name in its row
 abbrev pub IsNamedSo : List Row → ℕ → Type 0
 IsNamedSo t b = (r : Row) × (row_of t (Bucket b) ≡ Some r) × (bucket_name t b ≡ r.name)
 
--- and so is each bucket that a rule takes, of a setting that fits
+-- the law: if the setting fits the table, this is true of each bucket that a rule takes
 abbrev pub TakenBucketsAreNamed : Type 0
 TakenBucketsAreNamed = (s : SettingData) (t : List Row) → Fits s t → All (IsNamedSo t) (taken_buckets s)

@@ -1,4 +1,4 @@
--- How a step is seen as plain data.
+-- A step of a walk as plain data.
 use Rattle.std.specs.Prelude.{ℕ, Option}
 use Rattle.crush_nodes.specs.declared.node.Node.{Node}
 use Rattle.crush_nodes.specs.declared.node.Node.TheVariants.{Device, Bucket}
@@ -7,10 +7,11 @@ use Rattle.crush_nodes.specs.Views.{ViewData, device_view, bucket_view}
 use Rattle.crush_print.specs.Tree.{StepData}
 use Rattle.crush_print.specs.declared.steps.Step.{Step}
 
--- an item below the parent p
+-- the node as plain data, with the parent p
 abbrev pub node_view : {A : _} → Option ℕ → Node A → ViewData
 node_view p (Device l) = device_view p (leaf_data l)
 node_view p (Bucket b) = bucket_view p b.value.header b.value.weight
 
+-- the step as plain data
 abbrev pub step_data : {A : _} → Step A → StepData
 step_data s = record { depth = s.depth; item = node_view s.parent s.node.now }

@@ -1,11 +1,12 @@
-//! Words in columns.
+//! Appends words to a line, in columns of a fixed width. All widths are in bytes.
 
 ghost use Rattle.std.specs.Prelude.{◌≡◌, ◌++◌, ◌-◌, OnOk, length};
 ghost use Rattle.crush_print.specs.TreeText.{spaces, at_left, at_right};
 
 use std::alloc::AllocError;
 
-/// So many spaces.
+/// Appends `count` spaces to `out`. An `Err` says that memory ran out; `out` may then have a part
+/// of them.
 pub fn push_spaces(count: usize, out: &mut Vec<u8>) -> Result<(), AllocError>
     ensures { OnOk result (out.new.items ≡ out.old.items ++ spaces count) }
 {
@@ -17,7 +18,8 @@ pub fn push_spaces(count: usize, out: &mut Vec<u8>) -> Result<(), AllocError>
     Ok(())
 }
 
-/// A word at the right end of a column of the width.
+/// Appends the word to `out`, after as many spaces as fill a column of this width. A longer word is
+/// appended whole. An `Err` says that memory ran out.
 #[tactic(auto, unfolding(crate::specs::TreeText::at_right))]
 pub fn push_right(width: usize, word: &[u8], out: &mut Vec<u8>) -> Result<(), AllocError>
     ensures { OnOk result (out.new.items ≡ out.old.items ++ at_right width word.now) }
@@ -26,7 +28,8 @@ pub fn push_right(width: usize, word: &[u8], out: &mut Vec<u8>) -> Result<(), Al
     out.extend_from_slice(word)
 }
 
-/// A word at the left end of a column of the width.
+/// Appends the word to `out`, and then as many spaces as fill a column of this width. A longer word
+/// is appended whole. An `Err` says that memory ran out.
 #[tactic(auto, unfolding(crate::specs::TreeText::at_left))]
 pub fn push_left(width: usize, word: &[u8], out: &mut Vec<u8>) -> Result<(), AllocError>
     ensures { OnOk result (out.new.items ≡ out.old.items ++ at_left width word.now) }

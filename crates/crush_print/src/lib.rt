@@ -1,6 +1,9 @@
-//! A map printed: [`write_map`] writes the text that `specs/MapText.antt` says, [`write_tree`] the
-//! tree of `specs/TreeText.antt`, for a person. [`devices`] and [`buckets`] are the ids in the order
-//! of the text, [`walk`] lists the tree's items as they are looked at.
+//! Prints a map: as Ceph's text, and as a tree.
+//!
+//! [`write_map`] writes the text of a map, which `specs/MapText.antt` defines. [`write_tree`]
+//! writes the map's tree for a person to read, which `specs/TreeText.antt` defines. [`devices`] and
+//! [`buckets`] return the ids in the order of the text, and [`walk`] returns the items in the order
+//! of the tree.
 #![tactic(auto)]
 
 pub mod columns;

@@ -1,4 +1,4 @@
-//! The lines of a printed map.
+//! Appends the lines of a printed map. Each function fails only if memory runs out.
 
 ghost use Rattle.std.specs.Prelude.{◌≡◌, [], ◌∷◌, ◌++◌, None, OnOk, flat_map, map};
 ghost use Rattle.crush_model.specs.ItemRows.{device_row, bucket_row};
@@ -11,12 +11,14 @@ use crush_units::{ItemId, Weight, put_all};
 use itoa::Buffer;
 use std::alloc::{AllocError, Allocator};
 
+/// Appends all parts, one after the other.
 pub(crate) fn push_all(parts: &[&[u8]], out: &mut Vec<u8>) -> Result<(), AllocError>
     ensures { OnOk result (out.new.items ≡ out.old.items ++ flat_map (λ part. part.now) parts.now) }
 {
     put_all(out, parts).map_err(|_| AllocError)
 }
 
+/// Appends `device N NAME`, and ` class CLASS` if the device has one.
 #[tactic(auto, unfolding(crate::specs::Lines::device_line))]
 pub(crate) fn push_device<A: Allocator>(
     device: &Leaf<A>,
@@ -45,6 +47,7 @@ pub(crate) fn push_device<A: Allocator>(
     }
 }
 
+/// Appends `type N NAME`.
 #[tactic(auto, unfolding(crate::specs::Lines::kind_line))]
 pub(crate) fn push_kind(number: u16, name: &[u8], out: &mut Vec<u8>) -> Result<(), AllocError>
     ensures { OnOk result (out.new.items ≡ out.old.items ++ kind_line number name.now) }
@@ -63,6 +66,7 @@ pub(crate) fn push_kind(number: u16, name: &[u8], out: &mut Vec<u8>) -> Result<(
     )
 }
 
+/// Appends `item NAME weight WEIGHT`.
 #[tactic(auto, unfolding(crate::specs::Lines::item_line))]
 fn push_line(name: &[u8], weight: Weight, out: &mut Vec<u8>) -> Result<(), AllocError>
     ensures { OnOk result (out.new.items ≡ out.old.items ++ item_line name.now weight) }
@@ -81,6 +85,7 @@ fn push_line(name: &[u8], weight: Weight, out: &mut Vec<u8>) -> Result<(), Alloc
     )
 }
 
+/// Appends the line of an item, with the weight that it stores.
 fn push_item<A: Allocator>(node: &Node<A>, out: &mut Vec<u8>) -> Result<(), AllocError>
     ensures { OnOk result (out.new.items ≡ out.old.items ++ item_lines (items_of (node.now ∷ []))) }
 {
@@ -102,6 +107,7 @@ fn push_items<A: Allocator>(items: &[Node<A>], out: &mut Vec<u8>) -> Result<(), 
     Ok(())
 }
 
+/// Appends `id -N class CLASS`.
 #[tactic(auto, unfolding(crate::specs::Lines::class_id_line))]
 fn push_class_id<A: Allocator>(id: &ShadowId<A>, out: &mut Vec<u8>) -> Result<(), AllocError>
     ensures { OnOk result (out.new.items ≡ out.old.items ++ class_id_line (shadow_data id.now)) }
@@ -130,6 +136,7 @@ fn push_class_ids<A: Allocator>(ids: &[ShadowId<A>], out: &mut Vec<u8>) -> Resul
     Ok(())
 }
 
+/// Appends `TYPE NAME {` and the line of the bucket's id.
 #[tactic(auto, unfolding(crate::specs::Lines::bucket_head))]
 fn push_head<A: Allocator>(
     kind: &[u8],
@@ -152,6 +159,7 @@ fn push_head<A: Allocator>(
     )
 }
 
+/// Appends the lines of a bucket's weight, which is a comment, its algorithm and its hash.
 #[tactic(auto, unfolding(crate::specs::Lines::bucket_choice))]
 fn push_choice<A: Allocator>(
     header: &Header<A>,
@@ -176,6 +184,7 @@ fn push_choice<A: Allocator>(
     )
 }
 
+/// Appends all lines of a bucket whose type has the name `kind`.
 pub(crate) fn push_bucket<A: Allocator>(
     kind: &[u8],
     header: &Header<A>,

@@ -1,4 +1,4 @@
-//! Devices and buckets in the order in which they are printed.
+//! The devices and the buckets of a map, in the order in which its text has them.
 
 ghost use Rattle.std.specs.Prelude.{◌≡◌, List, [], ◌∷◌, ◌++◌, None, OnOk, IfOk, flat_map, map};
 ghost use Rattle.std.specs.List.Sorted.{IsPermutation};
@@ -16,7 +16,8 @@ use crush_tree::{Bucket, Forest, Leaf, Node};
 use crush_units::{BucketId, DeviceId, ItemId};
 use std::alloc::{AllocError, Allocator, Global};
 
-/// The ids of all devices of a map, upward, as they are printed.
+/// Returns the ids of all devices of a map in ascending order, as the map's text has them. An `Err`
+/// says that memory ran out. It sorts the devices.
 pub fn devices<A: Allocator>(alloc: Global, map: &CrushMap<A>) -> Result<Vec<DeviceId>, AllocError>
     ensures { IfOk result (λ devices. (t : List Row) → Stands map.now.forest t
         → devices.items ≡ device_numbers t) }
@@ -25,8 +26,9 @@ pub fn devices<A: Allocator>(alloc: Global, map: &CrushMap<A>) -> Result<Vec<Dev
     ids_of_devices(alloc, devices.as_slice())
 }
 
-/// The ids of all buckets of a map as they are printed: the roots from -1 downward, each behind the
-/// buckets below it, and these in the order of the items.
+/// Returns the ids of all buckets of a map in the order of its text: from the root nearest to -1
+/// downward, and each bucket after the buckets below it, which are in the order of its items. An
+/// `Err` says that memory ran out. It sorts the roots.
 pub fn buckets<A: Allocator>(alloc: Global, map: &CrushMap<A>) -> Result<Vec<BucketId>, AllocError>
     ensures { IfOk result (λ buckets. (t : List Row) → Stands map.now.forest t
         → buckets.items ≡ bucket_numbers t) }
@@ -53,7 +55,7 @@ fn ids_of_buckets<A: Allocator>(
     buckets.iter().map(|bucket| bucket.header.id).collect(alloc)
 }
 
-/// By ascending id.
+/// Returns all devices of the forest, by ascending id.
 pub(crate) fn devices_in_order<A: Allocator>(
     alloc: Global,
     forest: &Forest<A>,
@@ -71,6 +73,7 @@ pub(crate) fn devices_in_order<A: Allocator>(
     Ok(devices)
 }
 
+/// Appends to `found` the devices among the nodes and below them, at any depth.
 fn find_devices<'a, A: Allocator>(
     nodes: &'a [Node<A>],
     found: &mut Vec<&'a Leaf<A>>,
@@ -90,7 +93,7 @@ fn find_devices<'a, A: Allocator>(
     Ok(())
 }
 
-/// In the order of [`buckets`].
+/// Returns all buckets of the forest in the order of [`buckets`].
 pub(crate) fn buckets_in_order<A: Allocator>(
     alloc: Global,
     forest: &Forest<A>,
@@ -105,6 +108,7 @@ pub(crate) fn buckets_in_order<A: Allocator>(
     buckets_below(alloc, roots.as_slice())
 }
 
+/// Returns the buckets among the nodes and below them, each after those below it.
 fn buckets_below<'a, A: Allocator>(
     alloc: Global,
     nodes: &[&'a Node<A>],
@@ -119,6 +123,7 @@ fn buckets_below<'a, A: Allocator>(
     Ok(found)
 }
 
+/// Appends to `found` the buckets below the node, and then the node itself if it is a bucket.
 fn find_buckets<'a, A: Allocator>(
     node: &'a Node<A>,
     found: &mut Vec<&'a Bucket<A>>,
@@ -140,7 +145,8 @@ fn find_buckets<'a, A: Allocator>(
     }
 }
 
-/// References to the nodes, by how far their ids are from 0.
+/// Returns references to the nodes, in the order of the distances of their ids from 0: devices by
+/// ascending id, buckets from -1 downward. An `Err` says that memory ran out.
 pub fn nodes_in_order<A: Allocator>(
     alloc: Global,
     nodes: &[Node<A>],
@@ -164,6 +170,7 @@ fn references<A: Allocator>(alloc: Global, nodes: &[Node<A>]) -> Result<Vec<&Nod
     Ok(references)
 }
 
+/// Returns the distance of the node's id from 0.
 fn number_of<A: Allocator>(node: &Node<A>) -> u32
     ensures { result ≡ id_number (node_id node.now) }
 {

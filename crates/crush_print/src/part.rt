@@ -1,4 +1,4 @@
-//! A part of a map's tree.
+//! A walk of a part of a map's tree: one item with what is below it, down to the buckets of a type.
 
 ghost use Rattle.std.specs.Prelude.{◌≡◌, ◌<◌, ◌^◌, ◌∷◌, ◌++◌, [], List, All, IfNone, IfOk, IfSome, None, Some, false, length, slice_index_or, map as each};
 ghost use Rattle.crush_nodes.specs.Seen.{items_of, node_id};
@@ -17,17 +17,18 @@ use crush_tree::Node;
 use crush_units::{BucketId, ItemId, TypeId};
 use std::alloc::{AllocError, Allocator, Global};
 
-/// A part of a map's tree.
+/// Which part of a map's tree is selected.
 #[derive(Clone, Copy, Debug)]
 pub struct Part {
-    /// The item at its top, `None` for the whole tree.
+    /// The item at the top of the part; `None` for the whole tree.
     pub under: Option<ItemId>,
-    /// The type of the buckets below which it has no items, `None` where it has all.
+    /// A type: the part doesn't have the items below buckets of this type. `None` if it has all
+    /// items.
     pub down_to: Option<TypeId>,
 }
 
 impl Part {
-    /// The whole tree.
+    /// Returns the part that is the whole tree.
     pub fn whole() -> Part
         ensures { result ≡ whole_tree }
     {
@@ -38,10 +39,12 @@ impl Part {
     }
 }
 
-/// The items of a part of a map, in the order of its tree: as [`walk`] has them, or an item with
-/// all that is below it, whose own depth is then 0; and of these none that stands below a bucket of
-/// the type that the part goes down to. It costs no more than the part has items beside it and
-/// below it.
+/// Returns the items of a part of a map, in the order of the map's tree.
+///
+/// If the part has a top item, these are that item, with the depth 0, and all items below it; there
+/// are none if the map doesn't have the item. Otherwise they are the items of [`walk`]. The items
+/// below a bucket of the type `down_to` are then left out. An `Err` says that memory ran out. With
+/// a top item, only its siblings and the items below it are visited.
 #[tactic(auto, unfolding(crate::specs::TreePart::part_steps))]
 pub fn walk_part<A: Allocator>(
     alloc: Global,
@@ -55,6 +58,7 @@ pub fn walk_part<A: Allocator>(
     cut(alloc, steps, part.down_to)
 }
 
+/// Returns the item and all items below it; for `None`, all items of the map.
 fn walk_under<A: Allocator>(
     alloc: Global,
     map: &CrushMap<A>,
@@ -69,6 +73,7 @@ fn walk_under<A: Allocator>(
     }
 }
 
+/// Returns the item, with the depth 0, and all items below it.
 fn walk_item<'a, A: Allocator>(
     alloc: Global,
     map: &'a CrushMap<A>,
@@ -89,6 +94,7 @@ fn walk_item<'a, A: Allocator>(
     }
 }
 
+/// Returns the nodes among which the item is, if the map has it.
 fn beside<'a, A: Allocator>(map: &'a CrushMap<A>, id: &ItemId) -> &'a [Node<A>]
     ensures few { size_of (items_of result.now) < 2 ^ 31 }
     ensures steps { (t : List Row) → Stands map.now.forest t
@@ -103,6 +109,7 @@ fn beside<'a, A: Allocator>(map: &'a CrushMap<A>, id: &ItemId) -> &'a [Node<A>]
     }
 }
 
+/// Returns the items of a bucket; none if the map doesn't have the bucket.
 fn nodes_in<A: Allocator>(map: &CrushMap<A>, bucket: BucketId) -> &[Node<A>]
     ensures few { size_of (items_of result.now) < 2 ^ 31 }
     ensures steps { (t : List Row) → Stands map.now.forest t
@@ -117,6 +124,7 @@ fn nodes_in<A: Allocator>(map: &CrushMap<A>, bucket: BucketId) -> &[Node<A>]
     }
 }
 
+/// Returns the unplaced devices if `id` is that of a device, otherwise the roots.
 fn tops_like<'a, A: Allocator>(map: &'a CrushMap<A>, id: &ItemId) -> &'a [Node<A>]
     ensures few { size_of (items_of result.now) < 2 ^ 31 }
     ensures steps { (t : List Row) → Stands map.now.forest t
@@ -133,6 +141,7 @@ fn tops_like<'a, A: Allocator>(map: &'a CrushMap<A>, id: &ItemId) -> &'a [Node<A
     }
 }
 
+/// Returns the index of the node with this id.
 fn place_of<A: Allocator>(nodes: &[Node<A>], id: &ItemId) -> Option<usize>
     ensures within { IfSome result (λ k. k < length nodes.now) }
     ensures id { IfSome result (λ k. (d : _) → node_id (slice_index_or nodes.now k d) ≡ id.now) }
@@ -147,6 +156,7 @@ fn place_of<A: Allocator>(nodes: &[Node<A>], id: &ItemId) -> Option<usize>
     None
 }
 
+/// Returns the steps without those below a bucket of the type `kind`.
 fn cut<A: Allocator>(
     alloc: Global,
     steps: Vec<Step<'_, A>>,
@@ -176,7 +186,8 @@ fn steps_down_to<'a, A: Allocator>(
     Ok(kept)
 }
 
-/// Answers the depth of the bucket below which nothing is kept from here on.
+/// Appends the step to `kept`, unless it is below the bucket whose depth is `closed`. Returns the
+/// depth of the bucket below which the steps after this one are left out, if there is one.
 fn keep_step<'a, A: Allocator>(
     step: &Step<'a, A>,
     kind: TypeId,
@@ -206,6 +217,7 @@ fn copy_of<'a, A: Allocator>(step: &Step<'a, A>) -> Step<'a, A>
     }
 }
 
+/// Whether the step is deeper than `closed`, so that it is below the bucket of that depth.
 fn is_closed<A: Allocator>(closed: Option<u32>, step: &Step<'_, A>) -> bool
     ensures { result ≡ is_closed closed (step_data step.now) }
 {
@@ -215,6 +227,7 @@ fn is_closed<A: Allocator>(closed: Option<u32>, step: &Step<'_, A>) -> bool
     }
 }
 
+/// Returns the step's depth if its item has the type `kind`.
 fn closed_by<A: Allocator>(kind: TypeId, step: &Step<'_, A>) -> Option<u32>
     ensures { result ≡ closed_by kind (step_data step.now) }
 {

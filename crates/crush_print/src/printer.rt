@@ -1,4 +1,4 @@
-//! The printer: a map as its text.
+//! The printer of a map's text. Each submodule appends one section of it.
 
 ghost use Rattle.std.specs.Prelude.{IfOk, ◌≡◌, List, ◌++◌, OnOk};
 ghost use Rattle.std.specs.Io.KnownBytes.{Keeps};
@@ -23,9 +23,12 @@ use std::alloc::{AllocError, Allocator, Global};
 use std::io::Write;
 use tunables::push_tunables;
 
-/// Writes the map's text, in Ceph's form, as docs/FORMATS.md says: its tunables, its devices, its
-/// types, its buckets and its rules, and the fixed lines round them. A step of a rule that takes a
-/// bucket names it as the map does now. The text is laid out in the given memory first.
+/// Writes the map's text, in Ceph's form: its tunables, devices, types, buckets and rules, and
+/// fixed lines between them. docs/FORMATS.md has the exact form.
+///
+/// A rule's step that takes a bucket has the name that the bucket has now. The whole text is put
+/// together in memory of `alloc` before anything is written. After `OutOfMemory` nothing is
+/// written; after any other fault, a prefix of the text that isn't the whole.
 pub fn write_map<A: Allocator, W: Write>(
     alloc: Global,
     map: &CrushMap<A>,
@@ -42,23 +45,25 @@ pub fn write_map<A: Allocator, W: Write>(
     put(out, text.as_slice())
 }
 
-/// The law that maps of the same rows print alike, in whatever order these stand.
+/// The law that two maps with the same setting and the same rows have the same text, in whatever
+/// order their rows are.
 pub fn same_tables_print_alike()
     ensures { SameTablesPrintAlike }
 {}
 
-/// The law that a step that takes a bucket is printed with the bucket's name, for each setting that
+/// The law that each bucket that a rule takes is printed with the name of its row, if the setting
 /// fits the table.
 pub fn taken_buckets_are_named()
     ensures { TakenBucketsAreNamed }
 {}
 
-/// The bytes of a usual device, and of a usual bucket.
+/// How many bytes a usual device adds to the text.
 const USUAL_DEVICE: usize = 56;
 
+/// How many bytes a usual bucket adds to the text.
 const USUAL_BUCKET: usize = 112;
 
-/// Memory is taken once, unless the text is longer than usual.
+/// Returns the text of the map. Memory for it is allocated once, unless it is longer than usual.
 fn map_text<A: Allocator>(alloc: Global, map: &CrushMap<A>) -> Result<Vec<u8>, AllocError>
     ensures { IfOk result (λ text. (t : List Row) → Stands map.now.forest t
         → text.items ≡ map_text map.now.setting t) }
@@ -70,6 +75,7 @@ fn map_text<A: Allocator>(alloc: Global, map: &CrushMap<A>) -> Result<Vec<u8>, A
     Ok(text)
 }
 
+/// Appends the text of the map.
 fn push_map<A: Allocator>(
     alloc: Global,
     map: &CrushMap<A>,

@@ -1,4 +1,4 @@
-//! The ids of each kind among others, in order.
+//! Sorts the ids of buckets, or of devices, among others.
 
 ghost use Rattle.std.specs.Prelude.{◌≡◌, IfOk, flat_map};
 ghost use Rattle.crush_print.specs.MapText.{ascending, device_number};
@@ -7,7 +7,8 @@ ghost use Rattle.crush_model.specs.Table.{bucket_ids};
 use crush_units::{BucketId, DeviceId, ItemId};
 use std::alloc::{AllocError, Global};
 
-/// The buckets among the ids, from -1 downward. An `Err` says that memory ran out.
+/// Returns the buckets among the ids, from the one nearest to -1 downward. An `Err` says that
+/// memory ran out.
 pub fn sorted_buckets(alloc: Global, ids: &[ItemId]) -> Result<Vec<BucketId>, AllocError>
     ensures { IfOk result (λ buckets. buckets.items ≡ ascending (flat_map bucket_ids ids.now)) }
 {
@@ -16,7 +17,7 @@ pub fn sorted_buckets(alloc: Global, ids: &[ItemId]) -> Result<Vec<BucketId>, Al
     Ok(buckets)
 }
 
-/// The devices among the ids, upward. An `Err` says that memory ran out.
+/// Returns the devices among the ids, in ascending order. An `Err` says that memory ran out.
 pub fn sorted_devices(alloc: Global, ids: &[ItemId]) -> Result<Vec<DeviceId>, AllocError>
     ensures { IfOk result (λ devices. devices.items ≡ ascending (flat_map device_number ids.now)) }
 {
@@ -25,6 +26,7 @@ pub fn sorted_devices(alloc: Global, ids: &[ItemId]) -> Result<Vec<DeviceId>, Al
     Ok(devices)
 }
 
+/// Returns the buckets among the ids, in their order.
 fn only_buckets(alloc: Global, ids: &[ItemId]) -> Result<Vec<BucketId>, AllocError>
     ensures { IfOk result (λ buckets. buckets.items ≡ flat_map bucket_ids ids.now) }
 {
@@ -37,6 +39,7 @@ fn only_buckets(alloc: Global, ids: &[ItemId]) -> Result<Vec<BucketId>, AllocErr
     Ok(buckets)
 }
 
+/// Returns the devices among the ids, in their order.
 fn only_devices(alloc: Global, ids: &[ItemId]) -> Result<Vec<DeviceId>, AllocError>
     ensures { IfOk result (λ devices. devices.items ≡ flat_map device_number ids.now) }
 {

@@ -1,4 +1,4 @@
-//! The tree of a map as text.
+//! Writes the tree of a map, or a part of it, as text in columns.
 
 ghost use Rattle.std.specs.Prelude.{◌≡◌, ◌++◌, [], List, OnOk, IfOk, length, max, flat_map, unwrap_or, map as each};
 ghost use Rattle.std.specs.Option.{option_map};
@@ -23,7 +23,7 @@ use crush_units::{ItemId, Weight, WriteFault, put};
 use std::alloc::{AllocError, Allocator, Global};
 use std::io::Write;
 
-/// Of the columns before the names, in bytes.
+/// The widths of the columns before the names, in bytes.
 #[derive(Clone, Copy, Debug)]
 pub(crate) struct Widths {
     pub id: usize,
@@ -31,7 +31,9 @@ pub(crate) struct Widths {
     pub weight: usize,
 }
 
-/// Writes the tree of a map: a heading, and a line for each item in the order of [`walk`].
+/// Writes the tree of a map as text: a heading, and a line for each item in the order of [`walk`].
+/// The whole text is put together in memory first. After `OutOfMemory` nothing is written; after
+/// any other fault, a prefix of the text that isn't the whole.
 pub fn write_tree<A: Allocator, W: Write>(
     alloc: Global,
     map: &CrushMap<A>,
@@ -49,8 +51,9 @@ pub fn write_tree<A: Allocator, W: Write>(
     put(out, text.as_slice())
 }
 
-/// Writes a part of the tree of a map: a heading, and a line for each item in the order of
-/// [`walk_part`].
+/// Writes a part of the tree of a map as text: a heading, and a line for each item in the order of
+/// [`walk_part`]. After a fault the same is written as by [`write_tree`]: nothing after
+/// `OutOfMemory`, otherwise a prefix of the text that isn't the whole.
 pub fn write_tree_part<A: Allocator, W: Write>(
     alloc: Global,
     map: &CrushMap<A>,
@@ -74,7 +77,8 @@ pub fn whole_tree_is_a_part()
     ensures { WholeTreeIsAPart }
 {}
 
-/// The law that maps of the same rows have one tree, in whatever order these stand.
+/// The law that two maps with the same setting and the same rows have the same tree, in whatever
+/// order their rows are.
 pub fn same_tables_have_one_tree()
     ensures { SameTablesHaveOneTree }
 {}
@@ -162,7 +166,8 @@ fn push_line<A: Allocator>(
     )
 }
 
-/// An id at the right end of its column.
+/// Returns the id at the right end of a column of this width, in bytes. A longer id is whole. An
+/// `Err` says that memory ran out.
 pub fn id_column(alloc: Global, width: usize, id: ItemId) -> Result<Vec<u8>, AllocError>
     ensures { IfOk result (λ column. column.items ≡ at_right width (id_text id)) }
 {
@@ -192,6 +197,7 @@ fn weight_column(alloc: Global, width: usize, weight: Weight) -> Result<Vec<u8>,
     Ok(column)
 }
 
+/// Returns the last column: the indent, the type of a bucket, and the name.
 fn name_column(
     alloc: Global,
     setting: &Setting,
@@ -228,14 +234,15 @@ fn push_heading(alloc: Global, widths: &Widths, out: &mut Vec<u8>) -> Result<(),
     )
 }
 
-/// A width, or the length of a word that is longer.
+/// Returns the greater of `width` and the word's length, in bytes.
 pub fn wider(width: usize, word: &[u8]) -> usize
     ensures { result ≡ max width (length word.now) }
 {
     width.max(word.len())
 }
 
-/// A width, or the length of an id that is longer.
+/// Returns the greater of `width` and the length of the printed id, in bytes. An `Err` says that
+/// memory ran out.
 pub fn wider_id(alloc: Global, width: usize, id: ItemId) -> Result<usize, AllocError>
     ensures { IfOk result (λ wider. wider ≡ max width (length (id_text id))) }
 {
@@ -252,6 +259,7 @@ fn wider_weight(alloc: Global, width: usize, weight: Weight) -> Result<usize, Al
     Ok(wider(width, word.as_slice()))
 }
 
+/// Returns the least widths in which the headings and the words of all steps fit.
 fn widths_of<A: Allocator>(alloc: Global, steps: &[Step<'_, A>]) -> Result<Widths, AllocError>
     ensures { IfOk result (λ widths. widths ≡ widths_of (each step_data steps.now)) }
 {

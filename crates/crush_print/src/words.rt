@@ -1,4 +1,4 @@
-//! The words of a tree's line.
+//! Appends the words of a line of a tree. An `Err` says that memory ran out.
 
 ghost use Rattle.std.specs.Prelude.{◌≡◌, [], ◌++◌, OnOk, flat_map, unwrap_or};
 ghost use Rattle.std.specs.Option.{option_map};
@@ -13,14 +13,14 @@ use crush_units::{ItemId, TypeId, Weight, put_all};
 use itoa::Buffer;
 use std::alloc::AllocError;
 
-/// All parts, one after the other.
+/// Appends all parts to `out`, one after the other.
 pub fn push_all(parts: &[&[u8]], out: &mut Vec<u8>) -> Result<(), AllocError>
     ensures { OnOk result (out.new.items ≡ out.old.items ++ flat_map (λ part. part.now) parts.now) }
 {
     put_all(out, parts).map_err(|_| AllocError)
 }
 
-/// An id, a bucket's below 0.
+/// Appends the id to `out` as a decimal number. That of a bucket is below 0.
 pub fn push_id(id: ItemId, out: &mut Vec<u8>) -> Result<(), AllocError>
     ensures { OnOk result (out.new.items ≡ out.old.items ++ id_text id) }
 {
@@ -37,7 +37,7 @@ pub fn push_id(id: ItemId, out: &mut Vec<u8>) -> Result<(), AllocError>
     }
 }
 
-/// A text, empty for `None`.
+/// Returns the bytes of the text; none for `None`.
 pub fn bytes_of<'a>(text: Option<&'a str>) -> &'a [u8]
     ensures { result.now ≡ unwrap_or (option_map (λ c. c.now) text.entry) [] }
 {
@@ -47,7 +47,7 @@ pub fn bytes_of<'a>(text: Option<&'a str>) -> &'a [u8]
     }
 }
 
-/// A weight with five decimals.
+/// Appends the weight to `out` with five decimals.
 pub fn push_weight(weight: Weight, out: &mut Vec<u8>) -> Result<(), AllocError>
     ensures { OnOk result (out.new.items ≡ out.old.items ++ weight_text weight) }
 {
@@ -56,6 +56,7 @@ pub fn push_weight(weight: Weight, out: &mut Vec<u8>) -> Result<(), AllocError>
     push_all(&[&room[..len]], out)
 }
 
+/// Returns the name of the type; empty if the setting doesn't have the type.
 #[tactic(auto, unfolding(crate::specs::MapText::kind_text))]
 fn kind_name(setting: &Setting, number: TypeId) -> &[u8]
     ensures { result.now ≡ kind_text setting.now number }
@@ -66,14 +67,15 @@ fn kind_name(setting: &Setting, number: TypeId) -> &[u8]
     }
 }
 
-/// Four spaces for each bucket above, 64 at most.
+/// Appends the indent of an item of this depth to `out`: four spaces for each level, but at most 64
+/// spaces.
 pub fn push_indent(depth: u32, out: &mut Vec<u8>) -> Result<(), AllocError>
     ensures { OnOk result (out.new.items ≡ out.old.items ++ indent depth) }
 {
     push_spaces(4 * depth.min(16) as usize, out)
 }
 
-/// A bucket's type, and a space.
+/// Appends the name of a bucket's type and a space to `out`; appends nothing for a device.
 pub fn push_kind(
     setting: &Setting,
     id: ItemId,
@@ -88,7 +90,7 @@ pub fn push_kind(
     }
 }
 
-/// A line of these columns.
+/// Appends a line of these four columns to `out`, with two spaces between them.
 pub fn push_row(
     id: &[u8],
     class: &[u8],

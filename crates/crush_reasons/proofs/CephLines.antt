@@ -9,7 +9,8 @@ use Rattle.crush_map.specs.MapData.{MapData}
 use Rattle.crush_history.specs.declared.entry.Entry.{Entry}
 use Rattle.crush_edits.specs.declared.edit.Edit.{Edit}
 use Rattle.crush_edits.specs.Setting.{SettingData}
-use Rattle.crush_reasons.specs.Ceph.{AreTold, ceph_line, ceph_lines, edit_for_ceph, edits_for_ceph}
+use Rattle.crush_history.specs.Ceph.{ceph_line}
+use Rattle.crush_reasons.specs.Ceph.{AreTold, ceph_lines, edit_for_ceph, edits_for_ceph}
 use Rattle.crush_reasons.specs.Replay.{changing_edits, history_edits, table_after_edit, table_after_edits}
 use Rattle.crush_reasons.proofs.Lines.{two_pushed}
 use Rattle.crush_reasons.proofs.Replays.{edits-take, none-made, table-append}

@@ -19,7 +19,8 @@ use Rattle.crush_print.specs.Tree.{step_at, steps_at, tree_rows, unplaced_number
 use Rattle.crush_print.proofs.Examples.{example, setting}
 use Rattle.crush_script.specs.declared.fault.JobFault.TheVariants as job
 use Rattle.crush_text.specs.declared.fault.TextFaultKind.TheVariants.{Ended, UnknownType}
-use Rattle.crush_reasons.specs.Ceph.{ceph_heading, ceph_line, ceph_text, edits_for_ceph}
+use Rattle.crush_history.specs.Ceph.{ceph_heading, ceph_line}
+use Rattle.crush_reasons.specs.Ceph.{ceph_text, edits_for_ceph}
 use Rattle.crush_reasons.specs.Explained.{explained_behind, explained_text}
 use Rattle.crush_reasons.specs.Fault.{fault_line, fault_text}
 use Rattle.crush_reasons.specs.Forms.{form_of}

@@ -1,38 +1,15 @@
 -- The commands that changed a map, as Ceph's own.
-use Rattle.std.specs.Prelude.{◌≡◌, ℕ, List, [], ◌∷◌, ◌++◌, Bool, false, not, codes, decimal, flat_map, if◌then◌else◌, length}
+use Rattle.std.specs.Prelude.{◌≡◌, ℕ, List, [], ◌∷◌, ◌++◌, Bool, false, not, flat_map, if◌then◌else◌, length}
 use Rattle.crush_units.specs.declared.id.ItemId.TheVariants.{Device}
 use Rattle.crush_model.specs.Stands.{Stands}
 use Rattle.crush_model.specs.Table.{Row, is_placed}
 use Rattle.crush_map.specs.MapData.{MapData}
 use Rattle.crush_history.specs.History.{EntryData}
-use Rattle.crush_history.specs.HistoryText.{edit_text}
+use Rattle.crush_history.specs.Ceph.{ceph_heading, ceph_line}
 use Rattle.crush_edits.specs.declared.edit.Edit.{Edit}
-use Rattle.crush_edits.specs.declared.edit.Edit.TheVariants.{Insert, CreateOrMove, Update, Move, Swap, Reweight, ReweightSubtree, Remove, AddBucket, Rename, SetClass, RemoveClass}
+use Rattle.crush_edits.specs.declared.edit.Edit.TheVariants.{Insert, Update}
 use Rattle.crush_edits.specs.Setting.{SettingData}
 use Rattle.crush_reasons.specs.Replay.{history_edits, table_after_edit, table_after_edits}
-
--- the word that Ceph asks for before it swaps buckets that stand apart
-abbrev pub assent : Edit → List ℕ
-assent (Insert device name weight at) = []
-assent (CreateOrMove device name weight at) = []
-assent (Update device name weight at) = []
-assent (Move name at) = []
-assent (Swap a b) = codes " --yes-i-really-mean-it"
-assent (Reweight name weight) = []
-assent (ReweightSubtree name weight) = []
-assent (Remove name) = []
-assent (AddBucket name kind) = []
-assent (Rename from to) = []
-assent (SetClass name class) = []
-assent (RemoveClass name) = []
-
--- an edit as a line for a shell
-abbrev pub ceph_line : Edit → List ℕ
-ceph_line e = codes "ceph osd crush " ++ edit_text e ++ (assent e ++ codes "\n")
-
--- how many lines there are
-unfoldable pub ceph_heading : ℕ → List ℕ
-ceph_heading count = codes "# " ++ decimal count ++ codes " commands\n"
 
 -- a `set` of a device that no bucket holds: Ceph's refuses one that its map doesn't hold, and its `add` takes it
 abbrev pub sets_unplaced : List Row → Edit → Bool

@@ -4,7 +4,8 @@ use Rattle.crush_units.specs.Name.{is_name}
 use Rattle.crush_units.specs.Weight.{weight_of_text}
 use Rattle.crush_units.specs.declared.weight.WeightFault.{WeightFault}
 use Rattle.crush_units.specs.declared.limits.TheConstants.{MOST_PAIRS}
-use Rattle.crush_script.specs.Words.{count_of, device_named, pair_of}
+use Rattle.crush_history.specs.Said.{device_named}
+use Rattle.crush_script.specs.Words.{count_of, pair_of}
 use Rattle.crush_reasons.specs.declared.forms.Form.{Form}
 use Rattle.crush_reasons.specs.declared.forms.Form.TheVariants as form
 use Rattle.crush_reasons.specs.declared.forms.Due.{Due}

@@ -1,20 +1,18 @@
 //! The commands that changed a map, as Ceph's own.
 
-ghost use Rattle.std.specs.Prelude.{◌≡◌, ◌∷◌, [], ◌≤◌, ◌<◌, ◌^◌, ◌++◌, List, IfOk, OnOk, codes, length};
+ghost use Rattle.std.specs.Prelude.{◌≡◌, ◌∷◌, [], ◌≤◌, ◌<◌, ◌^◌, ◌++◌, List, IfOk, OnOk, length};
 ghost use Rattle.crush_units.specs.declared.limits.TheConstants.{MOST_EDITS};
 ghost use Rattle.crush_model.specs.Stands.{Stands};
 ghost use Rattle.crush_model.specs.Table.{Row};
-ghost use Rattle.crush_history.specs.HistoryText.{edit_text};
-ghost use Rattle.crush_reasons.specs.Ceph.{AreTold, added, assent, ceph_heading, ceph_line, ceph_text, edit_for_ceph, sets_unplaced};
+ghost use Rattle.crush_history.specs.Ceph.{ceph_heading, ceph_line};
+ghost use Rattle.crush_reasons.specs.Ceph.{AreTold, added, ceph_text, edit_for_ceph, sets_unplaced};
 ghost use Rattle.crush_reasons.specs.Replay.{changing_edits, history_edits};
 
 use crate::replay::{changing_edits, make_edit};
-use crate::words::push_all;
 use crush_edits::Edit;
-use crush_history::{Entry, write_edit};
+use crush_history::{Entry, push_ceph_heading, push_ceph_line};
 use crush_map::CrushMap;
 use crush_units::ItemId;
-use itoa::Buffer;
 use std::alloc::{AllocError, Global};
 
 fn count_changing(entry: &Entry) -> u64
@@ -33,39 +31,6 @@ fn count_told(entries: &[Entry]) -> u64
         count += count_changing(entry);
     }
     count
-}
-
-/// The word that Ceph requires to swap buckets that stand apart.
-fn assent(edit: &Edit) -> &'static [u8]
-    ensures { result.now ≡ assent edit.now }
-{
-    match edit {
-        Edit::Swap { .. } => b" --yes-i-really-mean-it",
-        _ => b"",
-    }
-}
-
-fn push_edit(edit: &Edit, text: &mut Vec<u8>) -> Result<(), AllocError>
-    ensures { OnOk result (text.new.items ≡ text.old.items ++ edit_text edit.now) }
-{
-    write_edit(edit, text).map_err(|_| AllocError)
-}
-
-fn push_end(edit: &Edit, text: &mut Vec<u8>) -> Result<(), AllocError>
-    ensures { OnOk result (text.new.items ≡ text.old.items ++ (assent edit.now ++ codes "\n")) }
-{
-    text.extend_from_slice(assent(edit))?;
-    text.extend_from_slice(b"\n")
-}
-
-/// An edit as a line for a shell: `ceph osd crush`, its command, and of a swap
-/// `--yes-i-really-mean-it`.
-pub fn push_ceph_line(edit: &Edit, text: &mut Vec<u8>) -> Result<(), AllocError>
-    ensures { OnOk result (text.new.items ≡ text.old.items ++ ceph_line edit.now) }
-{
-    text.extend_from_slice(b"ceph osd crush ")?;
-    push_edit(edit, text)?;
-    push_end(edit, text)
 }
 
 fn sets_unplaced(map: &CrushMap<Global>, edit: &Edit) -> bool
@@ -167,16 +132,6 @@ fn push_entries(
         push_entry(alloc, map, entry, text)?;
     }
     Ok(())
-}
-
-/// How many commands there are: `# N commands`.
-#[tactic(auto, unfolding(crate::specs::Ceph::ceph_heading))]
-pub fn push_ceph_heading(count: u64, text: &mut Vec<u8>) -> Result<(), AllocError>
-    ensures { OnOk result (text.new.items ≡ text.old.items ++ ceph_heading count) }
-{
-    let mut buffer = Buffer::new();
-    let count = buffer.format(count).as_bytes();
-    push_all(&[b"# ".as_slice(), count, b" commands\n".as_slice()], text)
 }
 
 /// The commands that changed the map, as lines for a shell: first `# N commands`, then for each

@@ -3,7 +3,8 @@
 ghost use Rattle.std.specs.Prelude.{◌≡◌, is_some};
 ghost use Rattle.crush_reasons.specs.Forms.{after, first_due, form_of, form_text, is_pair, is_weight, only_if};
 
-use crush_script::{count_of, cut_pair, device_named};
+use crush_history::device_named;
+use crush_script::{count_of, cut_pair};
 use crush_units::limits::MOST_PAIRS;
 use crush_units::{Weight, is_name};
 

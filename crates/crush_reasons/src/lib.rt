@@ -26,7 +26,7 @@ mod way;
 mod words;
 mod written;
 
-pub use ceph::{ceph_text, push_ceph_heading, push_ceph_line};
+pub use ceph::ceph_text;
 pub use explained::{explained_job, explained_text};
 pub use fault::{fault_line, fault_text};
 pub use locates::{JobText, Locates};

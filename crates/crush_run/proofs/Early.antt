@@ -1,4 +1,4 @@
--- Faults that come before there is a history, and what is noted of them.
+-- Faults that come before there is a history, and their notes.
 use Rattle.std.proofs.Common.{◌≡◌, ℕ, Bool, List, [], Option, Result, Err}
 use Rattle.crush_model.specs.Table.{Row}
 use Rattle.crush_edits.specs.Setting.{SettingData}
@@ -14,7 +14,7 @@ use Rattle.crush_run.specs.Planned.{IsWhole}
 use Rattle.crush_run.specs.Stages.{IsEarlyFault, IsScriptsFault}
 use Rattle.crush_input.specs.Stages.{IsInputFault, IsNoJob, IsReadFault}
 
--- such a fault is none of a strict run
+-- such a fault says nothing of a strict run's refused entries
 strict_of_early : (X : Type 0) (strict : Bool) (h : List EntryData) (f : RunFault) → IsEarlyFault f → IsStrict {X = X} strict h (Err f)
 strict_of_early X strict h (run.Job j) early = tt
 strict_of_early X strict h run.Read early = tt
@@ -31,7 +31,7 @@ strict_of_early X strict h (run.Other w s) early = tt
 pub early_strict : {X : Type 0} (strict : Bool) (h : List EntryData) (r : Result X RunFault) (f : RunFault) → r ≡ Err f → IsEarlyFault f → IsStrict strict h r
 early_strict {X = X} strict h r f is early = rw is (strict_of_early X strict h f early)
 
--- nor is one of buckets that were made
+-- nor of entries that made buckets
 make_of_early : (X : Type 0) (no_make : Bool) (h : List EntryData) (f : RunFault) → IsEarlyFault f → IsNoMake {X = X} no_make h (Err f)
 make_of_early X no_make h (run.Job j) early = tt
 make_of_early X no_make h run.Read early = tt
@@ -48,7 +48,7 @@ make_of_early X no_make h (run.Other w s) early = tt
 pub early_make : {X : Type 0} (no_make : Bool) (h : List EntryData) (r : Result X RunFault) (f : RunFault) → r ≡ Err f → IsEarlyFault f → IsNoMake no_make h r
 early_make {X = X} no_make h r f is early = rw is (make_of_early X no_make h f early)
 
--- nor is one of names that the map doesn't have
+-- nor of names that the map doesn't have
 found_of_early : (X : Type 0) (what : Output) (s : SettingData) (t : List Row) (f : RunFault) → IsEarlyFault f → IsFound {X = X} what s t (Err f)
 found_of_early X what s t (run.Job j) early = tt
 found_of_early X what s t run.Read early = tt
@@ -65,7 +65,7 @@ found_of_early X what s t (run.Other w o) early = tt
 pub early_found : {X : Type 0} (what : Output) (s : SettingData) (t : List Row) (r : Result X RunFault) (f : RunFault) → r ≡ Err f → IsEarlyFault f → IsFound what s t r
 early_found {X = X} what s t r f is early = rw is (found_of_early X what s t f early)
 
--- nor is one of what stays behind a plan
+-- nor of differences that remain after a plan
 whole_of_early : (X : Type 0) (strict : Bool) (rest : List ℕ) (f : RunFault) → IsEarlyFault f → IsWhole {X = X} strict rest (Err f)
 whole_of_early X strict rest (run.Job j) early = tt
 whole_of_early X strict rest run.Read early = tt
@@ -82,7 +82,7 @@ whole_of_early X strict rest (run.Other w s) early = tt
 pub early_whole : {X : Type 0} (strict : Bool) (rest : List ℕ) (r : Result X RunFault) (f : RunFault) → r ≡ Err f → IsEarlyFault f → IsWhole strict rest r
 early_whole {X = X} strict rest r f is early = rw is (whole_of_early X strict rest f early)
 
--- nor is anything of a history noted
+-- nor of the notes of a history
 told_of_early : (X : Type 0) (mode : Mode) (text : TextData) (s : SettingData) (t : List Row) (names : List (List ℕ)) (h : List EntryData) (rest : List ℕ) (f : RunFault) (notes : List ℕ) → IsEarlyFault f → HistoryNoted {X = X} mode text s t names h rest (Err f) notes
 told_of_early X mode text s t names h rest (run.Job j) notes early = tt
 told_of_early X mode text s t names h rest run.Read notes early = tt
@@ -99,7 +99,7 @@ told_of_early X mode text s t names h rest (run.Other w o) notes early = tt
 pub early_told : {X : Type 0} (mode : Mode) (text : TextData) (s : SettingData) (t : List Row) (names : List (List ℕ)) (h : List EntryData) (rest : List ℕ) (r : Result X RunFault) (f : RunFault) (notes : List ℕ) → r ≡ Err f → IsEarlyFault f → HistoryNoted mode text s t names h rest r notes
 early_told {X = X} mode text s t names h rest r f notes is early = rw is (told_of_early X mode text s t names h rest f notes early)
 
--- of a reader's fault, and of the scripts', nothing is noted
+-- a fault of the reader or of the scripts has no notes
 noted_of_input : (explain : Bool) (origin : ℕ → OriginData) (all : Option (List ℕ)) (f : RunFault) (notes : List ℕ) → IsInputFault f → notes ≡ [] → IsFaultNoted explain origin all f notes
 noted_of_input explain origin all (run.Job j) notes h none = absurd h
 noted_of_input explain origin all run.Read notes h none = none

@@ -1,4 +1,4 @@
--- A loop over a list by value, that fills another.
+-- A loop that consumes a list and fills another.
 use Rattle.std.proofs.Common.{◌≡◌, ℕ, zero, suc, ◌+◌, ◌<◌, List, [], ◌∷◌, ◌++◌, length, drop, get_or, refl, sym, ap, ◌∙◌, subst, arith, drop-cons}
 use Rattle.std.proofs.lemmas.List.{get_or_append_left}
 use Rattle.std.proofs.Math.Seq.{get_or-append_seam}
@@ -22,7 +22,7 @@ module _ {A : Type 0} where
       let l : length xs ≡ k = omega arith in
       subst (P k) (sym (ap (λ (j : ℕ). get_or (xs ++ x ∷ []) j d) (sym l) ∙ get_or-append_seam xs x [] d)) (subst (λ (j : ℕ). P j x) e here))
 
-  -- the element at a place, whatever the default
+  -- the element at an index, whatever the default
   pub element_at : (xs : List A) (k : ℕ) → k < length xs → (x : A) × ((d : A) → get_or xs k d ≡ x)
   element_at [] k less = absurd (omega arith)
   element_at (x ∷ xs) zero less = (x, λ d. refl)

@@ -1,4 +1,4 @@
--- What is noted of an ending, and of a history.
+-- The notes of an ending, and of a history.
 use Rattle.std.proofs.Common.{◌≡◌, ℕ, ◌+◌, Bool, true, false, cond, List, [], ◌∷◌, ◌++◌, Option, Some, None, Result, Ok, Err, refl, sym, ap, subst, ◌∙◌, arith}
 use Rattle.std.specs.Prelude.{IfErr, IfSome, slice_index_or}
 use Rattle.crush_map.specs.MapData.{MapData}
@@ -25,7 +25,7 @@ use Rattle.crush_run.specs.Stages.{AreNoted, EndsLeft, IsWritingFault, needs_ope
 use Rattle.crush_input.proofs.Noted.{from_same, place_of_all}
 use Rattle.crush_run.proofs.Written.{keeps_same}
 
--- what is noted of an ending of the bytes read is noted of one of all bytes
+-- the notes of a run of the bytes that were read are those of a run of all bytes
 pub ending_of_all : (mode : Mode) (o : ℕ → OriginData) (all : Option (List ℕ)) (bytes : List ℕ) (r : Result Summary RunFault) (notes : List ℕ) → IfSome all (IsInput bytes) → IfErr r (IsRunFault mode (Some bytes))
     → IsNoted mode.explain o (Some bytes) r notes → IsNoted mode.explain o all r notes
 ending_of_all mode o all bytes (Ok s) notes input h told = told
@@ -41,7 +41,7 @@ ending_of_all mode o all bytes (Err run.NoItem) notes input h told = told
 ending_of_all mode o all bytes (Err run.NoType) notes input h told = told
 ending_of_all mode o all bytes (Err (run.Other w s)) notes input h told = absurd h
 
--- where no entry was refused there are no lines
+-- if no entry was refused, then there are no lines of refused entries
 none_refused : (names : List (List ℕ)) (n : ℕ) (h : List EntryData) → refusals h ≡ 0 → refused_text names n h ≡ []
 unfolding refused_text refusals
 none_refused names n [] none = refl
@@ -51,7 +51,7 @@ none_refused names n (e ∷ h) none = at (is_refused e.reply) (none_refused name
     at true others some = absurd (omega (arith, some))
     at false others rest = others (omega (arith, rest))
 
--- so nothing is noted of a run that comes to its output, where no reasons are asked for
+-- so a run without `explain` that reaches its output has no notes of refused calls
 quiet_refused : (mode : Mode) (text : TextData) (s : SettingData) (t : List Row) (names : List (List ℕ)) (h : List EntryData) → (mode.strict ≡ true → refusals h ≡ 0) → mode.explain ≡ false → refused_notes mode text s t names h ≡ []
 quiet_refused mode text s t names h none quiet =
     subst (λ (e : Bool). cond e (explained_job text.origin text.bytes s t names h) (cond mode.strict (refused_text names 1 h) []) ≡ []) (sym quiet) (by_strict mode.strict refl)
@@ -90,7 +90,7 @@ explained_needs mode (output.Changes m) on = on
 explained_needs mode output.AsCeph on = refl
 explained_needs mode (output.To w) on = on
 
--- what is told of a run is that of its history
+-- the notes that are chosen for a result are those of the history and this result
 pub told_of_end : (mode : Mode) (text : TextData) (s : SettingData) (t : List Row) (names : List (List ℕ)) (h : List EntryData) (rest : List ℕ) (r : Result Summary RunFault) (noted : Noted) (notes : List ℕ) → AreNoted mode text s t names h rest noted
     → IsNoMake mode.no_make h r → IsWhole mode.strict rest r → notes ≡ told_of r noted → HistoryNoted mode text s t names h rest r notes
 told_of_end mode text s t names h rest (Ok x) noted notes are made whole is = is ∙ are.calls
@@ -106,7 +106,7 @@ told_of_end mode text s t names h rest (Err run.NoItem) noted notes are made who
 told_of_end mode text s t names h rest (Err run.NoType) noted notes are made whole is = is ∙ are.calls
 told_of_end mode text s t names h rest (Err (run.Other w o)) noted notes are made whole is = tt
 
--- and nothing where no reasons are asked for, but of what ends it
+-- and without `explain` there are none, except those of what ended the run
 pub noted_of_end : (mode : Mode) (text : TextData) (s : SettingData) (t : List Row) (names : List (List ℕ)) (h : List EntryData) (rest : List ℕ) (r : Result Summary RunFault) (noted : Noted) (notes : List ℕ) (origin : ℕ → OriginData) (all : Option (List ℕ))
     → (mode.explain ≡ false → AreNoted mode text s t names h rest noted) → IfErr r (IsWritingFault mode) → IsStrict mode.strict h r → (mode.explain ≡ false → text.weights ≡ []) → notes ≡ told_of r noted → IsNoted mode.explain origin all r notes
 noted_of_end mode text s t names h rest (Ok x) noted notes origin all are may strict plain is = quiet_notes mode text s t names h notes plain strict (λ quiet. is ∙ (are quiet).calls)

@@ -1,4 +1,4 @@
--- How a run ends that a command line asks for.
+-- How a run ends that a command line selects.
 use Rattle.std.proofs.Common.{◌≡◌, ℕ, Bool, List, [], Option, None, Result, Ok, Err, subst}
 use Rattle.std.specs.Prelude.{IfOk, IfErr, IfSome}
 use Rattle.crush_script.specs.Job.{HasJob, JobData}
@@ -21,7 +21,7 @@ use Rattle.crush_run.specs.Run.{Ends}
 use Rattle.crush_run.specs.Stages.{IsEarlyFault, IsOutcomeFault}
 use Rattle.crush_input.specs.Stages.{IsReadFault}
 
--- a fault of what is asked for comes before there is a history
+-- a fault of another map comes before there is a history
 early_of_map : (why : OtherMap) (all : Option (List ℕ)) (f : RunFault) → IsMapFault why all f → IsEarlyFault f
 early_of_map why all (run.Job j) h = absurd h
 early_of_map why all run.Read h = absurd h
@@ -43,7 +43,7 @@ early_of_output content (printed.Changes name) f h = early_of_map beside.Since (
 early_of_output content printed.AsCeph f h = absurd h
 early_of_output content (printed.To words) f h = early_of_map beside.To (content words.map.bytes.items) f h
 
--- a run that ended early came to no output
+-- nothing is said of the output of a run that ended early
 ended_before : (content : List ℕ → Option (List ℕ)) (options : Options) (origin : ℕ → OriginData) (bytes : List ℕ) (job : JobData) (f : RunFault) (old new : Option (List ℕ)) (notes : List ℕ) → IsEarlyFault f → EndsAsWanted content options origin bytes job (Err f) old new notes
 ended_before content options origin bytes job (run.Job j) old new notes early = tt
 ended_before content options origin bytes job run.Read old new notes early = tt
@@ -61,7 +61,7 @@ pub ended_before_output : (content : List ℕ → Option (List ℕ)) (options : 
     → EndsAsWanted content options origin bytes job r old new notes
 ended_before_output content options origin bytes job r f old new notes is early = rw is (ended_before content options origin bytes job f old new notes early)
 
--- a run with what is asked for ends as asked
+-- a run with the selected output ends as EndsAsWanted says
 ended : (content : List ℕ → Option (List ℕ)) (options : Options) (what : Output) (origin : ℕ → OriginData) (bytes : List ℕ) (job : JobData) (r : Result Summary RunFault) (old new : Option (List ℕ)) (notes : List ℕ) → IsOutputOf content options.printed what
     → Ends options.mode what job (text_of options.mode.explain origin bytes job.table) r old new notes → EndsAsWanted content options origin bytes job r old new notes
 ended content options what origin bytes job (Ok s) old new notes is ends = record { what = what; output = is; ends = ends }
@@ -82,7 +82,7 @@ pub ended_as_wanted : (content : List ℕ → Option (List ℕ)) (options : Opti
 ended_as_wanted content options what origin bytes job text r old new notes is same ends =
     ended content options what origin bytes job r old new notes is (subst (λ (w : TextData). Ends options.mode what job w r old new notes) same ends)
 
--- when the faults of the stages are told
+-- the faults of the stages are faults of a run that a command line selects
 pub options_fault_of_read : (content : List ℕ → Option (List ℕ)) (options : Options) (all : Option (List ℕ)) (f : RunFault) → IsReadFault all f → IsOptionsFault content options all f
 options_fault_of_read content options all (run.Job j) h = h
 options_fault_of_read content options all run.Read h = tt
@@ -109,7 +109,7 @@ fault_of_map content options why all own run.NoItem has output h = absurd h
 fault_of_map content options why all own run.NoType has output h = absurd h
 fault_of_map content options why all own (run.Other w s) has output h = (has, output)
 
--- a fault of what is asked for is one of another map, or may be
+-- a fault of the selected output is a fault of another map, or may be one
 output_is_map : (content : List ℕ → Option (List ℕ)) (what : Printed) (f : RunFault) → IsOutputFault content what f → (why : OtherMap) × (own : Option (List ℕ)) × IsMapFault why own f
 output_is_map content printed.Map f h = absurd h
 output_is_map content (printed.Tree part) f h = (beside.Since, None, rw h tt)
@@ -138,12 +138,12 @@ options_fault_of_outcome content options all (Err run.NoItem) has h = has
 options_fault_of_outcome content options all (Err run.NoType) has h = has
 options_fault_of_outcome content options all (Err (run.Other w s)) has h = absurd h
 
--- where what was read is a job, it is one
+-- if the bytes are a job, then this holds after success too
 pub job_where_done : {X : Type 0} (r : Result X RunFault) (all : Option (List ℕ)) → IfSome all HasJob → IfOk r (λ _. IfSome all HasJob)
 job_where_done (Ok x) all has = has
 job_where_done (Err f) all has = tt
 
--- what is noted of the ending of a run is noted as asked
+-- the notes of a run are as the options select
 pub ending_as_wanted : (content : List ℕ → Option (List ℕ)) (options : Options) (input : Option (List ℕ)) (r : Result Summary RunFault) (notes : List ℕ) → IfErr r (IsOutcomeFault options.mode)
     → IsNoted options.mode.explain (job_origin content options input) (job_bytes content options input) r notes → IsNotedAsWanted content options input r notes
 ending_as_wanted content options input (Ok s) notes h told = told
@@ -159,7 +159,7 @@ ending_as_wanted content options input (Err run.NoItem) notes h told = told
 ending_as_wanted content options input (Err run.NoType) notes h told = told
 ending_as_wanted content options input (Err (run.Other w s)) notes h told = absurd h
 
--- what is noted of a fault of what the words ask for, which is another map alone, is noted as asked
+-- the notes of a fault of the selected output, which can only be a fault of another map, are as the options select
 noted_of_map : (content : List ℕ → Option (List ℕ)) (options : Options) (why : OtherMap) (input own : Option (List ℕ)) (name : List ℕ) (f : RunFault) (notes : List ℕ) → IsMapFault why own f → IsMapNoted options.mode.explain name own f notes
     → IsOutputNoted content options.mode.explain options.printed f notes → IsNotedAsWanted content options input (Err f) notes
 noted_of_map content options why input own name (run.Job j) notes may told output = absurd may

@@ -1,4 +1,4 @@
--- A plan that there is, and what is told of one.
+-- That there is a plan.
 use Rattle.std.proofs.Common.{ℕ, List, [], Option, refl, inl}
 use Rattle.std.specs.List.{count_by}
 use Rattle.crush_model.specs.Forest.{rows_of}
@@ -14,7 +14,7 @@ use Rattle.crush_input.specs.declared.output.Output.TheVariants as output
 use Rattle.crush_input.specs.Options.{name_text}
 use Rattle.crush_run.specs.Planned.{IsPlanned}
 
--- the plan without edits, behind which all differences stay
+-- the plan without edits, after which all differences remain
 without : Option (List ℕ) → PlainMap → PlainMap → PlanData
 without under old new = record {
   edits = [];
@@ -29,7 +29,7 @@ without_is_plan under old new = record {
   better = inl refl;
 }
 
--- so there is one, whatever is asked for
+-- so there is a plan for each output
 pub some_plan : Output → SettingData → List Row → PlanData
 some_plan output.Map s t = record { edits = []; rest = []; aside = record { ids = 0; class_ids = 0 } }
 some_plan (output.Tree part) s t = record { edits = []; rest = []; aside = record { ids = 0; class_ids = 0 } }

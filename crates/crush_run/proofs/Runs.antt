@@ -1,4 +1,4 @@
--- Runs of a job: in turn, at once, and where nothing came of one.
+-- Runs of a job: with scripts in turn, with scripts at the same time, and runs that end early.
 use Rattle.std.proofs.Common.{◌≡◌, ℕ, zero, suc, ◌<◌, ◌≤◌, ◌==◌, Bool, true, false, ◌&&◌, List, [], ◌∷◌, ◌++◌, Option, None, Some, Result, Ok, Err, length, nat_lt, refl, sym, ap, subst, ◌∙◌, arith, rules, tests}
 use Rattle.std.proofs.lemmas.List.{length-append, length-map}
 use Rattle.std.proofs.lemmas.List.Elements.{All-nil, All-cons}
@@ -33,7 +33,7 @@ use Rattle.crush_run.proofs.Early.{early_found, early_make, early_strict, early_
 use Rattle.crush_run.proofs.Plans.{some_plan, some_plan_is}
 use Rattle.crush_run.proofs.Written.{nothing_written}
 
--- a copy of a map stands for what the map stands for
+-- a copy of a map represents each table that the map represents
 pub copy_stands : {E : Type 0} (m : MapData) (r : Result MapData E) → IfOk r (λ copy. copy.setting ≡ m.setting) → IfOk r (λ copy. (t : List Row) → Stands m.forest t → Stands copy.forest t)
     → IfOk r (λ copy. (s : SettingData) (t : List Row) → MapStands m s t → MapStands copy s t)
 copy_stands m (Ok copy) same stands = λ s t is. record { setting = same ∙ is.setting; forest = stands t is.forest }
@@ -56,7 +56,7 @@ in_turn_runs in_turn m scripts after h ran job stands is =
       stands = subst (λ (x : List EntryData). MapStands after job.setting (table_after job.setting job.table x)) (sym told.0) told.1;
     }
 
--- and those that ran at once
+-- and so have scripts that ran at the same time
 pub at_once_runs : (in_turn : Bool) (m : MapData) (scripts : List ScriptData) (after : MapData) (h : List EntryData)
     → in_turn ≡ false → MakesAll m after h → ((k : ℕ) → calls_of (of_operator k h) ≡ calls_at scripts k) → RunsScripts in_turn m scripts after h
 at_once_runs in_turn m scripts after h not_in_turn all calls job stands is =
@@ -70,20 +70,20 @@ at_once_runs in_turn m scripts after h not_in_turn all calls job stands is =
       stands = made.1;
     }
 
--- behind the last script there are no calls
+-- an operator without a script has no calls
 no_calls : (scripts : List ScriptData) (k : ℕ) → length scripts ≤ k → calls_at scripts k ≡ []
 no_calls [] k past = refl
 no_calls (x ∷ xs) zero past = absurd (omega arith)
 no_calls (x ∷ xs) (suc k) past = no_calls xs k (omega arith)
 
--- the calls of an operator, where the first entry is its own and where it isn't
+-- the calls of an operator, if the first entry is its own and if it isn't
 own_entry : (k : ℕ) (e : EntryData) (h : List EntryData) → (e.operator == k) ≡ true → calls_of (of_operator k (e ∷ h)) ≡ e.call ∷ calls_of (of_operator k h)
 own_entry k e h own = rw own refl
 
 other_entry : (k : ℕ) (e : EntryData) (h : List EntryData) → (e.operator == k) ≡ false → calls_of (of_operator k (e ∷ h)) ≡ calls_of (of_operator k h)
 other_entry k e h other = rw other refl
 
--- where operators from a number on have no entry, the first entry is of one before, and so are the others
+-- if the operators from number n on have no entry, then the first entry is of an operator below n, and so are the others
 first_below : (n : ℕ) (e : EntryData) (h : List EntryData) → ((k : ℕ) → n ≤ k → calls_of (of_operator k (e ∷ h)) ≡ []) → (k : ℕ) → n ≤ k → (e.operator == k) ≡ false
 first_below n e h none k past = at (e.operator == k) refl
   where
@@ -108,7 +108,7 @@ entries_below n (e ∷ h) none =
 pub entries_of_scripts : (scripts : List Script) (h : List EntryData) → ((k : ℕ) → calls_of (of_operator k h) ≡ calls_at (scripts_data scripts) k) → AreOf (length scripts) h
 entries_of_scripts scripts h calls = entries_below (length scripts) h (λ k past. calls k ∙ no_calls (scripts_data scripts) k (omega (arith, past, length-map scripts script_data)))
 
--- where nothing was written of a job, it is told of its turns
+-- a run that ended early, and has written nothing, ends as Ends says, with the history of its scripts in turn
 pub ended_early : (mode : Mode) (output : Output) (job : JobData) (text : TextData) (r : Result Summary RunFault) (f : RunFault) (old : Option (List ℕ)) (notes : List ℕ) → r ≡ Err f → IsEarlyFault f
     → Ends mode output job text r old old notes
 ended_early mode output job text r f old notes is early =
@@ -128,7 +128,7 @@ ended_early mode output job text r f old notes is early =
       noted = early_told mode text job.setting job.table (names_of job.scripts) h plan.rest r f notes is early;
     }
 
--- a run that left a map and a history ends with it
+-- a run that has a map, a history and a plan ends as Ends says
 pub left_ends : (mode : Mode) (what : Output) (plan : PlanData) (job : JobData) (adjusted : ℕ) (kept : Option MapData) (m : MapData) (text : TextData) (names : List (List ℕ)) (h es : List EntryData) (r : Result Summary RunFault) (old new : Option (List ℕ)) (notes : List ℕ)
     → EndsLeft mode what plan adjusted kept m text names es r old new notes → ((t : List Row) → Stands m.forest t → IsPlanned what m.setting t plan) → IsOpening mode what kept job.setting job.table → HaveRun mode.in_turn job m h → names ≡ names_of job.scripts → es ≡ h → adjusted ≡ job.adjusted → Ends mode what job text r old new notes
 left_ends mode what plan job adjusted kept m text names h es r old new notes left planned opening ran same entries replaced =
@@ -152,12 +152,12 @@ left_ends mode what plan job adjusted kept m text names h es r old new notes lef
       noted = subst (λ (s : SettingData). HistoryNoted mode text s job.table (names_of job.scripts) h plan.rest r notes) ran.stands.setting (ends.told _ before);
     }
 
--- a map of which a copy is kept where it is needed
+-- if a copy of the map as it was read is kept whenever a run needs it, then IsOpening holds
 pub kept_opening : (mode : Mode) (what : Output) (kept : Option MapData) (s : SettingData) (t : List Row) → (needs_opening mode what ≡ true → is_some kept ≡ true) → IfSome kept (λ (m : MapData). MapStands m s t) → IsOpening mode what kept s t
 kept_opening mode what None s t is stands needs = let none = is needs in absurd cc
 kept_opening mode what (Some m) s t is stands needs = stands
 
--- what is noted by the text of bytes is noted by that of the same bytes
+-- notes that refer to the text of bytes also refer to the text of equal bytes
 pub weighed_of_all : (mode : Mode) (what : Output) (job : JobData) (origin : ℕ → OriginData) (bytes xs : List ℕ) (r : Result Summary RunFault) (old new : Option (List ℕ)) (notes : List ℕ) → bytes ≡ xs
     → Ends mode what job (text_of mode.explain origin bytes job.table) r old new notes → Ends mode what job (text_of mode.explain origin xs job.table) r old new notes
 weighed_of_all mode what job origin bytes xs r old new notes same ends = subst (λ (z : List ℕ). Ends mode what job (text_of mode.explain origin z job.table) r old new notes) same ends

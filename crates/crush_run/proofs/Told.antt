@@ -1,4 +1,4 @@
--- Faults of a run, of the bytes read and of all that there was to read.
+-- Faults of a run: those of the bytes that were read, and of all bytes that there were to read.
 use Rattle.std.proofs.Common.{◌≡◌, ℕ, List, Option, Some, Result, Ok, Err}
 use Rattle.std.specs.Prelude.{IfOk, IfErr, IfSome}
 use Rattle.crush_script.specs.Job.{HasJob}
@@ -12,7 +12,7 @@ use Rattle.crush_run.specs.Run.{IsRunFault}
 use Rattle.crush_input.specs.Stages.{IsInputFault, IsNoJob}
 use Rattle.crush_run.specs.Stages.{IsOutcomeFault, IsScriptsFault, IsWritingFault}
 
--- one of the bytes read is one of all bytes
+-- a fault of the bytes that were read is a fault of all bytes
 pub run_fault_of_all : (mode : Mode) (r : Result Summary RunFault) (all : Option (List ℕ)) (bytes : List ℕ) → IfSome all (IsInput bytes) → IfErr r (IsRunFault mode (Some bytes)) → IfErr r (IsRunFault mode all)
 run_fault_of_all mode (Ok x) all bytes input h = tt
 run_fault_of_all mode (Err (run.Job f)) all bytes input h = refusal_of_all all bytes f input h
@@ -27,12 +27,12 @@ run_fault_of_all mode (Err run.NoItem) all bytes input h = has_job all bytes inp
 run_fault_of_all mode (Err run.NoType) all bytes input h = has_job all bytes input h
 run_fault_of_all mode (Err (run.Other w s)) all bytes input h = absurd h
 
--- where a job was read, there is one
+-- if a job was read, then the bytes are a job
 pub is_job : (r : Result Summary RunFault) (bytes : List ℕ) → HasJob bytes → IfOk r (λ _. HasJob bytes)
 is_job (Err f) bytes has = tt
 is_job (Ok x) bytes has = has
 
--- and faults of its run are those of the bytes
+-- the faults of the run of a job are faults of its bytes
 pub run_fault_of_job : (mode : Mode) (r : Result Summary RunFault) (all : Option (List ℕ)) → IfSome all HasJob → IfErr r (IsOutcomeFault mode) → IfErr r (IsRunFault mode all)
 run_fault_of_job mode (Ok x) all has h = tt
 run_fault_of_job mode (Err (run.Job f)) all has h = absurd h
@@ -61,7 +61,7 @@ outcome_fault_of_scripts mode run.NoItem h = absurd h
 outcome_fault_of_scripts mode run.NoType h = absurd h
 outcome_fault_of_scripts mode (run.Other w s) h = h
 
--- and so is one of what is written
+-- and so is a fault of the write
 pub outcome_fault_of_writing : (mode : Mode) (r : Result Summary RunFault) → IfErr r (IsWritingFault mode) → IfErr r (IsOutcomeFault mode)
 outcome_fault_of_writing mode (Ok s) h = tt
 outcome_fault_of_writing mode (Err (run.Job f)) h = h
@@ -76,7 +76,7 @@ outcome_fault_of_writing mode (Err run.NoItem) h = h
 outcome_fault_of_writing mode (Err run.NoType) h = h
 outcome_fault_of_writing mode (Err (run.Other w s)) h = h
 
--- no fault of reading is one of the bytes
+-- a fault of reading may come with any bytes
 pub run_fault_of_input : (mode : Mode) (f : RunFault) (all : Option (List ℕ)) → IsInputFault f → IsRunFault mode all f
 run_fault_of_input mode (run.Job f) all h = absurd h
 run_fault_of_input mode run.Read all h = tt

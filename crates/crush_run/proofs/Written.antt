@@ -1,4 +1,4 @@
--- What is written by the parts of a run, and by all of it.
+-- What parts of a run write, and what a whole run writes.
 use Rattle.std.proofs.Common.{◌≡◌, ℕ, List, ◌++◌, Option, Some, None, Result, Ok, Err, refl}
 use Rattle.std.specs.Prelude.{IfErr}
 use Rattle.std.specs.Io.KnownBytes.{Appends, Keeps}
@@ -13,30 +13,30 @@ use Rattle.crush_input.specs.declared.fault.RunFault.TheVariants as run
 use Rattle.crush_run.specs.Output.{IsPut, IsWritten}
 use Rattle.crush_run.specs.Stages.{IsCheckFault, IsEarlyFault}
 
--- what is held stays
+-- what a writer has is unchanged if nothing is written
 pub keeps_same : (old : Option (List ℕ)) → Keeps old old
 keeps_same None = tt
 keeps_same (Some xs) = refl
 
--- a text that is written, or nothing of it without memory, is put
+-- a write of a text that writes nothing if memory runs out is as IsPut says
 pub put_of_writes : {X : Type 0} (r : Result X WriteFault) (old new : Option (List ℕ)) (text : List ℕ) → Writes r old new text → (r ≡ Err write.OutOfMemory → Keeps old new) → IsPut r old new text
 put_of_writes (Ok x) old new text is none = is
 put_of_writes (Err write.Write) old new text is none = is
 put_of_writes (Err write.OutOfMemory) old new text is none = none refl
 
--- so is one that may be empty
+-- so is a write of a text that may be empty
 pub put_of_part : {X : Type 0} (r : Result X WriteFault) (old new : Option (List ℕ)) (text : List ℕ) → WritesOrNothing r old new text → (r ≡ Err write.OutOfMemory → Keeps old new) → IsPut r old new text
 put_of_part (Ok x) old new text is none = is
 put_of_part (Err write.Write) old new text is none = is
 put_of_part (Err write.OutOfMemory) old new text is none = none refl
 
--- so is one that is laid out
+-- so is a write of a text that is already in memory
 pub put_of_laid_out : {X : Type 0} (r : Result X WriteFault) (old new : Option (List ℕ)) (text : List ℕ) → Writes r old new text → IfErr r (λ f. f ≡ write.Write) → IsPut r old new text
 put_of_laid_out (Ok x) old new text is only = is
 put_of_laid_out (Err write.Write) old new text is only = is
 put_of_laid_out (Err write.OutOfMemory) old new text is only = absurd cc
 
--- less than a text is less than that text and more
+-- a write that has written less than a text has written less than that text followed by another
 less_put : (X : Type 0) (f : WriteFault) (old new : Option (List ℕ)) (first second : List ℕ) → IsPut {X = X} (Err f) old new first → IsPut {X = X} (Err f) old new (first ++ second)
 less_put X write.Write old new first second less = less_of_both old new first second less
 less_put X write.OutOfMemory old new first second kept = kept
@@ -44,7 +44,7 @@ less_put X write.OutOfMemory old new first second kept = kept
 pub less_of_put : {X : Type 0} (r : Result X WriteFault) (e f : WriteFault) (old new : Option (List ℕ)) (first second : List ℕ) → r ≡ Err e → e ≡ f → IsPut {X = X} (Err f) old new first → IsPut r old new (first ++ second)
 less_of_put {X = X} r e f old new first second is same less = rw (is, same) (less_put X f old new first second less)
 
--- a text, and behind it another that is laid out
+-- a write of a text, followed by a write of another text that is already in memory
 pub put_behind : {X : Type 0} (r : Result X WriteFault) (old mid new : Option (List ℕ)) (first second : List ℕ) → Appends old mid first → Writes r mid new second → IfErr r (λ f. f ≡ write.Write) → IsPut r old new (first ++ second)
 put_behind (Ok x) old mid new first second whole is only = appends_both old mid new first second whole is
 put_behind (Err write.Write) old mid new first second whole is only = then_less old mid new first second whole is

@@ -1,4 +1,4 @@
--- What a command line asks a run for.
+-- How a run ends that a command line selects.
 use Rattle.std.specs.Prelude.{ℕ, List, Option, Result, Ok, Err, IfSome}
 use Rattle.crush_script.specs.Job.{HasJob, JobData}
 use Rattle.crush_options.specs.declared.asked.Options.{Options}
@@ -11,19 +11,19 @@ use Rattle.crush_input.specs.Notes.{text_of}
 use Rattle.crush_run.specs.Run.{Ends, IsRunFault}
 use Rattle.crush_input.specs.Options.{IsOutputFault, IsOutputOf}
 
--- when each fault is told: one of another map only where a job was read, and else as of any run
+-- when a run may end with this fault. A fault of another map is possible only if the bytes are a job, and must be a fault of that map's file. Each other fault is possible as in any run of a job.
 abbrev pub IsOptionsFault : (List ℕ → Option (List ℕ)) → Options → Option (List ℕ) → RunFault → Type 0
 IsOptionsFault content options all (run.Other which fault) = IfSome all HasJob × IsOutputFault content options.printed (run.Other which fault)
 IsOptionsFault content options all fault = IsRunFault options.mode all fault
 
--- what the words ask for was there, and the run is one with it, noted by the text of these bytes, whose lines come from there
+-- there is an output as the words select it, and the run of the job ends as Ends says for this output. Its notes refer to the text of these bytes; `origin` says from which file each line comes.
 pub record EndsOutput (content : List ℕ → Option (List ℕ)) (options : Options) (origin : ℕ → OriginData) (bytes : List ℕ) (job : JobData) (result : Result Summary RunFault) (old new : Option (List ℕ)) (notes : List ℕ) : Type 0 where
   pub what : Output
   pub output : IsOutputOf content options.printed what
   pub ends : Ends options.mode what job (text_of options.mode.explain origin bytes job.table) result old new notes
 
--- ENDS AS ASKED: said of a run that was done, that failed to write, that was strict and met refusals or differences, that was to
--- make no buckets and did, or whose map lacks an item or a type that the words name; any other came to no output
+-- ENDS AS SELECTED: the run ends as EndsOutput says, if it succeeded, failed to write, was strict and met refusals or differences, was to
+-- make no buckets and made some, or has a map without the item or the type that the words name. Nothing is said of any other end.
 abbrev pub EndsAsWanted : (List ℕ → Option (List ℕ)) → Options → (ℕ → OriginData) → List ℕ → JobData → Result Summary RunFault → Option (List ℕ) → Option (List ℕ) → List ℕ → Type 0
 EndsAsWanted content options origin bytes job (Ok s) old new notes = EndsOutput content options origin bytes job (Ok s) old new notes
 EndsAsWanted content options origin bytes job (Err run.Write) old new notes = EndsOutput content options origin bytes job (Err run.Write) old new notes

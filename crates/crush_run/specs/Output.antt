@@ -1,4 +1,4 @@
--- What a run writes: what is asked for of the map after its scripts, for a person or for a program.
+-- What a run writes of the map after its scripts, as text for a person or as a JSON document for a program.
 use Rattle.std.specs.Prelude.{◌≡◌, ℕ, List, [], ◌++◌, Bool, true, false, Option, Some, None, Result, Ok, Err, if◌then◌else◌}
 use Rattle.std.specs.Io.KnownBytes.{Appends, Keeps}
 use Rattle.crush_units.specs.Writes.{AppendsLess}
@@ -35,27 +35,27 @@ use Rattle.crush_input.specs.Options.{name_text}
 use Rattle.crush_run.specs.Found.{named_item, part_of}
 use Rattle.crush_run.specs.Planned.{plan_words}
 
--- a line for each entry, where they are asked for
+-- the lines of a history, one for each entry, if they are selected; otherwise nothing
 abbrev pub wanted_lines : Bool → List (List ℕ) → List EntryData → List ℕ
 wanted_lines history names h = if history then entries_text names 1 h else []
 
--- what has changed of items that are told apart by their ids: of all, or of a part
+-- the text of what has changed between two maps, with items matched by id: of all items, or of the part below one item
 abbrev pub changed_by_id : Option ItemId → PlainMap → PlainMap → List ℕ
 changed_by_id None old new = since_text old new
 changed_by_id (Some i) old new = since_part_text i old new
 
--- of those that are by their names: of all, or of a part
+-- the same with items matched by name
 abbrev pub changed_by_name : Option (List ℕ) → PlainMap → PlainMap → List ℕ
 changed_by_name None old new = since_names_text old new
 changed_by_name (Some name) old new = since_names_part (Some name) old new
 
--- WHAT HAS CHANGED, of the part below the item that has the name now, where there is a name
+-- WHAT HAS CHANGED between two maps. The first argument says whether items are matched by name. If a name is given, then only the part below the item of that name is written; matched by id, that is the item that has the name in the new map.
 abbrev pub changed_text : Bool → Option (List ℕ) → PlainMap → PlainMap → List ℕ
 changed_text false under old new = changed_by_id (named_item new.table under) old new
 changed_text true under old new = changed_by_name under old new
 
--- what is asked for of a map with this setting, and with these tables before a history and after it: its text, its tree, what has
--- changed in it since another map, in lines or as a tree, the commands that changed it, or a plan from it
+-- the selected output of a map with the setting s and the table t, which it has after the history h; o is the table before h. It is the
+-- map's text, its tree, what has changed in it since another map (in lines or as a tree), the commands that changed it, or a plan from it.
 abbrev pub main_text : Output → PlanData → SettingData → List Row → List Row → List EntryData → List ℕ
 main_text output.Map plan s o t h = map_text s t
 main_text (output.Tree words) plan s o t h = tree_part_text s (part_of words s t) t
@@ -64,20 +64,20 @@ main_text (output.Changes m) plan s o t h = changes_text (plain_map m.setting (r
 main_text output.AsCeph plan s o t h = ceph_text s o h
 main_text (output.To wanted) plan s o t h = plan_text (plan_words wanted.as_ceph) plan
 
--- FOR A PERSON: that, and behind it the lines that are asked for
+-- FOR A PERSON: the selected output, followed by the lines of the history if they are selected
 abbrev pub person_text : Bool → Output → PlanData → SettingData → List Row → List Row → List (List ℕ) → List EntryData → List ℕ
 person_text history what plan s o t names h = main_text what plan s o t h ++ wanted_lines history names h
 
--- the history as a value, where it is asked for
+-- the history as a JSON value, if it is selected
 abbrev pub wanted_history : Bool → List (List ℕ) → List EntryData → Option Data
 wanted_history history names h = if history then Some (history_document names h) else None
 
--- the document of what has changed: of all items, or of a part, by their ids, also where a person is told by their names
+-- the document of what has changed between two maps: of all items, or of the part below one item. Items are matched by id, even if the text for a person matches them by name.
 abbrev pub since_program_text : Option Data → Option ItemId → PlainMap → PlainMap → List ℕ
 since_program_text history under old new = document_text (document_of_since history (since_document under old new))
 
--- FOR A PROGRAM: one document, with the history in it, of a tree of changes that of the changes; what has none, Ceph's own commands, is told
--- as for a person
+-- FOR A PROGRAM: one document, which contains the history if it is selected. A tree of changes has the same document as a list of changes.
+-- Ceph's own commands have no document, and are written as for a person.
 abbrev pub program_text : Bool → Output → PlanData → SettingData → List Row → List Row → List (List ℕ) → List EntryData → List ℕ
 program_text history output.Map plan s o t names h = document_text (document (wanted_history history names h) (map_document s t))
 program_text history (output.Tree words) plan s o t names h = document_text (document_of_tree (wanted_history history names h) (tree_document s t (part_steps (part_of words s t) t)))
@@ -86,17 +86,17 @@ program_text history (output.Changes m) plan s o t names h = since_program_text 
 program_text history (output.To wanted) plan s o t names h = plan_document_text (plan_document (wanted_history history names h) plan.edits plan.rest)
 program_text history output.AsCeph plan s o t names h = person_text history output.AsCeph plan s o t names h
 
--- OUTPUT: all of what is written
+-- OUTPUT: all that a successful run writes
 abbrev pub written_text : Mode → Output → PlanData → SettingData → List Row → List Row → List (List ℕ) → List EntryData → List ℕ
 written_text mode what plan s o t names h = if mode.json then program_text mode.history what plan s o t names h else person_text mode.history what plan s o t names h
 
--- WRITTEN: of a run that is done all of it, after a failed write a prefix of it that isn't the whole, and after any other fault nothing
+-- WRITTEN: what the writer got from a run with this result. After success that is exactly the text. After a failed write it is a prefix of the text that isn't the whole. After any other fault it is nothing.
 abbrev pub IsWritten : {X : Type 0} → Result X RunFault → Option (List ℕ) → Option (List ℕ) → List ℕ → Type 0
 IsWritten (Ok x) old new text = Appends old new text
 IsWritten (Err run.Write) old new text = AppendsLess old new text
 IsWritten (Err fault) old new text = Keeps old new
 
--- the same of what a part of the run writes
+-- the same of one write within a run. If memory ran out, then nothing was written.
 abbrev pub IsPut : {X : Type 0} → Result X WriteFault → Option (List ℕ) → Option (List ℕ) → List ℕ → Type 0
 IsPut (Ok x) old new text = Appends old new text
 IsPut (Err write.Write) old new text = AppendsLess old new text

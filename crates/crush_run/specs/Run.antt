@@ -1,4 +1,4 @@
--- The run of a job: what its contract says, on one page.
+-- The run of a job: what its contract says of it, on one page.
 use Rattle.std.specs.Prelude.{◌≡◌, ◌==◌, ℕ, Option, Result, IfOk, IfSome, List, Bool, true, false, ◌&&◌, ◌||◌, not, length, nat_lt, None, Some}
 use Rattle.crush_units.specs.declared.id.ItemId.{ItemId}
 use Rattle.crush_model.specs.Forest.{rows_of}
@@ -25,50 +25,55 @@ use Rattle.crush_run.specs.Found.{IsFound, named_item}
 use Rattle.crush_run.specs.Output.{IsWritten, written_text}
 use Rattle.crush_run.specs.Planned.{IsPlanned, IsWhole}
 
--- RUN: a history of a job. Each reply is the table's at that point; the calls of each operator are its script's, in order, and
--- there are no others; in turn the scripts run one after the other
+-- RUN: h is the history of a run of the job. It is legal: each reply is what the rules say of the table at that point. The calls of each
+-- operator are exactly those of its script, in order, and there are no other calls. If the run is in turn, then h is the one history in
+-- which the scripts run one after the other.
 pub record IsRunOf (in_turn : Bool) (job : JobData) (h : List EntryData) : Type 0 where
   pub legal : IsLegal job.setting job.table h
   pub calls : (k : ℕ) → calls_of (of_operator k h) ≡ calls_at job.scripts k
   pub order : in_turn ≡ true → h ≡ turns job.setting job.table job.scripts
 
--- OUTPUT: what is asked for of the map after the history, with the history where it is asked for. But for a plan it is a function of the
--- job, its history and what is asked for
+-- OUTPUT: the selected output of the map after the history, with the history if it is selected. Except for a plan, it is a function of the
+-- job, its history and the selection.
 abbrev pub output_of : Mode → Output → PlanData → JobData → List EntryData → List ℕ
 output_of mode what plan job h = written_text mode what plan job.setting job.table (table_after job.setting job.table h) (names_of job.scripts) h
 
--- whether, of items that are told apart by their ids, an item or a setting is told, or an item of a part
+-- whether anything has changed between two maps, with items matched by id: an item or the setting, or, if a part is given, an item of that part
 abbrev pub is_changed_by_id : Option ItemId → PlainMap → PlainMap → Bool
 is_changed_by_id None old new = is_changed old new
 is_changed_by_id (Some i) old new = is_part_changed i old new
 
--- whether one is, of the part below the item that has the name now, where there is a name: of items that are told apart by their ids,
--- or by their names
+-- whether anything has changed between two maps. The first argument says whether items are matched by name. If a name is given, then only
+-- the part below the item of that name counts; matched by id, that is the item that has the name in the new map.
 abbrev pub has_changed : Bool → Option (List ℕ) → PlainMap → PlainMap → Bool
 has_changed false under old new = is_changed_by_id (named_item new.table under) old new
 has_changed true under old new = is_changed_by_name under old new
 
--- DIFFERS: whether there is something to tell of a map with this setting and this table, which it has after a history: of changes since
--- another map an item or a setting, of a plan a command or a difference, and else that an entry changed the map that was read
+-- DIFFERS: whether there is something to report of the map with this setting and this table, which it has after the history h. For changes
+-- since another map: whether anything has changed. For a plan: whether it has a command or leaves a difference. For any other output:
+-- whether an entry of h changed the map.
 abbrev pub differs_of : Output → PlanData → SettingData → List Row → List EntryData → Bool
 differs_of (output.Since old) plan s t h = has_changed old.by_name (name_text old.under) (plain_map old.map.setting (rows_of old.map.forest)) (plain_map s t)
 differs_of (output.Changes m) plan s t h = is_changed (plain_map m.setting (rows_of m.forest)) (plain_map s t)
 differs_of (output.To wanted) plan s t h = not (length plan.edits == 0) || not (length plan.rest == 0)
 differs_of what plan s t h = nat_lt 0 (changes h)
 
--- SUMMARY: the written weights that were replaced, the calls, those that changed the map, and whether there is something to tell, where
--- the status is to
+-- SUMMARY: the number of written weights that were replaced, the number of calls, the number of calls that changed the map, and whether the
+-- run differs
 abbrev pub summed : ℕ → Bool → List EntryData → Summary
 summed adjusted differs h = record { adjusted = adjusted; calls = length h; changes = changes h; differs = differs }
 
+-- the summary of a run of the job with the history h; it differs only if the exit status is to show that
 abbrev pub summary_of : Mode → Output → PlanData → JobData → List EntryData → Summary
 summary_of mode what plan job h =
     summed job.adjusted (mode.exit_code && differs_of what plan job.setting (table_after job.setting job.table h) h) h
 
--- ENDS: there is a run of the job, and a plan where one is asked for, whose output is written, or after a failed write a prefix of it
--- that isn't the whole, which the summary sums up, and which refused entries, or what stays behind the plan, end where it is strict,
--- entries that made buckets unasked where it is to make none, and names that its map doesn't have; they are noted by
--- this text
+-- ENDS: how a run of the job ends. There is a history of such a run, and a plan if one is selected, such that:
+-- `writes`: after success the whole output is written, after a failed write a prefix of it that isn't the whole, otherwise nothing;
+-- `summary`: after success the summary is that of the history;
+-- `strict`, `no_make`, `found`, `whole`: the result agrees with the refused entries, the entries that made more buckets than they ask for,
+-- the names that the map has, and the differences that remain after the plan;
+-- `noted`: the notes are those of the history and this result, and refer to this text.
 pub record Ends (mode : Mode) (what : Output) (job : JobData) (text : TextData) (result : Result Summary RunFault) (old new : Option (List ℕ)) (notes : List ℕ) : Type 0 where
   pub history : List EntryData
   pub run : IsRunOf mode.in_turn job history
@@ -82,9 +87,10 @@ pub record Ends (mode : Mode) (what : Output) (job : JobData) (text : TextData) 
   pub whole : IsWhole mode.strict plan.rest result
   pub noted : HistoryNoted mode text job.setting job.table (names_of job.scripts) history plan.rest result notes
 
--- when each fault is told: Job of bytes that are no job, Write, Thread, Refused, Made, Differs, NoItem and NoType only of bytes that are
--- one, Thread never in turn, Refused and Differs of strict runs alone, Made of those that are to make no buckets, and none of another
--- map, which no run of a job reads
+-- when a run may end with this fault; `all` has the bytes, if they are known. Job: the bytes have this fault, which isn't out of memory. Write,
+-- Thread, Refused, Made, Differs, NoItem, NoType: the bytes are a job. Thread: the run isn't in turn. Refused and Differs: the run is
+-- strict. Made: the run is to make no buckets. Read and Memory: always possible. A fault of another map: never, because a run of a job
+-- reads no other map.
 abbrev pub IsRunFault : Mode → Option (List ℕ) → RunFault → Type 0
 IsRunFault mode all (run.Job fault) = IsRefusal all fault
 IsRunFault mode all run.Write = IfSome all HasJob

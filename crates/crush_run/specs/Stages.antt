@@ -1,4 +1,4 @@
--- The stages of a run of a job: what comes of each, and which faults may come at which.
+-- The stages of a run of a job: what each of them yields, and with which faults it may fail.
 use Rattle.std.specs.Prelude.{◌≡◌, ◌≢◌, ℕ, List, [], ◌++◌, Bool, false, true, ◌&&◌, Option, Result, Ok, Err, IfOk, IfErr}
 use Rattle.std.specs.Io.KnownBytes.{Keeps}
 use Rattle.crush_model.specs.Stands.{Stands}
@@ -24,19 +24,19 @@ use Rattle.crush_run.specs.Output.{IsWritten, written_text}
 use Rattle.crush_run.specs.Planned.{IsWhole}
 use Rattle.crush_run.specs.Run.{IsRunOf, differs_of, summed}
 
--- what may fail while operators are at work at once
+-- the faults while the scripts run at the same time
 abbrev pub IsAtOnceFault : RunFault → Type 0
 IsAtOnceFault run.Memory = Unit {0}
 IsAtOnceFault run.Thread = Unit {0}
 IsAtOnceFault fault = ⊥
 
--- what may fail while the scripts run: in turn they need no thread
+-- the faults while the scripts run. In turn they need no thread.
 abbrev pub IsScriptsFault : Bool → RunFault → Type 0
 IsScriptsFault in_turn run.Memory = Unit {0}
 IsScriptsFault in_turn run.Thread = in_turn ≡ false
 IsScriptsFault in_turn fault = ⊥
 
--- what may fail once the job is read
+-- the faults after the job is parsed
 abbrev pub IsOutcomeFault : Mode → RunFault → Type 0
 IsOutcomeFault mode run.Write = Unit {0}
 IsOutcomeFault mode run.Memory = Unit {0}
@@ -48,7 +48,7 @@ IsOutcomeFault mode run.NoItem = Unit {0}
 IsOutcomeFault mode run.NoType = Unit {0}
 IsOutcomeFault mode fault = ⊥
 
--- what may fail before there is a history
+-- the faults before there is a history: all but those of the checks and of the write
 abbrev pub IsEarlyFault : RunFault → Type 0
 IsEarlyFault run.Write = ⊥
 IsEarlyFault (run.Refused n) = ⊥
@@ -58,7 +58,7 @@ IsEarlyFault run.NoItem = ⊥
 IsEarlyFault run.NoType = ⊥
 IsEarlyFault fault = Unit {0}
 
--- what may end a run that has a history before anything is written
+-- the faults of the checks, which come after the history and before anything is written
 abbrev pub IsCheckFault : Mode → RunFault → Type 0
 IsCheckFault mode (run.Refused n) = mode.strict ≡ true
 IsCheckFault mode (run.Made n) = mode.no_make ≡ true
@@ -67,7 +67,7 @@ IsCheckFault mode run.NoItem = Unit {0}
 IsCheckFault mode run.NoType = Unit {0}
 IsCheckFault mode fault = ⊥
 
--- what may fail once there is a history
+-- the faults after there is a history
 abbrev pub IsWritingFault : Mode → RunFault → Type 0
 IsWritingFault mode run.Write = Unit {0}
 IsWritingFault mode run.Memory = Unit {0}
@@ -78,31 +78,33 @@ IsWritingFault mode run.NoItem = Unit {0}
 IsWritingFault mode run.NoType = Unit {0}
 IsWritingFault mode fault = ⊥
 
--- what scripts leave of a map, whatever job they and the map stand for: a run of the job, and the map after its history
+-- the scripts of the job have run with the history h: h is the history of a run of the job, and the map `after` is the map after it
 pub record HaveRun (in_turn : Bool) (job : JobData) (after : MapData) (h : List EntryData) : Type 0 where
   pub run : IsRunOf in_turn job h
   pub stands : MapStands after job.setting (table_after job.setting job.table h)
 
+-- running the scripts on the map gave the map `after` and the history h: this is such a run of any job that has this map and these scripts
 abbrev pub RunsScripts : Bool → MapData → List ScriptData → MapData → List EntryData → Type 0
 RunsScripts in_turn map scripts after h = (job : JobData) → MapStands map job.setting job.table → scripts ≡ job.scripts → HaveRun in_turn job after h
 
--- whether a run needs the map as it was read, beside that after its history: for reasons, and for the commands that changed it
+-- whether a run needs the map as it was read after its scripts have run: to explain refusals, or to print the commands that changed it
 abbrev pub needs_opening : Mode → Output → Bool
 needs_opening mode output.AsCeph = true
 needs_opening mode what = mode.explain
 
--- OPENING: where a run needs that map, it is kept, and has this setting and stands for this table
+-- OPENING: if a run needs the map as it was read, then that map is kept, has this setting, and represents this table
 abbrev pub IsOpening : Mode → Output → Option MapData → SettingData → List Row → Type 0
 IsOpening mode what kept s t = needs_opening mode what ≡ true → IsKept kept s t
 
--- what may be told of a run, of which this setting and this table were before the first call: of its history; where it is to make no
--- buckets, before that the calls that made some unasked; where it is strict, behind it what stays behind a plan
+-- the notes that are prepared for the possible ends of a run, whose map had this setting and this table before the first call: `calls` are
+-- the notes of its history; `made`, if the run is to make no buckets, are the lines of the calls that made more buckets than they ask for,
+-- followed by these; `whole`, if the run is strict, are these, followed by the lines of the differences that remain after its plan
 pub record AreNoted (mode : Mode) (text : TextData) (s : SettingData) (t : List Row) (names : List (List ℕ)) (h : List EntryData) (rest : List ℕ) (noted : Noted) : Type 0 where
   pub calls : noted.calls.items ≡ history_notes mode text s t names h
   pub made : mode.no_make ≡ true → noted.made.items ≡ made_text names 1 h ++ history_notes mode text s t names h
   pub whole : mode.strict ≡ true → noted.whole.items ≡ history_notes mode text s t names h ++ rest
 
--- and which of it is told, by how the run ends
+-- which of these notes are printed after this fault; none if the fault isn't listed
 abbrev pub told_by : RunFault → Noted → List ℕ
 told_by run.Write noted = noted.calls.items
 told_by (run.Refused n) noted = noted.calls.items
@@ -112,13 +114,16 @@ told_by run.NoItem noted = noted.calls.items
 told_by run.NoType noted = noted.calls.items
 told_by fault noted = []
 
+-- which of these notes are printed after this result
 abbrev pub told_of : Result Summary RunFault → Noted → List ℕ
 told_of (Ok s) noted = noted.calls.items
 told_of (Err fault) noted = told_by fault noted
 
--- how a run ends that left a map, a history and a plan: what is asked for is written, or a prefix of it, the summary is of the
--- history, its refused entries, or what stays behind the plan, end it where it is strict, buckets made unasked where it is to make
--- none, and names that its map doesn't have, and are noted by this text
+-- how a run ends that has a map m, a history h and a plan. `writes`: the output is written, or a part of it, as IsWritten says. `summary`:
+-- after success the summary is that of the history. `nothing`: nothing is written unless the run succeeds or fails to write. `fault`: which
+-- faults are possible. `strict`, `no_make`, `found`, `whole`: the result agrees with the refused entries, the entries that made more buckets
+-- than they ask for, the names that the map has, and the differences that remain. `told`: the notes are those of this history and result.
+-- `noted`: the notes are allowed for this result, wherever the lines come from.
 pub record EndsLeft (mode : Mode) (what : Output) (plan : PlanData) (adjusted : ℕ) (kept : Option MapData) (m : MapData) (text : TextData) (names : List (List ℕ)) (h : List EntryData) (result : Result Summary RunFault) (old new : Option (List ℕ)) (notes : List ℕ) : Type 0 where
   pub writes : (o t : List Row) → IsOpening mode what kept m.setting o → Stands m.forest t → IsWritten result old new (written_text mode what plan m.setting o t names h)
   pub summary : IfOk result (λ (s : Summary). (t : List Row) → Stands m.forest t → s ≡ summed adjusted (mode.exit_code && differs_of what plan m.setting t h) h)

@@ -1,4 +1,4 @@
-//! The scripts of all operators at once, each in a worker of its own.
+//! Runs the scripts of all operators at the same time, each in a worker thread of its own.
 
 ghost use Rattle.std.specs.Prelude.{◌≡◌, ℕ, ◌<◌, ◌≤◌, length, vec_len, IfOk, IfErr, None, slice_index_or};
 ghost use Rattle.crush_units.specs.declared.limits.TheConstants.{MOST_ENTRIES, MOST_OPERATORS};
@@ -17,8 +17,9 @@ use std::marker::Brand;
 use std::sync::Wait;
 use std::thread::Threads;
 
-/// Where a worker can't be started, those that run finish. Nothing is kept of the map before the
-/// scripts.
+/// Runs the scripts at the same time, and returns the map after them and the history. No copy of
+/// the map before them is kept. If a worker can't be started, those that run finish, and the fault
+/// is [`RunFault::Thread`]. The only other fault is [`RunFault::Memory`].
 pub(crate) fn run_at_once<G: Gate + Sync, R: Threads + Wait + Sync>(
     rt: &R,
     alloc: Global,
@@ -39,7 +40,7 @@ pub(crate) fn run_at_once<G: Gate + Sync, R: Threads + Wait + Sync>(
     }
 }
 
-/// Runs the scripts by the editor of the name `N`.
+/// Runs the scripts with the editor that has the name `N`.
 fn operate<N: Desk + Send + Sync, G: Gate + Sync, R: Threads + Wait + Sync>(
     rt: &R,
     alloc: Global,
@@ -71,8 +72,8 @@ fn operate<N: Desk + Send + Sync, G: Gate + Sync, R: Threads + Wait + Sync>(
     Ok(editor.close(seats))
 }
 
-/// A worker's one fault is that it was out of memory: a history has room for all the calls of a
-/// job.
+/// Returns the seats of the workers, or [`RunFault::Memory`] if a worker stopped early. Out of
+/// memory is its only reason to stop, because a history has room for all the calls of a job.
 fn gather<N: Desk>(alloc: Global, finished: Vec<Finished<N>>) -> Result<Vec<Seat<N>>, RunFault>
     ensures count { IfOk result (λ seats. vec_len seats ≡ vec_len finished) }
     ensures each { IfOk result (λ seats. (k : ℕ) (d : _) (e : _) → k < vec_len seats

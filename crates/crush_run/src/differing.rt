@@ -1,4 +1,4 @@
-//! Whether there is something to report of a map, for the status.
+//! Whether a run has a change or a difference to report, for the exit status.
 
 ghost use Rattle.std.specs.Prelude.{◌≡◌, ◌≤◌, ◌&&◌, List, IfOk, length, true};
 ghost use Rattle.crush_input.specs.Options.{name_text};
@@ -58,6 +58,8 @@ fn has_changed(alloc: Global, old: &OldMap, map: &CrushMap<Global>) -> Result<bo
     is_changed_by_id(alloc, under, &old.map, map)
 }
 
+/// Whether there is something to report: for changes since another map, a change; for a plan, a
+/// command or a difference that remains; for any other output, a call that changed the map.
 fn differs(alloc: Global, output: &Output, left: &Left<'_>) -> Result<bool, AllocError>
     requires { length left.now.entries.now ≤ MOST_ENTRIES }
     ensures { IfOk result (λ differs. (t : List Row) → Stands left.now.map.now.forest t
@@ -75,6 +77,7 @@ fn differs(alloc: Global, output: &Output, left: &Left<'_>) -> Result<bool, Allo
     }
 }
 
+/// The same, or `false` if the request doesn't select this status.
 pub(crate) fn wanted_differs(
     alloc: Global,
     request: &Request,

@@ -1,23 +1,23 @@
-//! How a run ended, and what is printed of it below the one line on standard error.
+//! How a run ended, and the notes that are printed after the one line on standard error.
 
 ghost use Rattle.std.specs.Prelude.{◌≡◌, [], Err};
 
 use crush_input::{Aborted, RunFault, Summary};
 use std::alloc::Global;
 
-/// How a run ended.
+/// The result of a run, and its notes.
 #[derive(Debug, Drop)]
 pub struct Ending {
-    /// What the run did, or why it was not done.
+    /// What the run did, or why it failed.
     pub outcome: Result<Summary, RunFault>,
-    /// The lines below the one line on standard error: the reasons, where they are wanted, of a
-    /// fault, of refused calls and of written weights that aren't sums; without them, the lines of
-    /// what `strict` or `no_make` ended the run for.
+    /// The lines that are printed after the one line on standard error. If the run has `explain`,
+    /// they explain a fault and each refused call, and list the written weights that aren't sums.
+    /// If `strict` or `no_make` ended the run, they list what ended it. Otherwise there are none.
     pub notes: Vec<u8>,
 }
 
 impl Ending {
-    /// A fault without notes.
+    /// The ending with this fault, without notes.
     pub(crate) fn quietly(alloc: Global, fault: RunFault) -> Ending
         ensures outcome { result.outcome ≡ Err fault }
         ensures quiet { result.notes.items ≡ [] }
@@ -28,7 +28,7 @@ impl Ending {
         }
     }
 
-    /// That of a run that stopped before its scripts ran.
+    /// The ending of a run that stopped before its scripts ran.
     pub(crate) fn of_aborted(aborted: Aborted) -> Ending
         ensures outcome { result.outcome ≡ Err aborted.fault }
         ensures notes { result.notes.items ≡ aborted.notes.items }

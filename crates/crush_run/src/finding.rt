@@ -1,4 +1,4 @@
-//! The item and the type whose names the words have, looked up in the map after the scripts.
+//! Looks up the item of `--under` and the type of `--down-to` in the map after the scripts.
 
 ghost use Rattle.std.specs.Prelude.{◌≡◌, List, IfErr};
 ghost use Rattle.std.specs.Option.{option_map};
@@ -63,7 +63,7 @@ fn named_kind(name: Option<&str>, map: &CrushMap<Global>) -> Option<TypeId>
     }
 }
 
-/// The part of a tree, where names that the map lacks count as none.
+/// The part of the tree that is printed. A name that the map doesn't have counts as not given.
 pub(crate) fn part_of(words: &Part, map: &CrushMap<Global>) -> TreePart
     ensures { (t : List Row) → Stands map.now.forest t
         → result ≡ part_of words.now map.now.setting t }
@@ -94,6 +94,7 @@ fn has_kind(name: Option<&str>, map: &CrushMap<Global>) -> bool
     }
 }
 
+/// Fails if the map doesn't have the named item, or else the named type.
 pub(crate) fn check_found(output: &Output, map: &CrushMap<Global>) -> Result<(), RunFault>
     ensures found { (t : List Row) → Stands map.now.forest t
         → IsFound output.now map.now.setting t result }

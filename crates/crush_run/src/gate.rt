@@ -1,18 +1,19 @@
-//! What runs before and after each call of a worker.
+//! Code that runs before and after each call of a script.
 
 use std::sync::Wait;
 
-/// What a worker calls before and after each of its calls, with the numbers of its operator and of
-/// the call in its script, from 0. Tests order calls by it; no clause speaks of it.
+/// Code that runs before and after each call of a script. Its arguments are the operator's number
+/// and the number of the call in the operator's script, both from 0. Tests use a gate to force an
+/// order of calls; no clause of a contract mentions it.
 pub trait Gate {
-    /// Before the call is submitted.
+    /// Runs before the call is submitted. It may wait, and so delay the call.
     fn before<R: Wait>(&self, rt: &R, operator: usize, number: usize);
 
-    /// After the call was submitted, also where it met a fault.
+    /// Runs after the call was submitted, even if the call met a fault.
     fn after<R: Wait>(&self, rt: &R, operator: usize, number: usize);
 }
 
-/// The gate that does nothing.
+/// A gate that does nothing.
 #[derive(Clone, Copy)]
 pub struct NoGate;
 

@@ -1,4 +1,4 @@
-//! Operators one after the other.
+//! Runs the scripts of the operators one after the other.
 
 ghost use Rattle.std.specs.Prelude.{◌≡◌, ◌<◌, ◌≤◌, ◌++◌, ℕ, List, IfOk, IfErr, OnOk, length};
 ghost use Rattle.crush_units.specs.declared.limits.TheConstants.{MOST_ENTRIES, MOST_OPERATORS};
@@ -17,7 +17,7 @@ use crush_map::CrushMap;
 use std::alloc::Global;
 use std::sync::Wait;
 
-/// What the scripts of a run in turn share.
+/// What the scripts share when they run one after the other.
 #[derive(Drop)]
 struct InTurn<'t, G, R> {
     rt: &'t R,
@@ -26,7 +26,8 @@ struct InTurn<'t, G, R> {
 }
 
 impl<'t, G: Gate, R: Wait> InTurn<'t, G, R> {
-    /// Stops at a call for which there is no memory. Each call is moved into its entry.
+    /// Makes the calls of one script in order, and stops with [`RunFault::Memory`] at the first
+    /// call for which there is no memory. Each call is moved into its entry of the history.
     fn run_script(
         &self,
         book: &mut Book<Global, WithoutSnapshot>,
@@ -59,8 +60,8 @@ impl<'t, G: Gate, R: Wait> InTurn<'t, G, R> {
     }
 }
 
-/// Runs the scripts on one book, without a lock. A history has room for all the calls of a job, so
-/// that memory alone can run out.
+/// Runs the scripts one after the other on one book, without a lock and without threads. The only
+/// fault is [`RunFault::Memory`], because a history has room for all the calls of a job.
 pub(crate) fn run_in_turn<G: Gate, R: Wait>(
     rt: &R,
     alloc: Global,

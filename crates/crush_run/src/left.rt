@@ -1,4 +1,4 @@
-//! What scripts left of a job.
+//! What there is after the scripts of a job have run.
 
 use crush_history::{Entry, Script};
 use crush_input::TextKept;
@@ -6,19 +6,21 @@ use crush_map::CrushMap;
 use crush_plan::Plan;
 use std::alloc::Global;
 
+/// What the checks, the output and the notes of a run are made from.
 #[derive(Drop)]
 pub(crate) struct Left<'a> {
-    /// How many written weights were replaced.
+    /// How many written bucket weights weren't the sum of the bucket's items, and were replaced.
     pub(crate) adjusted: u32,
-    /// The map as it was read, where the run needs it.
+    /// A copy of the map as it was read, if the run needs it.
     pub(crate) opening: &'a Option<CrushMap<Global>>,
     /// The map after the scripts.
     pub(crate) map: &'a CrushMap<Global>,
-    /// Empty where no map is wanted.
+    /// The plan that leads to the wanted map; empty if no map is wanted.
     pub(crate) plan: &'a Plan,
-    /// Without their calls, which `entries` has.
+    /// The scripts with their names, but without their calls, which are in `entries`.
     pub(crate) scripts: &'a [Script],
     /// The history.
     pub(crate) entries: &'a [Entry],
+    /// The job's text, as far as the notes need it.
     pub(crate) text: &'a TextKept<'a>,
 }

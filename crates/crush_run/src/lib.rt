@@ -1,9 +1,10 @@
-//! The run of a job, from the bytes read to the bytes written.
+//! Runs a job, from the bytes that are read to the bytes that are written.
 //!
-//! [`run_options`] runs what a command line selects, [`run_job`] a job that a reader has.
-//! `crush_script` reads a job, `crush_editor` runs it, and `crush_print`, `crush_since`,
-//! `crush_names`, `crush_reasons`, `crush_plan` or `crush_json` write the output; `crush_input`
-//! reports the end. `specs/Output.antt` says what is written, `specs/Run.antt` how a run ends.
+//! [`run_options`] runs the job that a command line selects; [`run_job`] runs the job that a reader
+//! contains. `crush_script` parses a job, `crush_editor` runs its scripts, and `crush_print`,
+//! `crush_since`, `crush_names`, `crush_reasons`, `crush_plan` or `crush_json` write the output.
+//! `crush_input` reports how the run ended. `specs/Output.antt` says what is written, and
+//! `specs/Run.antt` says how a run ends.
 #![tactic(auto)]
 
 mod at_once;

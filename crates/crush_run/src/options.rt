@@ -1,4 +1,4 @@
-//! The run that a command line selects.
+//! Runs the job that a command line selects.
 
 ghost use Rattle.std.specs.Prelude.{◌≡◌, ◌≢◌, ℕ, List, None, Some, IfOk, IfErr, IfSome};
 ghost use Rattle.std.specs.Io.KnownBytes.{Keeps};
@@ -18,18 +18,20 @@ use std::random::RandomSource;
 use std::sync::Wait;
 use std::thread::Threads;
 
-/// Runs the job of the file that the options name, or else of standard input, with the scripts of
-/// their files behind it, as [`run_job`](crate::run_job) runs it. All files together may be as long
-/// as one job; a file that can't be opened or read is [`RunFault::Read`].
+/// Runs a job as [`run_job`](crate::run_job) does. The job is read from the file that the options
+/// name, or from `input` if they name none. The scripts of further files are appended to it.
+/// Together all these may be as long as one job. If a file can't be opened or read, then the fault
+/// is [`RunFault::Read`].
 ///
-/// The map of `--since` or `--to` is read after the job, from a file that may be as long as a job;
-/// its faults are [`RunFault::Other`].
+/// The map of `--since` or `--to` is read after the job. Its file may be as long as a job. If the
+/// map can't be read, then the fault is [`RunFault::Other`].
 ///
-/// Behind a job that doesn't end in a line feed comes one, and before a script whose first line
-/// with a word begins no section the line `%operator NAME`, NAME being the last part of the file's
-/// name up to its first `.`; where that is no name of an operator the line is `%operator` alone,
-/// which is [`BadLine`](crush_script::JobFault::BadLine). With scripts in files, reasons give a
-/// fault's line in its own file.
+/// Before a script is appended, a line feed is added if the job so far doesn't end in one. The line
+/// `%operator NAME` is added too, unless the first line of the script that has a word begins a
+/// section. NAME is the last part of the file's path, up to its first `.`. If that isn't a valid
+/// operator name, then the line is `%operator` alone, which the parser rejects as
+/// [`BadLine`](crush_script::JobFault::BadLine). With scripts in files, the reasons give the place
+/// of a fault in its own file.
 pub fn run_options<H, F, R, W>(
     rt: &H,
     files: &F,

@@ -1,4 +1,4 @@
-//! How a run ends that left a map and a history.
+//! The end of a run whose scripts have run: its checks, its output and its notes.
 
 ghost use Rattle.std.specs.Prelude.{◌≡◌, ◌≢◌, ◌≤◌, ◌&&◌, List, [], Err, IfErr, IfOk, false, is_some, length, true};
 ghost use Rattle.std.specs.Io.KnownBytes.{Keeps};
@@ -33,14 +33,16 @@ use crush_units::WriteFault;
 use std::alloc::{AllocError, Global};
 use std::io::Write;
 
-/// The notes of a run, by how it ends.
+/// The notes of a run, one text for each of the ways in which it can end.
 #[derive(Drop)]
 pub(crate) struct Noted {
-    /// The refused calls, and the written weights.
+    /// For all ends but the next two: the notes of the refused calls and of the written weights.
     pub(crate) calls: Vec<u8>,
-    /// Of a run that is to make no buckets: the calls that made some, then `calls`.
+    /// For an end with [`RunFault::Made`]: the calls that made more buckets than they have
+    /// `add-bucket`s, followed by `calls`.
     pub(crate) made: Vec<u8>,
-    /// Of a strict run: `calls`, then what stays behind its plan.
+    /// For an end with [`RunFault::Differs`]: `calls`, followed by the differences that remain
+    /// after the plan.
     pub(crate) whole: Vec<u8>,
 }
 
@@ -56,6 +58,8 @@ fn summary_of(left: &Left<'_>, differs: bool) -> Summary
     }
 }
 
+/// Checks what the request demands, in this order: no refusals, no buckets made, both names found,
+/// no difference left.
 fn check_left(request: &Request, left: &Left<'_>) -> Result<(), RunFault>
     requires { length left.now.entries.now ≤ MOST_ENTRIES }
     ensures fault { IfErr result (IsCheckFault request.now.mode) }
@@ -97,6 +101,7 @@ fn write_output<W: Write>(
     write_text(alloc, request, left, writer)
 }
 
+/// Checks what the request demands, and writes the output if nothing is wrong.
 fn write_outcome<W: Write>(
     alloc: Global,
     request: &Request,
@@ -201,7 +206,8 @@ fn end_with(alloc: Global, outcome: Result<Summary, RunFault>, noted: Noted) -> 
     }
 }
 
-/// Lays the notes out before anything is written, so that memory doesn't run out for them later.
+/// Makes the notes, checks what the request demands, and writes the output. The notes are made
+/// before anything is written, so that memory can't run out for them later.
 pub(crate) fn end_run<W: Write>(
     alloc: Global,
     request: &Request,

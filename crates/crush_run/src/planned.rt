@@ -1,4 +1,4 @@
-//! The plan that a run prints.
+//! The plan of a run: the edits that lead from the map after the scripts to a wanted map.
 
 ghost use Rattle.std.specs.Prelude.{◌≡◌, ◌++◌, [], Err, IfErr, IfOk, List, true};
 ghost use Rattle.std.specs.Io.KnownBytes.{Keeps};
@@ -49,7 +49,8 @@ fn no_plan(alloc: Global) -> Plan
     }
 }
 
-/// The plan that leads from the map to the wanted one; empty without one.
+/// Returns the plan that leads from the map to the wanted map, or an empty plan if no map is
+/// wanted.
 pub(crate) fn wanted_plan(
     alloc: Global,
     output: &Output,
@@ -68,6 +69,7 @@ pub(crate) fn wanted_plan(
     }
 }
 
+/// Fails if the run is strict and differences remain after the plan.
 pub(crate) fn check_whole(strict: bool, plan: &Plan) -> Result<(), RunFault>
     ensures whole { IsWhole strict plan.now.rest.items result }
     ensures fault { IfErr result (IsDiffersFault strict) }
@@ -78,7 +80,8 @@ pub(crate) fn check_whole(strict: bool, plan: &Plan) -> Result<(), RunFault>
     Err(RunFault::Differs(plan.count_differences()))
 }
 
-/// Behind the notes of a strict run the lines of what stays; of any other run nothing.
+/// Returns the notes of a strict run, followed by a line for each difference that remains after the
+/// plan. Returns nothing if the run isn't strict.
 pub(crate) fn whole_notes(
     alloc: Global,
     strict: bool,
@@ -96,6 +99,7 @@ pub(crate) fn whole_notes(
     Ok(lines)
 }
 
+/// Writes the text of the plan, with its commands as lines of a script or as Ceph's own.
 pub(crate) fn write_plan<W: Write>(
     alloc: Global,
     as_ceph: bool,

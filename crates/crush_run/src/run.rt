@@ -1,4 +1,5 @@
-//! A job, from the bytes read to the bytes written.
+//! The run of a job that is read from a reader. Its later stages, from the parsed job on, are also
+//! those of [`crate::run_options`].
 
 ghost use Rattle.std.specs.Prelude.{◌≡◌, ◌≢◌, ◌≤◌, ℕ, List, [], Option, Some, IfOk, IfErr, IfSome, false, is_some, length, true};
 ghost use Rattle.std.specs.Io.KnownBytes.{Keeps};
@@ -35,7 +36,8 @@ use std::random::RandomSource;
 use std::sync::Wait;
 use std::thread::Threads;
 
-/// The names of the scripts, whose calls a run moves into its history.
+/// Returns scripts with the same names and without calls. A run moves the calls into its history,
+/// and needs the names for its output.
 fn headings(alloc: Global, scripts: &[Script]) -> Result<Vec<Script>, AllocError>
     ensures count { IfOk result (λ left. length left.items ≡ length scripts.now) }
     ensures names { IfOk result (λ left. names_of (scripts_data left.items)
@@ -59,7 +61,8 @@ fn copy_of(map: &CrushMap<Global>) -> Result<CrushMap<Global>, AllocError>
     map.try_copy()
 }
 
-/// A copy of the map as it was read, where the run needs it beside that after its history.
+/// Returns a copy of the map as it was read, if the run needs it after its scripts: to explain
+/// refusals, or to print Ceph's own commands.
 fn wanted_opening(
     request: &Request,
     map: &CrushMap<Global>,
@@ -75,6 +78,7 @@ fn wanted_opening(
     Ok(None)
 }
 
+/// Runs the scripts, one after the other or at the same time. Without scripts there are no threads.
 fn run_scripts<H: AllocGlobal + Threads + Wait + Sync, G: Gate + Sync>(
     rt: &H,
     gate: &G,
@@ -96,6 +100,7 @@ fn run_scripts<H: AllocGlobal + Threads + Wait + Sync, G: Gate + Sync>(
     run_at_once(rt, alloc, gate, map, scripts)
 }
 
+/// Runs the scripts of a parsed job, and writes what the request selects.
 pub(crate) fn run_read<H: AllocGlobal + Threads + Wait + Sync, G: Gate + Sync, W: Write>(
     rt: &H,
     gate: &G,
@@ -154,6 +159,7 @@ pub(crate) fn run_read<H: AllocGlobal + Threads + Wait + Sync, G: Gate + Sync, W
     end_run(alloc, request, &left, writer)
 }
 
+/// Parses the bytes of a job, and runs it.
 fn run_bytes<H, G, W>(rt: &H, gate: &G, request: &Request, bytes: Vec<u8>, writer: &mut W) -> Ending
 where
     H: AllocGlobal + RandomSource + Threads + Wait + Sync,
@@ -178,17 +184,30 @@ where
 
 /// Reads a job, runs the scripts of its operators, and writes what the request selects.
 ///
-/// In turn, the output, but for a plan, is a function of the bytes read. Otherwise each operator
-/// has a thread of its own, and its script alone orders its calls. The gate runs before and after
-/// each call.
+/// If the request is `in_turn`, then the scripts run one after the other, and the output is a
+/// function of the bytes that were read, unless it is a plan. Otherwise each operator has a thread
+/// of its own, and the only order of its calls is that of its script. The gate is called before and
+/// after each call.
 ///
-/// A strict run makes all calls before it ends with [`RunFault::Refused`], or with
-/// [`RunFault::Differs`] where its plan leaves differences; a run that is to make no buckets ends
-/// with [`RunFault::Made`] where a call made more than its `add-bucket`s. The reader is asked for
-/// at most 16,777,217 bytes, at most that many times.
+/// If the run fails, then nothing was written, except after [`RunFault::Write`]: then a prefix of
+/// the output was written, but not all of it. The other faults are:
 ///
-/// Names come from strangers, so they are hashed with keys that the system draws, or without where
-/// it draws none. No output depends on them.
+/// - [`RunFault::Read`]: the reader failed.
+/// - [`RunFault::Job`]: the bytes aren't a job.
+/// - [`RunFault::Thread`]: a thread couldn't be started. In turn none is needed.
+/// - [`RunFault::Refused`]: the run is `strict`, and a call was refused.
+/// - [`RunFault::Made`]: the run is `no_make`, and a call made more buckets than it has
+///   `add-bucket`s.
+/// - [`RunFault::NoItem`], [`RunFault::NoType`]: the map after the scripts doesn't have a name that
+///   the request gives.
+/// - [`RunFault::Differs`]: the run is `strict`, and its plan leaves differences.
+/// - [`RunFault::Memory`]: memory ran out.
+///
+/// All calls are made before a run ends for one of the checks from `Refused` to `Differs`. The
+/// reader is asked for at most 16,777,217 bytes in total, in at most as many reads.
+///
+/// Names may come from strangers, so they are hashed with random keys of the system, or without
+/// keys if the system provides none. The output doesn't depend on the keys.
 pub fn run_job<H, G, R, W>(
     rt: &H,
     gate: &G,

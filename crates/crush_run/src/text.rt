@@ -1,4 +1,4 @@
-//! What a run writes for a person.
+//! The output of a run for a person: text.
 
 ghost use Rattle.std.specs.Prelude.{◌≡◌, ◌≤◌, List, Err, IfErr, IfOk, is_some, length, true};
 ghost use Rattle.std.specs.Io.KnownBytes.{Keeps};
@@ -190,7 +190,8 @@ fn write_output<W: Write>(
     }
 }
 
-/// Lays all out before anything is written, so that memory doesn't run out between.
+/// Writes the output as text, followed by the lines of the history if the request selects them. The
+/// lines are made first, so that memory can't run out after a part of the output was written.
 pub(crate) fn write_text<W: Write>(
     alloc: Global,
     request: &Request,

@@ -1,4 +1,5 @@
-//! What workers share, and what each does: one operator's calls, in order.
+//! The work of one worker, which makes the calls of one operator in order, and what all workers
+//! share.
 
 ghost use Rattle.std.specs.Prelude.{◌≡◌, []};
 ghost use Rattle.crush_run.specs.Script.{HasRun};
@@ -11,19 +12,19 @@ use std::snapshot::Snapshot;
 use std::sync::Wait;
 use std::thread::Promise;
 
-/// What a worker hands back: its seat, with a slip for each answered call, and the fault that
-/// stopped it.
+/// The result of a worker: its seat, with a slip for each answered call, and the fault that stopped
+/// it, if any.
 #[derive(Drop)]
 pub(crate) struct Finished<N: Desk> {
     pub(crate) seat: Seat<N>,
     pub(crate) fault: Option<SubmitFault>,
 }
 
-/// What a worker promises: the calls of an operator's script, made by its seat. The worker owns the
-/// calls; contracts alone see them here.
+/// What a worker promises: to make the calls of an operator's script with the operator's seat. The
+/// worker owns the calls; this snapshot of them has no data at run time, and is for contracts only.
 #[derive(Drop)]
 pub(crate) struct Task {
-    /// From 0.
+    /// The operator's number, from 0.
     pub(crate) operator: usize,
     pub(crate) calls: Snapshot<Vec<Call>>,
 }
@@ -38,14 +39,15 @@ impl<N: Desk> Promise<Finished<N>> for Task {
 #[derive(Drop)]
 pub(crate) struct Crew<'s, N: Desk, G, R> {
     pub(crate) rt: &'s R,
-    /// Where their slips lie.
+    /// The memory for their slips.
     pub(crate) alloc: Global,
     pub(crate) editor: &'s Editor<N, WithoutSnapshot>,
     pub(crate) gate: &'s G,
 }
 
 impl<'s, N: Desk, G: Gate, R: Wait> Crew<'s, N, G, R> {
-    /// Stops at the first call that meets a fault. Each call is moved into its entry.
+    /// Makes the calls in order with this seat, and stops at the first call that meets a fault.
+    /// Each call is moved into its entry of the history.
     pub(crate) fn work(&self, mut seat: Seat<N>, calls: Vec<Call>) -> Finished<N>
         requires { seat.slips ≡ [] }
         ensures { HasRun seat.operator calls.items result.seat result.fault }

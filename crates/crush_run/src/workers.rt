@@ -1,4 +1,4 @@
-//! A worker for each operator, in a thread of its own.
+//! Starts a worker for each operator, in a thread of its own, and waits for all of them.
 
 ghost use Rattle.std.specs.Prelude.{◌≡◌, ℕ, ◌<◌, ◌≤◌, [], length, vec_len, IfSome, IfOk, IfErr, slice_index_or};
 ghost use denote.Param.Send.{IsSync, IsSend};
@@ -17,7 +17,7 @@ use std::thread;
 use std::thread::{PromisedHandle, Scope, Threads};
 
 impl<'s, N: Desk + Send + Sync, G: Gate + Sync, R: Threads + Wait + Sync> Crew<'s, N, G, R> {
-    /// `None` where no thread can be made.
+    /// Starts the worker for one seat. Returns `None` if no thread can be created.
     fn start<E>(
         &self,
         scope: &Scope<'s, E>,
@@ -48,7 +48,8 @@ impl<'s, N: Desk + Send + Sync, G: Gate + Sync, R: Threads + Wait + Sync> Crew<'
         scope.spawn_with(task, job).ok()
     }
 
-    /// Where a worker can't be started, those that run go on.
+    /// Starts a worker for each seat, with the script at the same position. If a worker can't be
+    /// started, returns a fault, while those that were started go on.
     fn start_all<E>(
         &self,
         scope: &Scope<'s, E>,
@@ -80,8 +81,8 @@ impl<'s, N: Desk + Send + Sync, G: Gate + Sync, R: Threads + Wait + Sync> Crew<'
         Ok(handles)
     }
 
-    /// Waits for all workers that were started, also where one couldn't be: that is
-    /// [`RunFault::Thread`], whatever the others met.
+    /// Starts a worker for each script, waits for all that were started, and returns their results.
+    /// If a worker couldn't be started, the fault is [`RunFault::Thread`], whatever the others met.
     pub(crate) fn run_all(
         &self,
         seats: Vec<Seat<N>>,
@@ -116,6 +117,7 @@ impl<'s, N: Desk + Send + Sync, G: Gate + Sync, R: Threads + Wait + Sync> Crew<'
     }
 }
 
+/// Waits for the workers, and returns their results in the order of the scripts.
 fn join_all<N: Desk, R: Threads>(
     rt: &R,
     handles: Vec<PromisedHandle<Finished<N>, Task>>,

@@ -1,4 +1,6 @@
-//! Runs of whole jobs, from their bytes to the bytes written.
+//! Tests of `crush_options`, `crush_input` and `crush_run`: a call of each public function, and what
+//! the sessions of `bench/runs/` can't show, such as streams that fail, gates, and files that no file
+//! system has.
 
 use crate::maps::PLAIN;
 use crush_input::{Words, report};
@@ -12,18 +14,12 @@ use std::thread::Threads;
 
 mod at_once;
 mod command_lines;
-mod explained;
 mod failing;
-mod finding;
 mod gate_faults;
 mod gates;
 mod limits;
-mod prefixes;
-mod programs;
 mod reporting;
 mod scripts;
-mod since;
-mod strict;
 
 const REWEIGHED: &[u8] =
     b"# begin crush map\n\n# devices\ndevice 0 osd.0\ndevice 1 osd.1\ndevice 2 osd.2\n\n# types\ntype 0 osd\ntype 1 host\ntype 3 rack\ntype 11 root\n\n# buckets\nhost h1 {\n\tid -2\t\t# do not change unnecessarily\n\t# weight 2.00000\n\talg straw2\n\thash 0\t# rjenkins1\n\titem osd.0 weight 1.00000\n\titem osd.1 weight 1.00000\n}\nhost h2 {\n\tid -3\t\t# do not change unnecessarily\n\t# weight 1.00000\n\talg straw2\n\thash 0\t# rjenkins1\n\titem osd.2 weight 1.00000\n}\nroot default {\n\tid -1\t\t# do not change unnecessarily\n\t# weight 3.00000\n\talg straw2\n\thash 0\t# rjenkins1\n\titem h1 weight 2.00000\n\titem h2 weight 1.00000\n}\n\n# rules\n\n# end crush map\n";
@@ -51,10 +47,6 @@ const AT_ONCE: Mode = Mode {
 fn joined(rt: &(impl Abort + AllocGlobal), first: &[u8], second: &[u8]) -> Vec<u8> {
     let parts = [first, second];
     parts.concat(rt.alloc()).expect(rt, "no memory")
-}
-
-fn put_behind(rt: &impl Abort, text: &mut Vec<u8>, bytes: &[u8]) {
-    text.extend_from_slice(bytes).expect(rt, "no memory");
 }
 
 fn run_map<H, G, R, W>(

@@ -8,7 +8,7 @@ use Rattle.crush_script.specs.declared.command.Command.TheVariants.{Nothing, Edi
 use Rattle.crush_script.specs.declared.command.LineFault.TheVariants as line
 use Rattle.crush_script.specs.declared.fault.JobFault.TheVariants as job
 use Rattle.crush_script.specs.Lines.{lines, words_between_blanks, line_words, map_part}
-use Rattle.crush_script.specs.Words.{device_named}
+use Rattle.crush_history.specs.Said.{device_named}
 use Rattle.crush_script.specs.Command.{name_at, weight_at, end_at, with_pair, with_pairs, location_at, placing_at, located_at, one_name_at, two_names_at, weighed_at, keyword_of, edit_at, count_at, begin_at, command, operator}
 use Rattle.crush_script.specs.Sections.{with_line, with_lines, sections_of}
 

@@ -20,10 +20,11 @@ use Rattle.crush_edits.specs.declared.edit.Edit.TheVariants.{Insert, CreateOrMov
 use Rattle.crush_edits.specs.Pushed.{IsLocation}
 use Rattle.crush_script.specs.declared.command.Command.TheVariants as says
 use Rattle.crush_script.specs.Lines.{line_words}
-use Rattle.crush_script.specs.Words.{equals_at, pair_of, device_named}
+use Rattle.crush_history.specs.Said.{device_named, IsSaid}
+use Rattle.crush_script.specs.Words.{equals_at, pair_of}
 use Rattle.crush_script.specs.Command.{name_at, weight_at, end_at, with_pair, with_pairs, location_at, placing_at, located_at, one_name_at, two_names_at, weighed_at, keyword_of, edit_at, command}
 use Rattle.crush_history.specs.HistoryText.{edit_text, pairs_text, one_name}
-use Rattle.crush_script.specs.Printed.{IsSaid, PrintedIsRead}
+use Rattle.crush_script.specs.Printed.{PrintedIsRead}
 use Rattle.crush_script.proofs.Pairs.{pair_added}
 use Rattle.crush_script.proofs.PrintedWords.{is_word_byte, IsWord, AreWords, joined, line_words-joined, both, never}
 

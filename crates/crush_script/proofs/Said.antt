@@ -20,9 +20,10 @@ use Rattle.crush_script.specs.declared.command.Keyword.TheVariants as word
 use Rattle.crush_script.specs.declared.command.Placement.{Placement}
 use Rattle.crush_script.specs.declared.command.Placement.TheVariants as place
 use Rattle.crush_script.specs.declared.command.Placing.{Placing}
-use Rattle.crush_script.specs.Words.{pair_of, can_add, is_count, count_of, device_named}
+use Rattle.crush_history.specs.Said.{device_named, IsSaidPlacing, IsSaid}
+use Rattle.crush_script.specs.Words.{pair_of, can_add, is_count, count_of}
 use Rattle.crush_script.specs.Command.{name_at, read_weight, weight_at, end_at, with_pair, with_pairs, location_at, the_device, placing_at, located_at, one_name_at, two_names_at, weighed_at, keyword_of, edit_to_place, edit_of, edit_by, edit_at, read_count, count_at, begin_at, command, operator}
-use Rattle.crush_script.specs.Printed.{IsSaidPlacing, IsSaid, ReadIsSaid}
+use Rattle.crush_script.specs.Printed.{ReadIsSaid}
 use Rattle.crush_script.proofs.Oks.{bind-if_ok_at, if_ok-either, if_ok-then, if_ok-passed, if_ok-at}
 
 -- WORDS: a name

@@ -22,7 +22,7 @@ use Rattle.crush_script.specs.Command.{command, operator}
 use Rattle.crush_script.specs.Lines.{lines, section_part, section_line, line_words, begins_section}
 use Rattle.crush_script.specs.Sections.{SectionsData, no_sections, call_in_last, in_line, without_batch, closed, has_operator, with_section, counted, with_call, batch_call, with_edit, with_begin, with_commit, with_command, with_line, with_lines, sections_of}
 use Rattle.crush_script.specs.Job.{JobData, IsJob}
-use Rattle.crush_script.specs.Printed.{IsSaid}
+use Rattle.crush_history.specs.Said.{IsSaid}
 use Rattle.crush_script.specs.ScriptsText.{IsSaidCall, IsSaidScript, AreScripts, ReadScriptsAreSuch}
 use Rattle.crush_script.proofs.Oks.{bind-if_ok_at, if_ok-either, if_ok-else, if_ok-not, if_ok-at}
 use Rattle.crush_script.proofs.Few.{calls_few, scripts_few}

@@ -22,7 +22,7 @@ use Rattle.crush_script.specs.declared.sections.BegunBatch.{BegunBatch}
 use Rattle.crush_script.specs.Command.{name_at, end_at, begin_at, command, operator}
 use Rattle.crush_script.specs.Lines.{lines, words_between_blanks, begins_section, length_to_section, map_part, section_part, section_line}
 use Rattle.crush_script.specs.Sections.{SectionsData, no_sections, call_in_last, has_operator, without_batch, batch_call, with_line, with_lines}
-use Rattle.crush_script.specs.Printed.{IsSaid}
+use Rattle.crush_history.specs.Said.{IsSaid}
 use Rattle.crush_script.specs.ScriptsText.{call_lines, script_lines, scripts_text, IsSaidCall, IsSaidScript, ends_line, JobsAreReadBack}
 use Rattle.crush_script.proofs.PrintedLaws.{count_word, name_word, printed, printed_is_read}
 use Rattle.crush_script.proofs.Counts.{count_read}

@@ -1,4 +1,4 @@
--- What the words of a line in a section say.
+-- How the words of a line of a section are parsed. Each definition gives its value, or why the line can't be parsed.
 use Rattle.std.specs.Prelude.{ℕ, List, [], ◌∷◌, ◌++◌, ◌||◌, Option, Some, None, codes, bytes_eq, Result, Ok, Err, if◌then◌else◌}
 use Rattle.crush_units.specs.Name.{is_name}
 use Rattle.crush_units.specs.Weight.{weight_of_text}
@@ -16,52 +16,53 @@ use Rattle.crush_script.specs.declared.command.Placing.{Placing}
 use Rattle.crush_script.specs.declared.command.LineFault.{LineFault}
 use Rattle.crush_script.specs.declared.command.LineFault.TheVariants.{BadLine, NoSuchCommand}
 use Rattle.crush_text.specs.Flow.{◌>>=◌}
-use Rattle.crush_script.specs.Words.{pair_of, can_add, count_of, device_named}
+use Rattle.crush_history.specs.Said.{device_named}
+use Rattle.crush_script.specs.Words.{pair_of, can_add, count_of}
 
--- what was read, and the words behind it
+-- a value that was read from the first of some words, and the words after them
 pub record Read (X : Type 0) : Type 0 where
   pub value : X
   pub rest : List (List ℕ)
 
--- the next word as a name
+-- the next word as a name, or BadLine if there is no word or it isn't a name
 unfoldable pub name_at : List (List ℕ) → Result (Read (List ℕ)) LineFault
 name_at [] = Err BadLine
 name_at (word ∷ rest) = if is_name word then Ok (record { value = word; rest = rest }) else Err BadLine
 
--- a weight's text is one of at most HEAVIEST_BUCKET units
+-- a weight that was read, with the words after it, or BadLine if the word is no weight of at most HEAVIEST_BUCKET units
 abbrev pub read_weight : Result ℕ WeightFault → List (List ℕ) → Result (Read ℕ) LineFault
 read_weight (Ok units) rest = Ok (record { value = units; rest = rest })
 read_weight (Err fault) rest = Err BadLine
 
--- the next word as a weight
+-- the next word as a weight, or BadLine if there is no word or it is no weight
 unfoldable pub weight_at : List (List ℕ) → Result (Read ℕ) LineFault
 weight_at [] = Err BadLine
 weight_at (word ∷ rest) = read_weight (weight_of_text word) rest
 
--- no word is left
+-- the value if no word is left, otherwise BadLine
 unfoldable pub end_at : {X : Type 0} → X → List (List ℕ) → Result X LineFault
 end_at value [] = Ok value
 end_at value (word ∷ rest) = Err BadLine
 
--- one more pair `TYPE=NAME`
+-- the location l with the word `TYPE=NAME` as one more pair, or BadLine if the pair can't be added
 unfoldable pub with_pair : List Pair → List ℕ → Result (List Pair) LineFault
 with_pair l word = if can_add l (pair_of word) then Ok (l ++ pair_of word ∷ []) else Err BadLine
 
--- all words are pairs, behind those that there are
+-- the location l with all these words as further pairs, in order, or BadLine at the first that can't be added
 unfoldable pub with_pairs : List Pair → List (List ℕ) → Result (List Pair) LineFault
 with_pairs l [] = Ok l
 with_pairs l (word ∷ rest) = with_pair l word >>= λ more. with_pairs more rest
 
--- `PAIR ..`: the words that are left, 0 to 16 pairs
+-- `PAIR ..`: all words that are left, as a location of 0 to 16 pairs
 unfoldable pub location_at : List (List ℕ) → Result (List Pair) LineFault
 location_at words = with_pairs [] words
 
--- a name is that of a device
+-- the id of a device if there is one, otherwise BadLine
 abbrev pub the_device : Option ℕ → Result ℕ LineFault
 the_device None = Err BadLine
 the_device (Some id) = Ok id
 
--- `osd.N W PAIR ..`
+-- `osd.N W PAIR ..`: a device's name, a weight and a location
 unfoldable pub placing_at : List (List ℕ) → Result Placing LineFault
 placing_at words = do
   name ← name_at words
@@ -70,34 +71,34 @@ placing_at words = do
   at ← location_at weight.rest
   Ok (record { device = device; name = name.value; weight = weight.value; at = at })
 
--- `NAME PAIR ..`
+-- `NAME PAIR ..`: a name and a location
 unfoldable pub located_at : List (List ℕ) → Result (List ℕ × List Pair) LineFault
 located_at words = do
   name ← name_at words
   at ← location_at name.rest
   Ok (name.value, at)
 
--- `NAME`
+-- `NAME`: a name and no further word
 unfoldable pub one_name_at : List (List ℕ) → Result (List ℕ) LineFault
 one_name_at words = do
   name ← name_at words
   end_at name.value name.rest
 
--- `NAME NAME`, `NAME TYPENAME`, `FROM TO`, `CLASS NAME`
+-- two names and no further word: `NAME NAME`, `NAME TYPENAME`, `FROM TO` or `CLASS NAME`
 unfoldable pub two_names_at : List (List ℕ) → Result (List ℕ × List ℕ) LineFault
 two_names_at words = do
   first ← name_at words
   second ← name_at first.rest
   end_at (first.value, second.value) second.rest
 
--- `NAME W`, of a device or of a bucket
+-- `NAME W`: the name of a device or a bucket, a weight, and no further word
 unfoldable pub weighed_at : List (List ℕ) → Result (List ℕ × ℕ) LineFault
 weighed_at words = do
   name ← name_at words
   weight ← weight_at name.rest
   end_at (name.value, weight.value) weight.rest
 
--- the command that a first word names
+-- the command that the first word of a line names, if it names one
 unfoldable pub keyword_of : List ℕ → Option Keyword
 keyword_of first =
     if bytes_eq first (codes "add") then Some (word.Place place.Add)
@@ -114,13 +115,13 @@ keyword_of first =
     else if bytes_eq first (codes "rm-device-class") then Some word.RmDeviceClass
     else None
 
--- the edit of a command that places a device
+-- the edit of `add`, `set` or `create-or-move` with this device, weight and location
 abbrev pub edit_to_place : Placement → Placing → Edit
 edit_to_place place.Add p = Insert p.device p.name p.weight p.at
 edit_to_place place.Set p = Update p.device p.name p.weight p.at
 edit_to_place place.CreateOrMove p = CreateOrMove p.device p.name p.weight p.at
 
--- the edit of a command, by the words behind its first
+-- the edit of a command, given the words after the first; in `set-device-class CLASS NAME` the class comes before the name
 abbrev pub edit_of : Keyword → List (List ℕ) → Result Edit LineFault
 edit_of (word.Place how) rest = placing_at rest >>= λ p. Ok (edit_to_place how p)
 edit_of word.Move rest = located_at rest >>= λ p. Ok (Move p.0 p.1)
@@ -133,30 +134,31 @@ edit_of word.RenameBucket rest = two_names_at rest >>= λ p. Ok (Rename p.0 p.1)
 edit_of word.SetDeviceClass rest = two_names_at rest >>= λ p. Ok (SetClass p.1 p.0)
 edit_of word.RmDeviceClass rest = one_name_at rest >>= λ name. Ok (RemoveClass name)
 
--- the same, where the first word may be no command
+-- the edit of a command as above, or NoSuchCommand if the first word names no command
 abbrev pub edit_by : Option Keyword → List (List ℕ) → Result Edit LineFault
 edit_by None rest = Err NoSuchCommand
 edit_by (Some keyword) rest = edit_of keyword rest
 
--- the edit that a first word and the words behind it say
+-- the edit of a line, given its first word and the words after it
 unfoldable pub edit_at : List ℕ → List (List ℕ) → Result Edit LineFault
 edit_at first rest = edit_by (keyword_of first) rest
 
--- the next word as a number of changes
+-- a number of changes that was read, with the words after it, or BadLine if the word is no such number
 abbrev pub read_count : Option ℕ → List (List ℕ) → Result (Read ℕ) LineFault
 read_count (Some n) rest = Ok (record { value = n; rest = rest })
 read_count None rest = Err BadLine
 
+-- the next word as a number of changes, or BadLine if there is no word or it is no such number
 unfoldable pub count_at : List (List ℕ) → Result (Read ℕ) LineFault
 count_at [] = Err BadLine
 count_at (word ∷ rest) = read_count (count_of word) rest
 
--- behind `begin`: nothing, or `at N`
+-- the words after `begin`: none, or `at N` and no further word
 unfoldable pub begin_at : List (List ℕ) → Result Command LineFault
 begin_at [] = Ok (says.Begin None)
 begin_at (word ∷ rest) = if bytes_eq word (codes "at") then (count_at rest >>= λ seen. end_at (says.Begin (Some seen.value)) seen.rest) else Err BadLine
 
--- what a line says that begins no section
+-- a line of a section that doesn't begin it: no words, `begin`, `begin at N`, `commit`, or a command that makes an edit
 unfoldable pub command : List (List ℕ) → Result Command LineFault
 command [] = Ok says.Nothing
 command (first ∷ rest) =
@@ -164,7 +166,7 @@ command (first ∷ rest) =
     else if bytes_eq first (codes "commit") then end_at says.Commit rest
     else edit_at first rest >>= λ edit. Ok (says.Edit edit)
 
--- `%operator NAME`: the name of the section that a line begins
+-- `%operator NAME`, the line that begins a section: the name of its operator
 unfoldable pub operator : List (List ℕ) → Result (List ℕ) LineFault
 operator [] = Err BadLine
 operator (first ∷ rest) = if bytes_eq first (codes "%operator") then (name_at rest >>= λ name. end_at name.value name.rest) else Err BadLine

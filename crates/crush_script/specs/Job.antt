@@ -1,4 +1,4 @@
--- What a job is, and why bytes are none.
+-- What a job is, and which faults bytes have that aren't one.
 use Rattle.std.specs.Prelude.{◌≡◌, ℕ, ◌<◌, ◌≤◌, List, length, Ok, Err}
 use Rattle.crush_model.specs.Table.{Row}
 use Rattle.crush_edits.specs.Setting.{SettingData}
@@ -14,14 +14,14 @@ use Rattle.crush_history.specs.Script.{ScriptData, scripts_data}
 use Rattle.crush_script.specs.Sections.{SectionsData, sections_of}
 use Rattle.crush_units.specs.declared.limits.TheConstants.{LONGEST_JOB}
 
--- what a job says: the setting and the table of its map, how many written weights of it were replaced, and the scripts
+-- the content of a job: the setting and the table of its map, the number of bucket weights in the map's text that sums replaced, and the scripts
 pub record JobData : Type 0 where
   pub setting : SettingData
   pub table : List Row
   pub adjusted : ℕ
   pub scripts : List ScriptData
 
--- JOB: the bytes are few enough, the map text is that of the job's map, and the rest are its scripts
+-- JOB: the bytes are this job. There are at most LONGEST_JOB bytes, the part before the first section is the text of the job's map, and the sections say its scripts.
 pub record IsJob (bytes : List ℕ) (job : JobData) : Type 0 where
   pub short : length bytes ≤ LONGEST_JOB
   pub map : IsMapText (map_part bytes) job.setting job.table job.adjusted
@@ -29,17 +29,17 @@ pub record IsJob (bytes : List ℕ) (job : JobData) : Type 0 where
   pub sections : sections_of bytes ≡ Ok said
   pub scripts : said.scripts ≡ job.scripts
 
--- the bytes are a job
+-- the bytes are some job
 abbrev pub HasJob : List ℕ → Type 0
 HasJob bytes = (job : JobData) × IsJob bytes job
 
--- a job that was read is this one
+-- the value `read` is this job: its map has the job's setting and represents its table, and its number of replaced weights and its scripts are the job's
 pub record JobStands (read : Job) (job : JobData) : Type 0 where
   pub map : MapStands read.map job.setting job.table
   pub adjusted : read.adjusted ≡ job.adjusted
   pub scripts : scripts_data read.scripts.items ≡ job.scripts
 
--- the map text is one, and this is the fault of the first faulty line
+-- the bytes aren't too many, the part before the sections is the text of a map, and this is the fault of the first faulty line of the sections
 pub record IsLineFault (bytes : List ℕ) (fault : JobFault) : Type 0 where
   pub short : length bytes ≤ LONGEST_JOB
   pub setting : SettingData
@@ -48,12 +48,12 @@ pub record IsLineFault (bytes : List ℕ) (fault : JobFault) : Type 0 where
   pub map : IsMapText (map_part bytes) setting table adjusted
   pub sections : sections_of bytes ≡ Err fault
 
--- the map text isn't read, for this fault
+-- the bytes aren't too many, and the part before the sections can't be read as a map, with this fault
 pub record LacksMap (bytes : List ℕ) (fault : TextFault) : Type 0 where
   pub short : length bytes ≤ LONGEST_JOB
   pub map : IsTextFault (map_part bytes) fault
 
--- the map text is one
+-- the bytes aren't too many, and the part before the sections is the text of a map
 pub record HasMap (bytes : List ℕ) : Type 0 where
   pub short : length bytes ≤ LONGEST_JOB
   pub setting : SettingData
@@ -61,8 +61,8 @@ pub record HasMap (bytes : List ℕ) : Type 0 where
   pub adjusted : ℕ
   pub map : IsMapText (map_part bytes) setting table adjusted
 
--- when each fault is told: the length first, then the map text, then the lines in order; out of memory for the scripts, where
--- the map text is one
+-- when reading the bytes may fail with each fault. The length is checked first, then the map's text, then the lines of the sections in order.
+-- OutOfMemory, which means memory for the scripts, is possible whenever the map's text is one.
 abbrev pub IsJobFault : List ℕ → JobFault → Type 0
 IsJobFault bytes TooLong = LONGEST_JOB < length bytes
 IsJobFault bytes (Text fault) = LacksMap bytes fault

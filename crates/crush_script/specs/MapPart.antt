@@ -1,4 +1,4 @@
--- The map's text of a job: what is told where it isn't read.
+-- The faults with which the reading of a job's map text may fail.
 use Rattle.std.specs.Prelude.{◌⊎◌, ℕ, List}
 use Rattle.crush_model.specs.Table.{Row}
 use Rattle.crush_edits.specs.Setting.{SettingData}
@@ -7,16 +7,16 @@ use Rattle.crush_text.specs.Document.{IsMapText}
 use Rattle.crush_text.specs.Flaw.{IsMapFlaw, IsOutOfMemory}
 use Rattle.crush_text.specs.InTime.{IsFoundInTime}
 
--- the text has this flaw, and so is that of no map
+-- the text has this flaw, and it is the text of no map
 pub record IsNoMap (text : List ℕ) (fault : TextFault) : Type 0 where
   pub flaw : IsMapFlaw text fault
   pub none : (s : SettingData) (t : List Row) (adjusted : ℕ) → IsMapText text s t adjusted → ⊥
 
--- memory was refused, and told at a word that is right, as all before it, or where no word stands
+-- memory ran out; the place of the fault is a word that is right, as are all words before it, or it is the end of a text without words
 pub record IsTextOutOfMemory (text : List ℕ) (fault : TextFault) : Type 0 where
   pub memory : IsOutOfMemory fault
   pub told : IsFoundInTime text fault
 
--- one of both is what is told of a text
+-- the fault is a flaw of the text, or it says that memory ran out, each as above
 abbrev pub IsTextFault : List ℕ → TextFault → Type 0
 IsTextFault text fault = IsNoMap text fault ⊎ IsTextOutOfMemory text fault

@@ -1,4 +1,4 @@
--- Scripts as the sections of a job, and that they are read back.
+-- Scripts printed as the sections of a job, and the laws that they are read back as the same scripts.
 use Rattle.std.specs.Prelude.{◌≡◌, ℕ, ◌≤◌, List, [], ◌∷◌, ◌++◌, Bool, true, false, ◌==◌, All, AllPairs, bytes_eq, codes, decimal, length, map, flat_map}
 use Rattle.crush_units.specs.Name.{IsName}
 use Rattle.crush_units.specs.declared.limits.TheConstants.{MOST_CALLS, MOST_EDITS, MOST_ENTRIES, MOST_OPERATORS, LONGEST_JOB}
@@ -10,41 +10,42 @@ use Rattle.crush_history.specs.declared.call.Call.TheVariants.{One, Batch, Guard
 use Rattle.crush_history.specs.Script.{ScriptData, call_count}
 use Rattle.crush_history.specs.HistoryText.{edit_text, names_of}
 use Rattle.crush_script.specs.Lines.{length_to_section}
-use Rattle.crush_script.specs.Printed.{IsSaid}
+use Rattle.crush_history.specs.Said.{IsSaid}
 use Rattle.crush_script.specs.Job.{IsJob, JobData}
 
--- a line for an edit, and of a batch one before its edits and one behind them
+-- the lines of a call: one for each edit; a batch also has a `begin` line before its edits and a `commit` line after them
 abbrev pub call_lines : Call → List (List ℕ)
 call_lines (One e) = edit_text e ∷ []
 call_lines (Batch es) = codes "begin" ∷ (map edit_text es ++ codes "commit" ∷ [])
 call_lines (Guarded seen es) = (codes "begin at " ++ decimal seen) ∷ (map edit_text es ++ codes "commit" ∷ [])
 
--- the section of an operator
+-- the lines of an operator's section: `%operator NAME`, then those of each call
 abbrev pub script_lines : ScriptData → List (List ℕ)
 script_lines s = (codes "%operator " ++ s.name) ∷ flat_map call_lines s.calls
 
--- SCRIPTS TEXT: the sections one after the other, each line with its line feed
+-- SCRIPTS TEXT: the sections one after the other, with a line feed after each line
 abbrev pub scripts_text : List ScriptData → List ℕ
 scripts_text scripts = flat_map (λ (line : List ℕ). line ++ codes "\n") (flat_map script_lines scripts)
 
--- the edits of a call can be said, those of a batch are not too many, and a history can have the number of changes that it names
+-- a call that a script can say: each edit is one that a command can say, a batch has at most MOST_EDITS edits, and a guarded batch names at most MOST_ENTRIES changes
 abbrev pub IsSaidCall : Call → Type 0
 IsSaidCall (One e) = IsSaid e
 IsSaidCall (Batch es) = All IsSaid es × (length es ≤ MOST_EDITS)
 IsSaidCall (Guarded seen es) = All IsSaid es × (length es ≤ MOST_EDITS) × (seen ≤ MOST_ENTRIES)
 
+-- a script that a section can say: its operator's name is a name, and each call is one that a script can say
 pub record IsSaidScript (x : ScriptData) : Type 0 where
   pub name : IsName x.name
   pub calls : All IsSaidCall x.calls
 
--- scripts that a job can have: few, with few calls, that can be said, no two of one name
+-- scripts that a job can have: at most MOST_OPERATORS scripts with at most MOST_CALLS calls in all, each one that a section can say, and no two with the same name
 pub record AreScripts (scripts : List ScriptData) : Type 0 where
   pub few : length scripts ≤ MOST_OPERATORS
   pub calls : call_count scripts ≤ MOST_CALLS
   pub said : All IsSaidScript scripts
   pub names : AllPairs (λ (a b : List ℕ). bytes_eq a b ≡ false) (names_of scripts)
 
--- whether a line begins behind the bytes; the first argument says whether one begins before them
+-- whether a new line begins right after the bytes: the last of them is a line feed, or there are none and `starts` says that a line begins before them
 abbrev pub ends_line : Bool → List ℕ → Bool
 ends_line starts [] = starts
 ends_line starts (b ∷ bs) = ends_line (b == 10) bs
@@ -53,12 +54,12 @@ ends_line starts (b ∷ bs) = ends_line (b == 10) bs
 abbrev pub MapTextsHaveNoSection : Type 0
 MapTextsHaveNoSection = (text : List ℕ) (s : SettingData) (t : List Row) (adjusted : ℕ) → IsMapText text s t adjusted → length_to_section true text ≡ length text
 
--- JOBS ARE READ BACK: a map's text whose last line ends, with scripts behind it, is the job of that map with these scripts
+-- JOBS ARE READ BACK: the text of a map, followed by the text of scripts that a job can have, is the job of that map with these scripts. The last line of the map's text ends with a line feed, and all bytes together are at most LONGEST_JOB.
 abbrev pub JobsAreReadBack : Type 0
 JobsAreReadBack = (text : List ℕ) (s : SettingData) (t : List Row) (adjusted : ℕ) (scripts : List ScriptData) → IsMapText text s t adjusted → ends_line true text ≡ true
     → AreScripts scripts → length (text ++ scripts_text scripts) ≤ LONGEST_JOB
     → IsJob (text ++ scripts_text scripts) (record { setting = s; table = t; adjusted = adjusted; scripts = scripts })
 
--- and whatever job is read has scripts that are read back so
+-- the scripts of each job are scripts that a job can have, so the law above holds of them
 abbrev pub ReadScriptsAreSuch : Type 0
 ReadScriptsAreSuch = (bytes : List ℕ) (job : JobData) → IsJob bytes job → AreScripts job.scripts

@@ -18,104 +18,111 @@ use Rattle.crush_script.specs.Command.{command, operator}
 use Rattle.crush_script.specs.Lines.{lines, section_part, section_line, line_words, begins_section}
 use Rattle.crush_units.specs.declared.limits.TheConstants.{MOST_CALLS, MOST_EDITS, MOST_OPERATORS}
 
--- what the lines so far say: the scripts, how many calls were begun in all, and the batch that is open, with the line of its `begin`, the number of changes that it names, and its edits
+-- what was read from the lines so far: the scripts, the number of calls that were begun in all of them, and the batch that is open, if there is one. A batch has the number of its `begin` line, the number of changes that this line names, and its edits.
 pub record SectionsData : Type 0 where
   pub scripts : List ScriptData
   pub calls : ℕ
   pub begun : Option BegunBatch
 
+-- what a value of the program says, as data
 abbrev pub sections_data : Sections → SectionsData
 sections_data s = record { scripts = scripts_data s.scripts.items; calls = s.calls; begun = s.begun }
 
+-- before the first line: no scripts, no calls and no open batch
 abbrev pub no_sections : SectionsData
 no_sections = record { scripts = []; calls = 0; begun = None }
 
--- a fault of a line, told with the line's number
+-- the fault of a job for a fault of one of its lines, with the line's number unless memory ran out
 abbrev pub fault_at : ℕ → LineFault → JobFault
 fault_at number line.BadLine = job.BadLine number
 fault_at number line.NoSuchCommand = job.NoSuchCommand number
 fault_at number line.OutOfMemory = job.OutOfMemory
 
+-- the result of reading a line, with its fault as that of the job
 abbrev pub in_line : {X : Type 0} → ℕ → Result X LineFault → Result X JobFault
 in_line number (Ok x) = Ok x
 in_line number (Err fault) = Err (fault_at number fault)
 
--- no batch is open
+-- the sections s if there is no open batch, otherwise OpenBatch with the line of its `begin`
 abbrev pub without_batch : SectionsData → Option BegunBatch → Result SectionsData JobFault
 without_batch s None = Ok s
 without_batch s (Some b) = Err (job.OpenBatch b.line)
 
+-- the sections s if they have no open batch, otherwise the fault above
 abbrev pub closed : SectionsData → Result SectionsData JobFault
 closed s = without_batch s s.begun
 
--- whether a section has the name
+-- whether one of the scripts has this operator's name
 abbrev pub has_operator : List ScriptData → List ℕ → Bool
 has_operator scripts name = list_any (λ (s : ScriptData). bytes_eq s.name name) scripts
 
--- one more section
+-- the sections with a new one of this name, which the line `number` begins; a fault if there are MOST_OPERATORS already, or otherwise if one of them has the name
 abbrev pub with_section : ℕ → SectionsData → List ℕ → Result SectionsData JobFault
 with_section number s name =
     if nat_le MOST_OPERATORS (length s.scripts) then Err (job.TooManyOperators number)
     else if has_operator s.scripts name then Err (job.DuplicateOperator number)
     else Ok (record s { scripts = s.scripts ++ (record { name = name; calls = [] }) ∷ [] })
 
--- one more call is begun
+-- the sections with one more call counted, which the line `number` begins; a fault if MOST_CALLS are counted already
 abbrev pub counted : ℕ → SectionsData → Result SectionsData JobFault
 counted number s =
     if nat_le MOST_CALLS s.calls then Err (job.TooManyCalls number)
     else Ok (record s { calls = s.calls + 1 })
 
--- the last script has one more call
+-- the scripts with the call c appended to the last of them
 abbrev pub call_in_last : Call → List ScriptData → List ScriptData
 call_in_last c [] = []
 call_in_last c (s ∷ []) = (record s { calls = s.calls ++ c ∷ [] }) ∷ []
 call_in_last c (s ∷ r ∷ rest) = s ∷ call_in_last c (r ∷ rest)
 
+-- the sections with the call c appended to the last script
 abbrev pub with_call : Call → SectionsData → SectionsData
 with_call c s = record s { scripts = call_in_last c s.scripts }
 
--- one more edit: of the batch that is open, or as a call
+-- the sections with the edit e appended to the open batch b, or BadLine if the batch has MOST_EDITS edits already
 abbrev pub in_batch : ℕ → SectionsData → BegunBatch → Edit → Result SectionsData JobFault
 in_batch number s b e =
     if nat_le MOST_EDITS (length b.edits) then Err (job.BadLine number)
     else Ok (record s { begun = Some (record { line = b.line; seen = b.seen; edits = b.edits ++ e ∷ [] }) })
 
+-- the sections with one more edit: in the open batch if there is one, otherwise as a call of its own
 abbrev pub with_edit : ℕ → SectionsData → Option BegunBatch → Edit → Result SectionsData JobFault
 with_edit number s None e = counted number s >>= λ more. Ok (with_call (One e) more)
 with_edit number s (Some b) e = in_batch number s b e
 
--- `begin` or `begin at N`, where no batch is open, is the first line of one more call
+-- the sections after a line `begin` or `begin at N`, which opens a batch and counts as one more call; BadLine if a batch is open already
 abbrev pub with_begin : ℕ → SectionsData → Option BegunBatch → Option ℕ → Result SectionsData JobFault
 with_begin number s None seen = counted number s >>= λ more. Ok (record more { begun = Some (record { line = number; seen = seen; edits = [] }) })
 with_begin number s (Some b) seen = Err (job.BadLine number)
 
--- the call of a batch, guarded where it names a number of changes
+-- the call of a batch, which is guarded if its `begin` names a number of changes
 abbrev pub batch_call : Option ℕ → List Edit → Call
 batch_call None es = Batch es
 batch_call (Some seen) es = Guarded seen es
 
--- `commit`, where a batch is open
+-- the sections after a line `commit`, which appends the open batch to the last script as a call; BadLine if no batch is open
 abbrev pub with_commit : ℕ → SectionsData → Option BegunBatch → Result SectionsData JobFault
 with_commit number s None = Err (job.BadLine number)
 with_commit number s (Some b) = Ok (with_call (batch_call b.seen b.edits) (record s { begun = None }))
 
+-- the sections after a line that was parsed as this command
 abbrev pub with_command : ℕ → SectionsData → Command → Result SectionsData JobFault
 with_command number s says.Nothing = Ok s
 with_command number s (says.Edit edit) = with_edit number s s.begun edit
 with_command number s (says.Begin seen) = with_begin number s s.begun seen
 with_command number s says.Commit = with_commit number s s.begun
 
--- one line
+-- the sections after one more line. A line that begins with `%` begins a section, and no batch may be open before it; each other line is a command.
 unfoldable pub with_line : ℕ → SectionsData → List ℕ → Result SectionsData JobFault
 with_line number s text =
     if begins_section text then (closed s >>= λ r. in_line number (operator (line_words text)) >>= λ name. with_section number r name)
     else (in_line number (command (line_words text)) >>= λ c. with_command number s c)
 
--- the lines from a number on; the first faulty one decides, and at the end no batch is open
+-- the sections after all these lines, of which the first has this number, or the fault of the first faulty line. No batch may be open after the last line.
 unfoldable pub with_lines : ℕ → SectionsData → List (List ℕ) → Result SectionsData JobFault
 with_lines number s [] = closed s
 with_lines number s (text ∷ rest) = with_line number s text >>= λ next. with_lines (number + 1) next rest
 
--- what the sections of a job say
+-- what the sections of a job say, or the fault of the first faulty line
 abbrev pub sections_of : List ℕ → Result SectionsData JobFault
 sections_of job = with_lines (section_line job) no_sections (lines (section_part job))

@@ -1,22 +1,23 @@
--- What reading lines leaves, unless memory runs out.
+-- How the result of reading lines agrees with that of its definition: they are the same, unless memory runs out.
 use Rattle.std.specs.Prelude.{◌≡◌, Result, Ok, Err}
 use Rattle.crush_script.specs.declared.fault.JobFault.{JobFault}
 use Rattle.crush_script.specs.declared.fault.JobFault.TheVariants.{Text, OutOfMemory, TooLong}
 use Rattle.crush_script.specs.declared.sections.Sections.{Sections}
 use Rattle.crush_script.specs.Sections.{SectionsData, sections_data}
 
--- the fault is that of the definition, or out of memory
+-- a call that fails with this fault agrees with the result `given`: memory ran out, or `given` is the same fault; Text and TooLong are impossible here
 abbrev pub FailsAs : JobFault → Result SectionsData JobFault → Type 0
 FailsAs OutOfMemory given = Unit {0}
 FailsAs (Text fault) given = ⊥
 FailsAs TooLong given = ⊥
 FailsAs fault given = given ≡ Err fault
 
--- these are the sections that the definition gives
+-- a call that leaves the sections `new` agrees with the result `given`: after an Ok `given` is these sections, and an error is as above
 abbrev pub Steps : {X : Type 0} → Result X JobFault → SectionsData → Result SectionsData JobFault → Type 0
 Steps (Ok x) new given = given ≡ Ok new
 Steps (Err fault) new given = FailsAs fault given
 
+-- the same for a call that returns the sections
 abbrev pub GivesSections : Result Sections JobFault → Result SectionsData JobFault → Type 0
 GivesSections (Ok s) given = given ≡ Ok (sections_data s)
 GivesSections (Err fault) given = FailsAs fault given

@@ -1,38 +1,28 @@
--- What one word of a command says: a pair, a device's name, or a number of changes.
-use Rattle.std.specs.Prelude.{ℕ, ◌+◌, ◌==◌, Bool, not, ◌&&◌, ◌||◌, List, length, take, drop, slice_index, codes, bytes_eq, nat_le, nat_lt, Option, Some, None, if◌then◌else◌}
+-- What one word of a command says: a pair, or a number of changes.
+use Rattle.std.specs.Prelude.{ℕ, ◌+◌, ◌==◌, Bool, not, ◌&&◌, List, length, take, drop, nat_le, nat_lt, Option, Some, None, if◌then◌else◌}
 use Rattle.std.specs.List.{list_all, position_or_len}
 use Rattle.std.specs.Char.{is_ascii_digit}
 use Rattle.std.specs.Str.Parse.{digits_value}
 use Rattle.crush_units.specs.Name.{is_name}
-use Rattle.crush_units.specs.Weight.{are_digits}
-use Rattle.crush_units.specs.Id.{device_from}
 use Rattle.crush_units.specs.declared.limits.TheConstants.{MOST_ENTRIES, MOST_PAIRS}
 use Rattle.crush_edits.specs.declared.location.Pair.{Pair}
 
--- the two parts of a word `TYPE=NAME`: what stands before its first `=` and what stands behind it
+-- the index of the first `=` of a word, or the word's length if it has none
 abbrev pub equals_at : List ℕ → ℕ
 equals_at word = position_or_len (λ b. b == 61) word
 
+-- the two parts of a word `TYPE=NAME`: the bytes before its first `=`, and the bytes after it
 abbrev pub pair_of : List ℕ → Pair
 pair_of word = record { kind = take (equals_at word) word; name = drop (equals_at word + 1) word }
 
--- there is room for the pair, and its two parts are names, so that the word has one `=`
+-- whether a pair can be added to the location l: l has fewer than MOST_PAIRS pairs, and both parts of the pair are names. A name has no `=`, so the word has exactly one.
 abbrev pub can_add : List Pair → Pair → Bool
 can_add l p = nat_lt (length l) MOST_PAIRS && (is_name p.kind && is_name p.name)
 
--- 1 to 10 digits, the first of which is no 0 where there is another
-abbrev pub is_plain : List ℕ → Bool
-is_plain digits = are_digits 10 digits && (length digits == 1 || not (slice_index digits 0 == 48))
-
--- the id of the device `osd.N`, which is N
-abbrev pub device_named : List ℕ → Option ℕ
-device_named name =
-    if bytes_eq (take 4 name) (codes "osd.") && is_plain (drop 4 name) then device_from (digits_value 10 (drop 4 name))
-    else None
-
--- a number of changes: digits, however many, of a value that a history can have
+-- whether a word is a number of changes: one or more digits whose value is at most MOST_ENTRIES, the most changes of a history
 abbrev pub is_count : List ℕ → Bool
 is_count word = not (length word == 0) && list_all is_ascii_digit word && nat_le (digits_value 10 word) MOST_ENTRIES
 
+-- the number of changes that a word writes, if it is one
 abbrev pub count_of : List ℕ → Option ℕ
 count_of word = if is_count word then Some (digits_value 10 word) else None

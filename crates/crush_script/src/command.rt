@@ -1,16 +1,17 @@
-//! What the words of a line in a section say.
+//! Parses the words of a line of a section: a command, `begin`, `commit` or `%operator NAME`.
 
 ghost use Rattle.std.specs.Prelude.{◌≡◌};
 ghost use Rattle.crush_script.specs.ReadsAs.{ReadsAs, ReadsAndLeaves};
 ghost use Rattle.crush_script.specs.Command.{command, operator, name_at, weight_at, end_at, with_pair, location_at, placing_at, located_at, one_name_at, two_names_at, weighed_at, keyword_of, edit_to_place, edit_of, edit_at, begin_at, count_at};
 
 use crate::line::{LineWords, place_of};
-use crate::word::{count_of, device_named};
+use crate::word::count_of;
 use crush_edits::{Edit, Location, LocationFault};
+use crush_history::device_named;
 use crush_units::{DeviceId, Name, NameFault, Weight};
 use std::alloc::Global;
 
-/// Why a line says nothing.
+/// Why a line can't be parsed.
 #[derive(Clone, Copy)]
 pub(crate) enum LineFault {
     BadLine,
@@ -18,13 +19,13 @@ pub(crate) enum LineFault {
     OutOfMemory,
 }
 
-/// What a line says that begins no section.
+/// A parsed line of a section, other than the `%operator` line that begins the section.
 #[derive(Drop)]
 pub(crate) enum Command {
-    /// There are no words.
+    /// The line has no words.
     Nothing,
     Edit(Edit),
-    /// It may name the number of changes that its operator has seen.
+    /// `begin`, or `begin at N` with the number N of changes that the batch is for.
     Begin(Option<u32>),
     Commit,
 }
@@ -167,7 +168,7 @@ impl LineWords<'_> {
         }
     }
 
-    /// The value, where no word is left.
+    /// Returns the value if no word is left; otherwise the line is a [`LineFault::BadLine`].
     #[tactic(auto, unfolding(crate::specs::Command::end_at))]
     fn end<T: Drop>(&mut self, value: T) -> Result<T, LineFault>
         ensures { ReadsAs result (end_at value self.old) }
@@ -178,7 +179,7 @@ impl LineWords<'_> {
         }
     }
 
-    /// Takes all words that are left.
+    /// Reads all words that are left, each as a pair `TYPE=NAME`.
     #[tactic(auto, unfolding(crate::specs::Command::location_at, crate::specs::Command::with_pairs))]
     fn location(&mut self, alloc: Global) -> Result<Location, LineFault>
         ensures { ReadsAs result (location_at self.old) }

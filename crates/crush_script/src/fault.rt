@@ -1,4 +1,4 @@
-//! Why bytes are no job.
+//! The faults of a job.
 
 ghost use Rattle.std.specs.Prelude.{◌≡◌};
 
@@ -7,35 +7,37 @@ use crush_text::{TextFault, TextFaultKind};
 use std::alloc::AllocFailed;
 use thiserror::Error;
 
-/// Why bytes are no job. Lines count from 1, the map's text included.
+/// Why bytes aren't a job. Lines are numbered from 1, and the lines of the map's text count too.
 #[derive(Clone, Copy, Debug, PartialEq, Eq, Error)]
 pub enum JobFault {
-    /// The line isn't of the form of its command or of `%operator NAME`; or it is a `begin` in a
-    /// batch, a `commit` outside, or the 65,537th edit of a batch.
+    /// The line doesn't have the form of its command, or of `%operator NAME`. Or it is a `begin`
+    /// inside a batch, a `commit` outside a batch, or the 65,537th edit of a batch.
     #[error("line {0}: BadLine")]
     BadLine(usize),
-    /// The line's first word is no command.
+    /// The first word of the line isn't a command.
     #[error("line {0}: NoSuchCommand")]
     NoSuchCommand(usize),
-    /// The batch that begins on this line isn't ended where a section begins, or at the end.
+    /// The batch that begins on this line isn't committed before the next section begins or the
+    /// job ends.
     #[error("line {0}: OpenBatch")]
     OpenBatch(usize),
     /// The line begins the 17th section.
     #[error("line {0}: TooManyOperators")]
     TooManyOperators(usize),
-    /// The line begins a section with a name that an earlier section has.
+    /// The line begins a section with the name of an earlier section.
     #[error("line {0}: DuplicateOperator")]
     DuplicateOperator(usize),
-    /// The fault of the map's text, with a place in the job; also where memory ran out for the map.
+    /// The fault of the map's text; its place is a byte of the job, from 0. Also if memory for the
+    /// map ran out.
     #[error("{0}")]
     Text(TextFault),
-    /// The map was read, and there was no memory for the scripts.
+    /// The map was read, but memory for the scripts ran out.
     #[error("out of memory")]
     OutOfMemory,
     /// The job has more than 16,777,216 bytes.
     #[error("TooLong")]
     TooLong,
-    /// The line is the first of the 65,537th call.
+    /// The line begins the 65,537th call. A call is a batch, or a command outside a batch.
     #[error("line {0}: TooManyCalls")]
     TooManyCalls(usize),
 }
@@ -43,7 +45,7 @@ pub enum JobFault {
 impl JobFault {
     ghost use Rattle.crush_script.specs.Fault.{lacks_memory};
 
-    /// Whether memory ran out, for the job or for its text.
+    /// Whether memory ran out, for the map's text or for the scripts.
     pub fn lacks_memory(self) -> bool
         ensures { result ≡ lacks_memory self }
     {

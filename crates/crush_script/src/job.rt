@@ -1,4 +1,4 @@
-//! The reading of a job.
+//! Reads a whole job: the map's text and the scripts.
 
 ghost use Rattle.std.specs.Prelude.{◌≡◌, ◌≤◌, true, IfOk, IfErr, length};
 ghost use Rattle.crush_history.specs.Script.{scripts_data, call_count};
@@ -15,23 +15,27 @@ use crush_text::read_map_in;
 use crush_units::limits::LONGEST_JOB;
 use std::alloc::Global;
 
-/// A map, and what its operators are to do with it.
+/// A map, and the scripts of the operators that edit it.
 #[derive(Drop)]
 pub struct Job {
+    /// The map before any script has run.
     pub map: CrushMap<Global>,
-    /// How many bucket items were written with another weight than their sum, which replaced it.
+    /// The number of bucket items whose weight in the text wasn't the sum of the devices below the
+    /// bucket. The map has the sum instead.
     pub adjusted: u32,
-    /// In the order of their sections.
+    /// One script for each section, in the order of the sections.
     pub scripts: Vec<Script>,
 }
 
-/// Reads a job, whose map hashes names and ids so: with keys that are drawn, where the bytes come
-/// from a stranger.
+/// Reads a job: the text of a map, followed by the sections with the operators' scripts.
 ///
-/// `docs/FORMATS.md` has the form. The first fault is answered: that the bytes are more than
-/// 16,777,216, then one of the map's text, then that of the first faulty line of the sections, but
-/// [`JobFault::OutOfMemory`] may come in its place. An open batch is judged where a section begins
-/// or the job ends.
+/// `docs/FORMATS.md` defines the form. `hashing` is how the map's indexes hash names and ids: use
+/// random keys if the bytes come from an untrusted source.
+///
+/// Fails with the first fault, in this order: there are more than 16,777,216 bytes; the map's text
+/// has a fault; a line of the sections is the first faulty one. If memory for the scripts runs out,
+/// the fault may be [`JobFault::OutOfMemory`] instead of that of a line. A batch that is still open
+/// is a fault only when a section begins or the job ends, so faulty lines inside it come first.
 pub fn read_job(alloc: Global, hashing: Hashing, bytes: &[u8]) -> Result<Job, JobFault>
     ensures job { IfOk result (λ read. (job : JobData) × IsJob bytes.now job × JobStands read job) }
     ensures only { (job : JobData) → IsJob bytes.now job

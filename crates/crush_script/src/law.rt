@@ -1,16 +1,21 @@
-//! The laws of commands and of scripts. There is nothing to run: the contract is the law.
+//! Laws: commands and scripts that are printed are read back as the same. These functions do
+//! nothing when they are called: the contract of each is a law, which is proved.
 
 ghost use Rattle.crush_script.specs.Printed.{PrintedIsRead, ReadIsSaid};
 ghost use Rattle.crush_script.specs.ScriptsText.{JobsAreReadBack, MapTextsHaveNoSection, ReadScriptsAreSuch};
 
-/// The print of an edit in a history is read as the same edit, so that a history can be run again
-/// as a script.
+/// States that an edit, printed as in a history, is read as the same edit, and that each edit that
+/// is read can be printed so. A history can therefore be run again as a script.
 pub fn printed_is_read()
     ensures printed { PrintedIsRead }
     ensures read { ReadIsSaid }
 {}
 
-/// Scripts that are printed as sections behind the text of a map are read as those scripts.
+/// States that scripts, printed as sections after the text of a map, are read as the same scripts.
+///
+/// The last line of the map's text must end with a line feed, and the whole must be no longer than
+/// a job may be. Each script that was read can be printed so, and no line of a map's text begins
+/// with `%`.
 pub fn scripts_are_read_back()
     ensures map { MapTextsHaveNoSection }
     ensures read { JobsAreReadBack }

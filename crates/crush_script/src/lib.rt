@@ -1,7 +1,7 @@
-//! Jobs: a map's text, and behind it the scripts of its operators, a command a line.
+//! Jobs: the text of a map, followed by the scripts of its operators, with one command a line.
 //!
-//! [`read_job`] reads one whole, or answers its first [`JobFault`]; `crush_text` reads the map's
-//! text, and `crush_run` runs the job. `specs/Job.antt` says what a job is.
+//! [`read_job`] reads a whole job, or fails with its first [`JobFault`]. It reads the map's text
+//! with `crush_text`, and `crush_run` runs the job. `specs/Job.antt` defines what a job is.
 #![tactic(auto)]
 
 mod command;
@@ -16,4 +16,4 @@ pub use fault::JobFault;
 pub use job::{Job, read_job};
 pub use law::{printed_is_read, scripts_are_read_back};
 pub use line::{LineWords, line_feeds, map_part};
-pub use word::{count_of, cut_pair, device_named};
+pub use word::{count_of, cut_pair};

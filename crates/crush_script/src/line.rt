@@ -1,4 +1,4 @@
-//! The lines of a job, and the words of a line in a section.
+//! Splits a job into its map's text and lines, and a line of a section into words.
 
 ghost use Rattle.std.specs.Prelude.{◌≡◌, ◌+◌, ◌≤◌, ◌<◌, ◌==◌, ◌∷◌, [], true, length, not, MatchOption};
 ghost use Rattle.std.specs.List.{position_or_len};
@@ -6,7 +6,8 @@ ghost use Rattle.crush_script.specs.Lines.{lines, length_to_section, line_feeds,
 
 use std::marker::Model;
 
-/// The length before the first line that begins with `%`.
+/// Returns the number of bytes before the first line that begins with `%`, or of all bytes if there
+/// is no such line.
 fn length_to_section(job: &[u8]) -> usize
     ensures length { result ≡ length_to_section true job.now }
     ensures within { result ≤ length job.now }
@@ -21,7 +22,7 @@ fn length_to_section(job: &[u8]) -> usize
     job.len()
 }
 
-/// The map's text of a job: all before the first line whose first byte is `%`.
+/// Returns the map's text of a job: all bytes before the first line that begins with `%`.
 pub fn map_part(job: &[u8]) -> &[u8]
     ensures { result.now ≡ map_part job.now }
 {
@@ -37,7 +38,7 @@ pub(crate) fn cut_job(job: &[u8]) -> (&[u8], &[u8])
     job.split_at(length_to_section(job))
 }
 
-/// How many line feeds a text has.
+/// Counts the line feeds of a text.
 pub fn line_feeds(text: &[u8]) -> usize
     ensures count { result ≡ line_feeds text.now }
     ensures within { result ≤ length text.now }
@@ -115,7 +116,7 @@ fn word_at(text: &[u8]) -> usize
     text.len()
 }
 
-/// The words of a line in a section that are left to read.
+/// The words of a line of a section that are still to be read.
 #[derive(Drop)]
 pub struct LineWords<'a> {
     text: &'a [u8],
@@ -132,7 +133,10 @@ impl<'a> Model for LineWords<'a> {
 }
 
 impl<'a> LineWords<'a> {
-    /// All words of a line. `#` begins a comment, wherever it stands.
+    /// Returns all words of a line, which spaces and tabs separate.
+    ///
+    /// `#` begins a comment anywhere in the line, and a carriage return at its end is ignored.
+    /// A line feed would be part of a word, so `line` is given without it.
     pub fn of_line(line: &'a [u8]) -> LineWords<'a>
         ensures { result ≡ line_words line.now }
     {
@@ -141,7 +145,7 @@ impl<'a> LineWords<'a> {
         LineWords { text }
     }
 
-    /// Takes the next word.
+    /// Removes the next word and returns it; returns `None` if no word is left.
     pub fn next(&mut self) -> Option<&'a [u8]>
         ensures { MatchOption result (self.old ≡ [])
             (λ word. self.old ≡ word.now ∷ self.new) }

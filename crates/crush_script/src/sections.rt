@@ -15,22 +15,22 @@ use crush_units::Name;
 use crush_units::limits::{MOST_CALLS, MOST_OPERATORS};
 use std::alloc::Global;
 
-/// A batch whose `commit` is still to come.
+/// A batch whose `commit` hasn't been read yet.
 #[derive(Drop)]
 pub(crate) struct BegunBatch {
-    /// The line of its `begin`.
+    /// The number of the line with its `begin`.
     pub(crate) line: usize,
-    /// The number of changes that its `begin` names.
+    /// The number N of changes in its `begin at N`; `None` for a plain `begin`.
     pub(crate) seen: Option<u32>,
     pub(crate) edits: Edits,
 }
 
-/// What the lines so far say.
+/// What was read from the lines so far.
 #[derive(Drop)]
 pub(crate) struct Sections {
-    /// The last of them goes on.
+    /// One script for each section so far; the next call belongs to the last of them.
     pub(crate) scripts: Vec<Script>,
-    /// How many calls they have in all, with the open batch.
+    /// The number of calls of all scripts, including the open batch.
     pub(crate) calls: usize,
     pub(crate) begun: Option<BegunBatch>,
 }
@@ -69,7 +69,7 @@ impl Sections {
         }
     }
 
-    /// Begins a section. `number`, here and below, is that of the line.
+    /// Begins a section. In this and the following methods `number` is the number of the line.
     fn begin(&mut self, alloc: Global, number: usize, name: Name<Global>) -> Result<(), JobFault>
         ensures steps { Steps result (sections_data self.new)
             (with_section number (sections_data self.old) name) }
@@ -202,7 +202,7 @@ impl Sections {
     }
 }
 
-/// Reads the lines of the sections; `first` is the number of the first of them.
+/// Reads all lines of the sections. `first` is the number of the first of these lines in the job.
 #[tactic(auto, unfolding(crate::specs::Sections::with_lines))]
 pub(crate) fn read_sections(alloc: Global, first: usize, text: &[u8]) -> Result<Sections, JobFault>
     requires begins { 0 < length text.now → begins_section text.now ≡ true }

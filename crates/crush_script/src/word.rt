@@ -1,37 +1,15 @@
-//! What one word of a command says.
+//! Reads single words of a command: a device's name, a number of changes, a pair.
 
-ghost use Rattle.std.specs.Prelude.{◌≡◌, ◌==◌, ◌||◌, not, length, slice_index};
-ghost use Rattle.crush_script.specs.Words.{count_of, device_named, pair_of};
+ghost use Rattle.std.specs.Prelude.{◌≡◌};
+ghost use Rattle.crush_script.specs.Words.{count_of, pair_of};
 
 use crate::line::place_of;
-use crush_units::DeviceId;
-use crush_units::limits::{LAST_DEVICE_ID, MOST_ENTRIES};
-use crush_units::number::number_up_to;
+use crush_units::limits::MOST_ENTRIES;
 
-/// Whether no digit could be left out at the head of a number.
-fn begins_plain(digits: &[u8]) -> bool
-    ensures { result ≡ (length digits.now == 1 || not (slice_index digits.now 0 == 48)) }
-{
-    !matches!(digits, [b'0', _, ..])
-}
-
-/// The id N of the device `osd.N`, where the name is of that form.
-pub fn device_named(name: &[u8]) -> Option<DeviceId>
-    ensures { result ≡ device_named name.now }
-{
-    if name.len() < 5 {
-        return None;
-    }
-    let (front, digits) = name.split_at(4);
-    if front != b"osd.".as_slice() || !begins_plain(digits) {
-        return None;
-    }
-    let number = number_up_to(LAST_DEVICE_ID, digits)?;
-    DeviceId::from_number(number)
-}
-
-/// The number of changes that digits write, however many they are, where a history can have so
-/// many.
+/// Reads a number of changes, as in `begin at N`.
+///
+/// The word is one or more digits, and leading zeros are allowed. Returns `None` if it isn't, or if
+/// its value is above 65,536, the most changes that a history can have.
 pub fn count_of(digits: &[u8]) -> Option<u32>
     ensures { result ≡ count_of digits.now }
 {
@@ -52,7 +30,9 @@ pub fn count_of(digits: &[u8]) -> Option<u32>
     Some(value as u32)
 }
 
-/// The two parts of a word `TYPE=NAME`, of which the second is empty where there is no `=`.
+/// Splits a word `TYPE=NAME` at its first `=`, and returns the bytes before it and after it.
+///
+/// Without `=` the first part is the whole word, and the second is empty. Neither part is checked.
 pub fn cut_pair(word: &[u8]) -> (&[u8], &[u8])
     ensures kind { result.0.now ≡ (pair_of word.now).kind }
     ensures name { result.1.now ≡ (pair_of word.now).name }

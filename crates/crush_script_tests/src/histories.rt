@@ -1,4 +1,4 @@
-//! The history of one operator.
+//! The history of one operator's calls.
 
 ghost use Rattle.std.specs.Prelude.{◌<◌, length};
 ghost use Rattle.crush_history.specs.Entries.{AreOf};
@@ -8,6 +8,7 @@ use crush_map::CrushMap;
 use std::alloc::Global;
 use std::process::Abort;
 
+/// Makes the calls of one operator's script on the map, and returns their entries.
 pub fn entries_of(
     rt: &(impl Abort + AllocGlobal),
     map: &mut CrushMap<Global>,

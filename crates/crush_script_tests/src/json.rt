@@ -1,5 +1,5 @@
-//! JSON documents. Expected values are worked by hand from what `crushtool --dump` of Ceph 18
-//! prints and from docs/FORMATS.md.
+//! JSON documents. Expected values are worked by hand from docs/FORMATS.md, and from what
+//! `crushtool --dump` of Ceph 18 prints.
 
 mod maps;
 mod plans;

@@ -1,15 +1,17 @@
-//! The map of a text, and the text from which plans and documents begin.
+//! Parses the text of a map, and has the example map with which plans and documents begin.
 
 use crush_map::CrushMap;
 use crush_text::read_map;
 use std::alloc::Global;
 use std::process::Abort;
 
+/// The map of a text, which must be right.
 pub fn map_of(rt: &(impl Abort + AllocGlobal), text: &[u8]) -> CrushMap<Global> {
     let (map, _) = read_map(rt.alloc(), text).expect(rt, "no map");
     map
 }
 
+/// The text of the example map.
 pub const EXAMPLE_MAP: &[u8] = b"\
     tunable choose_total_tries 50\n\
     device 0 osd.0\n\

@@ -1,5 +1,5 @@
-//! Faults and histories of jobs, and their reasons. Expected values are written from the forms in
-//! docs/FORMATS.md and the sentences in docs/RULES.md.
+//! The reasons that are given for the faults and the refused calls of jobs. Expected values follow
+//! the forms in docs/FORMATS.md and the sentences in docs/RULES.md.
 
 ghost use Rattle.std.specs.Prelude.{◌<◌, length};
 ghost use Rattle.crush_history.specs.Entries.{AreOf};
@@ -98,10 +98,10 @@ fn what_does_not_fit_is_told(rt: HostRuntime) {
     );
 }
 
-/// Two scripts that were joined, each behind the line of its operator.
+/// Two scripts in one job, each after the line that names its operator.
 const JOINED: &[u8] = b"# nothing\n%operator alice\nrm x\n%operator bob\nrm y\nfly z\n";
 
-/// The line that was put before the second script is that of the first.
+/// The line that was added before the second script names the operator of the first script.
 const DUPLICATE: &[u8] = b"# nothing\n%operator alice\nrm x\n%operator alice\nrm y\n";
 
 #[test]

@@ -1,5 +1,6 @@
-//! Maps and jobs from their texts, and what is written of them. Expected values are written from
-//! the forms in docs/FORMATS.md. What a short file shows is data of `crush_examples`.
+//! Maps and jobs that are read from texts, and what is written of them. Expected values follow the
+//! forms in docs/FORMATS.md. Cases that a short file can show are among the data of
+//! `crush_examples` instead.
 
 mod heaps;
 mod jobs;

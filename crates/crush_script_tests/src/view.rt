@@ -1,4 +1,4 @@
-//! Trees, and what has changed between two maps. Expected values are written from the forms in
+//! Trees, and what has changed between two maps, as text. Expected values follow the forms in
 //! docs/FORMATS.md.
 
 mod change_trees;

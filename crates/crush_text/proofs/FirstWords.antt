@@ -17,7 +17,7 @@ use Rattle.crush_text.specs.ReadsStatements.{behind}
 use Rattle.crush_text.proofs.LineByLine.{word_goes, line_goes}
 use Rattle.crush_text.proofs.Weighed.{told_ok}
 
--- what is not there is `None`
+-- an option that is no `Some` is `None`
 pub none_there : {X : Type 0} (o : Option X) → ((x : X) → o ≡ Some x → ⊥) → o ≡ None
 none_there None other = refl
 none_there (Some x) other = absurd (other x refl)
@@ -32,12 +32,12 @@ first_goes d late t rest place text is = ap (outcome (between (at (behind late) 
     by_mode true = refl
     by_mode false = refl
 
--- what comes of all after a word that opens a statement
+-- the result of the text from a word that begins a statement
 pub opening_ok : (d : Draft) (late : Bool) (t rest : Text) (place : ℕ) (text : List ℕ) (o : Opening) → t ≡ first_word place text rest → Ok o ≡ placed place (word_for d (opening late) text)
     → outcome (between (at (behind late) d)) t ≡ then_on (line_at d (statement d o) rest)
 opening_ok d late t rest place text o is e = first_goes d late t rest place text is ∙ ap (λ q. then_on ((q >>= and_rest rest) >>= λ x. line_at d (statement d x.0) x.1)) (sym e)
 
--- which leads on to the statement
+-- such a word leads to the rest of the statement
 pub opening_leads : (d : Draft) (late : Bool) (t rest : Text) (place : ℕ) (text : List ℕ) (o : Opening) → t ≡ first_word place text rest → Ok o ≡ placed place (word_for d (opening late) text)
     → LeadsOn (between (at (behind late) d)) t (arrive d rest.words (statement d o)) rest
 unfolding outcome step
@@ -50,12 +50,12 @@ opening_leads d late t rest place text o is e = record {
     by_mode true e p h = (_, ap (λ j. j >>= λ v. Ok (arrive d rest.words (statement d v))) e, inr h)
     by_mode false e p h = (_, ap (λ j. j >>= λ v. Ok (arrive d rest.words (statement d v))) e, inr h)
 
--- a fault of that word is the fault of all
+-- a fault of that word is the result of the text
 pub opening_err : (d : Draft) (late : Bool) (t rest : Text) (place : ℕ) (text : List ℕ) (f : TextFault) → t ≡ first_word place text rest → Err f ≡ placed place (word_for d (opening late) text)
     → outcome (between (at (behind late) d)) t ≡ Err f
 opening_err d late t rest place text f is e = first_goes d late t rest place text is ∙ ap (λ q. then_on ((q >>= and_rest rest) >>= λ x. line_at d (statement d x.0) x.1)) (sym e)
 
--- the text ends where no statement is open
+-- between two statements the text may end
 pub opening_end : (d : Draft) (late : Bool) (t : Text) (place : ℕ) → t ≡ stopped (ended place) → outcome (between (at (behind late) d)) t ≡ Ok d
 unfolding run outcome
 opening_end d late t place is = ap (outcome (between (at (behind late) d))) is ∙ by_mode late
@@ -64,12 +64,12 @@ opening_end d late t place is = ap (outcome (between (at (behind late) d))) is �
     by_mode true = refl
     by_mode false = refl
 
--- nor is it read past what no text may have
+-- a bad byte, or a word that is too long, is the result of the text
 pub opening_bad : (d : Draft) (late : Bool) (t : Text) (place : ℕ) → t ≡ stopped (bad place) → outcome (between (at (behind late) d)) t ≡ Err (record { kind = BadWord; place = place })
 unfolding run outcome
 opening_bad d late t place is = ap (outcome (between (at (behind late) d))) is
 
--- behind a statement the builder is between two
+-- after a statement the builder is between two statements
 pub idle_behind : (late : Bool) (b : BuilderData) → TakesLinesOf (behind late) b → IsIdle b
 idle_behind true b h = h
 idle_behind false b h = h

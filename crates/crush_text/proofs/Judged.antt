@@ -1,4 +1,4 @@
--- What the first test that holds says of all of them.
+-- What the first test that finds a fault says of all tests of a word.
 use Rattle.std.proofs.Common.{◌≡◌, ℕ, ◌<◌, ◌≤◌, Bool, true, false, cond, List, [], ◌∷◌, Ok, Err, refl, ap, arith, eq-eqb}
 use Rattle.std.proofs.lemmas.Bool.{and_parts, ltb-true, ne_eqb}
 use Rattle.std.specs.Prelude.{nat_lt, ◌&&◌, ◌==◌}
@@ -6,21 +6,21 @@ use Rattle.crush_text.specs.declared.fault.TextFaultKind.{TextFaultKind}
 use Rattle.crush_text.specs.Fault.{fault_number}
 use Rattle.crush_text.specs.Tests.{Test, ◌when◌, unless}
 
--- whether a fault's test holds
+-- whether one of the tests finds this fault
 abbrev pub fires : TextFaultKind → List Test → Bool
 fires f [] = false
 fires f ((g when b) ∷ ts) = cond (fault_number g == fault_number f) b (fires f ts)
 
--- no test of a lesser number holds
+-- no test finds a fault with a lesser number
 abbrev pub NoneFires : TextFaultKind → List Test → Type 0
 NoneFires f ts = (g : TextFaultKind) → fault_number g < fault_number f → fires g ts ≡ false
 
--- the tests stand in the order of the faults' numbers
+-- the tests are in the order of the numbers of their faults, and these are above n
 abbrev pub above : ℕ → List Test → Bool
 above n [] = true
 above n ((g when b) ∷ ts) = nat_lt n (fault_number g) && above (fault_number g) ts
 
--- none of a lesser number holds
+-- so no test finds a fault whose number is at most n
 pub not_below : (n : ℕ) (ts : List Test) (f : TextFaultKind) → above n ts ≡ true → fault_number f ≤ n → fires f ts ≡ false
 not_below n [] f a le = refl
 not_below n ((g when b) ∷ ts) f a le =
@@ -29,12 +29,12 @@ not_below n ((g when b) ∷ ts) f a le =
     let other : (fault_number g == fault_number f) ≡ false = ne_eqb _ _ (λ e. omega (arith, e, lt, le)) in
     rw other (not_below (fault_number g) ts f p.1 (omega (arith, lt, le)))
 
--- a test that doesn't hold tells of no fault
+-- a test that finds nothing finds nothing after another test either
 passed : (b x : Bool) → x ≡ false → cond b false x ≡ false
 passed true x e = refl
 passed false x e = e
 
--- the fault is one whose test holds, and no lesser one's does
+-- the fault that is returned is found by a test, and no test finds a fault with a lesser number
 pub first_fires : {A : Type 0} (n : ℕ) (ts : List Test) (v : A) (f : TextFaultKind) → above n ts ≡ true → unless ts v ≡ Err f → (fires f ts ≡ true) × NoneFires f ts
 first_fires n [] v f a e = absurd cc
 first_fires n ((g when true) ∷ ts) v f a e =
@@ -52,7 +52,7 @@ first_fires n ((g when false) ∷ ts) v f a e =
     let other : (fault_number g == fault_number f) ≡ false = ne_eqb _ _ (λ q. let none : fires f ts ≡ false = not_below (fault_number g) ts f p.1 (omega (arith, q)) in let yes = k.0 in absurd cc) in
     (rw other k.0, λ h lt. passed (fault_number g == fault_number h) (fires h ts) (k.1 h lt))
 
--- where a value is told no test holds
+-- if a value is returned, no test finds a fault
 pub none_fires : {A : Type 0} (ts : List Test) (v u : A) → unless ts v ≡ Ok u → (v ≡ u) × ((g : TextFaultKind) → fires g ts ≡ false)
 none_fires [] v u e = (cc, λ g. refl)
 none_fires ((g when true) ∷ ts) v u e = absurd cc

@@ -38,13 +38,13 @@ one_fault d r w f g hf hg =
     let same : fault_number f ≡ fault_number g = omega (arith, le, ge) in
     sym (back f) ∙ ap kind_at same ∙ back g
 
--- what a judge takes, no row refuses
+-- if the tests accept a word, no row of the table of faults applies to it
 pub word_right : (d : Draft) (r : Role) (w : List ℕ) (v : El r) → word_for d r w ≡ Ok v → IsRight d r w × (value d r w ≡ v)
 word_right d r w v e =
     let k = none_fires (word_tests d r w) (value d r w) v e in
     (λ f h. let none : fires f (word_tests d r w) ≡ false = k.1 f in let some : fires f (word_tests d r w) ≡ true = (told d w f r).1 h in absurd cc, k.0)
 
--- A JUDGE ANSWERS a fault where its row holds and no lesser row does
+-- THE TESTS give a fault only if its row applies and no row with a lesser number does
 pub word_fault : (d : Draft) (r : Role) (w : List ℕ) (f : TextFaultKind) → word_for d r w ≡ Err f → IsFault f d r w
 word_fault d r w f e =
     let k = first_fires 2 (word_tests d r w) (value d r w) f (in_order d w r) e in (
@@ -55,7 +55,7 @@ word_fault d r w f e =
           absurd cc,
     )
 
--- and only there
+-- and if so, they give it
 pub fault_word : (d : Draft) (r : Role) (w : List ℕ) (f : TextFaultKind) → IsFault f d r w → word_for d r w ≡ Err f
 fault_word d r w f h = by_it (word_for d r w) refl
   where
@@ -63,7 +63,7 @@ fault_word d r w f h = by_it (word_for d r w) refl
     by_it (Ok v) e = absurd ((word_right d r w v e).0 f h.0)
     by_it (Err g) e = ap (λ x. Err x) (one_fault d r w g f (word_fault d r w g e) h)
 
--- and it takes what no row refuses
+-- and they accept a word to which no row applies
 pub right_word : (d : Draft) (r : Role) (w : List ℕ) → IsRight d r w → word_for d r w ≡ Ok (value d r w)
 right_word d r w h = by_it (word_for d r w) refl
   where
@@ -130,7 +130,7 @@ abbrev Ends : State → List Word → Stop → Result Draft TextFault → Type 0
 Ends m others stop (Ok d) = (others ≡ []) × (stop_at m stop ≡ Ok d)
 Ends m others stop (Err f) = IsFaulty m others stop f
 
--- the words that were read, and how it ended
+-- the words that were read, and how reading ended
 record Read (s : State) (ws : List Word) (stop : Stop) (r : Result Draft TextFault) : Type 0 where
   pub before : List Word
   pub others : List Word
@@ -167,7 +167,7 @@ unfolding run
 spelled_run [] others s m stop h = ap (λ x. run x others stop) h
 spelled_run (w ∷ ws) others s m stop h = ap (λ j. placed w.place j >>= λ x. run x (ws ++ others) stop) (spells_step s w.text (ws ++ others) h.0 h.1) ∙ spelled_run ws others h.0 m stop h.2
 
--- and what is at fault isn't
+-- and a fault of the next word is the result
 faulty_run : (s : State) (others : List Word) (stop : Stop) (f : TextFault) → IsFaulty s others stop f → run s others stop ≡ Err f
 unfolding run
 faulty_run (between q) [] (ended p) f h = ap (λ b. cond b (Ok q.draft) (unfinished p)) h.1 ∙ ap (λ x. Err x) (sym h.0)
@@ -200,12 +200,12 @@ up_to (w ∷ ws) s place (m, e, inr h) =
       here = t.here;
     }
 
--- are right
+-- those words have no fault
 pub right_up_to : (t : Text) (place : ℕ) → Reaches place start t.words → IsRightUpTo t place
 right_up_to t place h = let k = up_to t.words start place h in record { before = k.before; last = k.last; next = k.next; all = k.all; so_far = k.so_far; spelled = k.spelled; here = k.here }
 
 -- THE LAWS
--- the text may end where it ended
+-- if the end of the words gives a draft, the text may end there
 whole_stop : (m : State) (stop : Stop) (d : Draft) → stop_at m stop ≡ Ok d → IsWhole m d × ((p : ℕ) × (stop ≡ ended p))
 whole_stop (between q) (ended p) d e = by_it (takes_statement q.mode) refl e
   where
@@ -215,7 +215,7 @@ whole_stop (between q) (ended p) d e = by_it (takes_statement q.mode) refl e
 whole_stop (amid x g) (ended p) d e = absurd cc
 whole_stop m (bad p) d e = absurd cc
 
--- and where it may end it ends
+-- and if the text may end, its end gives the draft
 stop_whole : (m : State) (d : Draft) (p : ℕ) → IsWhole m d → stop_at m (ended p) ≡ Ok d
 stop_whole (between q) d p h = ap (λ b. cond b (Ok q.draft) (unfinished p)) h.1 ∙ ap (λ (x : Draft). Ok x) h.0
 stop_whole (amid x g) d p h = absurd h
@@ -240,19 +240,19 @@ pub flaw_of : (t : Text) (f : TextFault) → outcome start t ≡ Err f → IsFla
 unfolding outcome
 flaw_of t f e = let k = tells t.words start t.stop (Err f) e in record { before = k.before; next = k.others; all = k.all; so_far = k.last; spelled = k.spelled; fault = k.ends }
 
--- each flaw is told
+-- each flaw is the result of reading
 pub fault_of : (t : Text) (f : TextFault) → IsFlaw t f → outcome start t ≡ Err f
 unfolding outcome
 fault_of t f h = ap (λ (l : List Word). run start l t.stop) h.all ∙ spelled_run h.before h.next start h.so_far t.stop h.spelled ∙ faulty_run h.so_far h.next t.stop f h.fault
 
--- no word is at fault for memory
+-- out of memory is never the fault of a word
 no_want_of : (d : Draft) (g : Form) (w : List ℕ) → FaultyForm OutOfMemory d g w → ⊥
 no_want_of d (word r more) w h = h.0
 no_want_of d (done p) w h = absurd cc
 no_want_of d (optional k x y) w h = absurd cc
 no_want_of d (ahead k x y) w h = absurd cc
 
--- and so no flaw is one
+-- and so it is no flaw
 pub no_flaw_of_memory : (t : Text) (f : TextFault) → IsFlaw t f → IsOutOfMemory f → ⊥
 no_flaw_of_memory t f h want = by_it h.so_far h.next t.stop h.fault
   where

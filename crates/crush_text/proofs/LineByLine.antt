@@ -1,4 +1,4 @@
--- What comes of a line and of the text behind it.
+-- The result of a line and of the text after it.
 use Rattle.std.proofs.Common.{◌≡◌, ◌⊎◌, Bool, true, false, cond, List, [], ◌∷◌, Result, Ok, Err, refl, sym, ap, ◌∙◌, inl, inr}
 use Rattle.std.specs.Prelude.{drop}
 use Rattle.crush_builder.specs.Built.{Draft}
@@ -13,13 +13,13 @@ use Rattle.crush_text.specs.Tests.{word_for}
 use Rattle.crush_text.specs.Flow.{◌>>=◌, placed, between, amid, arrive, step, takes_statement, run, outcome}
 use Rattle.crush_text.specs.Reads.{next_at, word_at, and_rest, line_at, then_on}
 
--- one of two forms goes on
+-- the same for whichever of two forms is chosen
 either_goes : (b : Bool) (d : Draft) (f g : Form) (t : Text) → run (arrive d t.words f) t.words t.stop ≡ then_on (line_at d f t) → run (arrive d t.words g) t.words t.stop ≡ then_on (line_at d g t)
     → run (cond b (arrive d t.words f) (arrive d t.words g)) t.words t.stop ≡ then_on (cond b (line_at d f t) (line_at d g t))
 either_goes true d f g t x y = x
 either_goes false d f g t x y = y
 
--- a line, and what is behind it
+-- the result of words is that of a line and of the text after it
 pub line_goes : (d : Draft) (f : Form) (ws : List Word) (stop : Stop) → run (arrive d ws f) ws stop ≡ then_on (line_at d f (record { words = ws; stop = stop }))
 unfolding outcome run step line_at word_at next_at
 line_goes d (done p) ws stop = refl
@@ -39,7 +39,7 @@ begins_so : (d : Draft) (m : Mode) (ws : List Word) → arrive d ws (line_forms 
 begins_so d first ws = refl
 begins_so d m ws = refl
 
--- where the text can't end, a line comes next
+-- if the text can't end here, the result is that of the next line
 pub next_goes : (m : Mode) (d : Draft) (t : Text) → takes_statement m ≡ false → outcome (between (at m d)) t ≡ then_on (line_at d (line_forms d m) t)
 unfolding outcome run step
 next_goes m d t amid_line = begun_so t.words t.stop ∙ ap (λ s. run s t.words t.stop) (sym (begins_so d m t.words)) ∙ line_goes d (line_forms d m) t.words t.stop
@@ -49,12 +49,12 @@ next_goes m d t amid_line = begun_so t.words t.stop ∙ ap (λ s. run s t.words 
     begun_so [] (bad p) = refl
     begun_so (w ∷ ws) stop = refl
 
--- where a word comes, a line begins with it
+-- if there is a next word, a line begins with it
 pub word_goes : (m : Mode) (d : Draft) (w : Word) (ws : List Word) (stop : Stop) → outcome (between (at m d)) (record { words = w ∷ ws; stop = stop }) ≡ then_on (line_at d (line_forms d m) (record { words = w ∷ ws; stop = stop }))
 unfolding outcome run step
 word_goes m d w ws stop = ap (λ s. run s (w ∷ ws) stop) (sym (begins_so d m (w ∷ ws))) ∙ line_goes d (line_forms d m) (w ∷ ws) stop
 
--- a fault of what is the same is the fault of all
+-- if two results are equal, a fault of one is a fault of the other
 pub fails_so : {A Y : Type 0} (f : TextFault) (all mid : Result Y TextFault) → all ≡ mid → ⊥ ⊎ (mid ≡ Err f) → A ⊎ (all ≡ Err f)
 fails_so f all mid e (inl h) = absurd h
 fails_so f all mid e (inr h) = inr (e ∙ h)

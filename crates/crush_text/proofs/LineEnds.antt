@@ -15,23 +15,23 @@ use Rattle.crush_text.specs.Flow.{◌>>=◌, placed}
 use Rattle.crush_text.specs.Reads.{and_rest, next_at, word_at, line_at}
 use Rattle.crush_text.specs.ReadsLines.{IsIdle, IsAmid}
 
--- what leaves the pending part alone leaves the builder between two statements
+-- a step that doesn't change the pending part leaves the builder between two statements
 pub still_idle : (old new : BuilderData) (d e : Draft) → old.pending ≡ nothing → IsDraft old d → IsDraft new e → e.pending ≡ d.pending → IsIdle new
 still_idle old new d e idle before after same = record { part = after.pending ∙ same ∙ sym before.pending ∙ idle; some = (e, after) }
 
--- a builder that is as it was is so at the same drafts
+-- an unchanged builder has the same drafts
 pub still : {b c : BuilderData} {d : Draft} → c ≡ b → IsDraft b d → IsDraft c d
 still {d = d} e h = subst (λ (x : BuilderData). IsDraft x d) (sym e) h
 
 pub still_amid : {test : Pending → Bool} {b c : BuilderData} → c ≡ b → IsAmid test b → IsAmid test c
 still_amid {test = test} e h = subst (IsAmid test) (sym e) h
 
--- where there is no word, none is read for any role
+-- if there is no next word, reading it in any role gives the same fault
 pub next_fails : (d : Draft) (r : Role) (t : Text) (f : TextFault) → next_at t ≡ Err f → word_at d r t ≡ Err f
 unfolding word_at
 next_fails d r t f h = ap (λ q. q >>= λ x. placed x.0.place (word_for d r x.0.text) >>= and_rest x.1) h
 
--- where any word but a brace is at fault, so is the word of each role that judges such words further
+-- if reading any word except a brace fails, so does reading a word in a role that has this test first
 pub operand_fails : (d : Draft) (r : Role) (t : Text) (f : TextFault) → ((w : List ℕ) → (more : List Test) × (word_tests d r w ≡ a_word w more)) → word_at d any_word t ≡ Err f → word_at d r t ≡ Err f
 unfolding word_at
 operand_fails d r t f words h = by_word (next_at t) h
@@ -53,12 +53,12 @@ word_err d r more t f h = ap (λ q. q >>= λ x. line_at d (more x.0) x.1) h
 pub word_fails : {A : Type 0} (d : Draft) (r : Role) (more : El r → Form) (t : Text) (f : TextFault) → word_at d r t ≡ Err f → A ⊎ (line_at d (word r more) t ≡ Err f)
 word_fails d r more t f h = inr (word_err d r more t f h)
 
--- a line that goes on behind its first word
+-- reading a line is reading its first word, and then the form that depends on the word's value
 pub word_reads : (d : Draft) (r : Role) (more : El r → Form) (v : El r) (t rest : Text) → word_at d r t ≡ Ok (v, rest) → line_at d (word r more) t ≡ line_at d (more v) rest
 unfolding line_at
 word_reads d r more v t rest is = ap (λ q. q >>= λ x. line_at d (more x.0) x.1) is
 
--- an optional part by whether its key is next
+-- an optional part is there if its key is the next word
 pub part_reads : (d : Draft) (k : List ℕ) (f g : Form) (t : Text) (b : Bool) → b ≡ begins k t → line_at d (optional k f g) t ≡ (if b then line_at d f t else line_at d g t)
 unfolding line_at
 part_reads d k f g t b e = ap (λ (c : Bool). if c then line_at d f t else line_at d g t) (sym e)
@@ -78,7 +78,7 @@ pub device_reads : (d : Draft) (n : ℕ) (x : List ℕ) (t t1 t2 : Text) → wor
 unfolding line_at
 device_reads d n x t t1 t2 a b = rw (a, b) refl
 
--- with its class, behind the key
+-- the class of a device, after the key
 pub class_reads : (d : Draft) (n : ℕ) (x c : List ℕ) (t rest : Text) → word_at d any_word t ≡ Ok (c, rest) → line_at d (word any_word (λ y. done (at first (with_device d n x (Some y))))) t ≡ Ok (at first (with_device d n x (Some c)), rest)
 unfolding line_at
 class_reads d n x c t rest is = ap (λ q. q >>= λ y. Ok (at first (with_device d n x (Some y.0)), y.1)) is

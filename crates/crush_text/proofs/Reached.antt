@@ -1,4 +1,4 @@
--- Which places words reach without a fault, and how lines lead on.
+-- Which places are reached without a fault, and how reading goes from line to line.
 use Rattle.std.proofs.Common.{◌≡◌, ℕ, Bool, true, false, cond, List, [], ◌∷◌, Result, Ok, Err, refl, sym, ap, subst, ◌∙◌, inl, inr}
 use Rattle.std.specs.Prelude.{drop, not, if◌then◌else◌}
 use Rattle.crush_builder.specs.Built.{Draft}
@@ -18,7 +18,7 @@ use Rattle.crush_text.specs.ReadsWords.{StoodAt}
 use Rattle.crush_text.specs.ReadsLines.{Goes}
 use Rattle.crush_text.proofs.LineByLine.{line_goes, next_goes}
 
--- what a word says of the state behind it
+-- the state after a word that has no fault
 stepped : (d : Draft) (r : Role) (more : El r → Form) (v : El r) (w : List ℕ) (ws : List Word) → word_for d r w ≡ Ok v → step (amid d (word r more)) w ws ≡ Ok (arrive d ws (more v))
 unfolding step
 stepped d r more v w ws e = ap (λ j. j >>= λ x. Ok (arrive d ws (more x))) e
@@ -44,7 +44,7 @@ taken d r v t rest e = by_words t.words t.stop refl e
     by_words [] (bad p) is e = absurd cc
     by_words (w ∷ ws) stop is e = by_value w ws stop is (word_for d r w.text) refl e
 
--- where a word stood
+-- the place of a word that was read
 stood : (t rest : Text) (p : ℕ) (w : Word) (ws : List Word) → t.words ≡ w ∷ ws → StoodAt t rest p → p ≡ w.place
 unfolding next_at
 stood t rest p w ws is h = by_it (ap (λ l. next_of l t.stop) (sym is) ∙ h.1)
@@ -61,7 +61,7 @@ key_taken d k t e = by_words t.words t.stop e
     by_words [] stop e = absurd cc
     by_words (w ∷ ws) stop e = ap (λ b. placed w.place (unless ((Unexpected when not b) ∷ []) tt) >>= and_rest (record { words = ws; stop = stop })) (sym e)
 
--- an optional part whose key is taken where it is next
+-- an optional part, if its key is read when it is the next word
 pub part_taken : (d : Draft) (k : List ℕ) (f g : Form) (t rest : Text) (b : Bool) → b ≡ begins k t → rest ≡ (if b then past t else t) → line_at d (optional k (word (key k) (λ _. f)) g) t ≡ (if b then line_at d f rest else line_at d g rest)
 unfolding line_at
 part_taken d k f g t rest true e is = ap (λ c. if c then line_at d (word (key k) (λ _. f)) t else line_at d g t) (sym e) ∙ ap (λ q. q >>= λ x. line_at d f x.1) (key_taken d k t e) ∙ ap (λ u. line_at d f u) (sym is)
@@ -73,7 +73,7 @@ reaches_word d r more v t rest stop p e h =
     let k = taken d r v t rest e in
     subst (λ (ws : List Word). Reaches p (amid d (word r more)) ws) (sym k.words) (_, stepped d r more v k.word.text rest.words k.value, inl (stood t stop p k.word rest.words k.words h))
 
--- and what is reached behind it
+-- and so is each place that is reached after it
 pub reaches_on : (d : Draft) (r : Role) (more : El r → Form) (v : El r) (t rest : Text) (p : ℕ) → word_at d r t ≡ Ok (v, rest) → Reaches p (arrive d rest.words (more v)) rest.words → Reaches p (arrive d t.words (word r more)) t.words
 reaches_on d r more v t rest p e h =
     let k = taken d r v t rest e in
@@ -95,7 +95,7 @@ either_reaches : (b : Bool) (d : Draft) (f g : Form) (q : Progress) (t rest : Te
 either_reaches true d f g q t rest p e x y = x e
 either_reaches false d f g q t rest p e x y = y e
 
--- A LINE that was read leads on
+-- A LINE that was read: what is reached after it is reached from its beginning
 reaches_behind : (d : Draft) (f : Form) (q : Progress) (t rest : Text) (p : ℕ) → line_at d f t ≡ Ok (q, rest) → Reaches p (between q) rest.words → Reaches p (arrive d t.words f) t.words
 unfolding line_at
 reaches_behind d (done x) q t rest p e h =
@@ -114,7 +114,7 @@ pub line_leads : (d : Draft) (f : Form) (q : Progress) (t rest : Text) → line_
 unfolding outcome
 line_leads d f q t rest e = record { same = line_goes d f t.words t.stop ∙ ap then_on e; reaches = λ p h. reaches_behind d f q t rest p e h }
 
--- where the text can't end, the line that comes next is reached
+-- if the text can't end here, reading leads to the next line
 pub next_leads : (m : Mode) (d : Draft) (t : Text) → takes_statement m ≡ false → LeadsOn (between (at m d)) t (arrive d t.words (line_forms d m)) t
 unfolding outcome step
 next_leads m d t amid_line = record { same = next_goes m d t amid_line ∙ sym (line_goes d (line_forms d m) t.words t.stop); reaches = λ p h. by_mode m t.words p h }
@@ -127,29 +127,29 @@ next_leads m d t amid_line = record { same = next_goes m d t amid_line ∙ sym (
     by_mode first ws p h = by_words first ws p h
     by_mode n ws p h = by_words n ws p h
 
--- one after the other
+-- two parts of the text, one after the other
 pub leads_then : (s m n : State) (t u v : Text) → LeadsOn s t m u → LeadsOn m u n v → LeadsOn s t n v
 leads_then s m n t u v a b = record { same = a.same ∙ b.same; reaches = λ p h. a.reaches p (b.reaches p h) }
 
 pub no_words : (s : State) (t : Text) → LeadsOn s t s t
 no_words s t = record { same = refl; reaches = λ p h. h }
 
--- memory that was refused at a place that is reached
+-- out of memory at a place that is reached
 pub out_of_memory_here : (f : TextFault) (p : ℕ) (s : State) (ws : List Word) → f ≡ record { kind = OutOfMemory; place = p } → Reaches p s ws → IsOutOfMemory f × Reaches f.place s ws
 out_of_memory_here f p s ws e h = (ap (λ (x : TextFault). x.kind) e, subst (λ (q : ℕ). Reaches q s ws) (sym (ap (λ (x : TextFault). x.place) e)) h)
 
--- a fault behind words that lead on is one of all
+-- a fault after words without a fault is a fault of them all
 pub fails_then : (f : TextFault) (s m : State) (t u : Text) → LeadsOn s t m u → Fails f m u → Fails f s t
 fails_then f s m t u a (inl h) = inl (h.0, a.reaches f.place h.1)
 fails_then f s m t u a (inr h) = inr (a.same ∙ h)
 
--- and that of a line
+-- the same for the fault of a line
 pub fails_line : (f : TextFault) (d : Draft) (g : Form) (t : Text) → FailsIn f d g t → Fails f (arrive d t.words g) t
 unfolding outcome
 fails_line f d g t (inl h) = inl h
 fails_line f d g t (inr h) = inr (line_goes d g t.words t.stop ∙ ap then_on h)
 
--- a call that goes on where others ended
+-- the result of a call that reads on where an earlier one ended
 pub goes_on : {X : Type 0} (m : X → Mode) (r : Result X TextFault) (b : BuilderData) (rest : Text) (s n : State) (t u : Text) → LeadsOn s t n u → Goes m r b rest n u → Goes m r b rest s t
 goes_on m (Ok x) b rest s n t u a h = (h.0, h.1, leads_then s n _ t u rest a h.2)
 goes_on m (Err f) b rest s n t u a h = fails_then f s n t u a h

@@ -1,4 +1,4 @@
--- Where a function fails it promises no more than its fault.
+-- If a function fails, its contract promises nothing except the fault.
 use Rattle.std.proofs.Common.{◌≡◌, ℕ, Bool, List, Result, Ok, Err, Option, inl}
 use Rattle.std.specs.Prelude.{OnOk, IsErrAnd, MatchResult}
 use Rattle.crush_builder.specs.Built.{Draft}
@@ -21,26 +21,26 @@ use Rattle.crush_text.specs.ReadsRules.{ReadsHead, ReadsSize, GivesStep, ReadsSt
 use Rattle.crush_text.specs.ReadsStatements.{behind, ReadsNext, ReadsAll}
 use Rattle.crush_text.proofs.Reached.{out_of_memory_here}
 
--- no name was read
+-- a function that reads a name fails
 pub no_name : (r : Role) (drafts : Draft → Type 0) (old new : Text) (f : TextFault) → ((d : Draft) → drafts d → word_at d r old ≡ Err f) → ReadsWord r drafts old new (Err f)
 no_name r drafts old new f h = record { gives = h; next = tt; plain = tt; named = tt; free = tt; shorter = tt }
 
--- nor a value
+-- a function that reads a value fails
 pub no_value : {X : Type 0} (r : Role) {view : X → El r} (drafts : Draft → Type 0) (old new : Text) (f : TextFault) → ((d : Draft) → drafts d → word_at d r old ≡ Err f) → ReadsValue r view drafts old new (Err f)
 no_value r drafts old new f h = record { gives = h; range = tt; free = tt; shorter = tt }
 
--- nor by a method, which leaves the builder as it was
+-- a method that reads a name fails, and leaves the builder unchanged
 pub finds_no_name : {A : _} (r : Role) (old new : MapReader A) (f : TextFault) → new.builder ≡ old.builder → ((d : Draft) → IsDraft old.builder d → word_at d r old.text ≡ Err f) → FindsWord r old new (Err f)
 finds_no_name r old new f kept h = record { reads = no_name r _ _ _ f h; kept = kept }
 
 pub finds_no_value : {A : _} {X : Type 0} (r : Role) {view : X → El r} (old new : MapReader A) (f : TextFault) → new.builder ≡ old.builder → ((d : Draft) → IsDraft old.builder d → word_at d r old.text ≡ Err f) → FindsValue r view old new (Err f)
 finds_no_value r old new f kept h = record { reads = no_value r _ _ _ f h; kept = kept }
 
--- no line
+-- a function that reads a line fails
 pub no_line : {A : _} {X : Type 0} (form : Draft → Form) (mode : X → Mode) (old new : MapReader A) (f : TextFault) → ((d : Draft) → IsDraft old.builder d → FailsIn f d (form d) old.text) → ReadsLine form mode old new (Err f)
 no_line form mode old new f h = record { reads = h; stands = tt; shorter = tt }
 
--- the builder makes what a line says, or is out of memory, which is told at a place that the line reaches
+-- the builder makes what the line says; or memory runs out, which is reported at a place that the line reaches
 pub line_or_memory : {A : _} {E P : Type 0} {form : Draft → Form} {mode : Unit {0} → Mode} {old new : MapReader A} (made : Result (Unit {0}) E) (told : E → TextFault → Type 0) (x : Result (Unit {0}) TextFault) (place : ℕ)
     → MatchResult made (λ u. x ≡ Ok u) (λ e. IsErrAnd x (told e)) → ((e : E) (f : TextFault) → told e f → f ≡ record { kind = OutOfMemory; place = place }) → ((d : Draft) → IsDraft old.builder d → Reaches place (arrive d old.text.words (form d)) old.text.words)
     → OnOk made P → (P → ReadsLine form mode old new (Ok tt)) → ReadsLine form mode old new x
@@ -48,11 +48,11 @@ line_or_memory (Ok u) told x place is want here ok reads = rw is (reads ok)
 line_or_memory (Err e) told (Ok u) place is want here ok reads = absurd is
 line_or_memory {form = form} {mode = mode} {old = old} {new = new} (Err e) told (Err f) place is want here ok reads = no_line form mode old new f (λ d h. inl (out_of_memory_here f place (arrive d old.text.words (form d)) old.text.words (want e f is) (here d h)))
 
--- no lines
+-- a function that reads lines fails
 pub no_lines : {A : _} {X : Type 0} (from : Draft → State) (mode : X → Mode) (old new : MapReader A) (f : TextFault) → ((d : Draft) → IsDraft old.builder d → Fails f (from d) old.text) → ReadsOn from mode old new (Err f)
 no_lines from mode old new f h = record { reads = h; stands = tt; shorter = tt }
 
--- the builder makes what lines say, or is out of memory
+-- the builder makes what the lines say, or memory runs out
 pub lines_or_memory : {A : _} {E P : Type 0} {from : Draft → State} {mode : Unit {0} → Mode} {old new : MapReader A} (made : Result (Unit {0}) E) (told : E → TextFault → Type 0) (x : Result (Unit {0}) TextFault) (place : ℕ)
     → MatchResult made (λ u. x ≡ Ok u) (λ e. IsErrAnd x (told e)) → ((e : E) (f : TextFault) → told e f → f ≡ record { kind = OutOfMemory; place = place }) → ((d : Draft) → IsDraft old.builder d → Reaches place (from d) old.text.words)
     → OnOk made P → (P → ReadsOn from mode old new (Ok tt)) → ReadsOn from mode old new x

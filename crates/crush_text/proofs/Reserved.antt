@@ -1,4 +1,4 @@
--- The words that begin a statement or a part of one, and no bucket.
+-- The reserved words: they begin a statement or a part of one, but no bucket.
 use Rattle.std.proofs.Common.{◌≡◌, ℕ, Bool, true, false, List, refl, sym, ◌∙◌}
 use Rattle.std.proofs.lemmas.Bool.{or_parts, or_from}
 use Rattle.std.proofs.lemmas.Slice.Eq.{bytes_eq-Decides}
@@ -14,7 +14,7 @@ pub record NoKey (k : List ℕ) : Type 0 where
   pub class : bytes_eq k (codes "class") ≡ false
   pub weights : bytes_eq k (codes "choose_args") ≡ false
 
--- that bytes differ doesn't depend on which stand first
+-- bytes differ in either order
 differs : (a b : List ℕ) → bytes_eq a b ≡ false → bytes_eq b a ≡ false
 differs a b e = by_test (bytes_eq b a) refl
   where

@@ -26,18 +26,18 @@ use Rattle.crush_text.specs.ReadsRules.{IsRightSoFar}
 use Rattle.crush_text.proofs.LineEnds.{still}
 use Rattle.crush_text.proofs.Reached.{reaches_word, reaches_on}
 
--- a step goes on as its first word says
+-- after its first word, a step is what that word requires
 pub step_goes : (d : Draft) (r : RuleData) (w : StepWord) (t rest : Text) → word_at d step_word t ≡ Ok (w, rest) → line_at d (word step_word (step_behind d r)) t ≡ line_at d (step_behind d r w) rest
 unfolding line_at
 step_goes d r w t rest is = ap (λ q. q >>= λ x. line_at d (step_behind d r x.0) x.1) is
 
--- and a function that reads on gives what the step gives
+-- a function that reads the rest gives what the step gives
 pub step_gives : {X : Type 0} (view : X → Progress × Text) (x : Result X TextFault) (d : Draft) (r : RuleData) (w : StepWord) (t rest : Text) → word_at d step_word t ≡ Ok (w, rest) → GivesLine view x d (step_behind d r w) rest → GivesLine view x d (word step_word (step_behind d r)) t
 step_gives view (Ok x) d r w t rest is h = step_goes d r w t rest is ∙ h
 step_gives view (Err f) d r w t rest is (inl h) = inl (h.0, reaches_on d step_word (step_behind d r) w t rest f.place is h.1)
 step_gives view (Err f) d r w t rest is (inr h) = inr (step_goes d r w t rest is ∙ h)
 
--- what needs no memory gives what the line gives
+-- a function that can't run out of memory gives what the line gives
 pub gives_line : {X : Type 0} (view : X → Progress × Text) (x : Result X TextFault) (d : Draft) (g : Form) (t : Text) → Gives view x (line_at d g t) → GivesLine view x d g t
 gives_line view (Ok x) d g t h = h
 gives_line view (Err f) d g t h = inr h
@@ -47,7 +47,7 @@ pub id_or_alg_goes : (d : Draft) (more : Bool) (t rest : Text) → word_at d id_
 unfolding line_at
 id_or_alg_goes d more t rest is = ap (λ q. q >>= λ x. line_at d (id_or_alg_line d x.0) x.1) is
 
--- and a fault behind that word
+-- and a fault after that word
 pub id_or_alg_fails : (f : TextFault) (d : Draft) (more : Bool) (t rest : Text) → word_at d id_or_alg t ≡ Ok (more, rest) → FailsIn f d (id_or_alg_line d more) rest → FailsIn f d (line_forms d numbered) t
 id_or_alg_fails f d more t rest is (inl h) = inl (h.0, reaches_on d id_or_alg (id_or_alg_line d) more t rest f.place is h.1)
 id_or_alg_fails f d more t rest is (inr h) = inr (id_or_alg_goes d more t rest is ∙ h)
@@ -71,7 +71,7 @@ pub head_goes : (d : Draft) (x : List ℕ) (n : ℕ) (k : List ℕ) (t t1 t2 t3 
 unfolding line_at
 head_goes d x n k t t1 t2 t3 t4 t5 t6 a b c e f h = rw (a, b, c, e, f, h) refl
 
--- the name of a rule and the word behind `type` are reached
+-- the name of a rule and the word after `type` are reached without a fault
 pub kind_reached : (d : Draft) (x : List ℕ) (n : ℕ) (k : List ℕ) (t t1 t2 t3 t4 t5 t6 : Text) (p : ℕ) → word_at d rule_name t ≡ Ok (x, t1) → word_at d (key (codes "{")) t1 ≡ Ok (tt, t2) → word_at d rule_id_key t2 ≡ Ok (tt, t3)
     → word_at d rule_id t3 ≡ Ok (n, t4) → word_at d (key (codes "type")) t4 ≡ Ok (tt, t5) → word_at d any_word t5 ≡ Ok (k, t6) → StoodAt t5 t6 p → Reaches p (arrive d t.words (rule_line d)) t.words
 kind_reached d x n k t t1 t2 t3 t4 t5 t6 p a b c e f h is =
@@ -87,7 +87,7 @@ pub step_or_end_goes : (d : Draft) (r : RuleData) (n : ℕ) (more : Bool) (t res
 unfolding line_at
 step_or_end_goes d r n more t rest e is = ap (λ (m : ℕ). word_at d (step_or_end m) t >>= λ x. line_at d (step_or_brace d r x.0) x.1) (sym e) ∙ ap (λ q. q >>= λ x. line_at d (step_or_brace d r x.0) x.1) is
 
--- and a fault of a step behind that word
+-- and a fault of the step after that word
 pub step_fails : (f : TextFault) (d : Draft) (r : RuleData) (n : ℕ) (t rest : Text) → n ≡ length r.steps → word_at d (step_or_end n) t ≡ Ok (true, rest) → FailsIn f d (word step_word (step_behind d r)) rest → FailsIn f d (line_forms d (ruled r)) t
 step_fails f d r n t rest e is (inl h) = inl (h.0, reaches_on d (step_or_end (length r.steps)) (step_or_brace d r) true t rest f.place (subst (λ (m : ℕ). word_at d (step_or_end m) t ≡ Ok (true, rest)) e is) h.1)
 step_fails f d r n t rest e is (inr h) = inr (step_or_end_goes d r n true t rest e is ∙ h)
@@ -112,7 +112,7 @@ head_made d x n k least most (Ok r) t u a b e ra rb h m = e ∙ done_reads d _ u
 head_made d x n k least most (Err f) t u a b e ra rb h (w, inl q) = inl (w, subst (λ (p : ℕ). Reaches p (arrive d t.words (rule_line d)) t.words) (sym q) ra)
 head_made d x n k least most (Err f) t u a b e ra rb h (w, inr q) = inl (w, subst (λ (p : ℕ). Reaches p (arrive d t.words (rule_line d)) t.words) (sym q) rb)
 
--- and is free where its name and its id are
+-- and it is free if its name and its id are
 pub head_right : (b c : BuilderData) (x : List ℕ) (n : ℕ) (k : List ℕ) (least most : Option ℕ) (r : Result Rule TextFault) → c ≡ b → IfOk r IsRuleForm → IfOk r (IsHead x n k least most)
     → ((d : Draft) → IsDraft b d → has_rule_name d.setting x ≡ false) → ((d : Draft) → IsDraft b d → has_rule_id d.setting n ≡ false) → IfOk r (IsRightSoFar c)
 head_right b c x n k least most (Ok r) e form h name id = record {
@@ -125,7 +125,7 @@ head_right b c x n k least most (Ok r) e form h name id = record {
 }
 head_right b c x n k least most (Err f) e form h name id = tt
 
--- a step behind others is free where it names what is there and there is room
+-- one more step has no fault if it names what exists and there is room
 steps_on : (d : Draft) (k : ℕ) (xs : List Step) (s : Step) → steps_fault d k xs ≡ None → k + length xs < MOST_STEPS → word_fault d s ≡ None → steps_fault d k (xs ++ s ∷ []) ≡ None
 steps_on d k [] s free lt there = let room : nat_le MOST_STEPS k ≡ false = lt-leb _ _ (omega (arith, lt)) in rw (room, there) refl
 steps_on d k (x ∷ xs) s free lt there = by_it (step_fault d k x) free (λ e. steps_on d (k + 1) xs s e (omega (arith, lt)) there)

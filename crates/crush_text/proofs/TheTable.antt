@@ -1,4 +1,4 @@
--- Each test holds where its row of the table of faults does, and nowhere else but where a lesser test holds.
+-- Each test finds its fault if the fault's row of the table applies; and only then, unless a test with a lesser number finds one.
 use Rattle.std.proofs.Common.{◌≡◌, ◌≢◌, ℕ, ◌<◌, ◌≤◌, ◌⊎◌, Bool, true, false, cond, List, Option, Some, None, Result, Ok, Err, refl, sym, ap, subst, ◌∙◌, arith, inl, inr}
 use Rattle.std.proofs.lemmas.Bool.{or_parts, or_from}
 use Rattle.std.proofs.lemmas.Bool.Decides.{Decides-like, Decides-not, Decides-and, Decides-or, Decides-eqb, leb_tells}
@@ -40,17 +40,17 @@ each_row = (λ e. tt, λ h. refl)
 itself : (b : Bool) → Decides b (b ≡ true)
 itself b = (λ e. e, λ e. e)
 
--- and one that doesn't hold
+-- the negation of a test means that the test doesn't hold
 isnt : (b : Bool) → Decides (not b) (b ≡ false)
 isnt true = (λ e. absurd cc, λ e. absurd cc)
 isnt false = (λ e. refl, λ e. refl)
 
--- one that doesn't fail holds
+-- a test whose negation doesn't hold does hold
 not_not : (b : Bool) → not b ≡ false → b ≡ true
 not_not true e = refl
 not_not false e = absurd cc
 
--- whether nothing is there
+-- whether an option is `None`
 none_tells : {A : Type 0} (o : Option A) → Decides (not (is_some o)) (o ≡ None)
 none_tells None = (λ e. refl, λ e. refl)
 none_tells {A = A} (Some x) = (λ e. absurd cc, λ e. absurd (let no : (let n : Option A = Some x in n) ≡ None = e in cc))
@@ -67,7 +67,7 @@ none_of_two w k l = Decides-like _ (λ h. (λ e. h (inl e), λ e. h (inr e))) (�
     by_side h (inl e) = h.0 e
     by_side h (inr e) = h.1 e
 
--- nor another one where it may stand
+-- nor a third word, if it is allowed
 nor_third : (b : Bool) (w k l m : List ℕ) → Decides (not (is_either w k l || (b && bytes_eq w m))) ((w ≢ k) × (w ≢ l) × (b ≡ true → w ≢ m))
 nor_third b w k l m = Decides-like _ (λ h. (λ e. h (inl (inl e)), λ e. h (inl (inr e)), λ t e. h (inr (t, e)))) (λ h s. by_side h s) (Decides-not _ (Decides-or _ _ (either_tells w k l) (Decides-and _ _ (itself b) (bytes_eq-Decides w m))))
   where
@@ -101,7 +101,7 @@ no_weight_tells (Bucket b) (Ok w) = no_row
 
 -- THE FIRST WORD of a statement
 module _ (d : Draft) (w : List ℕ) where
-  -- it isn't known, and so its row holds
+  -- if the word isn't known, the row of an unknown type applies
   unknown_row : bytes_eq w (codes "class") ≡ false → is_known d w ≡ false → (is_reserved w ≡ false) × (is_bucket_kind d.setting (kind_of_word d w) ≡ false)
   unknown_row other unknown =
       let early = or_parts (comes_first w) _ unknown in
@@ -117,7 +117,7 @@ module _ (d : Draft) (w : List ℕ) where
       let n = no_key w h.0 in
       or_from _ _ (or_from _ _ n.tunable (or_from _ _ n.device n.kind)) (or_from _ _ (or_from _ _ n.rule n.weights) h.1)
 
-  -- it is known and there is no room for what it begins, and so its row holds
+  -- if the word is known and there is no room for what it begins, the row of too many applies
   full_row : bytes_eq w (codes "class") ≡ false → bytes_eq w (codes "choose_args") ≡ false → is_known d w ≡ true → is_full d w ≡ true → IsOneTooMany d w
   full_row other read known full = by_it (bytes_eq w (codes "tunable")) (bytes_eq w (codes "device")) (bytes_eq w (codes "type")) (bytes_eq w (codes "rule")) (bytes_eq w (codes "choose_args")) refl refl refl refl refl read known full
     where
@@ -131,7 +131,7 @@ module _ (d : Draft) (w : List ℕ) where
       by_it false false false false true ha hb hc he hx r k f = absurd cc
       by_it false false false false false ha hb hc he hx r k f = inr (inr (inr (inr ((not_reserved w (record { tunable = ha; device = hb; kind = hc; rule = he; class = other; weights = hx }), k), f))))
 
-  -- then there is no room
+  -- and the other way round, there is no room
   row_full : IsOneTooMany d w → is_full d w ≡ true
   row_full (inl h) = subst (λ (x : List ℕ). is_full d x ≡ true) (sym h.0) h.1
   row_full (inr (inl h)) = subst (λ (x : List ℕ). is_full d x ≡ true) (sym h.0) h.1
@@ -139,30 +139,30 @@ module _ (d : Draft) (w : List ℕ) where
   row_full (inr (inr (inr (inl h)))) = subst (λ (x : List ℕ). is_full d x ≡ true) (sym h.0) h.1
   row_full (inr (inr (inr (inr h)))) = let n = no_key w h.0.0 in rw (n.tunable, n.device, n.kind, n.rule) h.1
 
--- AN ITEM BY ITS NAME: where it is there the test is of it
+-- AN ITEM BY ITS NAME: if the item exists, the test is of this item
 named_row : (P : ItemId → Bool) (o : Option ItemId) → not (is_some o) ≡ false → P (unwrap_or o (Device 0)) ≡ true → (i : ItemId) × (o ≡ Some i) × (P i ≡ true)
 named_row P (Some i) there e = (i, refl, e)
 named_row P None there e = absurd cc
 
--- and it is told by the name
+-- and the other way round
 row_named : (P : ItemId → Bool) (o : Option ItemId) → (i : ItemId) × (o ≡ Some i) × (P i ≡ true) → P (unwrap_or o (Device 0)) ≡ true
 row_named P o h = ap (λ (x : Option ItemId). P (unwrap_or x (Device 0))) h.1 ∙ h.2
 
--- A WEIGHT that its item may have: the test is of it
+-- A WEIGHT that its item may have: the test is of this weight
 weighed_row : (i : ItemId) (P : ℕ → Bool) (r : Result ℕ WeightFault) → not (is_weight_for i r) ≡ false → P (units_or_none r) ≡ true → (u : ℕ) × (r ≡ Ok u) × (IsNoWeightOf i (Ok u) → ⊥) × (P u ≡ true)
 weighed_row i P (Ok u) fit e = (u, refl, λ no. let not_fit = (no_weight_tells i (Ok u)).1 no in absurd cc, e)
 weighed_row i P (Err f) fit e = absurd cc
 
--- and it is told by the text
+-- the other way round, from the weight to the test
 row_weighed : (i : ItemId) (P : ℕ → Bool) (r : Result ℕ WeightFault) → (u : ℕ) × (r ≡ Ok u) × (IsNoWeightOf i (Ok u) → ⊥) × (P u ≡ true) → P (units_or_none r) ≡ true
 row_weighed i P r h = ap (λ (x : Result ℕ WeightFault). P (units_or_none x)) h.1 ∙ h.3
 
--- `pos` BEHIND AN ITEM: where none stands before it, it is unexpected
+-- `pos` AFTER AN ITEM: if no item is before it, it is unexpected
 behind_item : (any : Bool) (w : List ℕ) → w ≡ codes "pos" → not (is_either w (codes "item") (codes "}") || (any && bytes_eq w (codes "pos"))) ≡ false → any ≡ true
 behind_item true w e h = refl
 behind_item false w e h = absurd (let no : true ≡ false = subst (λ (x : List ℕ). not (is_either x (codes "item") (codes "}") || (false && bytes_eq x (codes "pos"))) ≡ false) e h in cc)
 
--- a word with which a step begins, or that isn't read there
+-- a word with which a step begins, or `choosemsr`, which isn't supported
 abbrev StepSaid : List ℕ → Type 0
 StepSaid w = ((w ≡ codes "take") ⊎ (((w ≡ codes "choose") ⊎ (w ≡ codes "chooseleaf")) ⊎ ((w ≡ codes "emit") ⊎ (starts_with nat_eq w (codes "set_") ≡ true)))) ⊎ (w ≡ codes "choosemsr")
 
@@ -179,7 +179,7 @@ no_step_tells w = Decides-like _ (λ h. (λ e. h (inl (inl e)), (λ e. h (inl (i
     by_side h (inl (inr (inr (inr t)))) = let f = h.3 in absurd cc
     by_side h (inr e) = h.4 e
 
--- a number that is no less
+-- the test that a number is at most another
 le_tells : (a b : ℕ) → Decides (nat_le a b) (a ≤ b)
 le_tells a b = by_it (nat_le a b) (leb_tells a b)
   where
@@ -187,17 +187,17 @@ le_tells a b = by_it (nat_le a b) (leb_tells a b)
     by_it c (inl p) = (λ e. p.1, λ le. p.0)
     by_it c (inr p) = (λ e. let f = p.0 in absurd cc, λ le. absurd (let lt = p.1 in omega (arith, lt, le)))
 
--- A TEST AMONG OTHERS means so where no lesser one holds, and holds where it is so
+-- A TEST AMONG OTHERS: if it holds and no test with a lesser number does, then its meaning is true; and if its meaning is true, it holds
 abbrev Means : TextFaultKind → List Test → Type 0 → Type 0
 Means f ts A = (fires f ts ≡ true → NoneFires f ts → A) × (A → fires f ts ≡ true)
 
--- one that means so wherever it holds
+-- a test whose meaning is true whenever it holds
 alone : (b : Bool) (N A : Type 0) → Decides b A → (b ≡ true → N → A) × (A → b ≡ true)
 alone b N A t = (λ e none. t.0 e, λ h. t.1 h)
 
 -- THE ROWS, one by one
 module _ (d : Draft) (w : List ℕ) where
-  -- the tests stand in the order of the rows
+  -- the tests are in the order of the rows
   pub in_order : (r : Role) → above 2 (word_tests d r w) ≡ true
   in_order (key k) = refl
   in_order r = refl
@@ -301,7 +301,7 @@ module _ (d : Draft) (w : List ℕ) where
   no_memory (key k) = no_row
   no_memory r = no_row
 
-  -- a test holds where its row does, and nowhere else where no lesser test holds
+  -- a test holds if its row applies; and if no test with a lesser number holds, only then
   pub told : (f : TextFaultKind) (r : Role) → Means f (word_tests d r w) (Holds f d r w)
   told BadWord r = alone _ _ _ (Decides-like _ (λ e. let n = not_below 2 (word_tests d r w) BadWord (in_order r) (omega arith) in absurd cc) (λ h. absurd h) (itself _))
   told Ended r = alone _ _ _ (Decides-like _ (λ e. let n = not_below 2 (word_tests d r w) Ended (in_order r) (omega arith) in absurd cc) (λ h. absurd h) (itself _))

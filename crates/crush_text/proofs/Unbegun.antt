@@ -1,4 +1,4 @@
--- What is told of a text where no map was begun.
+-- The fault of a text if there is no memory even for an empty map.
 use Rattle.std.proofs.Common.{◌≡◌, ℕ, Bool, true, false, List, [], ◌∷◌, Result, Ok, Err, refl, sym, ap, subst, ◌∙◌, inl, inr}
 use Rattle.std.specs.Prelude.{not, ◌||◌, if◌then◌else◌, bytes_eq, codes}
 use Rattle.crush_builder.specs.Built.{empty_draft}
@@ -43,7 +43,7 @@ first_fails place w o k s f a b c e = inr (ap (placed place) (word_judged w ∙ 
 pub first_memory : (place : ℕ) (w : List ℕ) → is_out_of_place false w ≡ false → bytes_eq w (codes "choose_args") ≡ false → opens_alone w ≡ true → FailsFirst (record { kind = OutOfMemory; place = place }) place w
 first_memory place w a b c = inl (refl, refl, (opened empty_draft w, word_judged w ∙ (λ i. verdict (a i) (b i) (c i) (opened empty_draft w))))
 
--- what a first word tells is told of the text
+-- the fault of the first word is that of the text
 pub text_unopened : (t rest : Text) (place : ℕ) (w : List ℕ) (f : TextFault) → t ≡ first_word place w rest → FailsFirst f place w → FailsText f t
 unfolding step
 text_unopened t rest place w f is (inl (want, here, (o, e))) =

@@ -1,4 +1,4 @@
--- An item of a bucket, with a weight or without: its words, and what comes of its line.
+-- An item of a bucket, with a weight or without one: its words, and the result of its line.
 use Rattle.std.proofs.Common.{◌≡◌, ℕ, Bool, true, false, cond, List, [], ◌∷◌, Option, None, Result, Ok, Err, refl, sym, ap, subst, ◌∙◌, inl, inr}
 use Rattle.std.specs.Prelude.{not, codes, is_some, Some, if◌then◌else◌}
 use Rattle.std.specs.Option.{ok_or}
@@ -19,16 +19,16 @@ use Rattle.crush_text.specs.Form.{filling, at, Form, done, word}
 use Rattle.crush_text.specs.Grammar.{item_weight_line, weighed_item, weightless_item, item_line, item_or_brace, line_forms}
 use Rattle.crush_text.specs.Tests.{is_weight_for, word_for}
 use Rattle.crush_text.specs.Flow.{◌>>=◌, placed, arrive, Reaches}
-use Rattle.crush_text.specs.Reads.{own_weight, unless_heavy, and_rest, next_of, next_at, word_at, line_at, FailsIn}
+use Rattle.crush_text.specs.Reads.{parsed_weight, unless_heavy, and_rest, next_of, next_at, word_at, line_at, FailsIn}
 use Rattle.crush_text.specs.ReadsLines.{Adds, LineGoes}
 use Rattle.crush_text.proofs.Reached.{reaches_word, reaches_on, key_taken}
 
--- what comes of a weight that was told, with the item in its bucket
+-- the result of a weight without a fault, when the item is put into the bucket
 abbrev with_weight : Draft → ItemId → Result ℕ TextFaultKind → Result ℕ TextFaultKind
 with_weight d i r = r >>= λ x. if is_too_heavy (with_next_item d i (Some x)).table then Err SumTooLarge else Ok x
 
 -- a weight's word is judged before it is put into the bucket, and then with it
-own_then : (d : Draft) (i : ItemId) (w : List ℕ) → word_for d (weight i) w ≡ with_weight d i (own_weight d i w)
+own_then : (d : Draft) (i : ItemId) (w : List ℕ) → word_for d (weight i) w ≡ with_weight d i (parsed_weight d i w)
 own_then d i w = by_tests (is_brace_word w) (not (is_weight_for i (weight_of_text w)))
   where
     by_tests : (a b : Bool) → cond a (Err Unexpected) (cond b (Err BadWeight) (cond (is_too_heavy (with_next_item d i (Some (units w))).table) (Err SumTooLarge) (Ok (units w)))) ≡ with_weight d i (cond a (Err Unexpected) (cond b (Err BadWeight) (Ok (units w))))
@@ -36,7 +36,7 @@ own_then d i w = by_tests (is_brace_word w) (not (is_weight_for i (weight_of_tex
     by_tests false true = refl
     by_tests false false = refl
 
--- what comes of an item that was told, without a weight
+-- the result of an item without a weight whose name has no fault
 abbrev without_weight : Draft → Result ItemId TextFaultKind → Result ItemId TextFaultKind
 without_weight d r = r >>= λ i. if is_too_heavy (with_next_item d i None).table then Err SumTooLarge else Ok i
 
@@ -51,7 +51,7 @@ lone_then d w = by_tests (is_brace_word w) (not (is_some (item_named d w))) (is_
     by_tests false false true = refl
     by_tests false false false = refl
 
--- what was told at a place without a fault was told so
+-- a result without a fault is the same after a place was added to it
 pub told_ok : {A : Type 0} (p : ℕ) (x : A) (r : Result A TextFaultKind) → Ok x ≡ placed p r → r ≡ Ok x
 told_ok {A = A} p x (Ok y) e = let k : x ≡ y = cc in ap (λ (z : A). Ok z) (sym k)
 told_ok p x (Err f) e = absurd cc
@@ -61,7 +61,7 @@ told_err : {A B : Type 0} (p : ℕ) (f : TextFault) (r : Result A TextFaultKind)
 told_err p f (Ok y) go e = absurd cc
 told_err p f (Err g) go e = let k : f ≡ record { kind = g; place = p } = cc in ap (λ (x : TextFault). Err x) (sym k)
 
--- an item of a name, as the builder tells it
+-- the item with a name, as the builder returns it
 pub some_named : (o : Option ItemId) (i : ItemId) → Ok i ≡ ok_or o build.UnknownItem → Some i ≡ o
 some_named (Some j) i e = let k : i ≡ j = cc in ap Some k
 some_named None i e = absurd (let no : ◌≡◌ {A = Result ItemId BuildFault} (Ok i) (Err build.UnknownItem) = e in cc)
@@ -70,7 +70,7 @@ pub none_named : (o : Option ItemId) (f : BuildFault) → Err f ≡ ok_or o buil
 none_named (Some j) f e = absurd (let no : ◌≡◌ {A = Result ItemId BuildFault} (Err f) (Ok j) = e in cc)
 none_named None f e = refl
 
--- THE NEXT WORD and what is behind it
+-- THE NEXT WORD, and what follows it
 pub past_word : (t rest : Text) (w : Word) → next_at t ≡ Ok (w, rest) → past t ≡ rest
 unfolding next_at
 past_word t rest w e = by_words t.words t.stop e
@@ -80,12 +80,12 @@ past_word t rest w e = by_words t.words t.stop e
     by_words [] (bad p) e = absurd cc
     by_words (v ∷ ws) stop e = let k : (let x : Word × Text = (v, record { words = ws; stop = stop }) in x) ≡ (w, rest) = cc in ap (λ (x : Word × Text). x.1) k
 
--- where there is none, a line that begins with a word has none
+-- if there is no next word, a line that begins with a word fails
 form_err : (d : Draft) (r : _) (more : _) (t : Text) (f : TextFault) → next_at t ≡ Err f → line_at d (word r more) t ≡ Err f
 unfolding line_at word_at
 form_err d r more t f h = ap (λ q. (q >>= λ x. placed x.0.place (word_for d r x.0.text) >>= and_rest x.1) >>= λ x. line_at d (more x.0) x.1) h
 
--- a line that begins with a word goes on as that word says
+-- after its first word, a line is what that word's value requires
 form_goes : (d : Draft) (r : _) (more : _) (t rest : Text) (w : Word) → next_at t ≡ Ok (w, rest) → line_at d (word r more) t ≡ (placed w.place (word_for d r w.text) >>= λ x. line_at d (more x) rest)
 unfolding line_at word_at
 form_goes d r more t rest w n = ap (λ q. (q >>= λ x. placed x.0.place (word_for d r x.0.text) >>= and_rest x.1) >>= λ x. line_at d (more x.0) x.1) n ∙ by_it (placed w.place (word_for d r w.text))
@@ -104,7 +104,7 @@ item_is : (d : Draft) (t : Text) (b : Bool) → begins (codes "weight") (past t)
 unfolding line_at
 item_is d t b e = ap (λ c. if c then line_at d (weighed_item d) t else line_at d (weightless_item d) t) e
 
--- whether a weight is behind the name
+-- whether a weight follows the name
 behind_name : (t rest : Text) (w : Word) (b : Bool) → next_at t ≡ Ok (w, rest) → b ≡ begins (codes "weight") rest → begins (codes "weight") (past t) ≡ b
 behind_name t rest w b n e = ap (begins (codes "weight")) (past_word t rest w n) ∙ sym e
 
@@ -116,7 +116,7 @@ both_err d t f x y = by_it (begins (codes "weight") (past t)) refl
     by_it true e = item_is d t true e ∙ x
     by_it false e = item_is d t false e ∙ y
 
--- THE LINE of an item, behind its first word: no name comes
+-- THE LINE of an item, after its first word: there is no name
 pub item_err : (d : Draft) (t : Text) (f : TextFault) → next_at t ≡ Err f → FailsIn f d (item_line d) t
 item_err d t f h = inr (both_err d t f (form_err d item _ t f h) (form_err d lone_item _ t f h))
 
@@ -184,25 +184,25 @@ lone_reads d t rest two w i r b n none same e h = subst (λ (u : Text). LineGoes
         subst (λ (c : Bool). Reaches w.place (if c then arrive d t.words (weighed_item d) else arrive d t.words (weightless_item d)) t.words) (sym (behind_name t rest w false n none))
         (reaches_word d lone_item (λ j. done (at (filling true) (with_next_item d j None))) i t rest rest w.place (value_at d lone_item i t rest w n told) (w.text, n))
 
--- THE WEIGHT of an item: none comes
+-- THE WEIGHT of an item: there is none
 pub weight_err : (d : Draft) (i : ItemId) (t : Text) (f : TextFault) → next_at t ≡ Err f → FailsIn f d (item_weight_line d i) t
 weight_err d i t f h = inr (form_err d (weight i) _ t f h)
 
 -- one that is at fault
-pub weight_fault : (d : Draft) (i : ItemId) (t rest : Text) (w : Word) (f : TextFault) → next_at t ≡ Ok (w, rest) → Err f ≡ placed w.place (own_weight d i w.text) → FailsIn f d (item_weight_line d i) t
+pub weight_fault : (d : Draft) (i : ItemId) (t rest : Text) (w : Word) (f : TextFault) → next_at t ≡ Ok (w, rest) → Err f ≡ placed w.place (parsed_weight d i w.text) → FailsIn f d (item_weight_line d i) t
 weight_fault d i t rest w f n e = inr (
     form_goes d (weight i) (λ x. done (at (filling true) (with_next_item d i (Some x)))) t rest w n ∙ ap (λ q. placed w.place q >>= λ x. line_at d (done (at (filling true) (with_next_item d i (Some x)))) rest) (own_then d i w.text)
-    ∙ ap (λ q. q >>= λ x. line_at d (done (at (filling true) (with_next_item d i (Some x)))) rest) (told_err w.place f (own_weight d i w.text) _ e)
+    ∙ ap (λ q. q >>= λ x. line_at d (done (at (filling true) (with_next_item d i (Some x)))) rest) (told_err w.place f (parsed_weight d i w.text) _ e)
     )
 
 -- one with which the item is put into the bucket
-pub weight_reads : (d : Draft) (i : ItemId) (t rest : Text) (w : Word) (x : ℕ) (r : Result (Unit {0}) TextFault) (b : BuilderData) → next_at t ≡ Ok (w, rest) → Ok x ≡ placed w.place (own_weight d i w.text)
+pub weight_reads : (d : Draft) (i : ItemId) (t rest : Text) (w : Word) (x : ℕ) (r : Result (Unit {0}) TextFault) (b : BuilderData) → next_at t ≡ Ok (w, rest) → Ok x ≡ placed w.place (parsed_weight d i w.text)
     → Adds r b (with_next_item d i (Some x)) w.place (unless_heavy (with_next_item d i (Some x))) → LineGoes (λ _. filling true) r b rest d (item_weight_line d i) t
 unfolding line_at
 weight_reads d i t rest w x r b n e h =
     added d i (Some x) w.place rest r b (item_weight_line d i) t
     (form_goes d (weight i) (λ x. done (at (filling true) (with_next_item d i (Some x)))) t rest w n
-    ∙ ap (λ q. placed w.place q >>= λ y. line_at d (done (at (filling true) (with_next_item d i (Some y)))) rest) (own_then d i w.text ∙ ap (with_weight d i) (told_ok w.place x (own_weight d i w.text) e))
+    ∙ ap (λ q. placed w.place q >>= λ y. line_at d (done (at (filling true) (with_next_item d i (Some y)))) rest) (own_then d i w.text ∙ ap (with_weight d i) (told_ok w.place x (parsed_weight d i w.text) e))
     ∙ by_it (is_too_heavy (with_next_item d i (Some x)).table))
     reached h
   where
@@ -213,7 +213,7 @@ weight_reads d i t rest w x r b n e h =
     reached : is_too_heavy (with_next_item d i (Some x)).table ≡ false → Reaches w.place (arrive d t.words (item_weight_line d i)) t.words
     reached light =
         let told : Ok x ≡ placed w.place (word_for d (weight i) w.text) =
-        ap (λ c. placed w.place (if c then Err SumTooLarge else Ok x)) (sym light) ∙ ap (λ q. placed w.place q) (sym (own_then d i w.text ∙ ap (with_weight d i) (told_ok w.place x (own_weight d i w.text) e))) in
+        ap (λ c. placed w.place (if c then Err SumTooLarge else Ok x)) (sym light) ∙ ap (λ q. placed w.place q) (sym (own_then d i w.text ∙ ap (with_weight d i) (told_ok w.place x (parsed_weight d i w.text) e))) in
         reaches_word d (weight i) (λ y. done (at (filling true) (with_next_item d i (Some y)))) x t rest rest w.place (value_at d (weight i) x t rest w n told) (w.text, n)
 
 -- a line of the items by its first word
@@ -221,7 +221,7 @@ pub item_or_end_goes : (d : Draft) (any more : Bool) (t rest : Text) → word_at
 unfolding line_at
 item_or_end_goes d any more t rest is = ap (λ q. q >>= λ x. line_at d (item_or_brace d x.0) x.1) is
 
--- and a fault behind that word
+-- and a fault after that word
 pub item_or_end_fails : (f : TextFault) (d : Draft) (any more : Bool) (t rest : Text) → word_at d (item_or_end any) t ≡ Ok (more, rest) → FailsIn f d (item_or_brace d more) rest → FailsIn f d (line_forms d (filling any)) t
 item_or_end_fails f d any more t rest is (inl h) = inl (h.0, reaches_on d (item_or_end any) (item_or_brace d) more t rest f.place is h.1)
 item_or_end_fails f d any more t rest is (inr h) = inr (item_or_end_goes d any more t rest is ∙ h)

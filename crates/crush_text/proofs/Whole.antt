@@ -13,18 +13,18 @@ use Rattle.crush_text.specs.Reads.{Fails}
 use Rattle.crush_text.specs.ReadsStatements.{FailsText}
 use Rattle.crush_text.proofs.Laws.{document_of, outcome_of, flaw_of, right_up_to, no_flaw_of_memory}
 
--- one draft comes of a text
+-- a text builds only one draft
 pub one_draft : (d e : Draft) (t : Text) → outcome start t ≡ Ok d → outcome start t ≡ Ok e → d ≡ e
 one_draft d e t x y = let k = sym x ∙ y in cc
 
--- what comes of all statements comes of the text
+-- the result of reading all statements is that of the text
 pub text_fails : (f : TextFault) (t : Text) → Fails f start t → FailsText f t
 text_fails f t (inl h) = inl (h.0, inl h.1)
 text_fails f t (inr h) = inr h
 
 -- THE READING of a text whose words these are: what it has no flaw for is its map, and it is the only one
 module _ (bytes : List ℕ) (t : Text) (is : t ≡ words 0 bytes) where
-  -- what comes of the words comes of the bytes
+  -- the result of reading the words is that of the bytes
   same : {r : _} → outcome start t ≡ r → outcome start (words 0 bytes) ≡ r
   same h = ap (outcome start) (sym is) ∙ h
 
@@ -33,7 +33,7 @@ module _ (bytes : List ℕ) (t : Text) (is : t ≡ words 0 bytes) where
   is_flaw f (inl h) = inl h.0
   is_flaw f (inr h) = inr (flaw_of (words 0 bytes) f (same h))
 
-  -- and out of memory is told in time
+  -- out of memory is reported before any flaw
   pub in_time : (f : TextFault) → FailsText f t → IsFoundInTime bytes f
   in_time f (inl (want, inl h)) k = inl (right_up_to (words 0 bytes) f.place (subst (λ (u : Text). Reaches f.place start u.words) is h))
   in_time f (inl (want, inr h)) k = inr (sym is ∙ h)

@@ -1,4 +1,4 @@
--- Which words spell lines, which texts are documents, and what map a text is.
+-- Which words spell lines of the grammar, which texts are documents, and which map a text is.
 use Rattle.std.specs.Prelude.{◌≡◌, ℕ, true, List, [], ◌∷◌, ◌++◌}
 use Rattle.crush_model.specs.Table.{Row}
 use Rattle.crush_edits.specs.Setting.{SettingData}
@@ -12,46 +12,46 @@ use Rattle.crush_text.specs.Grammar.{next}
 use Rattle.crush_text.specs.Rows.{IsRight}
 use Rattle.crush_text.specs.Flow.{State, between, amid, arrive, takes_statement}
 
--- a word spells what is due: no row of the table of faults holds, and the form goes on by the word's value
+-- the word w spells the next part of the form, and m is the state after it: the word has no fault for its role, and m is what the form requires after the word's value. The words `rest` follow w
 abbrev pub SpellsForm : Draft → Form → List ℕ → List Word → State → Type 0
 SpellsForm d (word r more) w rest m = IsRight d r w × (m ≡ arrive d rest (more (value d r w)))
 SpellsForm d (done p) w rest m = ⊥
 SpellsForm d (optional k f g) w rest m = ⊥
 SpellsForm d (ahead k f g) w rest m = ⊥
 
--- between two lines the next one is due
+-- the same in any state: between two lines the form is that of the next line
 abbrev pub SpellsNext : State → List ℕ → List Word → State → Type 0
 SpellsNext (between p) w rest m = SpellsForm p.draft (next p) w rest m
 SpellsNext (amid d f) w rest m = SpellsForm d f w rest m
 
--- WORDS SPELL the way from one state to another, where others follow them
+-- SPELL: the words lead from the state s to the state m, one after the other, if the words `others` follow them
 abbrev pub Spell : State → List Word → List Word → State → Type 0
 Spell s [] others m = s ≡ m
 Spell s (w ∷ ws) others m = (u : State) × SpellsNext s w.text (ws ++ others) u × Spell u ws others m
 
--- the text may end, and what was built is this
+-- the text may end in this state, and the draft d was built
 abbrev pub IsWhole : State → Draft → Type 0
 IsWhole (between p) d = (p.draft ≡ d) × (takes_statement p.mode ≡ true)
 IsWhole (amid e f) d = ⊥
 
--- nothing was read
+-- the state before the first word
 abbrev pub start : State
 start = between (at first empty_draft)
 
--- A DOCUMENT: all words spell lines, which build this of nothing
+-- A DOCUMENT: all words of the text spell lines, which build the draft d from nothing; the text may end after them; and the words end with the text, not with a bad byte or a word that is too long
 pub record IsDocument (t : Text) (d : Draft) : Type 0 where
   pub last : State
   pub spelled : Spell start t.words [] last
   pub whole : IsWhole last d
   pub end : (place : ℕ) × (t.stop ≡ ended place)
 
--- the table is lawful, and the setting fits it
+-- the draft is a map: its table is lawful, and its setting fits the table
 pub record IsMap (d : Draft) : Type 0 where
   pub lawful : Lawful d.table
   pub fits : Fits d.setting d.table
 
--- THE MAP of a text: the bytes spell a document with this setting and this table, in which so many written weights of buckets
--- aren't their sums
+-- THE MAP of a text: the bytes are a document that builds the setting s and the table t, and in which the number `adjusted` counts
+-- the written weights of buckets that aren't the buckets' sums
 pub record IsMapText (bytes : List ℕ) (s : SettingData) (t : List Row) (adjusted : ℕ) : Type 0 where
   pub draft : Draft
   pub document : IsDocument (words 0 bytes) draft

@@ -1,4 +1,4 @@
--- Names and numbers of the faults of a text.
+-- The names and the numbers of the faults of a text.
 use Rattle.std.specs.Prelude.{ℕ, List, codes}
 use Rattle.crush_text.specs.declared.fault.TextFaultKind.{TextFaultKind}
 use Rattle.crush_text.specs.declared.fault.TextFaultKind.TheVariants.{BadWord, Ended, Unexpected, BadNumber, BadWeight, DuplicateId, DuplicateName, UnknownType, UnknownItem, SecondParent, OtherAlgorithm, LeftOut, UnknownBucketInRule, TooMany, SumTooLarge, OutOfMemory}
@@ -22,7 +22,7 @@ fault_name TooMany = codes "TooMany"
 fault_name SumTooLarge = codes "SumTooLarge"
 fault_name OutOfMemory = codes "OutOfMemory"
 
--- the place in the order in which faults of one word are told
+-- the number of the fault: if a word has several faults, the one with the least number is reported
 abbrev pub fault_number : TextFaultKind → ℕ
 fault_number BadWord = 1
 fault_number Ended = 2

@@ -1,4 +1,4 @@
--- What a flaw of a map's text is.
+-- What a flaw of a map's text is: a fault at its place.
 use Rattle.std.specs.Prelude.{◌≡◌, ◌⊎◌, ℕ, Bool, false, List, [], ◌∷◌, ◌++◌}
 use Rattle.crush_builder.specs.Built.{Draft}
 use Rattle.crush_text.specs.declared.fault.TextFaultKind.{TextFaultKind}
@@ -11,38 +11,38 @@ use Rattle.crush_text.specs.Rows.{IsFault}
 use Rattle.crush_text.specs.Flow.{State, between, amid, takes_statement}
 use Rattle.crush_text.specs.Document.{Spell, start}
 
--- a word is at fault where a form is due
+-- the word w has the fault f if this form is required next: the fault of the word's role; or `Unexpected` if the form requires no word, which reading never reaches
 abbrev pub FaultyForm : TextFaultKind → Draft → Form → List ℕ → Type 0
 FaultyForm f d (word r more) w = IsFault f d r w
 FaultyForm f d (done p) w = f ≡ Unexpected
 FaultyForm f d (optional k g h) w = f ≡ Unexpected
 FaultyForm f d (ahead k g h) w = f ≡ Unexpected
 
--- between two lines the next one is due
+-- the same in any state: between two lines the form is that of the next line
 abbrev pub FaultyNext : TextFaultKind → State → List ℕ → Type 0
 FaultyNext f (between p) w = FaultyForm f p.draft (next p) w
 FaultyNext f (amid d g) w = FaultyForm f d g w
 
--- whether the text may end
+-- whether the text may end in this state: only between two statements
 abbrev pub is_whole : State → Bool
 is_whole (between p) = takes_statement p.mode
 is_whole (amid d f) = false
 
--- the text ends inside a statement
+-- the fault f is `Ended` at this place, since the text ends inside a statement
 abbrev pub IsEnded : State → ℕ → TextFault → Type 0
 IsEnded s place f = (f ≡ record { kind = Ended; place = place }) × (is_whole s ≡ false)
 
--- a byte that no text may have, or a long word
+-- the fault f is `BadWord` at this place: a byte that no text may contain, or a word that is too long
 abbrev pub IsBadWord : ℕ → TextFault → Type 0
 IsBadWord place f = f ≡ record { kind = BadWord; place = place }
 
--- what comes next is at fault
+-- the next word has the fault f, or the end of the words has it if there is no next word
 abbrev pub IsFaulty : State → List Word → Stop → TextFault → Type 0
 IsFaulty s [] (ended place) f = IsEnded s place f
 IsFaulty s [] (bad place) f = IsBadWord place f
 IsFaulty s (w ∷ ws) stop f = FaultyNext f.kind s w.text × (f.place ≡ w.place)
 
--- A FLAW of a text: the words before it spell lines and a part of one, and what comes next is at fault
+-- A FLAW of a text: the words before it spell lines and perhaps a part of a line, and the next word, or the end of the words, has this fault
 pub record IsFlaw (t : Text) (f : TextFault) : Type 0 where
   pub before : List Word
   pub next : List Word
@@ -51,14 +51,14 @@ pub record IsFlaw (t : Text) (f : TextFault) : Type 0 where
   pub spelled : Spell start before next so_far
   pub fault : IsFaulty so_far next t.stop f
 
--- a flaw of the bytes of a text
+-- the same of a text that is given as bytes
 abbrev pub IsMapFlaw : List ℕ → TextFault → Type 0
 IsMapFlaw bytes f = IsFlaw (words 0 bytes) f
 
--- memory was refused
+-- the fault is that memory ran out
 abbrev pub IsOutOfMemory : TextFault → Type 0
 IsOutOfMemory f = f.kind ≡ OutOfMemory
 
--- memory was refused, or it is a flaw
+-- the fault is that memory ran out, or it is a flaw of these bytes
 abbrev pub IsFlawOrOutOfMemory : List ℕ → TextFault → Type 0
 IsFlawOrOutOfMemory bytes f = IsOutOfMemory f ⊎ IsMapFlaw bytes f

@@ -1,4 +1,4 @@
--- Word by word: what comes of each, and of them all.
+-- The reader as a machine: how each word changes the state, and the result of all words.
 use Rattle.std.specs.Prelude.{◌≡◌, ◌⊎◌, ℕ, Bool, true, false, List, [], ◌∷◌, drop, Result, Ok, Err, if◌then◌else◌}
 use Rattle.crush_builder.specs.Built.{Draft}
 use Rattle.crush_units.specs.Words.{Word, Stop, ended, bad, Text, begins_with_key}
@@ -10,69 +10,69 @@ use Rattle.crush_text.specs.Grammar.{next}
 use Rattle.crush_text.specs.Tests.{word_for}
 
 infixl 10 ◌>>=◌
--- one step after another, up to the first that fails
+-- one step after the other; the first error is the result
 abbrev pub ◌>>=◌ : {A B E : Type 0} → Result A E → (A → Result B E) → Result B E
 (Ok x) >>= f = f x
 (Err e) >>= f = Err e
 
--- what was read so far, between two lines, or in a line of which this is still due
+-- the state of reading: between two lines, with the progress so far; or inside a line, with the draft so far and the form that the rest of the line must have
 pub data State : Type 0 where
   between : Progress → State
   amid : Draft → Form → State
 
--- what is due next, where these words follow
+-- the state in which this form is required next, if the words `rest` follow. They decide which of its two forms an optional part has
 abbrev pub arrive : Draft → List Word → Form → State
 arrive d rest (done p) = between p
 arrive d rest (word r more) = amid d (word r more)
 arrive d rest (optional k f g) = if begins_with_key k rest then arrive d rest f else arrive d rest g
 arrive d rest (ahead k f g) = if begins_with_key k (drop 1 rest) then arrive d rest f else arrive d rest g
 
--- a word where a form is due
+-- the state after the word w if this form is required, or the word's fault. The words `rest` follow w
 abbrev pub take : Draft → Form → List ℕ → List Word → Result State TextFaultKind
 take d (word r more) w rest = word_for d r w >>= λ v. Ok (arrive d rest (more v))
 take d f w rest = Err Unexpected
 
--- a further word, which others follow: an optional part is decided at the word before it, and what the word behind the next
--- one tells is told there too
+-- the state after one more word, or the word's fault. The words `rest` follow it. Whether the line has an optional part is decided at the word before that part,
+-- by the next word or by the word after the next
 unfoldable pub step : State → List ℕ → List Word → Result State TextFaultKind
 step (between p) w rest = take p.draft (next p) w rest
 step (amid d f) w rest = take d f w rest
 
--- a fault at a place
+-- the same result, with this place added to a fault
 abbrev pub placed : {A : Type 0} → ℕ → Result A TextFaultKind → Result A TextFault
 placed place (Ok x) = Ok x
 placed place (Err kind) = Err (record { kind = kind; place = place })
 
--- whether a statement may come, and so the text may end
+-- whether a statement may begin in this mode, and so the text may end
 abbrev pub takes_statement : Mode → Bool
 takes_statement first = true
 takes_statement second = true
 takes_statement m = false
 
--- the text ends too early
+-- the fault that the text ends inside a statement
 abbrev pub unfinished : ℕ → Result Draft TextFault
 unfinished place = Err (record { kind = Ended; place = place })
 
--- the end of the text
+-- the result if the text ends in this state: the draft, or the fault that it ends inside a statement
 abbrev pub end_at : ℕ → State → Result Draft TextFault
 end_at place (between p) = if takes_statement p.mode then Ok p.draft else unfinished place
 end_at place (amid d f) = unfinished place
 
--- what comes of the end of the words
+-- the result if there are no more words: by the end of the text, or the fault of a bad byte or a word that is too long
 abbrev pub stop_at : State → Stop → Result Draft TextFault
 stop_at s (ended place) = end_at place s
 stop_at s (bad place) = Err (record { kind = BadWord; place = place })
 
--- what comes of the words
+-- the result of reading these words from the state s: the draft that they build, or the first fault
 unfoldable pub run : State → List Word → Stop → Result Draft TextFault
 run s [] stop = stop_at s stop
 run s (w ∷ ws) stop = placed w.place (step s w.text ws) >>= λ m. run m ws stop
 
--- what comes of the rest of a text
+-- the same for the rest of a text
 unfoldable pub outcome : State → Text → Result Draft TextFault
 outcome s t = run s t.words t.stop
 
--- words without a fault lead up to the one at this place, which has none either
+-- one of the words is at this place, and neither it nor any word before it has a fault
 abbrev pub Reaches : ℕ → State → List Word → Type 0
 Reaches place s [] = ⊥
 Reaches place s (w ∷ ws) = (m : State) × (step s w.text ws ≡ Ok m) × ((place ≡ w.place) ⊎ Reaches place m ws)

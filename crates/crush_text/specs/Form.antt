@@ -1,11 +1,11 @@
--- How a line goes on.
+-- The forms of lines: what the rest of a line may be.
 use Rattle.std.specs.Prelude.{ℕ, Bool, List}
 use Rattle.crush_edits.specs.Setting.{RuleData}
 use Rattle.crush_builder.specs.Built.{Draft}
 use Rattle.crush_text.specs.Role.{Role, El}
 
--- which line may come: a statement before the first bucket or rule, or behind one; of a bucket the line of its id, a class id
--- or its algorithm, and an item or the end, behind an item or not; of a rule that goes so far a step or the end
+-- which lines may come next. `first`: a statement, before the first bucket or rule. `second`: a statement, after a bucket or a rule. `begun`: the line of a bucket's id. `numbered`: a class id
+-- of the bucket, or its algorithm. `filling`: an item of the bucket, or its end; the Bool says that an item was read. `ruled`: a step of this rule, or the rule's end
 pub data Mode : Type 0 where
   first : Mode
   second : Mode
@@ -14,16 +14,17 @@ pub data Mode : Type 0 where
   filling : Bool → Mode
   ruled : RuleData → Mode
 
--- what was built of the lines so far, and which line may come
+-- the draft that the lines so far have built, and which lines may come next
 pub record Progress : Type 0 where
   pub mode : Mode
   pub draft : Draft
 
+-- the progress with the mode m and the draft d
 abbrev pub at : Mode → Draft → Progress
 at m d = record { mode = m; draft = d }
 
--- what is due: nothing, and this was built; a word, and what its value says; where the next word is the key the first, else
--- the second; and the same of the word behind the next one
+-- the form of the rest of a line. `done`: the line is complete, with this progress. `word`: a word of this role, and then the form that depends on its value. `optional`: the first form if the next word is the key,
+-- otherwise the second. `ahead`: the first form if the word after the next one is the key, otherwise the second
 pub data Form : Type 0 where
   done : Progress → Form
   word : (r : Role) → (El r → Form) → Form
@@ -32,10 +33,10 @@ pub data Form : Type 0 where
 
 infixr 5 ◌>>=◌
 infixr 5 ◌>>◌
--- a word, and then what its value says
+-- a word of the role r, and then the form that depends on its value
 abbrev pub ◌>>=◌ : (r : Role) → (El r → Form) → Form
 r >>= more = word r more
 
--- a word of which only the form counts
+-- a word of the role r whose value isn't used, and then this form
 abbrev pub ◌>>◌ : Role → Form → Form
 r >> more = word r (λ _. more)

@@ -1,4 +1,5 @@
--- THE GRAMMAR, line by line. A line ends where the map grows by it, or the rule that is read.
+-- THE GRAMMAR, line by line. A line here is a part of the text after which the map has grown, or the bucket or the rule that is being read. Line feeds don't matter: each comment gives the words of a line.
+-- N is a number, NEG is `-` and a number, INT is a number with or without `-`, and `[ ]` are round an optional part. d is the draft before the line.
 use Rattle.std.specs.Prelude.{ℕ, Bool, List, [], ◌∷◌, ◌++◌, Option, true, false, codes, length, if◌then◌else◌, Some, None}
 use Rattle.crush_units.specs.declared.id.ItemId.{ItemId}
 use Rattle.crush_edits.specs.Setting.{StepData, take, choose, set, emit, RuleData}
@@ -23,7 +24,7 @@ type_line d = do
   x ← type_name n
   done (at first (with_kind d n x))
 
--- [`class` CLASS]
+-- [`class` CLASS], of the device n with the name x
 abbrev pub device_class : Draft → ℕ → List ℕ → Form
 device_class d n x = optional (codes "class")
     (do
@@ -39,7 +40,7 @@ device_line d = do
   x ← new_name
   device_class d n x
 
--- TYPE NAME
+-- TYPE NAME, of which TYPE was read already: it is the name of the type k
 abbrev pub bucket_line : Draft → ℕ → Form
 bucket_line d k = do
   x ← new_name
@@ -53,7 +54,7 @@ id_line d = do
   b ← bucket_id
   done (at numbered (with_id d b))
 
--- NEG `class` CLASS, behind `id`
+-- NEG `class` CLASS, after `id`
 abbrev pub class_id_line : Draft → Form
 class_id_line d = do
   b ← bucket_id
@@ -61,7 +62,7 @@ class_id_line d = do
   c ← id_class
   done (at numbered (with_class_id d b c))
 
--- ALG [`hash` `0`], behind `alg`
+-- ALG [`hash` `0`], after `alg`
 abbrev pub alg_line : Draft → Form
 alg_line d = do
   a ← algorithm
@@ -72,11 +73,11 @@ alg_line d = do
         done (at (filling false) (with_alg d a)))
       (done (at (filling false) (with_alg d a)))
 
--- a class id, or the algorithm
+-- a class id if `more`, otherwise the algorithm
 abbrev pub id_or_alg_line : Draft → Bool → Form
 id_or_alg_line d more = if more then class_id_line d else alg_line d
 
--- WEIGHT
+-- WEIGHT, of the item i
 abbrev pub item_weight_line : Draft → ItemId → Form
 item_weight_line d i = do
   w ← weight i
@@ -95,15 +96,15 @@ weightless_item d = do
   i ← lone_item
   done (at (filling true) (with_next_item d i None))
 
--- NAME [`weight` WEIGHT], behind `item`
+-- NAME [`weight` WEIGHT], after `item`
 abbrev pub item_line : Draft → Form
 item_line d = ahead (codes "weight") (weighed_item d) (weightless_item d)
 
--- an item, or the bucket's end
+-- an item if `more`, otherwise the end of the bucket, whose brace was read already
 abbrev pub item_or_brace : Draft → Bool → Form
 item_or_brace d more = if more then item_line d else done (at second (with_end d))
 
--- a rule that has no steps yet
+-- a rule without steps, with the name x, the id n, the `type` word k, and the least and the largest size of pools
 abbrev pub new_rule : List ℕ → ℕ → List ℕ → Option ℕ → Option ℕ → RuleData
 new_rule x n k least most = record { name = x; id = n; kind = k; min_size = least; max_size = most; steps = [] }
 
@@ -136,14 +137,15 @@ rule_line d = do
   k ← any_word
   sizes d x n k
 
--- the rule with one more step
+-- the rule r with the step s after its other steps
 abbrev pub with_step : RuleData → StepData → RuleData
 with_step r s = record r { steps = r.steps ++ s ∷ [] }
 
+-- the end of the line of the step s of the rule r
 abbrev pub step_done : Draft → RuleData → StepData → Form
 step_done d r s = done (at (ruled (with_step r s)) d)
 
--- NAME [`class` CLASS]
+-- NAME [`class` CLASS], after `take`
 abbrev pub take_step : Draft → RuleData → Form
 take_step d r = do
   b ← taken_bucket
@@ -154,7 +156,7 @@ take_step d r = do
         step_done d r (take b (Some c)))
       (step_done d r (take b None))
 
--- (`firstn` | `indep`) INT `type` TYPE
+-- (`firstn` | `indep`) INT `type` TYPE, after `choose`, or after `chooseleaf` if `leaf`
 abbrev pub choose_step : Draft → RuleData → Bool → Form
 choose_step d r leaf = do
   firstn ← step_order
@@ -163,24 +165,24 @@ choose_step d r leaf = do
   k ← step_type
   step_done d r (choose leaf firstn n k)
 
--- N
+-- N, after the word x, which begins with `set_`
 abbrev pub set_step : Draft → RuleData → List ℕ → Form
 set_step d r x = do
   n ← number LARGEST_RULE_NUMBER
   step_done d r (set x n)
 
--- a step by its first word
+-- the rest of a step, after its first word
 abbrev pub step_behind : Draft → RuleData → StepWord → Form
 step_behind d r takes = take_step d r
 step_behind d r (chooses leaf) = choose_step d r leaf
 step_behind d r (sets x) = set_step d r x
 step_behind d r emits = step_done d r emit
 
--- a step, or the rule's end
+-- a step if `more`, otherwise the end of the rule, whose brace was read already
 abbrev pub step_or_brace : Draft → RuleData → Bool → Form
 step_or_brace d r more = if more then step_word >>= step_behind d r else done (at second (add_rule d r))
 
--- a statement by what its first word opens
+-- the rest of the statement, or of its first line, after its first word
 abbrev pub statement : Draft → Opening → Form
 statement d openings.Tunable = tunable_line d
 statement d openings.Type = type_line d
@@ -188,7 +190,7 @@ statement d openings.Device = device_line d
 statement d (openings.Bucket k) = bucket_line d k
 statement d openings.Rule = rule_line d
 
--- which lines may come
+-- the lines that may come next in this mode
 abbrev pub line_forms : Draft → Mode → Form
 line_forms d first = opening false >>= statement d
 line_forms d second = opening true >>= statement d
@@ -197,6 +199,6 @@ line_forms d numbered = id_or_alg >>= id_or_alg_line d
 line_forms d (filling any) = item_or_end any >>= item_or_brace d
 line_forms d (ruled r) = step_or_end (length r.steps) >>= step_or_brace d r
 
--- the line that comes next
+-- the lines that may come next after this progress
 abbrev pub next : Progress → Form
 next p = line_forms p.draft p.mode

@@ -1,4 +1,4 @@
--- What comes of words and lines as the reader takes them.
+-- The results of reading words and lines, for the contracts of the reader's functions.
 use Rattle.std.specs.Prelude.{◌≡◌, ◌⊎◌, ℕ, List, [], ◌∷◌, Bool, Option, Some, None, Result, Ok, Err, bytes_eq, codes, if◌then◌else◌}
 use Rattle.crush_units.specs.declared.id.ItemId.{ItemId}
 use Rattle.crush_model.specs.Lawful.{is_too_heavy}
@@ -21,90 +21,90 @@ use Rattle.crush_text.specs.Grammar.{with_step}
 use Rattle.crush_text.specs.Flow.{State, ◌>>=◌, placed, between, arrive, outcome, Reaches}
 use Rattle.crush_text.specs.Flaw.{IsOutOfMemory}
 
--- a word that was read
+-- a word of the code as a word of the definitions
 abbrev pub word_of : PlacedWord → Word
 word_of w = record { place = w.place; text = w.text.now }
 
--- a value, and the rest of the text
+-- the success with the value a and the rest t of the text
 abbrev pub and_rest : {A : Type 0} → Text → A → Result (A × Text) TextFault
 and_rest t a = Ok (a, t)
 
--- the next word and the rest
+-- the first of these words and the rest; the fault of the end if there is none
 abbrev pub next_of : List Word → Stop → Result (Word × Text) TextFault
 next_of [] (ended place) = Err (record { kind = Ended; place = place })
 next_of [] (bad place) = Err (record { kind = BadWord; place = place })
 next_of (w ∷ ws) stop = and_rest (record { words = ws; stop = stop }) w
 
--- of a text that is left
+-- the next word of a text and the rest
 unfoldable pub next_at : Text → Result (Word × Text) TextFault
 next_at t = next_of t.words t.stop
 
--- the next word's value, as a word of this role, and the rest
+-- the value that the next word has in the role r, and the rest of the text; or the word's fault
 unfoldable pub word_at : Draft → (r : Role) → Text → Result (El r × Text) TextFault
 word_at d r t = next_at t >>= λ x. placed x.0.place (word_for d r x.0.text) >>= and_rest x.1
 
--- what a line builds, and the rest
+-- the progress after a line of this form, and the rest of the text; or the first fault
 unfoldable pub line_at : Draft → Form → Text → Result (Progress × Text) TextFault
 line_at d (done p) t = Ok (p, t)
 line_at d (word r more) t = word_at d r t >>= λ x. line_at d (more x.0) x.1
 line_at d (optional k f g) t = if begins k t then line_at d f t else line_at d g t
 line_at d (ahead k f g) t = if begins k (past t) then line_at d f t else line_at d g t
 
--- what comes of the text behind a line
+-- the result of the whole rest of the text, if reading a line had this result
 abbrev pub then_on : Result (Progress × Text) TextFault → Result Draft TextFault
 then_on r = r >>= λ x. outcome (between x.0) x.1
 
--- what a weight is for an item, before it is put into the bucket
-abbrev pub own_weight : Draft → ItemId → List ℕ → Result ℕ TextFaultKind
-own_weight d i w = unless (weight_tests d i w) (units w)
+-- the weight that the word w spells for the item i, or its fault, except for a sum that is too large
+abbrev pub parsed_weight : Draft → ItemId → List ℕ → Result ℕ TextFaultKind
+parsed_weight d i w = unless (weight_tests d i w) (units w)
 
--- what comes of an item with which the map is this one
+-- the draft e, or the fault that a sum of it is too large
 abbrev pub unless_heavy : Draft → Result Draft TextFaultKind
 unless_heavy e = if is_too_heavy e.table then Err SumTooLarge else Ok e
 
--- a number that a key may announce, and what follows then
+-- an optional number after the key k, and then the form that depends on it
 abbrev pub number_behind : List ℕ → (Option ℕ → Form) → Form
 number_behind k more = optional k (word (key k) (λ _. word (number LARGEST_RULE_NUMBER) (λ n. more (Some n)))) (more None)
 
--- whether a word begins a step
+-- whether the word is `step`
 abbrev pub is_step : List ℕ → Bool
 is_step w = bytes_eq w (codes "step")
 
--- what the first word of a step says
+-- what the first word of a step says, as a value of the definitions
 abbrev pub first_of_step : FirstOfStep → StepWord
 first_of_step steps.Take = takes
 first_of_step (steps.Choose leaf) = chooses leaf
 first_of_step (steps.Set w) = sets w.text.now
 first_of_step steps.Emit = emits
 
--- a rule with one more step, as a map keeps it
+-- the progress after the step s of the rule r, in the form in which a map keeps steps
 abbrev pub behind_step : Draft → RuleData → Step → Progress
 behind_step d r s = at (ruled (with_step r (kept_step d s))) d
 
--- what a function returned is what reading gives
+-- the function returned the value and the rest of text that `read` gives, or the fault that it gives
 abbrev pub Gives : {X Y : Type 0} → (X → Y) → Result X TextFault → Result Y TextFault → Type 0
 Gives view (Ok x) read = read ≡ Ok (view x)
 Gives view (Err f) read = read ≡ Err f
 
--- or the rest of a line is what reading gives
+-- if the function returned x, then `read` gives what the rest of the line gives after x; if it returned a fault, `read` gives that fault
 abbrev pub GivesOn : {X Y : Type 0} → (X → Result Y TextFault) → Result X TextFault → Result Y TextFault → Type 0
 GivesOn go (Ok x) read = read ≡ go x
 GivesOn go (Err f) read = read ≡ Err f
 
--- words lead on: what comes of the rest is what comes of all, and a place that is reached from there is reached
+-- reading the text `old` from the state s leads to the state m with the text `new` left: the result of both is the same, and every place that is reached without a fault from m is also reached from s
 pub record LeadsOn (s : State) (old : Text) (m : State) (new : Text) : Type 0 where
   pub same : outcome s old ≡ outcome m new
   pub reaches : (place : ℕ) → Reaches place m new.words → Reaches place s old.words
 
--- a fault is that of reading, or memory was refused at a word that has none
+-- the fault f is the one of reading the text t from the state s; or it is out of memory, at a word that has no fault and no faulty word before it
 abbrev pub Fails : TextFault → State → Text → Type 0
 Fails f s t = (IsOutOfMemory f × Reaches f.place s t.words) ⊎ (outcome s t ≡ Err f)
 
--- the same of a line
+-- the same for reading a line of the form g
 abbrev pub FailsIn : TextFault → Draft → Form → Text → Type 0
 FailsIn f d g t = (IsOutOfMemory f × Reaches f.place (arrive d t.words g) t.words) ⊎ (line_at d g t ≡ Err f)
 
--- what a function returned is what the line gives
+-- the function returned what reading a line of the form g gives; or out of memory, as above
 abbrev pub GivesLine : {X : Type 0} → (X → Progress × Text) → Result X TextFault → Draft → Form → Text → Type 0
 GivesLine view (Ok x) d g t = line_at d g t ≡ Ok (view x)
 GivesLine view (Err f) d g t = FailsIn f d g t

@@ -1,4 +1,4 @@
--- What the functions that read a rule promise.
+-- What the contracts of the functions that read a rule promise.
 use Rattle.std.specs.Prelude.{◌≡◌, ℕ, ◌<◌, ◌≤◌, List, Option, Some, None, Result, Ok, Err, IfOk, IfSome, OnOk, length}
 use Rattle.crush_edits.specs.declared.rule.Rule.{Rule}
 use Rattle.crush_edits.specs.declared.rule.Step.{Step}
@@ -16,31 +16,31 @@ use Rattle.crush_text.specs.Flow.{State, between, arrive, Reaches}
 use Rattle.crush_text.specs.Room.{IsFreeRule}
 use Rattle.crush_text.specs.Reads.{line_at, number_behind, behind_step, GivesOn, LeadsOn, Fails, FailsIn, GivesLine}
 
--- a step of a rule was read, with which it is this one, or its brace at a place
+-- what the result of a function that read a line of a rule says, if the rule is r after it. `None`: the line was a step, with which the rule is r. A place: the line was the rule's closing brace, at this place, and the rule r was added. A fault is one of the line
 abbrev pub StepGoes : Result (Option ℕ) TextFault → Draft → RuleData → Text → Form → Text → Type 0
 StepGoes (Ok None) d r rest g t = line_at d g t ≡ Ok (at (ruled r) d, rest)
 StepGoes (Ok (Some place)) d r rest g t = (line_at d g t ≡ Ok (at second (add_rule d r), rest)) × Reaches place (arrive d t.words g) t.words
 StepGoes (Err f) d r rest g t = FailsIn f d g t
 
--- a rule of which all lines so far are right
+-- the rule r, as far as it was read, can be added: its words and numbers have the right form, its name and its id are free, and its steps name buckets and types that exist
 pub record IsRightSoFar (b : BuilderData) (r : Rule) : Type 0 where
   pub form : IsRuleForm r
   pub free : (d : Draft) → IsDraft b d → IsFreeRule d r
 
--- THE HEAD of a rule was read
+-- THE HEAD of a rule was read, up to its first step: the rule can be added, and it is what its lines give. The builder is unchanged
 pub record ReadsHead {A : _} (old new : MapReader A) (x : Result Rule TextFault) : Type 0 where
   pub right : IfOk x (IsRightSoFar new.builder)
   pub gives : (d : Draft) → IsDraft old.builder d → GivesLine (λ r. (at (ruled (kept_rule d r)) d, new.text)) x d (rule_line d) old.text
   pub kept : new.builder ≡ old.builder
   pub shorter : OnOk x (length new.text.words ≤ length old.text.words)
 
--- a size was read, where its key is next
+-- an optional size was read after its key: it is at most LARGEST_RULE_NUMBER, and whatever form follows, it is what reading gives
 pub record ReadsSize (key : List ℕ) (old new : Text) (x : Result (Option ℕ) TextFault) : Type 0 where
   pub most : IfOk x (λ n. IfSome n (λ k. k ≤ LARGEST_RULE_NUMBER))
   pub gives : (d : Draft) (more : Option ℕ → Form) → GivesOn (λ n. line_at d (more n) new) x (line_at d (number_behind key more) old)
   pub shorter : OnOk x (length new.words ≤ length old.words)
 
--- A STEP of a rule was read, of this form
+-- A STEP of a rule was read, of the form `line`: its words have the right form, it names a bucket or a type that exists, and it is what reading gives. The builder is unchanged
 pub record GivesStep {A : _} (line : Draft → RuleData → Form) (old new : MapReader A) (x : Result Step TextFault) : Type 0 where
   pub form : IfOk x IsStepForm
   pub gives : (d : Draft) (r : RuleData) → IsDraft old.builder d → GivesLine (λ s. (behind_step d r s, new.text)) x d (line d r) old.text
@@ -48,19 +48,19 @@ pub record GivesStep {A : _} (line : Draft → RuleData → Form) (old new : Map
   pub kept : new.builder ≡ old.builder
   pub shorter : OnOk x (length new.text.words ≤ length old.text.words)
 
--- all steps of a rule were read, with which it is this one, and its brace at a place
+-- what the result of a function that read all steps of a rule says, if the rule is r after them. A place is that of the closing brace: the steps lead to the next statement, and the rule r was added. A fault is one of reading
 abbrev pub StepsGo : Result ℕ TextFault → Draft → RuleData → Text → State → Text → Type 0
 StepsGo (Ok place) d r rest s t = LeadsOn s t (between (at second (add_rule d r))) rest × Reaches place s t.words
 StepsGo (Err f) d r rest s t = Fails f s t
 
--- a line of a rule was read: one more step, or the brace
+-- a line of the rule r was read, a step or the closing brace, and the rule is q after it. After success q can be added. The builder is unchanged
 pub record ReadsStepLine {A : _} (r q : Rule) (old new : MapReader A) (x : Result (Option ℕ) TextFault) : Type 0 where
   pub right : OnOk x (IsRightSoFar new.builder q)
   pub reads : (d : Draft) → IsDraft old.builder d → StepGoes x d (kept_rule d q) new.text (line_forms d (ruled (kept_rule d r))) old.text
   pub kept : new.builder ≡ old.builder
   pub shorter : OnOk x (length new.text.words < length old.text.words)
 
--- the lines of a rule's steps were read, and the brace
+-- all steps of the rule r and its closing brace were read, and the rule is q after them. After success q can be added. The builder is unchanged
 pub record ReadsSteps {A : _} (r q : Rule) (old new : MapReader A) (x : Result ℕ TextFault) : Type 0 where
   pub right : OnOk x (IsRightSoFar new.builder q)
   pub reads : (d : Draft) → IsDraft old.builder d → StepsGo x d (kept_rule d q) new.text (between (at (ruled (kept_rule d r)) d)) old.text

@@ -1,4 +1,4 @@
--- What the functions that read statements promise.
+-- What the contracts of the functions that read statements promise.
 use Rattle.std.specs.Prelude.{◌≡◌, ◌⊎◌, ℕ, ◌<◌, List, Bool, Option, Some, None, Result, Ok, Err, IfOk, IfSome, OnOk, length, false, ◌||◌, bytes_eq, codes, if◌then◌else◌}
 use Rattle.crush_edits.specs.Setting.{kind_number}
 use Rattle.crush_builder.specs.Built.{Draft, empty_draft}
@@ -19,23 +19,23 @@ use Rattle.crush_text.specs.Room.{HasRoom}
 use Rattle.crush_text.specs.Reads.{LeadsOn, Fails}
 use Rattle.crush_text.specs.ReadsLines.{IsIdle}
 
--- a statement was read, behind which only buckets and rules may come, or all may
+-- the mode after a statement: only buckets and rules may follow if `late`, otherwise all statements may
 abbrev pub behind : Bool → Mode
 behind late = if late then second else first
 
--- what follows a statement, or the text is whole
+-- what the result of a function that read the next statement says. `None`: the text ended here, and the builder has its draft. A Bool: the statement leads to the next one, in the mode that depends on the Bool. A fault is one of reading
 abbrev pub NextGoes : Result (Option Bool) TextFault → BuilderData → Text → State → Text → Type 0
 NextGoes (Ok None) builder rest s t = (e : Draft) × IsDraft builder e × (outcome s t ≡ Ok e)
 NextGoes (Ok (Some late)) builder rest s t = (e : Draft) × IsDraft builder e × LeadsOn s t (between (at (behind late) e)) rest
 NextGoes (Err f) builder rest s t = Fails f s t
 
--- A STATEMENT was read, or the end of the text
+-- A STATEMENT was read, or the end of the text. After success the builder is between two statements; after a statement the text is shorter
 pub record ReadsNext {A : _} (late : Bool) (old new : MapReader A) (x : Result (Option Bool) TextFault) : Type 0 where
   pub idle : OnOk x (IsIdle new.builder)
   pub reads : (d : Draft) → IsDraft old.builder d → NextGoes x new.builder new.text (between (at (behind late) d)) old.text
   pub shorter : IfOk x (λ more. IfSome more (λ _. length new.text.words < length old.text.words))
 
--- all statements give a draft
+-- what the result of a function that read all statements says: after success the builder has the draft that the text gives; a fault is one of reading
 abbrev pub AllGo : Result (Unit {0}) TextFault → BuilderData → State → Text → Type 0
 AllGo (Ok x) builder s t = (e : Draft) × IsDraft builder e × (outcome s t ≡ Ok e)
 AllGo (Err f) builder s t = Fails f s t
@@ -45,31 +45,31 @@ pub record ReadsAll {A : _} (old new : MapReader A) (x : Result (Unit {0}) TextF
   pub idle : OnOk x (IsIdle new.builder)
   pub reads : (d : Draft) → IsDraft old.builder d → AllGo x new.builder (between (at first d)) old.text
 
--- a first word that opens a bucket is the name of its type
+-- if the word w begins a bucket, w is the name of the bucket's type k
 abbrev pub IsKnown : Draft → Opening → List ℕ → Type 0
 IsKnown d (openings.Bucket k) w = kind_number d.setting w ≡ Some k
 IsKnown d o w = Unit {0}
 
--- between two statements, where this word opens one for which there is room
+-- the builder is between two statements, the word w begins a statement of the kind o, and there is room for one more of this kind
 pub record CanOpen (o : Opening) (w : List ℕ) (b : BuilderData) : Type 0 where
   pub idle : IsIdle b
   pub known : (d : Draft) → IsDraft b d → IsKnown d o w
   pub room : (d : Draft) → IsDraft b d → HasRoom d o
 
--- what a first word opens was found
+-- the result x says which kind of statement the word w begins, or which fault it has: whatever draft the builder has, this is what reading gives. After success there is room for one more of this kind
 pub record Opens (w : PlacedWord) (late : Bool) (b : BuilderData) (x : Result Opening TextFault) : Type 0 where
   pub opens : (d : Draft) → IsDraft b d → x ≡ placed w.place (word_for d (opening late) w.text.now)
   pub known : (d : Draft) → IsDraft b d → IfOk x (λ o. IsKnown d o w.text.now)
   pub room : IfOk x (λ o. (d : Draft) → IsDraft b d → HasRoom d o)
 
--- whether a first word opens a statement where there is no type yet
+-- whether the word begins a statement when no type is declared yet
 abbrev pub opens_alone : List ℕ → Bool
 opens_alone w = comes_first w || bytes_eq w (codes "rule")
 
--- a first word has this fault, or memory was refused where it has none
+-- f is the fault of the word w as the first word of a text; or w has no fault, and f is out of memory at w's place
 abbrev pub FailsFirst : TextFault → ℕ → List ℕ → Type 0
 FailsFirst f place w = (IsOutOfMemory f × (f.place ≡ place) × ((o : Opening) × (word_for empty_draft (opening false) w ≡ Ok o))) ⊎ (placed place (word_for empty_draft (opening false) w) ≡ Err f)
 
--- the fault of a text is that of reading, or memory was refused at a word that has none, or at the end of a text without words
+-- f is the fault of reading the text t; or it is out of memory, at a word that has no fault and no faulty word before it, or at the end of a text without words
 abbrev pub FailsText : TextFault → Text → Type 0
 FailsText f t = (IsOutOfMemory f × (Reaches f.place start t.words ⊎ (t ≡ stopped (ended f.place)))) ⊎ (outcome start t ≡ Err f)

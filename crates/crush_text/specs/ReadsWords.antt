@@ -1,4 +1,4 @@
--- What the functions that read one word promise.
+-- What the contracts of the functions that read one word promise.
 use Rattle.std.specs.Prelude.{◌≡◌, ◌||◌, ℕ, ◌<◌, List, true, false, Result, Ok, IfOk, OnOk, length, nat_eq, codes}
 use Rattle.std.specs.List.{starts_with}
 use Rattle.crush_units.specs.Name.{is_name, IsName}
@@ -14,17 +14,17 @@ use Rattle.crush_text.specs.Role.{Role, El, value}
 use Rattle.crush_text.specs.Room.{IsFreeWord, IsInRange, IsFreeValue}
 use Rattle.crush_text.specs.Reads.{word_of, next_at, word_at, Gives}
 
--- a word was taken, a brace or a name
+-- the next word was read: it is a brace or a name, and after success the text is shorter
 pub record TakesWord (old new : Text) (x : Result PlacedWord TextFault) : Type 0 where
   pub gives : Gives (λ w. (word_of w, new)) x (next_at old)
   pub formed : IfOk x (λ w. (is_brace_word w.text.now || is_name w.text.now) ≡ true)
   pub shorter : OnOk x (length new.words < length old.words)
 
--- every draft, where a word doesn't depend on what was built
+-- the test that every draft passes, for words that don't depend on the draft
 abbrev pub AnyDraft : Draft → Type 0
 AnyDraft d = Unit {0}
 
--- A WORD was read for this role, and it is a name: at each of these drafts it has the role's value, or the fault that is told
+-- A WORD was read in the role r: for each of these drafts the result is the word that has the role's value, or the word's fault. A word that is returned is a name, is no brace, and may be here
 pub record ReadsWord (r : Role) (drafts : Draft → Type 0) (old new : Text) (x : Result PlacedWord TextFault) : Type 0 where
   pub gives : (d : Draft) → drafts d → Gives (λ w. (value d r w.text.now, new)) x (word_at d r old)
   pub next : IfOk x (λ w. next_at old ≡ Ok (word_of w, new))
@@ -33,28 +33,28 @@ pub record ReadsWord (r : Role) (drafts : Draft → Type 0) (old new : Text) (x 
   pub free : IfOk x (λ w. (d : Draft) → drafts d → IsFreeWord d r w.text.now)
   pub shorter : OnOk x (length new.words < length old.words)
 
--- and what is returned has this value
+-- the same if a value is returned: it is the word's value in the role r, is in the role's range, and may be here
 pub record ReadsValue {X : Type 0} (r : Role) (view : X → El r) (drafts : Draft → Type 0) (old new : Text) (x : Result X TextFault) : Type 0 where
   pub gives : (d : Draft) → drafts d → Gives (λ v. (view v, new)) x (word_at d r old)
   pub range : IfOk x (λ v. IsInRange r (view v))
   pub free : IfOk x (λ v. (d : Draft) → drafts d → IsFreeValue d r (view v))
   pub shorter : OnOk x (length new.words < length old.words)
 
--- a method of a map's reader read such a WORD, at each draft of its builder, which is as it was
+-- a method of the map's reader read such a WORD, for each draft that its builder can have. The builder is unchanged
 pub record FindsWord {A : _} (r : Role) (old new : MapReader A) (x : Result PlacedWord TextFault) : Type 0 where
   pub reads : ReadsWord r (IsDraft old.builder) old.text new.text x
   pub kept : new.builder ≡ old.builder
 
--- or such a value
+-- a method of the map's reader read such a value. The builder is unchanged
 pub record FindsValue {A : _} {X : Type 0} (r : Role) (view : X → El r) (old new : MapReader A) (x : Result X TextFault) : Type 0 where
   pub reads : ReadsValue r view (IsDraft old.builder) old.text new.text x
   pub kept : new.builder ≡ old.builder
 
--- the word that was read stood here
+-- the word that was read from the text `old` is at this place
 abbrev pub StoodAt : Text → Text → ℕ → Type 0
 StoodAt old new place = (text : List ℕ) × (next_at old ≡ Ok (record { place = place; text = text }, new))
 
--- the first word of a step has the form of what it sets, and its place
+-- if the first word of a step begins with `set_`, then it is a name, and its place is the one in the text
 abbrev pub IsFirstOfStep : Text → Text → FirstOfStep → Type 0
 IsFirstOfStep old new steps.Take = Unit {0}
 IsFirstOfStep old new (steps.Choose leaf) = Unit {0}

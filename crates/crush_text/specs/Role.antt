@@ -1,4 +1,4 @@
--- What a word may be for, and what value it has then.
+-- The roles of words: what a word is for, and which value it has then.
 use Rattle.std.specs.Prelude.{ℕ, ℤ, Bool, true, false, List, Result, Ok, Err, bytes_eq, codes, drop, unwrap_or, if◌then◌else◌}
 use Rattle.std.specs.Str.Parse.{digits_value}
 use Rattle.crush_units.specs.declared.alg.Alg.{Alg}
@@ -16,9 +16,8 @@ use Rattle.crush_text.specs.declared.opening.Opening.{Opening}
 use Rattle.crush_text.specs.declared.opening.Opening.TheVariants as openings
 use Rattle.crush_units.specs.Numbers.{signed_value}
 
--- what a word is for. The Bool of `opening` says that a bucket or a rule stands before it, that of `item_or_end` that an item
--- does; the number of `number` is the greatest one, that of `type_name` the type's, that of `step_or_end` says how many steps
--- stand before it. An item with a weight behind it is an `item`, one without a `lone_item`
+-- what a word is for. The Bool of `opening` says that a bucket or a rule was read before; the Bool of `item_or_end` says that an item of the bucket was read before. The number of `number` is the greatest that is allowed,
+-- the number of `type_name` is the type's, and the number of `step_or_end` is how many steps the rule has so far. The name of an item is an `item` if a weight follows it, otherwise a `lone_item`
 pub data Role : Type 0 where
   key : List ℕ → Role
   any_word : Role
@@ -47,15 +46,15 @@ pub data Role : Type 0 where
   step_count : Role
   step_type : Role
 
--- what the first word of a step says: it takes a bucket; chooses, among the items or among the devices below them; sets what
--- the word names; or hands out
+-- what the first word of a step says: `take`; `choose`, or `chooseleaf` if the Bool is true; a word that begins with `set_`;
+-- or `emit`
 pub data StepWord : Type 0 where
   takes : StepWord
   chooses : Bool → StepWord
   sets : List ℕ → StepWord
   emits : StepWord
 
--- the type of its value
+-- the type of the value that a word of this role has
 abbrev pub El : Role → Type 0
 El (key k) = Unit {0}
 El any_word = List ℕ
@@ -84,27 +83,28 @@ El step_order = Bool
 El step_count = ℤ
 El step_type = List ℕ
 
--- the number of a type's name, or 0 where it is none
+-- the number of the type with this name, or 0 if there is no such type
 abbrev pub kind_of_word : Draft → List ℕ → ℕ
 kind_of_word d w = unwrap_or (kind_number d.setting w) 0
 
--- the item of a name
+-- the item with this name; device 0 if there is none, but then the word has a fault
 abbrev pub item_of : Draft → List ℕ → ItemId
 item_of d w = unwrap_or (item_named d w) (Device 0)
 
--- the bucket of a name
+-- the complete bucket with this name; 0 if there is none, but then the word has a fault
 abbrev pub bucket_of_word : Draft → List ℕ → ℕ
 bucket_of_word d w = unwrap_or (complete_bucket_named d w) 0
 
--- the units of a weight's text
+-- the weight, or 0 if the text isn't one
 abbrev pub units_or_none : Result ℕ WeightFault → ℕ
 units_or_none (Ok w) = w
 units_or_none (Err f) = 0
 
+-- the weight in units that a word spells, or 0 if it spells none, but then the word has a fault
 abbrev pub units : List ℕ → ℕ
 units w = units_or_none (weight_of_text w)
 
--- what a statement's first word opens
+-- which kind of statement the word begins
 abbrev pub opened : Draft → List ℕ → Opening
 opened d w =
     if bytes_eq w (codes "tunable") then openings.Tunable
@@ -122,7 +122,7 @@ step_said w =
     else (if bytes_eq w (codes "emit") then emits
     else sets w)))
 
--- its value
+-- the value of the word w in the role r; it counts only if the word has no fault
 abbrev pub value : Draft → (r : Role) → List ℕ → El r
 value d (key k) w = tt
 value d any_word w = w

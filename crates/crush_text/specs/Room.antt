@@ -1,4 +1,4 @@
--- Whether what a first word opens has room, and an item or a rule is free of faults.
+-- Whether a draft has room for one more statement, and whether words, values, items and rules may be used in it.
 use Rattle.std.specs.Prelude.{◌≡◌, ℕ, ◌<◌, ◌≤◌, List, [], Option, None, true, false, is_some, nat_lt}
 use Rattle.crush_units.specs.declared.id.ItemId.{ItemId}
 use Rattle.crush_units.specs.declared.id.ItemId.TheVariants.{Device}
@@ -15,7 +15,7 @@ use Rattle.crush_text.specs.declared.opening.Opening.{Opening}
 use Rattle.crush_text.specs.declared.opening.Opening.TheVariants as openings
 use Rattle.crush_text.specs.Role.{Role, El, number, tunable_name, type_number, type_name, device_id, new_name, bucket_id, id_or_alg, id_class, rule_name, rule_id, taken_bucket, step_type}
 
--- a map has room for one more, and a bucket is of a type of buckets
+-- the draft has room for one more statement of this kind; for a bucket, its type isn't type 0
 abbrev pub HasRoom : Draft → Opening → Type 0
 HasRoom d openings.Tunable = is_full_of_tunables d ≡ false
 HasRoom d openings.Device = is_full_of_devices d ≡ false
@@ -23,7 +23,7 @@ HasRoom d openings.Type = is_full_of_kinds d ≡ false
 HasRoom d (openings.Bucket k) = (nat_lt 0 k ≡ true) × (is_full_of_buckets d ≡ false)
 HasRoom d openings.Rule = is_full_of_rules d ≡ false
 
--- a name that was read is one that may stand there
+-- the name w may be used in this role: it is free if the role declares it, and it exists if the role refers to it
 abbrev pub IsFreeWord : Draft → Role → List ℕ → Type 0
 IsFreeWord d tunable_name w = has_tunable d.setting w ≡ false
 IsFreeWord d (type_name n) w = (0 < n → is_reserved w ≡ false) × (has_kind_name d.setting w ≡ false)
@@ -34,13 +34,13 @@ IsFreeWord d taken_bucket w = is_some (complete_bucket_named d w) ≡ true
 IsFreeWord d step_type w = is_some (kind_number d.setting w) ≡ true
 IsFreeWord d r w = Unit {0}
 
--- a number is in its range
+-- a number is in the range of its role
 abbrev pub IsInRange : (r : Role) → El r → Type 0
 IsInRange (number most) n = n ≤ most
 IsInRange rule_id n = n ≤ LARGEST_RULE_NUMBER
 IsInRange r v = Unit {0}
 
--- and is one that may stand there, or a class id that is announced has room
+-- the value may be used in this role: a number or an id is free; and if a class id follows, the bucket has room for it
 abbrev pub IsFreeValue : Draft → (r : Role) → El r → Type 0
 IsFreeValue d type_number n = has_kind_number d.setting n ≡ false
 IsFreeValue d device_id n = is_there d.table (Device n) ≡ false
@@ -49,17 +49,17 @@ IsFreeValue d id_or_alg more = more ≡ true → is_full_of_class_ids d ≡ fals
 IsFreeValue d rule_id n = has_rule_id d.setting n ≡ false
 IsFreeValue d r v = Unit {0}
 
--- a device, or a bucket that was closed, and no bucket holds it
+-- the item is a device or a complete bucket, and no bucket holds it
 abbrev pub IsFreeItem : Draft → ItemId → Type 0
 IsFreeItem d i = (is_closed d i ≡ true) × (is_placed d.table i ≡ false)
 
--- no rule has its name or its id, and its steps name what is there
+-- no rule of the draft has the name or the id of the rule r, and r's steps name buckets and types that exist
 pub record IsFreeRule (d : Draft) (r : Rule) : Type 0 where
   pub name : has_rule_name d.setting r.name ≡ false
   pub id : has_rule_id d.setting r.id ≡ false
   pub steps : steps_fault d 0 r.steps.items ≡ None
 
--- a rule of this name, id, word and sizes, which has no steps yet
+-- the rule r has the name x, the id n, the `type` word k and these sizes, and no steps yet
 pub record IsHead (x : List ℕ) (n : ℕ) (k : List ℕ) (least most : Option ℕ) (r : Rule) : Type 0 where
   pub name : r.name ≡ x
   pub id : r.id ≡ n

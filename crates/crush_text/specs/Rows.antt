@@ -1,4 +1,4 @@
--- THE TABLE OF FAULTS, row by row: when a word has which fault where it stands for this.
+-- THE TABLE OF FAULTS, with a row for each fault: in which cases a word of a role has it. d is the draft before the word's line, r is the word's role, and w is the word.
 use Rattle.std.specs.Prelude.{◌≡◌, ◌≢◌, ◌<◌, ◌≤◌, ◌⊎◌, ℕ, true, false, nat_eq, List, Result, Ok, Err, None, codes, drop, Some}
 use Rattle.std.specs.List.{starts_with}
 use Rattle.std.specs.Str.Parse.{digits_value}
@@ -34,11 +34,11 @@ ComesFirst w = (w ≡ codes "tunable") ⊎ ((w ≡ codes "device") ⊎ (w ≡ co
 abbrev pub IsNeither : List ℕ → List ℕ → List ℕ → Type 0
 IsNeither w k l = (w ≢ k) × (w ≢ l)
 
--- no word with which a step begins
+-- it isn't a word with which a step begins
 abbrev pub IsNoStepWord : List ℕ → Type 0
 IsNoStepWord w = (w ≢ codes "take") × IsNeither w (codes "choose") (codes "chooseleaf") × (w ≢ codes "emit") × (starts_with nat_eq w (codes "set_") ≡ false) × (w ≢ codes "choosemsr")
 
--- a word or a brace that the grammar doesn't have there; a type's forbidden name
+-- UNEXPECTED: a word or a brace that the grammar doesn't allow here, or a name that only type 0 may have
 abbrev pub IsUnexpected : Role → List ℕ → Type 0
 IsUnexpected (key k) w = w ≢ k
 IsUnexpected (opening late) w = IsBrace w ⊎ ((w ≡ codes "class") ⊎ ((late ≡ true) × ComesFirst w))
@@ -51,7 +51,7 @@ IsUnexpected step_word w = IsNoStepWord w
 IsUnexpected step_order w = IsNeither w (codes "firstn") (codes "indep")
 IsUnexpected r w = IsBrace w
 
--- no number of the form or the range that is due
+-- BAD NUMBER: it isn't a number of the form and the range that are required here
 abbrev pub IsBadNumber : Role → List ℕ → Type 0
 IsBadNumber (number most) w = is_number most w ≡ false
 IsBadNumber type_number w = is_number LAST_TYPE w ≡ false
@@ -61,17 +61,18 @@ IsBadNumber rule_id w = is_number LARGEST_RULE_NUMBER w ≡ false
 IsBadNumber step_count w = is_signed w ≡ false
 IsBadNumber r w = ⊥
 
--- no weight, or one that is too heavy for a device
+-- it isn't a weight that the item may have: it isn't a weight at all, or it is too heavy for a device
 abbrev pub IsNoWeightOf : ItemId → Result ℕ WeightFault → Type 0
 IsNoWeightOf i (Err f) = Unit {0}
 IsNoWeightOf (Device n) (Ok w) = HEAVIEST_DEVICE < w
 IsNoWeightOf (Bucket b) (Ok w) = ⊥
 
+-- BAD WEIGHT: the word doesn't spell a weight that the item may have
 abbrev pub IsBadWeight : Role → List ℕ → Type 0
 IsBadWeight (weight i) w = IsNoWeightOf i (weight_of_text w)
 IsBadWeight r w = ⊥
 
--- a number or an id that an earlier line has
+-- DUPLICATE ID: a number or an id that an earlier line has already
 abbrev pub IsDuplicateId : Draft → Role → List ℕ → Type 0
 IsDuplicateId d type_number w = has_kind_number d.setting (digits_value 10 w) ≡ true
 IsDuplicateId d device_id w = is_there d.table (Device (digits_value 10 w)) ≡ true
@@ -79,7 +80,7 @@ IsDuplicateId d bucket_id w = has_bucket_id d (digits_value 10 (drop 1 w)) ≡ t
 IsDuplicateId d rule_id w = has_rule_id d.setting (digits_value 10 w) ≡ true
 IsDuplicateId d r w = ⊥
 
--- a name that an earlier line has, a class that an earlier line of the bucket has
+-- DUPLICATE NAME: a name that an earlier line has already, or a class that an earlier line of the same bucket has already
 abbrev pub IsDuplicateName : Draft → Role → List ℕ → Type 0
 IsDuplicateName d tunable_name w = has_tunable d.setting w ≡ true
 IsDuplicateName d (type_name n) w = has_kind_name d.setting w ≡ true
@@ -88,50 +89,51 @@ IsDuplicateName d id_class w = has_class d w ≡ true
 IsDuplicateName d rule_name w = has_rule_name d.setting w ≡ true
 IsDuplicateName d r w = ⊥
 
--- a first word that names no type, or type 0, and is none of the words that only type 0 may have as its name; a step's type that
--- isn't declared
+-- UNKNOWN TYPE: the first word of a statement that is none of the reserved words, and is either not the name of a declared type or the name of type 0;
+-- or a type in a step that isn't declared
 abbrev pub IsUnknownType : Draft → Role → List ℕ → Type 0
 IsUnknownType d (opening late) w = (is_reserved w ≡ false) × (is_bucket_kind d.setting (kind_of_word d w) ≡ false)
 IsUnknownType d step_type w = kind_number d.setting w ≡ None
 IsUnknownType d r w = ⊥
 
--- no declared device and no closed bucket
+-- UNKNOWN ITEM: it is neither a declared device nor a complete bucket
 abbrev pub IsUnknownItem : Draft → Role → List ℕ → Type 0
 IsUnknownItem d item w = item_named d w ≡ None
 IsUnknownItem d lone_item w = item_named d w ≡ None
 IsUnknownItem d r w = ⊥
 
--- an item that a bucket holds already
+-- the word is the name of an item that a bucket already holds
 abbrev pub IsHeldItem : Draft → List ℕ → Type 0
 IsHeldItem d w = (i : ItemId) × (item_named d w ≡ Some i) × (is_placed d.table i ≡ true)
 
+-- SECOND PARENT: a bucket already holds the item
 abbrev pub IsSecondParent : Draft → Role → List ℕ → Type 0
 IsSecondParent d item w = IsHeldItem d w
 IsSecondParent d lone_item w = IsHeldItem d w
 IsSecondParent d r w = ⊥
 
--- another algorithm
+-- OTHER ALGORITHM: it is none of the supported algorithms
 abbrev pub IsOtherAlgorithm : Role → List ℕ → Type 0
 IsOtherAlgorithm algorithm w = alg_of_text w ≡ None
 IsOtherAlgorithm r w = ⊥
 
--- what isn't read: `choose_args` as a first word, `pos` behind an item, `choosemsr` as the first word of a step
+-- LEFT OUT: what isn't supported: `choose_args` as the first word of a statement, `pos` after an item, `choosemsr` as the first word of a step
 abbrev pub IsLeftOut : Role → List ℕ → Type 0
 IsLeftOut (opening late) w = w ≡ codes "choose_args"
 IsLeftOut (item_or_end any) w = (any ≡ true) × (w ≡ codes "pos")
 IsLeftOut step_word w = w ≡ codes "choosemsr"
 IsLeftOut r w = ⊥
 
--- a step takes what is no closed bucket
+-- UNKNOWN BUCKET IN RULE: a step takes what isn't a complete bucket
 abbrev pub IsUnknownBucketInRule : Draft → Role → List ℕ → Type 0
 IsUnknownBucketInRule d taken_bucket w = complete_bucket_named d w ≡ None
 IsUnknownBucketInRule d r w = ⊥
 
--- the first word of a bucket: it names a type, but type 0, and is none of the words that only type 0 may have as its name
+-- the word begins a bucket: it is the name of a declared type other than type 0, and is none of the reserved words
 abbrev pub BeginsBucket : Draft → List ℕ → Type 0
 BeginsBucket d w = (is_reserved w ≡ false) × (is_bucket_kind d.setting (kind_of_word d w) ≡ true)
 
--- the first word of a tunable, a device, a type, a rule or a bucket of which a map has no room for one more
+-- the word begins a tunable, a device, a type, a rule or a bucket, and the map has no room for one more of this kind
 abbrev pub IsOneTooMany : Draft → List ℕ → Type 0
 IsOneTooMany d w =
     ((w ≡ codes "tunable") × (is_full_of_tunables d ≡ true))
@@ -140,20 +142,20 @@ IsOneTooMany d w =
     ⊎ (((w ≡ codes "rule") × (is_full_of_rules d ≡ true))
     ⊎ (BeginsBucket d w × (is_full_of_buckets d ≡ true)))))
 
--- one more tunable, type, device, bucket, class id, rule or step than a map may have
+-- TOO MANY: one more tunable, type, device, bucket, class id, rule or step than a map may have
 abbrev pub IsTooMany : Draft → Role → List ℕ → Type 0
 IsTooMany d (opening late) w = IsOneTooMany d w
 IsTooMany d id_or_alg w = (w ≡ codes "id") × (is_full_of_class_ids d ≡ true)
 IsTooMany d (step_or_end k) w = (w ≡ codes "step") × (MOST_STEPS ≤ k)
 IsTooMany d r w = ⊥
 
--- an item with which a bucket's sum or the total is out of range: one without a weight, or with a weight that it may have
+-- SUM TOO LARGE: with this item the weight of a bucket or the total weight is out of range. The fault is at the item's name if it has no weight, otherwise at its weight, if that is one that the item may have
 abbrev pub IsSumTooLarge : Draft → Role → List ℕ → Type 0
 IsSumTooLarge d lone_item w = (i : ItemId) × (item_named d w ≡ Some i) × (is_too_heavy (with_next_item d i None).table ≡ true)
 IsSumTooLarge d (weight i) w = (u : ℕ) × (weight_of_text w ≡ Ok u) × (IsNoWeightOf i (Ok u) → ⊥) × (is_too_heavy (with_next_item d i (Some u)).table ≡ true)
 IsSumTooLarge d r w = ⊥
 
--- a row of the table holds of a word
+-- the row of the fault f applies to the word
 abbrev pub Holds : TextFaultKind → Draft → Role → List ℕ → Type 0
 Holds Unexpected d r w = IsUnexpected r w
 Holds BadNumber d r w = IsBadNumber r w
@@ -170,14 +172,14 @@ Holds TooMany d r w = IsTooMany d r w
 Holds SumTooLarge d r w = IsSumTooLarge d r w
 Holds f d r w = ⊥
 
--- no lesser row holds
+-- no row with a lesser number than f's applies to the word
 abbrev pub NoneBelow : TextFaultKind → Draft → Role → List ℕ → Type 0
 NoneBelow f d r w = (g : TextFaultKind) → fault_number g < fault_number f → Holds g d r w → ⊥
 
--- the fault of a word: its row holds, and no lesser one
+-- f is the fault of the word: its row applies, and no row with a lesser number
 abbrev pub IsFault : TextFaultKind → Draft → Role → List ℕ → Type 0
 IsFault f d r w = Holds f d r w × NoneBelow f d r w
 
--- no row holds
+-- the word has no fault: no row applies
 abbrev pub IsRight : Draft → Role → List ℕ → Type 0
 IsRight d r w = (f : TextFaultKind) → Holds f d r w → ⊥

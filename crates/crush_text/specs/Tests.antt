@@ -1,4 +1,4 @@
--- How a word is judged: the faults that it may have where it stands, by their numbers.
+-- The tests of a word as they are computed: for each role the faults that a word may have, in the order of their numbers. `Rows` says the same as a table.
 use Rattle.std.specs.Prelude.{ℕ, Bool, true, false, not, ◌&&◌, ◌||◌, ◌==◌, nat_eq, nat_le, List, [], ◌∷◌, Result, Ok, Err, is_some, bytes_eq, codes, drop, if◌then◌else◌, None, Some}
 use Rattle.std.specs.List.{starts_with}
 use Rattle.std.specs.Str.Parse.{digits_value}
@@ -22,20 +22,20 @@ use Rattle.crush_units.specs.declared.limits.TheConstants.{LARGEST_RULE_NUMBER}
 use Rattle.crush_text.specs.Role.{Role, El, value, kind_of_word, item_of, units, key, any_word, number, opening, tunable_name, type_number, type_name, device_id, new_name, bucket_id, id_or_alg, id_class, algorithm, item_or_end, item, lone_item, weight, rule_name, rule_id_key, rule_id, step_or_end, step_word, taken_bucket, step_order, step_count, step_type}
 use Rattle.crush_units.specs.declared.limits.TheConstants.{HEAVIEST_DEVICE, LAST_DEVICE_ID, LAST_TYPE, MOST_STEPS}
 
--- a fault, and whether the word has it
+-- a test: a fault, and whether the word has it
 pub data Test : Type 0 where
   ◌when◌ : TextFaultKind → Bool → Test
 
 infix 5 ◌when◌
--- a word but a brace, and further tests
+-- the test that the word isn't a brace, and then these tests
 abbrev pub a_word : List ℕ → List Test → List Test
 a_word w more = (Unexpected when is_brace_word w) ∷ more
 
--- a number up to the first one
+-- the tests that the word is a number up to `most`, and then these tests
 abbrev pub a_number : ℕ → List ℕ → List Test → List Test
 a_number most w more = a_word w ((BadNumber when not (is_number most w)) ∷ more)
 
--- one of two words
+-- whether w is k or l
 abbrev pub is_either : List ℕ → List ℕ → List ℕ → Bool
 is_either w k l = bytes_eq w k || bytes_eq w l
 
@@ -43,15 +43,15 @@ is_either w k l = bytes_eq w k || bytes_eq w l
 abbrev pub comes_first : List ℕ → Bool
 comes_first w = bytes_eq w (codes "tunable") || is_either w (codes "device") (codes "type")
 
--- whether a word begins no statement here: types, devices and tunables come before the buckets and the rules
+-- whether the word can't begin a statement here: types, devices and tunables must come before the buckets and the rules, of which one was read if `late`
 abbrev pub is_out_of_place : Bool → List ℕ → Bool
 is_out_of_place late w = is_brace_word w || (bytes_eq w (codes "class") || (late && comes_first w))
 
--- whether it begins a statement by itself
+-- whether the word begins a statement at all, or is `choose_args`
 abbrev pub is_known : Draft → List ℕ → Bool
 is_known d w = comes_first w || (is_either w (codes "rule") (codes "choose_args") || is_bucket_kind d.setting (kind_of_word d w))
 
--- whether there is no room for one more of its statement
+-- whether the map has no room for one more of the statements that begin with this word
 abbrev pub is_full : Draft → List ℕ → Bool
 is_full d w =
     if bytes_eq w (codes "tunable") then is_full_of_tunables d
@@ -60,17 +60,17 @@ is_full d w =
     else (if bytes_eq w (codes "rule") then is_full_of_rules d
     else is_full_of_buckets d)))
 
--- whether a text is a weight that an item may have
+-- whether the item may have this weight; false if the text wasn't a weight
 abbrev pub is_weight_for : ItemId → Result ℕ WeightFault → Bool
 is_weight_for i (Err f) = false
 is_weight_for (Device n) (Ok w) = nat_le w HEAVIEST_DEVICE
 is_weight_for (Bucket b) (Ok w) = true
 
--- the tests of a weight before it is put into the bucket
+-- the tests of a weight, except for the sums of the buckets
 abbrev pub weight_tests : Draft → ItemId → List ℕ → List Test
 weight_tests d i w = a_word w ((BadWeight when not (is_weight_for i (weight_of_text w))) ∷ [])
 
--- those of an item's name, and then others
+-- the tests of an item's name, and then these tests
 abbrev pub item_tests : Draft → List ℕ → List Test → List Test
 item_tests d w more = a_word w ((UnknownItem when not (is_some (item_named d w))) ∷ (SecondParent when is_placed d.table (item_of d w)) ∷ more)
 
@@ -78,7 +78,7 @@ item_tests d w more = a_word w ((UnknownItem when not (is_some (item_named d w))
 abbrev pub is_step_word : List ℕ → Bool
 is_step_word w = bytes_eq w (codes "take") || (is_either w (codes "choose") (codes "chooseleaf") || (bytes_eq w (codes "emit") || starts_with nat_eq w (codes "set_")))
 
--- the tests of each kind of word
+-- the tests of the word w in each role
 abbrev pub word_tests : Draft → Role → List ℕ → List Test
 word_tests d (key k) w = (Unexpected when not (bytes_eq w k)) ∷ []
 word_tests d any_word w = a_word w []
@@ -107,11 +107,11 @@ word_tests d step_order w = (Unexpected when not (is_either w (codes "firstn") (
 word_tests d step_count w = a_word w ((BadNumber when not (is_signed w)) ∷ [])
 word_tests d step_type w = a_word w ((UnknownType when not (is_some (kind_number d.setting w))) ∷ [])
 
--- a value, unless one of the tests holds: then the first one that does
+-- the value v if no test finds its fault; otherwise the first fault that is found
 abbrev pub unless : {A : Type 0} → List Test → A → Result A TextFaultKind
 unless [] v = Ok v
 unless ((f when b) ∷ ts) v = if b then Err f else unless ts v
 
--- what a word is where it is for this
+-- the value of the word w in the role r, or its fault
 abbrev pub word_for : Draft → (r : Role) → List ℕ → Result (El r) TextFaultKind
 word_for d r w = unless (word_tests d r w) (value d r w)

@@ -1,4 +1,4 @@
-//! What is wrong with the text of a map, and where.
+//! The faults of a map's text, and their places.
 
 ghost use Rattle.std.specs.Prelude.{◌≡◌, Some};
 ghost use Rattle.crush_text.specs.Fault.{fault_name, fault_number};
@@ -6,53 +6,59 @@ ghost use Rattle.crush_text.specs.Fault.{fault_name, fault_number};
 use std::fmt::{self, Display, Formatter};
 use thiserror::Error;
 
-/// What is wrong at a place of a text. Where several hold, the one of least number counts.
+/// What is wrong at a place of a text. If a word has several faults, the one with the least number
+/// is reported.
 #[derive(Clone, Copy, Debug, PartialEq, Eq)]
 pub enum TextFaultKind {
-    /// A byte that no text may have, or a word of more than 255 bytes.
+    /// A byte that no text may contain, or a word of more than 255 bytes.
     BadWord,
-    /// Inside a statement.
+    /// The text ends inside a statement.
     Ended,
-    /// What the grammar doesn't have there.
+    /// A word or a brace that the grammar doesn't allow here.
     Unexpected,
-    /// No number of the form or the range due there.
+    /// The word isn't a number of the form and the range that are required here.
     BadNumber,
-    /// No weight, above 4294967295 units, or a device's above 2147483647.
+    /// The word isn't a weight, or it is above 4294967295 units, or above 2147483647 units for a
+    /// device.
     BadWeight,
-    /// A number or an id of an earlier line.
+    /// An earlier line has this number or id already.
     DuplicateId,
-    /// A name or a class of an earlier line.
+    /// An earlier line has this name already, or an earlier line of the bucket this class.
     DuplicateName,
-    /// No type, or type 0 for a bucket.
+    /// The word isn't the name of a declared type, or it names type 0 where a bucket begins.
     UnknownType,
-    /// Neither a device nor a closed bucket.
+    /// The item is neither a declared device nor a bucket that was read to its end.
     UnknownItem,
-    /// A bucket holds the item already.
+    /// A bucket already holds the item.
     SecondParent,
-    /// None of `straw`, `straw2` and `list`.
+    /// The algorithm is none of `straw`, `straw2` and `list`.
     OtherAlgorithm,
-    /// A part of Ceph's grammar that isn't read.
+    /// A part of Ceph's grammar that isn't supported: `choose_args`, `choosemsr`, or `pos` after an
+    /// item.
     LeftOut,
+    /// A step of a rule takes a bucket that isn't declared before the rule.
     UnknownBucketInRule,
-    /// One more than a limit allows.
+    /// One more tunable, type, device, bucket, class id, rule or step than a map may have.
     TooMany,
-    /// A bucket's sum or the total is out of range.
+    /// With this item, the weight of a bucket or the total weight of the map is out of range.
     SumTooLarge,
+    /// Memory could not be allocated. The text has no fault up to this place.
     OutOfMemory,
 }
 
-/// What is wrong with a text, and the place of the byte or of the word's first byte, counted from
-/// 0.
+/// What is wrong with a text, and where.
 #[derive(Clone, Copy, Debug, PartialEq, Eq, Error)]
 #[error("byte {place}: {kind}")]
 pub struct TextFault {
+    /// What is wrong.
     pub kind: TextFaultKind,
-    /// At most the text's length.
+    /// The index, from 0, of the bad byte or of the first byte of the word at fault. It is at most
+    /// the length of the text.
     pub place: usize,
 }
 
 impl TextFaultKind {
-    /// The fault's name, as it is written above.
+    /// The fault's name, which is the name of its variant.
     pub fn name(self) -> &'static str
         ensures { result.now ≡ fault_name self }
     {

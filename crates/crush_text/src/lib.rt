@@ -1,5 +1,8 @@
-//! The text of a CRUSH map: its grammar (`specs/Grammar.antt`), its faults (`Flaw.antt`), and
-//! [`read_map`], which reads it by a builder of `crush_builder`.
+//! Reads the text of a CRUSH map.
+//!
+//! [`read_map`] parses the text, and builds the map with a builder of `crush_builder`.
+//! `specs/Grammar.antt` has the grammar of the text, and `specs/Flaw.antt` says what a fault of a
+//! text is.
 #![tactic(auto)]
 
 mod fault;

@@ -1,14 +1,19 @@
-//! The first words of statements.
+//! The kinds of statements, by their first words.
 
 use crush_units::TypeId;
 
-/// The statement that a first word opens, for the contract of [`read_map`](crate::read_map).
+/// The kind of statement that a first word begins. It is public for the contract of
+/// [`read_map`](crate::read_map).
 #[derive(Clone, Copy)]
 pub enum Opening {
+    /// `tunable`
     Tunable,
+    /// `device`
     Device,
+    /// `type`
     Type,
-    /// A type of buckets.
+    /// The name of a type of buckets, whose number this is.
     Bucket(TypeId),
+    /// `rule`
     Rule,
 }

@@ -1,4 +1,5 @@
-//! Reads the text of a map.
+//! The reader of a map's text. Each submodule reads one kind of statement or of line; `statement`
+//! calls the others.
 
 ghost use Rattle.std.specs.Prelude.{◌≡◌, ℕ, List, IfOk, IfErr};
 ghost use Rattle.crush_edits.specs.Setting.{SettingData};
@@ -11,6 +12,7 @@ ghost use Rattle.crush_text.specs.InTime.{IsFoundInTime};
 
 mod bucket;
 mod device;
+mod fault_without_memory;
 mod items;
 mod roles;
 mod rule;
@@ -18,31 +20,34 @@ mod statement;
 mod step;
 mod tunable;
 mod type_line;
-mod unbegun;
 mod word;
 
 use crate::fault::TextFault;
-use crate::reader::unbegun::unbegun;
+use crate::reader::fault_without_memory::fault_without_memory;
 use crush_builder::MapBuilder;
 use crush_map::{CrushMap, Hashing};
 use crush_units::Reader;
 use std::alloc::{Allocator, Global};
 
-/// What is left to read, and the map of what stood before it. A method reads what it is called
-/// after.
+/// The rest of the text, and the builder with the map read so far. A method reads the part of the
+/// text that it is named after, and returns the first fault in it.
 #[derive(Drop)]
 struct MapReader<'a, A: Allocator> {
     text: Reader<'a>,
     builder: MapBuilder<A>,
-    machine: Global,
+    global: Global,
 }
 
-/// Reads the text of a map, as `crushtool` prints it.
+/// Reads the text of a map in the form that `crushtool` prints, and returns the map.
 ///
-/// The second value counts the items that are buckets and whose weight in the text wasn't the sum
-/// over the devices below them; the map has the sum. Refused as [`TextFaultKind::LeftOut`] are
-/// weight sets (`choose_args`), the steps of MSR rules (`choosemsr`) and the positions of items
-/// (`pos`). docs/FORMATS.md has the grammar, docs/RULES.md each fault with its place.
+/// The second value counts the buckets that the text lists as an item with a weight other than the
+/// sum of the devices below them. The map has the sum.
+///
+/// If the text isn't a map, it fails with the text's first fault; if memory runs out before one is
+/// found, it fails with `OutOfMemory`. Three parts of Ceph's grammar are not supported, and fail
+/// with [`TextFaultKind::LeftOut`]: weight sets (`choose_args`), the steps of MSR rules
+/// (`choosemsr`) and the positions of items (`pos`). docs/FORMATS.md has the grammar, and
+/// docs/RULES.md has each fault with its place.
 pub fn read_map(alloc: Global, text: &[u8]) -> Result<(CrushMap<Global>, u32), TextFault>
     ensures map { IfOk result (λ m. (t : List Row)
         × IsMapText text.now m.0.setting t m.1 × Stands m.0.forest t) }
@@ -56,11 +61,11 @@ pub fn read_map(alloc: Global, text: &[u8]) -> Result<(CrushMap<Global>, u32), T
     read_map_in(alloc, Hashing::plain(), alloc, text)
 }
 
-/// Reads the text of a map, as [`read_map`] does. Types, tunables and rules are in the machine's
-/// memory, all else in the allocator's; for a stranger's text names and ids are hashed with drawn
-/// keys.
+/// Reads the text of a map as [`read_map`] does, but with a given allocator and hashing. The types,
+/// tunables and rules of the map are in the machine's memory, and the rest is in the memory of
+/// `alloc`. Pass a `hashing` with random keys if the text comes from somebody who isn't trusted.
 pub fn read_map_in<A: Allocator + Clone>(
-    machine: Global,
+    global: Global,
     hashing: Hashing,
     alloc: A,
     text: &[u8],
@@ -75,13 +80,13 @@ pub fn read_map_in<A: Allocator + Clone>(
     ensures memory { IfErr result (IsFoundInTime text.now) }
 {
     let mut words = Reader::new(text);
-    let Ok(builder) = MapBuilder::with_hashing(machine, hashing, alloc) else {
-        return Err(unbegun(&mut words));
+    let Ok(builder) = MapBuilder::with_hashing(global, hashing, alloc) else {
+        return Err(fault_without_memory(&mut words));
     };
     let mut reader = MapReader {
         text: words,
         builder,
-        machine,
+        global,
     };
     reader.statements()?;
     let adjusted = reader.builder.adjusted();

@@ -1,5 +1,5 @@
 pub mod Accepted
-pub mod Rehoused
+pub mod BufferReplaced
 pub mod Required
 pub mod Changed
 pub mod Climbed

@@ -1,6 +1,9 @@
-//! The hierarchy of a CRUSH map: devices and buckets as boxes in a [`Forest`], found by searches
-//! or, in calls that end in `by`, by a [`Guide`]. What callers owe stands in `specs/Asked.antt`,
-//! what calls do in `specs/Changed.antt`; `crush_hierarchy` adds an index.
+//! The hierarchy of a CRUSH map as a tree of devices and buckets, a [`Forest`].
+//!
+//! A method searches the forest for its item, unless the method's name ends in `_by`: it then takes
+//! a [`Guide`], which knows the place of each item. `specs/Required.antt` defines what callers must
+//! ensure, and `specs/Changed.antt` what the methods change. `crush_hierarchy` adds an index, which
+//! is such a guide.
 #![tactic(auto)]
 
 mod forest;

@@ -1,4 +1,4 @@
--- What a thread takes with it crosses threads.
+-- All that a thread takes with it may be sent to another thread.
 use denote.RattleType.{RattleType}
 use denote.Param.{param}
 use denote.Param.Send.{IsSend, IsSync, sendable}
@@ -20,12 +20,12 @@ use Rattle.crush_editor.specs.contracts.editor.Editor as Editor
 use Rattle.crush_editor.proofs.locked.Seat.TheSendSync.{the_send as seat_send}
 use Rattle.crush_editor.proofs.Sharing.{editor_sync}
 
--- memory crosses threads
+-- the allocator may be sent to another thread
 alloc_sent : IsSend Global.the_row
 alloc_sent = search (sendable, crosses) depth 20
 
 module _ (N R W : RattleType) (g : Desk.Ghosts N.Denot) (l : Ledger.Ghosts N.Denot) (o : Opening.Ghosts (CrushMap.the_row Global.the_row GlobalImpl.ghosts).Denot) (a b c : NamedLft) where
-  -- what a closure owns that works by a seat: the handle, memory, the editor, the seat, and the list that is lent to it
+  -- what a thread's closure owns: a reference to the runtime, the allocator, a reference to the editor, the seat, and a reference to the list
   abbrev pub owned : List RattleType
   owned = (shr_ref_field a (param 1 R) tt).row ∷ Global.the_row ∷ (shr_ref_field b (Editor.the_row (param 0 N) (CrushMap.the_row Global.the_row GlobalImpl.ghosts) g l o) tt).row
       ∷ Seat.the_row (param 0 N) g l ∷ (shr_slice_field c (param 2 W) tt).row ∷ []
@@ -34,7 +34,7 @@ module _ (N R W : RattleType) (g : Desk.Ghosts N.Denot) (l : Ledger.Ghosts N.Den
   editor_shared = editor_sync (param 0 N) g l o
 
   module _ (rt : IsSync (param 1 R)) (given : IsSync (param 2 W)) where
-    -- each of them crosses threads, and so the closure does
+    -- each of them may be sent to another thread, and so may the closure
     all_send : FieldsHave IsSend (parts owned)
     all_send = (search (rt, sendable), (search (alloc_sent, sendable), (search (editor_shared, sendable), (search (seat_send, sendable), (search (given, sendable), tt)))))
 

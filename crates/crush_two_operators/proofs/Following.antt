@@ -1,4 +1,4 @@
--- Where each call of a legal history asks for a step of a plan, those that changed the map are its steps, in order.
+-- If each call of a legal history is for a step of a plan, then the calls that changed the map are its steps, in order.
 use Rattle.std.proofs.Common.{◌≡◌, ℕ, zero, suc, ◌+◌, ◌<◌, ◌≤◌, ◌==◌, Bool, true, false, cond, List, [], ◌∷◌, ◌++◌, Option, Some, None, length, map, filter, drop, slice_get, slice_index_or, refl, sym, ap, subst, ◌∙◌, arith, eqb-true, eq-eqb, drop-cons}
 use Rattle.std.specs.List.{All}
 use Rattle.std.proofs.lemmas.List.{append-nil}
@@ -21,11 +21,11 @@ use Rattle.crush_editor.specs.Seat.{SeatData, seat_data, slips_of, Answered, IsH
 use Rattle.crush_two_operators.specs.Plan.{step, steps_from, changing, IsStep, IsFollowed, HasFollowed}
 use Rattle.crush_two_operators.proofs.Order.{each_of_two}
 
--- the edit at a place, and those behind it
+-- the edit at an index, and those after it
 cut_at : (plan : List Edit) (n : ℕ) (e : Edit) → slice_get plan n ≡ Some e → drop n plan ≡ e ∷ drop (suc n) plan
 cut_at plan n e is = drop-cons plan n e (slice_get_within plan n e is) ∙ ap (λ (x : Edit). x ∷ drop (suc n) plan) (get_or_from_slice_get plan n e e is)
 
--- what changed the map wasn't stale, and so was made behind as many changes as it names
+-- a guarded call that changed the map wasn't stale, so there were as many changes before it as it names
 in_time : (fresh : Bool) (t : List Row) (n : ℕ) (a : BatchAnswer) (r : Reply) → r ≡ (guarded_outcome fresh t n a).reply → is_change r ≡ true → fresh ≡ true
 in_time true t n a r told changed = refl
 in_time false t n a r told changed = let stale : is_change r ≡ false = ap is_change told in absurd cc
@@ -44,11 +44,11 @@ unfolding changes
 changes_cons e h = refl
 
 module _ (s : SettingData) (plan : List Edit) where
-  -- the calls of the steps from a number on
+  -- the calls for the steps from a given number on
   abbrev pub left : ℕ → List Call
   left n = steps_from n (drop n plan)
 
-  -- a history's changes, and then the steps that they leave, are the steps behind the count
+  -- if n changes came before a history, then the calls by which it changed the map, followed by the steps that are left, are the steps from number n on; and there are no more changes than steps
   abbrev pub Fills : ℕ → List EntryData → Type 0
   Fills n h = (changing h ++ left (n + changes h) ≡ left n) × (n + changes h ≤ length plan)
 
@@ -92,7 +92,7 @@ module _ (s : SettingData) (plan : List Edit) where
   fills q (e ∷ h) legal asks few =
       fills_cons q e h (is_change e.reply) refl legal.0 (All-head (λ (x : EntryData). IsStep plan x.call) e h asks) few (λ still. fills (later s q e) h legal.1 (All-rest (λ (x : EntryData). IsStep plan x.call) e h (e ∷ h) refl asks) still)
 
--- FOLLOWED: with as many changes as there are steps, the changes are the steps
+-- FOLLOWED: if a legal history has only calls for steps of the plan, and at least as many changes as the plan has steps, then its changes are exactly the steps
 pub followed : (s : SettingData) (t : List Row) (plan : List Edit) (h : List EntryData) → IsLegal s t h → All (λ (e : EntryData). IsStep plan e.call) h → length plan ≤ changes h → IsFollowed plan h
 followed s t plan h legal asks done =
     let filled = fills s plan (untouched t) h legal asks (omega arith) in
@@ -101,7 +101,7 @@ followed s t plan h legal asks done =
     let none : left s plan (0 + changes h) ≡ [] = ap (left s plan) all ∙ ap (steps_from (length plan)) (drop-length plan) in
     record { calls = asks; steps = sym (append-nil (changing h)) ∙ ap (λ (x : List Call). changing h ++ x) (sym none) ∙ filled.0 }
 
--- what holds of each operator's calls holds of all calls
+-- if something holds for the calls of each operator, then it holds for all calls
 module _ (P : Call → Type 0) where
   own_first : (e : EntryData) (h : List EntryData) → of_operator e.operator (e ∷ h) ≡ record { call = e.call; reply = e.reply } ∷ of_operator e.operator h
   own_first e h = let own : (e.operator == e.operator) ≡ true = eq-eqb e.operator e.operator refl in rw own refl
@@ -117,11 +117,11 @@ module _ (P : Call → Type 0) where
       (All-head (λ (a : AnsweredData). P a.call) _ _ (All-same (λ (a : AnsweredData). P a.call) _ _ (sym (own_first e h)) (each e.operator)))
       (all_calls h (λ k. behind_first k e h (e.operator == k) refl (each k)))
 
--- a beginning has no more changes than the whole
+-- a prefix of a history has at most as many changes as the history
 pub changes_begin : (v h : List EntryData) → IsPrefix v h → changes v ≤ changes h
 changes_begin v h p = let more = changes-append v p.0 in let whole = ap changes p.1 in omega (arith, more, whole)
 
--- so what two seats followed is followed by the closed history
+-- if two seats have followed the plan, then so has the history at the close
 pub followed_by_two : (o m : MapData) (plan : List Edit) (h : List EntryData) (one two : SeatData) → HasFollowed (seat_data 0 [] []) plan one → HasFollowed (seat_data 1 [] []) plan two → IsHistoryOfSeats o m h (one ∷ two ∷ []) → IsFollowed plan h
 followed_by_two o m plan h one two first second closed =
     let P : Call → Type 0 = IsStep plan in
@@ -131,7 +131,7 @@ followed_by_two o m plan h one two first second closed =
     let done = first.done in
     followed o.setting (rows_of o.forest) plan h closed.legal (all_calls P h each) (omega (arith, seen, done))
 
--- one step more that a seat asked for
+-- a seat whose calls are for steps of the plan still has only such calls after one more
 pub asked_more : (o : MapData) (plan : List Edit) (v w : SeatData) (c : Call) (r : Reply) (n : ℕ) (e : Edit) → slice_get plan n ≡ Some e → c ≡ step n e → Answered o v c r w
     → All (λ (a : AnsweredData). IsStep plan a.call) v.slips → All (λ (a : AnsweredData). IsStep plan a.call) w.slips
 asked_more o plan v w c r n e found is answered before =

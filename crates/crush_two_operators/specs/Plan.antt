@@ -1,4 +1,4 @@
--- A plan: edits of which the first is to be the first change of the map, the next the second, and so on.
+-- A plan: a list of edits, its steps. The first step is to be the first change of the map, the second step the second change, and so on.
 use Rattle.std.specs.Prelude.{ℕ, ◌≡◌, ◌+◌, ◌≤◌, List, [], ◌∷◌, Some, length, map, filter}
 use Rattle.std.specs.List.{All, slice_get}
 use Rattle.crush_edits.specs.declared.edit.Edit.{Edit}
@@ -7,30 +7,30 @@ use Rattle.crush_history.specs.declared.call.Call.TheVariants.{Guarded}
 use Rattle.crush_history.specs.History.{EntryData, AnsweredData, is_change, changes}
 use Rattle.crush_editor.specs.Seat.{SeatData}
 
--- the call that asks for the step of this number, only while there are so many changes
+-- the call for the step e that has the number n, from 0: a batch of this edit, which is made only if the map has exactly n changes
 abbrev pub step : ℕ → Edit → Call
 step n e = Guarded n (e ∷ [])
 
--- the calls of all steps, numbered from n
+-- the calls for these steps, which are numbered from n
 abbrev pub steps_from : ℕ → List Edit → List Call
 steps_from n [] = []
 steps_from n (e ∷ es) = step n e ∷ steps_from (n + 1) es
 
--- the calls that changed the map, in order
+-- the calls of a history that changed the map, in order
 abbrev pub changing : List EntryData → List Call
 changing h = map (λ (e : EntryData). e.call) (filter (λ (e : EntryData). is_change e.reply) h)
 
--- the call asks for a step of the plan
+-- the call is the call for a step of the plan, with that step's number
 abbrev pub IsStep : List Edit → Call → Type 0
 IsStep plan c = (n : ℕ) × (e : Edit) × (slice_get plan n ≡ Some e) × (c ≡ step n e)
 
--- FOLLOWED: each call of the history asks for a step of the plan, and those that changed the map are all its steps, each once and
--- in order
+-- FOLLOWED: each call of the history is for a step of the plan, and the calls that changed the map are the calls for all its steps,
+-- each once and in order
 pub record IsFollowed (plan : List Edit) (h : List EntryData) : Type 0 where
   pub calls : All (λ (e : EntryData). IsStep plan e.call) h
   pub steps : changing h ≡ steps_from 0 plan
 
--- the seat asked for nothing but steps of the plan, and has seen that none is left
+-- a seat has followed the plan. Its operator is unchanged. If all calls of its slips before were for steps of the plan, then all calls of its slips now are. It has seen at least as many changes as the plan has steps.
 pub record HasFollowed (old : SeatData) (plan : List Edit) (new : SeatData) : Type 0 where
   pub operator : new.operator ≡ old.operator
   pub calls : All (λ (a : AnsweredData). IsStep plan a.call) old.slips → All (λ (a : AnsweredData). IsStep plan a.call) new.slips

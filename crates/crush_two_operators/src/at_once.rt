@@ -1,4 +1,4 @@
-//! Two operators make calls that each was given.
+//! Two operators, each of which makes the calls of its own list.
 
 ghost use Rattle.std.specs.Prelude.{◌≡◌, IfOk, IfSome};
 ghost use Rattle.crush_editor.specs.Book.{MakesAll};
@@ -15,9 +15,13 @@ use std::marker::Brand;
 use std::sync::Wait;
 use std::thread::Threads;
 
-/// Lets two operators make their calls at once, and hands out what the editor has at its close,
-/// with the later of what the two read after their last calls. An `Err` says that memory ran out,
-/// or that the history is full.
+/// Lets two operators make their calls at the same time. Returns the map and the history, with the
+/// later of the two operators' last readings. Returns an `Err` if memory ran out or the history is
+/// full.
+///
+/// The contract says of an `Ok`: the history is legal for the map that was given, and the map that
+/// is returned is the one after it (`all`). The first operator's calls in the history are exactly
+/// those of its list, in order; so are the second's; and there are no others (`calls`).
 pub fn edit_at_once<R: Threads + Wait + Sync>(
     rt: &R,
     alloc: Global,
@@ -28,14 +32,17 @@ pub fn edit_at_once<R: Threads + Wait + Sync>(
     ensures all { IfOk result (λ r. MakesAll map r.0.map r.0.history.items) }
     ensures calls { IfOk result (λ r. AreTheirs first.now second.now r.0.history.items) }
 {
-    // The name of an editor stands for its gauge and opening, which are there only at run time: so
-    // the work is generic in the name and called at `Brand`, and
-    // proofs/at_once/edit_at_once/Invariants.antt says what the name stands for.
+    // Prepares an editor for two operators. It takes the map.
+    //
+    // Contracts speak of an editor by its name `N`, a type that says which gauge (the word that is
+    // read without a lock) and which opening map the editor has. Both are known only at run time,
+    // so `work_together` is generic in `N`, and is called here with the type `Brand`.
+    // proofs/at_once/edit_at_once/Invariants.antt says what this name has.
     let started = Started::new(map, 2, alloc).ok().context("out of memory")?;
     work_together::<Brand, R, Call>(rt, alloc, started, first, second)
 }
 
-/// `None` says that memory ran out, or that the history is full.
+/// The work is to make the calls. It fails if memory runs out or the history is full.
 impl Work for Call {
     ghost use Rattle.crush_two_operators.specs.Calls.{HasMade};
 
@@ -52,6 +59,7 @@ impl Work for Call {
     }
 }
 
+/// Makes the calls in order. Reads before the first call, and after each of them.
 fn make_each<N: Desk, R: Wait>(
     rt: &R,
     alloc: Global,

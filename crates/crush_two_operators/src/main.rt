@@ -1,23 +1,24 @@
-//! An example for a program that uses the library: two operators edit the map of standard input at
-//! once, each in a thread of its own, by calls of their own and then by one plan, of which each
-//! step is made once, by whoever comes first. The output is the same in whichever order the two
-//! came.
+//! An example of a program with threads that uses the library. It reads a job of three scripts from
+//! standard input. The first two operators run their scripts at the same time, each in a thread of
+//! its own ([`at_once`]). Then both work through one plan, the batch of the third script
+//! ([`plan`]): each step is made once, by whichever operator is first. The output is the same in
+//! whatever order the calls are made.
+//!
+//! A *call* is an edit or a batch of edits. An *editor* owns the map and makes one call at a time.
+//! Each operator has a *seat* at the editor. The *history* has an entry for each call, with its
+//! reply.
 #![tactic(auto)]
 
-ghost use Rattle.std.specs.Prelude.{◌<◌, ◌^◌, length};
-
-use anyhow::Context;
+use anyhow::bail;
 use at_once::edit_at_once;
 use crush_editor::Closed;
-use crush_edits::{Edit, Location};
+use crush_edits::Edit;
 use crush_gauge::Reading;
-use crush_history::{Call, Entry, is_change, write_entry};
-use crush_map::CrushMap;
+use crush_history::{Call, Entry, Script, is_change, write_entry};
+use crush_map::Hashing;
 use crush_print::write_map;
-use crush_text::read_map;
-use crush_units::{DeviceId, Name, Weight};
+use crush_script::{Job, read_job};
 use plan::follow_at_once;
-use std::alloc::Global;
 use std::io;
 
 mod at_once;
@@ -25,17 +26,25 @@ mod plan;
 mod together;
 
 fn main(rt: HostRuntime) -> anyhow::Result<()> {
-    let first = first_calls(rt.alloc())?;
-    let second = second_calls(rt.alloc())?;
-    let map = read_input(&rt)?;
-    let (closed, last) = edit_at_once(&rt, rt.alloc(), map, first.as_slice(), second.as_slice())?;
-    let Closed {
-        opening: _,
+    let text = io::read_to_string(rt.alloc(), rt.stdin())?;
+    // The input is the program's own, so names are hashed without random keys.
+    let job = read_job(rt.alloc(), Hashing::plain(), text.as_bytes())?;
+    let Job { map, scripts, .. } = job;
+    let [first, second, third] = scripts.as_slice() else {
+        bail!("the job has not three scripts");
+    };
+    // Each operator's own calls, made at the same time.
+    let (closed, last) = edit_at_once(
+        &rt,
+        rt.alloc(),
         map,
-        history,
-    } = closed;
-    let steps = steps(rt.alloc())?;
-    let followed = follow_at_once(&rt, rt.alloc(), map, steps.as_slice())?;
+        first.calls.as_slice(),
+        second.calls.as_slice(),
+    )?;
+    let Closed { map, history, .. } = closed;
+    // One plan for both operators, which begins with the map that their calls left.
+    let followed = follow_at_once(&rt, rt.alloc(), map, steps(third))?;
+    // The map after both, the history of the calls, the last reading, and the history of the plan.
     write_map(rt.alloc(), &followed.map, &mut rt.stdout())?;
     print_part(&rt, history.as_slice(), 0, b"first")?;
     print_part(&rt, history.as_slice(), 1, b"second")?;
@@ -43,62 +52,16 @@ fn main(rt: HostRuntime) -> anyhow::Result<()> {
     print_changes(&rt, followed.history.as_slice())
 }
 
-fn read_input(rt: &HostRuntime) -> anyhow::Result<CrushMap<Global>> {
-    let text = io::read_to_string(rt.alloc(), rt.stdin())?;
-    let (map, _adjusted) = read_map(rt.alloc(), text.as_bytes())?;
-    Ok(map)
+/// The steps of the plan: the edits of the script's batch. None if it has another call.
+fn steps(script: &Script) -> &[Edit] {
+    match script.calls.as_slice() {
+        [Call::Batch(edits)] => edits.as_slice(),
+        _ => &[],
+    }
 }
 
-/// Two devices get new weights.
-fn first_calls(alloc: Global) -> anyhow::Result<Vec<Call>> {
-    let mut calls = Vec::new(alloc);
-    calls.push(Call::One(reweight(alloc, b"osd.0", "2")?))?;
-    calls.push(Call::One(reweight(alloc, b"osd.1", "0.5")?))?;
-    Ok(calls)
-}
-
-/// A device is added, and a removal is refused.
-fn second_calls(alloc: Global) -> anyhow::Result<Vec<Call>> {
-    let mut calls = Vec::new(alloc);
-    calls.push(Call::One(add(alloc, 3, b"osd.3", b"h2")?))?;
-    calls.push(Call::One(remove(alloc, b"h2")?))?;
-    Ok(calls)
-}
-
-/// A device moves to a host by two edits, of which the second needs the first.
-fn steps(alloc: Global) -> anyhow::Result<Vec<Edit>> {
-    let mut steps = Vec::new(alloc);
-    steps.push(remove(alloc, b"osd.3")?)?;
-    steps.push(add(alloc, 3, b"osd.3", b"h1")?)?;
-    Ok(steps)
-}
-
-fn reweight(alloc: Global, device: &[u8], weight: &str) -> anyhow::Result<Edit> {
-    Ok(Edit::Reweight {
-        name: Name::read(alloc, device)?,
-        weight: Weight::read(weight)?,
-    })
-}
-
-fn add(alloc: Global, id: i32, name: &[u8], host: &[u8]) -> anyhow::Result<Edit> {
-    let mut at = Location::new(alloc);
-    at.push(b"host", host)?;
-    Ok(Edit::Insert {
-        device: DeviceId::new(id).context("no id")?,
-        name: Name::read(alloc, name)?,
-        weight: Weight::read("1")?,
-        at,
-    })
-}
-
-fn remove(alloc: Global, item: &[u8]) -> anyhow::Result<Edit> {
-    Ok(Edit::Remove {
-        name: Name::read(alloc, item)?,
-    })
-}
-
-/// Prints the entries of one operator, numbered among themselves: the calls between them differ
-/// from run to run.
+/// Prints the entries of one operator, numbered from 1. Their numbers in the whole history aren't
+/// printed, because these differ from run to run.
 fn print_part(
     rt: &HostRuntime,
     history: &[Entry],
@@ -115,7 +78,8 @@ fn print_part(
     Ok(())
 }
 
-/// Prints the changes, numbered among themselves: who made each differs from run to run.
+/// Prints the entries that changed the map, numbered from 1. The operator isn't printed, because it
+/// differs from run to run which operator made which change.
 fn print_changes(rt: &HostRuntime, history: &[Entry]) -> anyhow::Result<()> {
     let mut number = 0u32;
     for entry in history {
@@ -133,6 +97,7 @@ fn print_changes(rt: &HostRuntime, history: &[Entry]) -> anyhow::Result<()> {
     Ok(())
 }
 
+/// Prints a reading: the number of changes so far, and the weight of all placed devices, in units.
 fn print_reading(rt: &HostRuntime, reading: Reading) -> anyhow::Result<()> {
     println!(rt; "# changes {} weight {}", reading.changes, reading.weight)?;
     Ok(())

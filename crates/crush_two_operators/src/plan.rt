@@ -1,5 +1,6 @@
-//! A plan that two operators work through at once: read, think, write, and again where another came
-//! between.
+//! A plan that two operators work through together. Each operator reads how many steps are made,
+//! submits the next one, and reads again. If the other operator was faster, then the submitted step
+//! changes nothing.
 
 ghost use Rattle.std.specs.Prelude.{◌≡◌, ◌∷◌, [], IfOk, IfSome};
 ghost use Rattle.crush_history.specs.declared.call.Call.TheVariants.{Guarded};
@@ -18,9 +19,14 @@ use std::marker::Brand;
 use std::sync::Wait;
 use std::thread::Threads;
 
-/// Lets two operators work through one plan at once: each step is made once and in its order, by
-/// whoever comes first, of a map that its operator has seen. An `Err` says that memory ran out,
-/// that the history is full, or that a step is refused or changes nothing.
+/// Lets two operators work through one plan at the same time. Each step is made once and in order,
+/// by whichever operator is first, and only on a map that this operator has seen. Returns the map
+/// and the history. Returns an `Err` if memory ran out, if the history is full, or if a step is
+/// refused or changes nothing.
+///
+/// The contract says of an `Ok`: the history is legal for the map that was given, and the map that
+/// is returned is the one after it (`all`). Each call is a step of the plan, and the calls that
+/// changed the map are all its steps, each once and in order (`plan`).
 pub fn follow_at_once<R: Threads + Wait + Sync>(
     rt: &R,
     alloc: Global,
@@ -35,7 +41,8 @@ pub fn follow_at_once<R: Threads + Wait + Sync>(
     Ok(closed)
 }
 
-/// `None` says that a step was not made.
+/// The work is to follow the plan. It fails if memory runs out, if the history is full, or if a
+/// step is refused or changes nothing.
 impl Work for Edit {
     ghost use Rattle.crush_two_operators.specs.Plan.{HasFollowed};
 
@@ -52,8 +59,10 @@ impl Work for Edit {
     }
 }
 
-/// Asks for the step of the number of changes read, while there are no more, and reads again; where
-/// the other operator came between, the step is stale.
+/// Submits steps until all are made. The number of changes so far is also the number of steps made,
+/// so it says which step is next. The step is submitted as a guarded batch, which is made only if
+/// there are still as many changes as the operator has read. If the other operator was faster, then
+/// the reply is `Stale`, nothing has changed, and the loop reads again.
 fn follow<N: Desk, R: Wait>(
     rt: &R,
     alloc: Global,
@@ -63,6 +72,7 @@ fn follow<N: Desk, R: Wait>(
 ) -> Option<Worked<N>>
     ensures { IfSome result (λ w. HasFollowed seat plan.now w.seat) }
 {
+    // Each pass adds an entry to the history, which has at most MOST_ENTRIES.
     for _ in 0..=MOST_ENTRIES {
         let last = editor.reading(&mut seat);
         let seen = last.changes;
@@ -79,6 +89,7 @@ fn follow<N: Desk, R: Wait>(
     None
 }
 
+/// The call for one step: a batch of this edit, made only if there are exactly `seen` changes.
 fn step(alloc: Global, seen: u32, edit: &Edit) -> Option<Call>
     ensures { IfSome result (λ call. call ≡ Guarded seen (edit.now ∷ [])) }
 {

@@ -1,4 +1,5 @@
-//! Two operators at an editor of one map, each in a thread of its own.
+//! Two operators who work with one editor, each in a thread of its own. [`crate::at_once`] and
+//! [`crate::plan`] say what the work is.
 
 ghost use Rattle.std.specs.Prelude.{◌≡◌, IfOk, IfSome, [], ◌∷◌};
 ghost use Rattle.crush_editor.specs.Book.{MakesAll};
@@ -11,16 +12,17 @@ use std::alloc::Global;
 use std::sync::Wait;
 use std::thread::{Threads, join};
 
-/// What an operator has a list of, to work through by a seat.
+/// An element of the list that an operator works through: a call, or a step of a plan.
 pub(crate) trait Work {
     ghost use Rattle.std.specs.Prelude.{◌≡◌, IfSome, List};
     ghost use Rattle.crush_editor.specs.Seat.{SeatData};
 
-    // What a seat has done by a list, by the seat before and after.
+    // How a list, the seat before the work and the seat after it are related.
     ghost done: { List Self → SeatData → SeatData → Type 0 };
 
-    /// Works through a list, and reads after each call. A reading takes no lock, so it goes on
-    /// while the other operator is inside a call.
+    /// Works through a list with an operator's seat, and reads after each call. A reading takes no
+    /// lock, so it doesn't wait for a call of the other operator. Returns the seat and the last
+    /// reading, or `None` if the work couldn't be finished.
     fn work<N: Desk, R: Wait>(
         rt: &R,
         alloc: Global,
@@ -32,15 +34,15 @@ pub(crate) trait Work {
         ensures done { IfSome result (λ w. done given.now seat w.seat) };
 }
 
-/// What a thread gives back.
+/// The result of a thread: the operator's seat, and its last reading.
 #[derive(Drop)]
 pub(crate) struct Worked<N: Desk> {
     pub(crate) seat: Seat<N>,
     pub(crate) last: Reading,
 }
 
-/// Lets two operators work at once, each through a list of its own; the `Reading` is the later of
-/// their last.
+/// Lets two operators work at the same time, each through its own list. Returns the map and the
+/// history, with the later of the two operators' last readings.
 pub(crate) fn work_together<N: Desk + Send + Sync, R: Threads + Wait + Sync, W: Work + Sync>(
     rt: &R,
     alloc: Global,
@@ -57,14 +59,15 @@ pub(crate) fn work_together<N: Desk + Send + Sync, R: Threads + Wait + Sync, W: 
         × W.done first.now (seat_data 0 [] []) one × W.done second.now (seat_data 1 [] []) two
         × IsHistoryOfSeats N.opening r.0.map r.0.history.items (one ∷ two ∷ [])) }
 {
+    // The editor has a seat for each operator; a seat is needed for each call and each reading.
     let (editor, mut seats) = Editor::<N>::open(started, alloc)
         .ok()
         .context("out of memory")?;
     let two = seats.pop().context("no seat")?;
     let one = seats.pop().context("no seat")?;
 
-    // Each thread owns its seat while it works; proofs/Crossing.antt shows that what it takes may
-    // cross threads.
+    // Starts two threads, and waits for both. They share the editor, and each owns its seat while
+    // it works. proofs/Crossing.antt proves that all that a thread takes may be sent to it.
     let shared = &editor;
     let (one, two) = join(
         rt,
@@ -81,12 +84,14 @@ pub(crate) fn work_together<N: Desk + Send + Sync, R: Threads + Wait + Sync, W: 
     let two = two.context("not all was made")?;
     let last = later(one.last, two.last);
 
-    // `close` wants all seats, in the order in which `open` handed them out.
+    // `close` needs all seats, in the order in which `open` returned them. It returns the map and
+    // the history.
     seats.push(one.seat)?;
     seats.push(two.seat)?;
     Ok((editor.close(seats), last))
 }
 
+/// The reading with more changes: that one is the later.
 fn later(a: Reading, b: Reading) -> Reading {
     if a.changes < b.changes { b } else { a }
 }

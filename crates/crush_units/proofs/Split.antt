@@ -8,7 +8,7 @@ use Rattle.crush_units.specs.Name.{is_name_byte}
 use Rattle.crush_units.specs.declared.limits.TheConstants.{LONGEST_NAME}
 use Rattle.crush_units.specs.Words.{Text, ended, bad, is_blank, is_brace, without_comments, stopped, first, onto_words, begins_with_name_byte, split, up_to_long, words_in, words, run_length, IsClear}
 
--- a blank is behind
+-- a blank outside a comment can be skipped: the words are those of the bytes after it
 pub blank : (p b : ℕ) (bs : List ℕ) → is_blank b ≡ true → eqb b 35 ≡ false → words_in false p (b ∷ bs) ≡ words_in false (p + 1) bs
 unfolding split words_in
 blank p b bs h n = rw (n, h) refl
@@ -18,7 +18,7 @@ pub opens : (p b : ℕ) (bs : List ℕ) → b ≡ 35 → words_in false p (b ∷
 unfolding split words_in
 opens p b bs h = rw h refl
 
--- a byte of a comment is behind
+-- a byte of a comment that isn't a line feed can be skipped
 pub inside : (p b : ℕ) (bs : List ℕ) → eqb b 10 ≡ false → words_in true p (b ∷ bs) ≡ words_in true (p + 1) bs
 unfolding split words_in
 inside p b bs h = rw h refl
@@ -116,11 +116,11 @@ long_word p b bs l long fits =
     let test : ltb LONGEST_NAME (length (take (run_length (b ∷ bs)) (b ∷ bs))) ≡ true = lt-ltb _ _ (omega (arith, length-take (run_length (b ∷ bs)) (b ∷ bs))) in
     ap (λ (t : Text). up_to_long t.words t.stop) (run p b bs l) ∙ rw test refl
 
--- a byte of a comment, the mark of one, or a blank is behind
+-- what is left of a text before its end is its next byte and what follows, so both have the same words
 at_front : (v t : Bool) (text : List ℕ) (i : ℕ) (whole : Text) → i < length text → words_in v i (drop i text) ≡ whole → v ≡ t → words_in t i (get_or text i 0 ∷ drop (i + 1) text) ≡ whole
 at_front v t text i whole lt so e = sym (ap (words_in t i) (drop_more text i 0 lt)) ∙ ap (λ (u : Bool). words_in u i (drop i text)) (sym e) ∙ so
 
--- a byte inside a comment is behind
+-- a byte inside a comment can be skipped, and the comment ends if it is a line feed
 leaves : (t : Bool) (b i : ℕ) (rest : List ℕ) (whole : Text) → eqb b 10 ≡ t → words_in true i (b ∷ rest) ≡ whole → words_in (not t) (i + 1) rest ≡ whole
 leaves true b i rest whole e so = sym (closes i b rest e) ∙ so
 leaves false b i rest whole e so = sym (inside i b rest e) ∙ so

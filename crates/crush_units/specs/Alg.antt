@@ -1,4 +1,4 @@
--- Bucket algorithms and their words.
+-- The algorithms of buckets, and their words in a map's text.
 use Rattle.std.specs.Prelude.{ℕ, Bool, ◌==◌, List, codes, bytes_eq, Option, Some, None, if◌then◌else◌}
 use Rattle.crush_units.specs.declared.alg.Alg.{Alg}
 use Rattle.crush_units.specs.declared.alg.Alg.TheVariants.{Straw, Straw2, List as Linked}
@@ -9,7 +9,7 @@ alg_text Straw = codes "straw"
 alg_text Straw2 = codes "straw2"
 alg_text Linked = codes "list"
 
--- the algorithm that a word names
+-- the algorithm that a word names, or none if it names none of the three
 abbrev pub alg_of_text : List ℕ → Option Alg
 alg_of_text word =
     if bytes_eq word (codes "straw") then Some Straw
@@ -17,12 +17,12 @@ alg_of_text word =
     else (if bytes_eq word (codes "list") then Some Linked
     else None))
 
--- algorithms numbered from 0, for storing one as a number
+-- the number of an algorithm, from 0, by which it can be stored
 abbrev pub alg_number : Alg → ℕ
 alg_number Straw = 0
 alg_number Straw2 = 1
 alg_number Linked = 2
 
--- whether two algorithms are one
+-- whether two algorithms are the same
 abbrev pub same_alg : Alg → Alg → Bool
 same_alg a b = alg_number a == alg_number b

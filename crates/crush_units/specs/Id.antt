@@ -1,32 +1,32 @@
--- Ids of devices, buckets and items, as numbers.
+-- The ids of devices, buckets and items as numbers. A device's id is its number; a bucket's id is its distance below 0, so that bucket 1 is the one that a map shows as -1.
 use Rattle.std.specs.Prelude.{ℕ, suc, ◌-◌, ℤ, pos, negsuc, Bool, true, false, ◌&&◌, ◌==◌, ◌<◌, ◌≤◌, nat_lt, nat_le, Option, Some, None, if◌then◌else◌}
 use Rattle.crush_units.specs.declared.id.ItemId.{ItemId}
 use Rattle.crush_units.specs.declared.id.ItemId.TheVariants.{Device, Bucket}
 use Rattle.crush_units.specs.declared.limits.TheConstants.{DEVICE_IDS, FARTHEST_BUCKET_ID, LAST_DEVICE_ID}
 
--- a signed number that isn't below 0 is a device's id
+-- the device whose id is a signed number: the number itself, or none if it is below 0
 abbrev pub device_of : ℤ → Option ℕ
 device_of (pos n) = Some n
 device_of (negsuc n) = None
 
--- a number up to 2147483647 is a device's id
+-- the device whose id is a number without sign: the number itself, or none if it is above 2147483647
 abbrev pub device_from : ℕ → Option ℕ
 device_from n = if nat_le n LAST_DEVICE_ID then Some n else None
 
--- a signed number below 0 is a bucket's id: -1 is bucket 1
+-- the bucket whose id is a signed number: bucket 1 for -1, or none if the number isn't below 0
 abbrev pub bucket_of : ℤ → Option ℕ
 bucket_of (pos n) = None
 bucket_of (negsuc n) = Some (suc n)
 
--- a distance below 0 from 1 to 2147483648 is a bucket's id
+-- the bucket at a distance below 0: the distance itself, or none if it isn't from 1 to 2147483648
 abbrev pub bucket_below : ℕ → Option ℕ
 bucket_below n = if nat_lt 0 n && nat_le n FARTHEST_BUCKET_ID then Some n else None
 
--- the signed number of a bucket: bucket 1 is -1
+-- the signed number of a bucket: -1 for bucket 1
 abbrev pub bucket_number : ℕ → ℤ
 bucket_number n = negsuc (n - 1)
 
--- the signed number of an item
+-- the signed number of an item: 0 or above for a device, below 0 for a bucket
 abbrev pub item_number : ItemId → ℤ
 item_number (Device d) = pos d
 item_number (Bucket b) = bucket_number b
@@ -36,14 +36,14 @@ abbrev pub is_device_id : ItemId → Bool
 is_device_id (Device d) = true
 is_device_id (Bucket b) = false
 
--- whether two ids are those of one item
+-- whether two ids are ids of the same item: both of devices or both of buckets, with the same number
 abbrev pub same_id : ItemId → ItemId → Bool
 same_id (Device a) (Device b) = a == b
 same_id (Bucket a) (Bucket b) = a == b
 same_id (Device a) (Bucket b) = false
 same_id (Bucket a) (Device b) = false
 
--- the numbers that an item's id can have
+-- an item's id is in range: a device's is below 2^31, and a bucket's distance below 0 is from 1 to 2^31
 abbrev pub IsItemId : ItemId → Type 0
 IsItemId (Device d) = d < DEVICE_IDS
 IsItemId (Bucket b) = (0 < b) × (b ≤ FARTHEST_BUCKET_ID)

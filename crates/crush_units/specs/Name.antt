@@ -5,34 +5,34 @@ use Rattle.crush_units.specs.declared.name.NameFault.{NameFault}
 use Rattle.crush_units.specs.declared.name.NameFault.TheVariants.{Empty, BadByte, TooLong, OutOfMemory}
 use Rattle.crush_units.specs.declared.limits.TheConstants.{LONGEST_NAME}
 
--- ASCII letters, digits, `-`, `_` and `.`
+-- whether a byte is allowed in a name: an ASCII letter, a digit, `-`, `_` or `.`
 abbrev pub is_name_byte : ℕ → Bool
 is_name_byte b =
     (nat_le 48 b && nat_le b 57) || (nat_le 65 b && nat_le b 90) || (nat_le 97 b && nat_le b 122)
     || b == 45 || b == 95 || b == 46
 
--- each byte is one that a name may have
+-- whether each of the bytes is allowed in a name
 abbrev pub are_name_bytes : List ℕ → Bool
 are_name_bytes bytes = list_all is_name_byte bytes
 
--- 1 to 255 bytes that a name may have
+-- the bytes are a name: there is at least one, at most 255, and each is allowed in a name
 pub record IsName (bytes : List ℕ) : Type 0 where
   pub some : 0 < length bytes
   pub few : length bytes ≤ LONGEST_NAME
   pub allowed : are_name_bytes bytes ≡ true
 
--- the same as a test
+-- whether the bytes are a name: the conditions of IsName as a test that computes
 abbrev pub is_name : List ℕ → Bool
 is_name bytes =
     nat_lt 0 (length bytes) && nat_le (length bytes) LONGEST_NAME && are_name_bytes bytes
 
--- the place of the first byte that no name may have
+-- the place is the index of the first byte that isn't allowed in a name: it is below the number of bytes, the byte there isn't allowed, and each byte before it is
 pub record IsFirstBad (bytes : List ℕ) (place : ℕ) : Type 0 where
   pub within : place < length bytes
   pub bad : is_name_byte (slice_index bytes place) ≡ false
   pub before : are_name_bytes (take place bytes) ≡ true
 
--- why bytes are refused as a name: at most one of these holds
+-- when making a name of the bytes may fail with a fault. Empty: there are no bytes. BadByte: the place is that of the first byte that isn't allowed. TooLong: there are more than 255 bytes, and all are allowed. OutOfMemory: the bytes are a name. For given bytes at most one of these faults is possible
 abbrev pub IsNameFault : List ℕ → NameFault → Type 0
 IsNameFault bytes Empty = bytes ≡ []
 IsNameFault bytes (BadByte place) = IsFirstBad bytes place

@@ -1,56 +1,56 @@
--- The words of a map's text with their places, and what ends them.
+-- The words of a map's text with their places, and why there are no more after the last. A place is an index of a byte, from 0.
 use Rattle.std.specs.Prelude.{◌≢◌, ◌≡◌, ℕ, ◌+◌, Bool, true, false, ◌||◌, List, ◌∷◌, [], length, drop, map, bytes_eq, nat_lt, ◌==◌, if◌then◌else◌}
 use Rattle.crush_units.specs.Name.{is_name_byte, is_name}
 use Rattle.crush_units.specs.declared.limits.TheConstants.{LONGEST_NAME}
 
--- a word, and the place of its first byte
+-- a word: the place of its first byte, and its bytes
 pub record Word : Type 0 where
   pub place : ℕ
   pub text : List ℕ
 
--- what ends the words: the end of the text, or the place of a byte or of a long word that no text may have
+-- what ends the words. `ended` has the place at the end of the text. `bad` has the place of a byte that no text may have, or the place where a word of more than 255 bytes begins
 pub data Stop : Type 0 where
   ended : ℕ → Stop
   bad : ℕ → Stop
 
--- the words of a text, or those that are left of it
+-- the words of a text, or those that are not read yet, and what ends them
 pub record Text : Type 0 where
   pub words : List Word
   pub stop : Stop
 
--- space, tab, line feed and carriage return separate words
+-- whether a byte separates words: a space, a tab, a line feed or a carriage return
 abbrev pub is_blank : ℕ → Bool
 is_blank b = b == 32 || b == 9 || b == 10 || b == 13
 
--- `{` and `}` are words by themselves
+-- whether a byte is `{` or `}`, each of which is a word by itself
 abbrev pub is_brace : ℕ → Bool
 is_brace b = b == 123 || b == 125
 
--- a text in which each byte of a comment, from `#` up to the line feed, is a space
+-- the text with each byte of a comment replaced by a space. A comment begins with `#` and ends before the next line feed. The first argument says whether the text begins inside a comment
 abbrev pub without_comments : Bool → List ℕ → List ℕ
 without_comments inside [] = []
 without_comments false (b ∷ bs) = if b == 35 then 32 ∷ without_comments true bs else b ∷ without_comments false bs
 without_comments true (b ∷ bs) = if b == 10 then 10 ∷ without_comments false bs else 32 ∷ without_comments true bs
 
--- no word is left
+-- a text without words, ended by this stop
 abbrev pub stopped : Stop → Text
 stopped stop = record { words = []; stop = stop }
 
--- a word, and then the words of a text
+-- a text with one more word before its words, given by its place and bytes
 abbrev pub first : ℕ → List ℕ → Text → Text
 first place text t = record { words = (record { place = place; text = text }) ∷ t.words; stop = t.stop }
 
--- the words, the first of which has one more byte before it
+-- the words after one more byte is put before the bytes of the first word, which then begins at the given place. If there are no words, the byte is a word
 abbrev pub onto_words : ℕ → ℕ → List Word → List Word
 onto_words place b [] = (record { place = place; text = b ∷ [] }) ∷ []
 onto_words place b (w ∷ ws) = (record { place = place; text = b ∷ w.text }) ∷ ws
 
--- whether the first byte is one of a name
+-- whether there is a first byte, and it is allowed in a name
 abbrev pub begins_with_name_byte : List ℕ → Bool
 begins_with_name_byte [] = false
 begins_with_name_byte (b ∷ bs) = is_name_byte b
 
--- the words of bytes without comments, of whatever length, up to the first byte that none has
+-- the words of bytes without comments that begin at a place: blanks separate words, a brace is a word by itself, and a run of name bytes of any length is a word. The words end at the end of the bytes, or at the first byte that is none of these
 unfoldable pub split : ℕ → List ℕ → Text
 split place [] = stopped (ended place)
 split place (b ∷ bs) =
@@ -59,25 +59,25 @@ split place (b ∷ bs) =
     else (if is_name_byte b then (if begins_with_name_byte bs then record { words = onto_words place b (split (place + 1) bs).words; stop = (split (place + 1) bs).stop } else first place (b ∷ []) (split (place + 1) bs))
     else stopped (bad place)))
 
--- the words up to the first that is longer than a name
+-- the words before the first that is longer than a name may be, whose place is then what ends them. If no word is too long, all of them, with the given stop
 unfoldable pub up_to_long : List Word → Stop → Text
 up_to_long [] stop = stopped stop
 up_to_long (w ∷ ws) stop = if nat_lt LONGEST_NAME (length w.text) then stopped (bad w.place) else first w.place w.text (up_to_long ws stop)
 
--- the words of bytes that begin at a place, inside a comment or not
+-- the words of bytes that begin at a place; the first argument says whether they begin inside a comment
 unfoldable pub words_in : Bool → ℕ → List ℕ → Text
 words_in inside place bytes = up_to_long (split place (without_comments inside bytes)).words (split place (without_comments inside bytes)).stop
 
--- the words of bytes that begin at a place
+-- the words of bytes that begin at a place, outside of comments
 abbrev pub words : ℕ → List ℕ → Text
 words place bytes = words_in false place bytes
 
--- how many name bytes a text begins with
+-- the number of bytes, at the start of a text, that are allowed in names
 abbrev pub run_length : List ℕ → ℕ
 run_length [] = 0
 run_length (b ∷ bs) = if is_name_byte b then 1 + run_length bs else 0
 
--- the first byte is neither a blank nor the mark of a comment
+-- the text is empty, or its first byte is neither a blank nor `#`, with which a comment begins
 abbrev pub IsClear : List ℕ → Type 0
 IsClear [] = Unit {0}
 IsClear (b ∷ bs) = (is_blank b ≡ false) × (b ≢ 35)
@@ -91,19 +91,19 @@ abbrev pub AreFormed : List Word → Type 0
 AreFormed [] = Unit {0}
 AreFormed (w ∷ ws) = ((is_brace_word w.text || is_name w.text) ≡ true) × AreFormed ws
 
--- the words without their places
+-- the bytes of each word, without the places
 abbrev pub texts : List Word → List (List ℕ)
 texts ws = map (λ (w : Word). w.text) ws
 
--- whether the next word is the key
+-- whether there is a next word, and it is the key
 abbrev pub begins_with_key : List ℕ → List Word → Bool
 begins_with_key key [] = false
 begins_with_key key (w ∷ ws) = bytes_eq w.text key
 
--- whether the next word of a text is the key
+-- whether a text has a next word, and it is the key
 abbrev pub begins : List ℕ → Text → Bool
 begins key t = begins_with_key key t.words
 
--- what is left after the next word
+-- the text without its next word
 abbrev pub past : Text → Text
 past t = record { words = drop 1 t.words; stop = t.stop }

@@ -1,22 +1,23 @@
-//! Bucket algorithms.
+//! The algorithms of buckets, and their words in a map's text.
 
 ghost use Rattle.std.specs.Prelude.{◌≡◌, IsTrue, ◌↔◌, IfSome, Some};
 ghost use Rattle.crush_units.specs.Alg.{alg_text, alg_of_text, same_alg};
 
-/// The algorithm by which a bucket chooses among its items, of those that Ceph knows the three
-/// that are kept here.
+/// The algorithm by which a bucket chooses among its items. Ceph knows others too; a map here can
+/// have these three.
 #[derive(Clone, Copy, Debug, PartialEq, Eq)]
 pub enum Alg {
-    /// Straws of lengths computed from all weights.
+    /// Draws straws whose lengths are computed from the weights of all items.
     Straw,
-    /// Straws of lengths that depend on one item's weight each; what new buckets have.
+    /// Draws straws, each of a length that depends only on the weight of its own item. New buckets
+    /// have this algorithm.
     Straw2,
-    /// A linked list.
+    /// Keeps the items as a linked list.
     List,
 }
 
 impl Alg {
-    /// The word for the algorithm in a map's text.
+    /// Returns the word for the algorithm in a map's text: `straw`, `straw2` or `list`.
     pub fn name(self) -> &'static str
         ensures { result.now ≡ alg_text self }
     {
@@ -27,7 +28,8 @@ impl Alg {
         }
     }
 
-    /// The algorithm that the word names, or `None` for any other word.
+    /// Returns the algorithm that the word names, or `None` if the word isn't `straw`, `straw2` or
+    /// `list`.
     pub fn read(word: &[u8]) -> Option<Alg>
         ensures value { result ≡ alg_of_text word.now }
         ensures found { IfSome result (λ alg. word.now ≡ alg_text alg) }
@@ -45,7 +47,7 @@ impl Alg {
         None
     }
 
-    /// Whether both are one algorithm.
+    /// Whether both are the same algorithm.
     pub fn is_same(self, other: Alg) -> bool
         ensures value { result ≡ same_alg self other }
         ensures exact { IsTrue result ↔ (self ≡ other) }

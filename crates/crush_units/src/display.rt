@@ -1,4 +1,4 @@
-//! What `{}` writes of each value.
+//! Prints names, ids and weights with `{}`, as they are written in a map's text.
 
 ghost use Rattle.std.specs.Prelude.{Some};
 ghost use Rattle.crush_units.specs.Display.{bucket_text, device_text, item_text};

@@ -1,4 +1,4 @@
-//! Ids of devices, buckets and types.
+//! The ids of devices and buckets, and the numbers of types.
 
 ghost use Rattle.std.specs.Prelude.{◌≡◌, ◌≤◌, ◌<◌, ◌^◌, IsTrue, ◌↔◌};
 ghost use Rattle.crush_units.specs.Id.{device_of, device_from, bucket_of, bucket_below, bucket_number, item_number, same_id, IsItemId};
@@ -26,7 +26,8 @@ impl Model for DeviceId {
     ghost inverse = { λ n. record { raw = n } };
 }
 
-/// A bucket's id: a number from -1 down to -2147483648. Contracts see how far it is below 0.
+/// A bucket's id: a number from -1 down to -2147483648. In contracts its value is its distance
+/// below 0, which is 1 for the id -1.
 #[derive(Clone, Copy, Debug, PartialEq, Eq)]
 pub struct BucketId {
     below: u32,
@@ -45,14 +46,17 @@ impl Model for BucketId {
     ghost inverse = { λ n. record { below = n } };
 }
 
-/// The id of an item of the hierarchy: a device's or a bucket's.
+/// The id of an item of the hierarchy, which is a device or a bucket.
 #[derive(Clone, Copy, Debug, PartialEq, Eq)]
 pub enum ItemId {
+    /// The item is a device.
     Device(DeviceId),
+    /// The item is a bucket.
     Bucket(BucketId),
 }
 
-/// The number of a type of item, from 0 to 65535. Devices have type 0, buckets another.
+/// The number of a type of items, from 0 to 65535. Devices have type 0, and every bucket has
+/// another type.
 #[derive(Clone, Copy, Debug, PartialEq, Eq, Hash)]
 pub struct TypeId {
     kind: u16,
@@ -69,7 +73,7 @@ impl Model for TypeId {
 }
 
 impl DeviceId {
-    /// The device with this id, or `None` where the number is below 0.
+    /// Returns the device id with this number, or `None` if the number is below 0.
     pub fn new(number: i32) -> Option<DeviceId>
         ensures { result ≡ device_of number }
     {
@@ -79,7 +83,7 @@ impl DeviceId {
         Some(DeviceId { raw: number as u32 })
     }
 
-    /// The device with this id, or `None` where the number is above 2147483647.
+    /// Returns the device id with this number, or `None` if the number is above 2147483647.
     pub fn from_number(number: u32) -> Option<DeviceId>
         ensures { result ≡ device_from number }
     {
@@ -90,7 +94,7 @@ impl DeviceId {
         }
     }
 
-    /// The id as a number.
+    /// Returns the id as a number from 0 to 2147483647.
     pub fn number(self) -> u32
         ensures value { result ≡ self }
         ensures range { self < DEVICE_IDS }
@@ -100,7 +104,7 @@ impl DeviceId {
 }
 
 impl BucketId {
-    /// The bucket with this id, or `None` where the number isn't below 0.
+    /// Returns the bucket id with this number, or `None` if the number isn't below 0.
     pub fn new(number: i32) -> Option<BucketId>
         ensures { result ≡ bucket_of number }
     {
@@ -112,8 +116,8 @@ impl BucketId {
         })
     }
 
-    /// The bucket whose id is this far below 0, or `None` where the distance is 0 or above
-    /// 2147483648.
+    /// Returns the bucket id that is this far below 0: the id -1 for the distance 1. Returns `None`
+    /// if the distance is 0 or above 2147483648.
     pub fn below_zero(distance: u32) -> Option<BucketId>
         ensures { result ≡ bucket_below distance }
     {
@@ -124,7 +128,7 @@ impl BucketId {
         }
     }
 
-    /// How far the id is below 0.
+    /// Returns the id's distance below 0, from 1 to 2147483648.
     pub fn distance(self) -> u32
         ensures value { result ≡ self }
         ensures some { 0 < self }
@@ -133,7 +137,7 @@ impl BucketId {
         self.below
     }
 
-    /// The id as the number below 0 that a map shows.
+    /// Returns the id as the number below 0 that a map's text shows.
     pub fn number(self) -> i32
         ensures { result ≡ bucket_number self }
     {
@@ -142,7 +146,8 @@ impl BucketId {
 }
 
 impl ItemId {
-    /// The id as the number that a map shows: below 0 for a bucket.
+    /// Returns the id as the number that a map's text shows. It is below 0 for a bucket, and 0 or
+    /// above for a device.
     pub fn number(self) -> i32
         ensures value { result ≡ item_number self }
         ensures range { IsItemId self }
@@ -153,7 +158,7 @@ impl ItemId {
         }
     }
 
-    /// Whether both are ids of one item.
+    /// Whether both are the id of the same item.
     pub fn is_same(self, other: ItemId) -> bool
         ensures value { result ≡ same_id self other }
         ensures exact { IsTrue result ↔ (self ≡ other) }
@@ -163,14 +168,14 @@ impl ItemId {
 }
 
 impl TypeId {
-    /// The type with this number.
+    /// Returns the type with this number.
     pub fn new(number: u16) -> TypeId
         ensures { result ≡ number }
     {
         TypeId { kind: number }
     }
 
-    /// The type's number.
+    /// Returns the type's number.
     pub fn number(self) -> u16
         ensures value { result ≡ self }
         ensures range { self < 2 ^ 16 }

@@ -1,86 +1,94 @@
-//! Limits: those of numbers are Ceph's, the others chosen far above what clusters have, so that
-//! counts and sums fit their types.
+//! The limits of values and of a map's size. The limits of numbers are Ceph's own. The other limits
+//! are chosen far above what clusters have, and so that counts and sums fit their types.
 
-/// Ceph's weights have 16 bits behind the point.
+/// The number of units in a weight of 1.0: 2^16, because Ceph's weights have 16 bits after the
+/// point.
 pub const UNITS_OF_ONE: u32 = 65536;
 
-/// 2^31 - 1 units, just below 32768.0.
+/// The greatest weight of a device: 2^31 - 1 units, which is just below 32768.0.
 pub const HEAVIEST_DEVICE: u32 = 2147483647;
 
-/// 2^32 - 1 units, as Ceph keeps 32 bits.
+/// The greatest weight of a bucket: 2^32 - 1 units, because Ceph keeps a weight in 32 bits.
 pub const HEAVIEST_BUCKET: u32 = 4294967295;
 
-/// 2^43 - 1 units, over all placed devices.
+/// The greatest weight of a map, which is the sum over all placed devices: 2^43 - 1 units.
 pub const HEAVIEST_MAP: u64 = 8796093022207;
 
-/// 2^31 - 1, the greatest of CRUSH's signed ids.
+/// The greatest id of a device: 2^31 - 1, because CRUSH's ids are signed 32-bit numbers.
 pub const LAST_DEVICE_ID: u32 = 2147483647;
 
-/// How many there are, from 0.
+/// The number of possible device ids, which begin at 0: 2^31.
 pub const DEVICE_IDS: u32 = 2147483648;
 
-/// 2^31 below 0, the least of CRUSH's signed ids.
+/// How far the least id of a bucket is below 0: 2^31, because CRUSH's ids are signed 32-bit
+/// numbers.
 pub const FARTHEST_BUCKET_ID: u32 = 2147483648;
 
-/// 2^16 - 1, as CRUSH keeps 16 bits.
+/// The greatest number of a type: 2^16 - 1, because CRUSH keeps this number in 16 bits.
 pub const LAST_TYPE: u32 = 65535;
 
-/// In bytes, as of a file's name; a host's has at most 64.
+/// The greatest length of a name in bytes, which is the same as for a file's name. The name of a
+/// host has at most 64 bytes.
 pub const LONGEST_NAME: usize = 255;
 
-/// In bytes, of a name that takes no memory.
+/// The greatest length in bytes of a name for which no memory is allocated.
 pub const LONGEST_SHORT_NAME: usize = 30;
 
-/// The largest clusters have some ten thousand.
+/// The greatest number of devices in a map. The largest clusters have about ten thousand.
 pub const MOST_DEVICES: u32 = 65536;
 
-/// One for sixteen devices: so deep a path still fits the stack.
+/// The greatest number of buckets in a map: one for every sixteen devices. A path through all of
+/// them, each inside the one before, still fits on the stack.
 pub const MOST_BUCKETS: u32 = 4096;
 
-/// Of a bucket; clusters have three or four classes.
+/// The greatest number of class ids of one bucket. Clusters have three or four device classes.
 pub const MOST_CLASS_IDS: usize = 16;
 
-/// Wanted at once, as many as numbers of types.
+/// The greatest number of free bucket ids that one call can ask for: as many as there are numbers
+/// of types.
 pub const MOST_FREE_IDS: usize = 65536;
 
-/// Type 0 counts; Ceph's own maps have twelve.
+/// The greatest number of types in a map, including type 0. Ceph's own maps have twelve.
 pub const MOST_TYPES: usize = 256;
 
-/// Ceph 18 knows eight.
+/// The greatest number of tunables in a map. Ceph 18 knows eight.
 pub const MOST_TUNABLES: usize = 64;
 
-/// As many as CRUSH has (`CRUSH_MAX_RULES`).
+/// The greatest number of rules in a map, which is also CRUSH's limit (`CRUSH_MAX_RULES`).
 pub const MOST_RULES: usize = 256;
 
-/// Of a rule; Ceph's have three to seven.
+/// The greatest number of steps in one rule. Ceph's own rules have three to seven.
 pub const MOST_STEPS: usize = 64;
 
-/// 2^32 - 1, as Ceph keeps 32 bits.
+/// The greatest value of a tunable: 2^32 - 1, because Ceph keeps it in 32 bits.
 pub const LARGEST_TUNABLE: u32 = 4294967295;
 
-/// Of rule ids, pool sizes and numbers that steps set: 2^31 - 1, as Ceph's are signed.
+/// The greatest rule id, the greatest pool size of a rule, and the greatest number that a step
+/// sets, such as `set_chooseleaf_tries`: 2^31 - 1, because these numbers are signed in Ceph.
 pub const LARGEST_RULE_NUMBER: u32 = 2147483647;
 
-/// Of items that a step chooses: 2^31 - 1.
+/// The greatest count of items in a step that chooses items: 2^31 - 1.
 pub const LARGEST_COUNT: u32 = 2147483647;
 
-/// The least such number is 2^31 below 0.
+/// How far the least count of items in a step that chooses items is below 0: 2^31.
 pub const FARTHEST_COUNT: u32 = 2147483648;
 
-/// Of a location, above Ceph's twelve types.
+/// The greatest number of `TYPE=NAME` pairs in one location. Ceph's own maps have twelve types.
 pub const MOST_PAIRS: usize = 16;
 
-/// Of a batch, one for each device.
+/// The greatest number of edits in one batch: one for each device that a map can have.
 pub const MOST_EDITS: usize = 65536;
 
-/// Of a map at once, each with a thread.
+/// The greatest number of operators that edit one map at the same time, each in its own thread.
 pub const MOST_OPERATORS: usize = 16;
 
-/// Of a job, each with its entry.
+/// The greatest number of calls in one job. Each call gets an entry in the history.
 pub const MOST_CALLS: usize = 65536;
 
-/// Of a history: their number shares a 64-bit word with a map's weight.
+/// The greatest number of entries in a history. It is limited because the number of changes shares
+/// a 64-bit word with a map's weight.
 pub const MOST_ENTRIES: usize = 65536;
 
-/// 16 MiB: a map of 60,000 devices takes some three.
+/// The greatest length of a job in bytes: 16 MiB. The text of a map of 60,000 devices takes about
+/// 3 MiB.
 pub const LONGEST_JOB: usize = 16777216;

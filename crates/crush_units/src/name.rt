@@ -1,4 +1,4 @@
-//! Names and classes.
+//! Names, and device classes, which have the form of names.
 
 ghost use Rattle.std.specs.Prelude.{◌≡◌, ◌<◌, length, IsTrue, ◌↔◌, OnOk, IfOk, IfErr, MatchOption, MatchResult, bytes_eq, true};
 ghost use Rattle.std.specs.Cmp.Rules.{comparing, hashing};
@@ -16,22 +16,25 @@ use std::hash::{Hash, Hasher};
 use std::marker::Model;
 use thiserror::Error;
 
-/// Why bytes are no name.
+/// Why [`Name::read`] made no name of some bytes.
 #[derive(Clone, Copy, Debug, PartialEq, Eq, Error)]
 pub enum NameFault {
+    /// There are no bytes.
     #[error("a name is empty")]
     Empty,
-    /// The place of the first bad byte, from 0.
+    /// A byte isn't allowed in a name. The value is the index of the first such byte, from 0.
     #[error("byte {0} of a name is no letter, digit, `-`, `_` or `.`")]
     BadByte(usize),
+    /// There are more than 255 bytes, all of them allowed in a name.
     #[error("a name has more than 255 bytes")]
     TooLong,
+    /// The bytes are a name, but no memory could be allocated for it.
     #[error("out of memory")]
     OutOfMemory,
 }
 
 impl NameFault {
-    /// The fault's number, from 1.
+    /// Returns the fault's number, which is its position in this list, from 1.
     pub fn number(self) -> u8
         ensures { result ≡ name_fault_number self }
     {
@@ -44,7 +47,8 @@ impl NameFault {
     }
 }
 
-/// A name: 1 to 255 bytes, each an ASCII letter, a digit, `-`, `_` or `.`.
+/// A name: 1 to 255 bytes, each an ASCII letter, a digit, `-`, `_` or `.`. Memory is allocated only
+/// for a name of more than 30 bytes. In contracts its value is its bytes.
 #[derive(Debug, Drop)]
 pub struct Name<A: Allocator> {
     text: Text<A>,
@@ -64,7 +68,13 @@ impl<A: Allocator> Model for Name<A> {
 }
 
 impl<A: Allocator> Name<A> {
-    /// The name that has these bytes.
+    /// Returns the name that consists of these bytes. A name of more than 30 bytes is copied into
+    /// memory of the allocator.
+    ///
+    /// Fails with the first of these faults that applies: `Empty` if there are no bytes; `BadByte`
+    /// with the index of the first byte that isn't allowed in a name; `TooLong` if there are more
+    /// than 255 bytes; `OutOfMemory` if the memory for more than 30 bytes can't be allocated. The
+    /// cost is linear in the number of bytes.
     pub fn read(alloc: A, bytes: &[u8]) -> Result<Name<A>, NameFault>
         ensures value { IfOk result (λ name. name ≡ bytes.now) }
         ensures name { OnOk result (IsName bytes.now) }
@@ -86,7 +96,7 @@ impl<A: Allocator> Name<A> {
         }
     }
 
-    /// The name as text, of 1 to 255 bytes.
+    /// Returns the name as a text of 1 to 255 bytes.
     pub fn as_str(&self) -> &str
         ensures value { result.now ≡ self.now }
         ensures name { IsName self.now }
@@ -94,7 +104,7 @@ impl<A: Allocator> Name<A> {
         self.text.as_str()
     }
 
-    /// The name's bytes.
+    /// Returns the name's bytes, of which there are 1 to 255.
     pub fn as_bytes(&self) -> &[u8]
         ensures value { result.now ≡ self.now }
         ensures name { IsName self.now }
@@ -102,7 +112,8 @@ impl<A: Allocator> Name<A> {
         self.text.as_bytes()
     }
 
-    /// A copy in memory of the given allocator, which may be another than the name's own.
+    /// Copies the name into memory of the given allocator, which may differ from the name's own.
+    /// Fails only if a name of more than 30 bytes can't get memory; other names need none.
     pub fn try_copy<B: Allocator>(&self, alloc: B) -> Result<Name<B>, AllocError>
         ensures { MatchResult result (λ copy. copy ≡ self.now)
             (λ _. LONGEST_SHORT_NAME < length self.now) }
@@ -111,7 +122,7 @@ impl<A: Allocator> Name<A> {
         Ok(Name { text })
     }
 
-    /// Whether the name has exactly these bytes.
+    /// Whether the name consists of exactly these bytes.
     pub fn is(&self, bytes: &[u8]) -> bool
         ensures value { result ≡ bytes_eq self.now bytes.now }
         ensures exact { IsTrue result ↔ (self.now ≡ bytes.now) }
@@ -144,7 +155,7 @@ impl<A: Allocator> Hash for Name<A> {
     }
 }
 
-/// Finds names by their bytes.
+/// Lets an index find a name by its bytes, without a [`Name`] made of them.
 impl<A: Allocator> Equivalent<Name<A>> for &[u8] {
     ghost equivalent = { λ bytes. bytes_eq bytes.now };
 
@@ -158,7 +169,7 @@ impl<A: Allocator> Equivalent<Name<A>> for &[u8] {
     }
 }
 
-/// Whether the bytes are a name.
+/// Whether the bytes are a name: 1 to 255 bytes, each of which [`is_name_byte`] accepts.
 pub fn is_name(bytes: &[u8]) -> bool
     ensures value { result ≡ is_name bytes.now }
     ensures exact { IsTrue result ↔ IsName bytes.now }
@@ -166,13 +177,14 @@ pub fn is_name(bytes: &[u8]) -> bool
     !bytes.is_empty() && bytes.len() <= LONGEST_NAME && first_bad(bytes).is_none()
 }
 
-/// Whether a name may have the byte.
+/// Whether the byte is allowed in a name: an ASCII letter, a digit, `-`, `_` or `.`.
 pub fn is_name_byte(byte: u8) -> bool
     ensures { result ≡ is_name_byte byte }
 {
     matches!(byte, b'0'..=b'9' | b'A'..=b'Z' | b'a'..=b'z' | b'-' | b'_' | b'.')
 }
 
+/// Returns the index of the first byte that isn't allowed in a name.
 fn first_bad(bytes: &[u8]) -> Option<usize>
     ensures { MatchOption result (are_name_bytes bytes.now ≡ true) (IsFirstBad bytes.now) }
 {

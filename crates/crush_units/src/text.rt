@@ -1,4 +1,5 @@
-//! Text inside its value while it is short.
+//! The text of a name. A text of up to 30 bytes is stored in the value itself, so that it needs no
+//! memory from an allocator.
 
 ghost use Rattle.std.specs.Prelude.{◌≡◌, ◌≤◌, ◌<◌, IfOk, IfErr, OnErr, length};
 ghost use Rattle.std.specs.Str.{IsUtf8};
@@ -9,6 +10,7 @@ use std::alloc::{AllocError, Allocator};
 use std::marker::Model;
 use std::str;
 
+/// A text of at most 30 bytes: the first `count` of `bytes`.
 #[derive(Debug, Drop)]
 pub(crate) struct Short {
     count: u8,
@@ -56,6 +58,7 @@ impl Short {
     }
 }
 
+/// A text that is stored in the value or, if it is longer than 30 bytes, in allocated memory.
 #[derive(Debug, Drop)]
 pub(crate) enum Text<A: Allocator> {
     Short(Short),

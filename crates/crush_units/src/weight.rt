@@ -1,4 +1,4 @@
-//! Weights, read and printed.
+//! Weights: how they are stored, read from a text, and printed.
 
 ghost use Rattle.std.specs.Prelude.{◌≡◌, ◌+◌, ◌*◌, ◌^◌, ◌<◌, ◌≤◌, ◌↔◌, IsTrue, true, length, take};
 ghost use Rattle.std.specs.Char.{is_ascii_digit};
@@ -12,19 +12,20 @@ use itoa::Buffer;
 use std::marker::Model;
 use thiserror::Error;
 
-/// Why a text is no weight.
+/// Why a text isn't a weight.
 #[derive(Clone, Copy, Debug, PartialEq, Eq, Error)]
 pub enum WeightFault {
-    /// Not 1 to 10 digits, with or without a point and 1 to 18 digits.
+    /// The text isn't of the form: 1 to 10 digits, optionally followed by a point and 1 to 18
+    /// digits.
     #[error("not a weight: expected digits, with at most one point between them")]
     Syntax,
-    /// Above 4294967295 units.
+    /// The weight, rounded to units, is above 4294967295 units.
     #[error("a weight is above 65535.99999")]
     TooLarge,
 }
 
 impl WeightFault {
-    /// The fault's number, from 1.
+    /// Returns the fault's number: 1 for `Syntax`, 2 for `TooLarge`.
     pub fn number(self) -> u8
         ensures { result ≡ weight_fault_number self }
     {
@@ -35,8 +36,9 @@ impl WeightFault {
     }
 }
 
-/// A weight, from 0 to 4294967295 units. 65536 units are 1.0, as in Ceph, whose weights are fixed
-/// point numbers of 16 and 16 bits.
+/// A weight, from 0 to 4294967295 units. 65536 units are 1.0, as in Ceph: its weights are
+/// fixed-point numbers with 16 bits before the point and 16 bits after it. In contracts a weight's
+/// value is its number of units.
 #[derive(Clone, Copy, Debug, PartialEq, Eq)]
 pub struct Weight {
     units: u32,
@@ -53,14 +55,14 @@ impl Model for Weight {
 }
 
 impl Weight {
-    /// The weight of so many units.
+    /// Returns the weight of this many units, of which 65536 are 1.0.
     pub fn from_units(units: u32) -> Weight
         ensures { result ≡ units }
     {
         Weight { units }
     }
 
-    /// How many units it has.
+    /// Returns the weight in units, of which 65536 are 1.0.
     pub fn units(self) -> u32
         ensures value { result ≡ self }
         ensures range { self < 2 ^ 32 }
@@ -68,22 +70,26 @@ impl Weight {
         self.units
     }
 
-    /// Whether a device can have this weight: at most 2147483647 units.
+    /// Whether a device can have this weight, that is, whether it is at most 2147483647 units.
     pub fn is_device_weight(self) -> bool
         ensures { IsTrue result ↔ (self ≤ HEAVIEST_DEVICE) }
     {
         self.units <= HEAVIEST_DEVICE
     }
 
-    /// The weight that a text says, rounded to the nearest unit, a half going up: `1.0` and
-    /// `1.00000` are 65536 units.
+    /// Reads a weight from a text such as `1.5`. The text is 1 to 10 digits, optionally followed by
+    /// a point and 1 to 18 digits. The number is rounded to the nearest unit, and a half is rounded
+    /// up: `1.0` and `1.00000` are 65536 units.
+    ///
+    /// Fails with `Syntax` if the text has another form, and with `TooLarge` if the rounded weight
+    /// is above 4294967295 units.
     pub fn read(text: &str) -> Result<Weight, WeightFault>
         ensures { result ≡ weight_of_text text.now }
     {
         Weight::read_bytes(text.as_bytes())
     }
 
-    /// The weight that the bytes of a text say, by the rule and with the faults of
+    /// Reads a weight from the bytes of a text, by the same rules and with the same faults as
     /// [`Weight::read`].
     pub fn read_bytes(text: &[u8]) -> Result<Weight, WeightFault>
         ensures { result ≡ weight_of_text text.now }
@@ -104,9 +110,9 @@ impl Weight {
         round(number, fraction.len())
     }
 
-    /// Writes the weight to the head of the given bytes and returns the length of the text, 7 to
-    /// 11: a whole number, a point and five digits. It is rounded to the nearest hundred-thousandth
-    /// of 1.0, a half going up.
+    /// Writes the weight's text to the start of `out` and returns the length of the text, 7 to 11
+    /// bytes. The text is a whole number, a point and five digits. The weight is rounded to the
+    /// nearest hundred-thousandth of 1.0, and a half is rounded up.
     #[tactic(auto, using(crate::proofs::Parts::whole_part_short))]
     pub fn text(&self, out: &mut [u8; 16]) -> usize
         ensures fits { result ≤ 16 }
@@ -131,7 +137,7 @@ impl Weight {
     }
 }
 
-/// What any weight prints as is read as the same weight.
+/// The law that the printed text of any weight is read as the same weight.
 pub fn printed_is_read_back()
     ensures { PrintedIsReadBack }
 {}
@@ -190,7 +196,7 @@ fn ten_to(places: usize) -> u128
     power
 }
 
-/// `number` has `places` digits behind the point.
+/// Rounds a number to units; its last `places` decimal digits are those after the point.
 fn round(number: u128, places: usize) -> Result<Weight, WeightFault>
     requires number { number < 10 ^ 28 }
     requires places { places ≤ 18 }

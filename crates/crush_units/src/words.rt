@@ -1,5 +1,5 @@
-//! The words of a map's text: braces and runs of name bytes, between blanks and comments (`#` to a
-//! line's end).
+//! Splits a map's text into words. A word is a brace or a run of bytes that are allowed in names.
+//! Blanks and comments are skipped; a comment extends from `#` to the end of its line.
 
 ghost use Rattle.std.specs.Prelude.{◌≡◌, if◌then◌else◌, ◌+◌, ◌<◌, ◌≤◌, length, drop, IsTrue};
 ghost use Rattle.crush_units.specs.Name.{is_name_byte};
@@ -9,16 +9,20 @@ use crate::limits::LONGEST_NAME;
 use crate::name::is_name_byte;
 use std::marker::Model;
 
-/// What comes next; places count bytes from 0.
+/// The next word of a text, or the reason why there is none. Each `place` is an index of a byte in
+/// the text, from 0.
 #[derive(Clone, Copy)]
 pub enum Token<'a> {
+    /// A word that begins at `place`. It is a brace or a name.
     Word { place: usize, text: &'a [u8] },
-    /// The text's length.
+    /// The text has no further word. `place` is the text's length.
     End { place: usize },
-    /// Where a bad byte stands or a too long word begins.
+    /// At `place` is a byte that no text may have, or the first byte of a word of more than 255
+    /// bytes.
     Bad { place: usize },
 }
 
+/// A text, and the index of the byte from which on it is still to be read.
 #[derive(Clone, Copy)]
 struct Lexer<'a> {
     text: &'a [u8],
@@ -38,13 +42,14 @@ fn is_brace(byte: u8) -> bool
     byte == b'{' || byte == b'}'
 }
 
-/// Compares the likeliest bytes first.
+/// Whether the byte is allowed in a name. For speed it compares the most frequent bytes first.
 fn is_word_byte(byte: u8) -> bool
     ensures { result ≡ is_name_byte byte }
 {
     matches!(byte, b'0'..=b'9' | b'a'..=b'z') || is_name_byte(byte)
 }
 
+/// Returns how many bytes at the start are allowed in names.
 fn run_length(bytes: &[u8]) -> usize
     ensures count { result ≡ run_length bytes.now }
     ensures within { result ≤ length bytes.now }
@@ -56,6 +61,8 @@ fn run_length(bytes: &[u8]) -> usize
     len
 }
 
+/// Returns the index of the first byte, at `from` or after it, that is neither a blank nor in a
+/// comment. If there is none, returns the text's length.
 fn skip_blanks(text: &[u8], from: usize) -> usize
     requires { from ≤ length text.now }
     ensures within { result ≤ length text.now }
@@ -114,7 +121,8 @@ impl<'a> Lexer<'a> {
     }
 }
 
-/// Reads a text's words; contracts see those left.
+/// Reads the words of a text one after the other. In contracts its value is the words that are
+/// left, and what ends them.
 #[derive(Drop)]
 pub struct Reader<'a> {
     lexer: Lexer<'a>,
@@ -133,7 +141,7 @@ impl<'a> Model for Reader<'a> {
 impl<'a> Reader<'a> {
     ghost use Rattle.crush_units.specs.Lexer.{Nexts, IsFormed};
 
-    /// Reads all words of the text.
+    /// Returns a reader that is before the first word of the text.
     pub fn new(text: &'a [u8]) -> Reader<'a>
         ensures { result ≡ words 0 text.now }
     {
@@ -142,7 +150,9 @@ impl<'a> Reader<'a> {
         }
     }
 
-    /// Takes what comes next; the end and bad places stay.
+    /// Reads the next word and moves past it. At the end of the text, or at a place that can't be
+    /// read, returns `End` or `Bad`, and each later call returns the same. The cost is linear in
+    /// the number of bytes that are read or skipped.
     pub fn next(&mut self) -> Token<'a>
         ensures nexts { Nexts result self.old self.new }
         ensures formed { IsFormed result }
@@ -151,7 +161,9 @@ impl<'a> Reader<'a> {
         self.lexer.next()
     }
 
-    /// Takes the next word if it is the key.
+    /// Moves past the next word if it equals `key`, and returns whether it does. If it doesn't, or
+    /// if there is no next word, nothing changes. The cost is linear in the number of bytes that
+    /// are read or skipped.
     pub fn take_key(&mut self, key: &[u8]) -> bool
         ensures answer { result ≡ begins key.now self.old }
         ensures rest { self.new ≡ (if result then past self.old else self.old) }

@@ -1,4 +1,4 @@
-//! Writes up to the first failure.
+//! Writes bytes to a writer, up to the first failure.
 
 ghost use Rattle.std.specs.Prelude.{◌≡◌, flat_map, IfErr};
 ghost use Rattle.crush_units.specs.Writes.{Writes, write_fault_number};
@@ -6,19 +6,19 @@ ghost use Rattle.crush_units.specs.Writes.{Writes, write_fault_number};
 use std::io::Write;
 use thiserror::Error;
 
-/// Why a text isn't written.
+/// Why a text wasn't written as a whole.
 #[derive(Clone, Copy, Debug, PartialEq, Eq, Error)]
 pub enum WriteFault {
-    /// The writer failed or took no byte; a prefix is written.
+    /// The writer failed, or it accepted no byte. A prefix of the text has been written.
     #[error("the writer failed")]
     Write,
-    /// Nothing is written.
+    /// No memory could be allocated. Nothing has been written.
     #[error("out of memory")]
     OutOfMemory,
 }
 
 impl WriteFault {
-    /// The fault's number, from 1.
+    /// Returns the fault's number: 1 for `Write`, 2 for `OutOfMemory`.
     pub fn number(self) -> u8
         ensures { result ≡ write_fault_number self }
     {
@@ -29,7 +29,9 @@ impl WriteFault {
     }
 }
 
-/// Writes all bytes, up to the first error, also an interrupted write; it doesn't flush.
+/// Writes all bytes to `out`, and doesn't flush it. Stops at the first error, which may also be an
+/// interrupted write, or when `out` accepts no byte. Then it fails with `Write`, and a prefix of
+/// the bytes that isn't the whole has been written. It never fails with `OutOfMemory`.
 pub fn put<W: Write>(out: &mut W, bytes: &[u8]) -> Result<(), WriteFault>
     ensures writes { Writes result (W.contents out.old) (W.contents out.new) bytes.now }
     ensures fault { IfErr result (λ fault. fault ≡ WriteFault.Write) }
@@ -46,7 +48,8 @@ pub fn put<W: Write>(out: &mut W, bytes: &[u8]) -> Result<(), WriteFault>
     Ok(())
 }
 
-/// Writes the parts in order, as [`put`] does.
+/// Writes the parts to `out`, one after the other, as [`put`] writes its bytes. If this fails, the
+/// fault is `Write`, and a prefix of the joined parts that isn't the whole has been written.
 pub fn put_all<W: Write>(out: &mut W, parts: &[&[u8]]) -> Result<(), WriteFault>
     ensures writes { Writes result (W.contents out.old) (W.contents out.new)
         (flat_map (λ part. part.now) parts.now) }

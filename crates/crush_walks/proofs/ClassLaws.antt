@@ -1,4 +1,4 @@
--- A device that is changed to another class: what becomes of the items.
+-- A device that gets another class: how the items change.
 use Rattle.std.proofs.Common.{◌≡◌, ℕ, ◌+◌, Bool, true, false, List, ap, sym, ◌∙◌, refl, arith}
 use Rattle.std.specs.Prelude.{Option, ◌==◌, if◌then◌else◌}
 use Rattle.crush_units.specs.declared.id.ItemId.TheVariants.{Device}
@@ -21,7 +21,7 @@ with_class-absent i c none h = refl
 with_class-absent i c (device d r) h = λ j. device (pick_no (d.id == i) (record d { class = c }) d (omega arith) j) (with_class-absent i c r (omega arith) j)
 with_class-absent i c (bucket x w m k r) h = λ j. bucket x w m (with_class-absent i c k (omega arith) j) (with_class-absent i c r (omega arith) j)
 
--- weights stay
+-- weights don't change
 pub weight_sum-with_class : (i : ℕ) (c : Option (List ℕ)) (t : Items) → weight_sum (with_class i c t) ≡ weight_sum t
 weight_sum-with_class i c none = refl
 weight_sum-with_class i c (device d r) = λ j. same (d.id == i) j + weight_sum-with_class i c r j where
@@ -49,7 +49,7 @@ classed_taken i c t one = one_taken (λ x. with_own_class c x ≡ with_class i c
     (λ d here. ap (λ z. device z none) (sym (pick_yes (d.id == i) (record d { class = c }) d here)))
     (λ h w m k here gone. absurd (omega (arith, here)))
 
--- THE CHANGE: what comes of the device makes of the items those with its class set
+-- THE CHANGE: with the changed device in place of the old one, the items are those with its class set
 pub classed : (i : ℕ) (c : Option (List ℕ)) (t y : Items) → count_of_id (Device i) t ≡ 1 → StoresSums t → y ≡ with_own_class c (part_of (Device i) t) → with_sums (with_item (Device i) y t) ≡ with_class i c t
 classed i c t y one s e =
     ap with_sums (local (with_class i c) (Device i) (with_class-join i c) (with_class-absent i c) (λ h w m k misses. refl) t y one (e ∙ classed_taken i c t one)) ∙ has_sums (with_class i c t) (StoresSums-with_class i c t s)

@@ -7,7 +7,7 @@ pub mod FitLaws
 pub mod FreedLaws
 pub mod GapLaws
 pub mod GapSteps
-pub mod GrowLaws
+pub mod GrowBufferLaws
 pub mod HeavyLaws
 pub mod MoveLaws
 pub mod MoveSteps
@@ -17,7 +17,7 @@ pub mod PositionLaws
 pub mod PositionRows
 pub mod PutAtLaws
 pub mod PutLastLaws
-pub mod RehouseLaws
+pub mod ReplaceBufferLaws
 pub mod RangeLaws
 pub mod RenameLaws
 pub mod RunLaws
@@ -33,5 +33,5 @@ pub mod TakeLaws
 pub mod TakeRows
 pub mod TakeSteps
 pub mod TakenLaws
-pub mod WayLaws
+pub mod DescentLaws
 pub mod WeighLaws

@@ -1,4 +1,4 @@
--- An item that is changed to another name: what becomes of the items.
+-- An item that gets another name: how the items change.
 use Rattle.std.proofs.Common.{◌≡◌, ℕ, Bool, true, false, List, ap, sym, ◌∙◌, refl}
 use Rattle.std.specs.Prelude.{Option, Some, if◌then◌else◌}
 use Rattle.std.specs.Option.{option_or}
@@ -39,7 +39,7 @@ renamed_taken i n t one = one_taken (λ x. with_own_name n x ≡ with_name i n x
     (λ d here. ap (λ z. device z none) (sym (pick_yes (same_id (Device d.id) i) (record d { name = n }) d here)))
     (λ h w m k here gone. λ j. bucket (sym (pick_yes (same_id (Bucket h.id) i) (record h { name = n }) h here) j) w m (sym (with_name-absent i n k gone) j) none)
 
--- THE CHANGE: what comes of the item makes of the items those with its name set
+-- THE CHANGE: with the changed item in place of the old one, the items are those with its name set
 pub named : (i : ItemId) (n : List ℕ) (t y : Items) → count_of_id i t ≡ 1 → StoresSums t → y ≡ with_own_name n (part_of i t) → with_sums (with_item i y t) ≡ with_name i n t
 named i n t y one s e =
     ap with_sums (local (with_name i n) i (with_name-join i n) (with_name-absent i n) (λ h w m k misses. sym (kids_named i n h w m k misses)) t y one (e ∙ renamed_taken i n t one)) ∙ has_sums (with_name i n t) (StoresSums-with_name i n t s)

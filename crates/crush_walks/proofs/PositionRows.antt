@@ -1,4 +1,4 @@
--- The rows of items that come to a position are those of items that come last, in another order.
+-- The rows after items are put at a position are those after items are appended, in another order.
 use Rattle.std.proofs.Common.{◌≡◌, ℕ, zero, suc, ◌+◌, List, ◌++◌, append_assoc, ap, sym, subst, ◌∙◌, arith, ⊎_elim}
 use Rattle.std.specs.Prelude.{◌==◌, if◌then◌else◌, Option, Some, None}
 use Rattle.std.proofs.lemmas.Bool.Decides.{eqb_tells}
@@ -21,7 +21,7 @@ use Rattle.crush_walks.proofs.PositionLaws.{put_at-absent}
 first_rows : (p : Option ℕ) (n t : Items) → IsReordered (rows p t ++ rows p n) (rows p (join n t))
 first_rows p n t = through (reordered_comm (rows p t) (rows p n)) (reordered-is (sym (rows-join p n t)))
 
--- behind others
+-- after others
 behind_rows : (S R T N : List Row) → IsReordered (R ++ N) T → IsReordered ((S ++ R) ++ N) (S ++ T)
 behind_rows S R T N h = through (reordered-is (append_assoc S R N)) (reordered-after S h)
 

@@ -1,4 +1,4 @@
--- Weights that are given to devices, each the next: laws of the items.
+-- Weights that are given to devices one after the other: laws of the items.
 use Rattle.std.proofs.Common.{◌≡◌, ℕ, Bool, true, false, List, [], ◌∷◌, ◌++◌, ap, sym, subst, ◌∙◌, refl, arith, append-nil, append_assoc}
 use Rattle.std.specs.Prelude.{◌==◌, nat_le, if◌then◌else◌, Option, Some, unwrap_or}
 use Rattle.std.specs.Option.{option_map}
@@ -20,7 +20,7 @@ use Rattle.crush_walks.proofs.RangeLaws.{untouched}
 use Rattle.crush_walks.proofs.SubtreeLaws.{with_below-join, with_below-absent}
 use Rattle.crush_walks.proofs.TakenLaws.{Taken, taken_bucket}
 
--- SIDE BY SIDE: the later items get what the earlier ones leave
+-- SIDE BY SIDE: the later items get the weights that the earlier ones leave
 pub weights_after-join : (a b : Items) (ws : List ℕ) → weights_after (join a b) ws ≡ weights_after b (weights_after a ws)
 weights_after-join none b ws = refl
 weights_after-join (device d r) b ws = weights_after-join r b (later_weights ws)
@@ -56,7 +56,7 @@ with_weights_below-absent b ws (device d r) h = ap (device d) (with_weights_belo
 with_weights_below-absent b ws (bucket x w m k r) h =
     λ j. bucket x w m ((pick_no (x.id == b) (with_weights ws k) (with_weights_below b ws k) (omega arith) ∙ with_weights_below-absent b ws k (omega arith)) j) (with_weights_below-absent b ws r (omega arith) j)
 
--- THE CHANGE: what comes of the bucket makes of the items those with its devices' weights
+-- THE CHANGE: with the changed bucket in place of the old one, the items are those with the weights of its devices set
 pub given_below : (b : ℕ) (ws : List ℕ) (t y : Items) → count_of_id (Bucket b) t ≡ 1 → y ≡ with_sums (with_weights ws (part_of (Bucket b) t)) → with_sums (with_item (Bucket b) y t) ≡ with_sums (with_weights_below b ws t)
 given_below b ws t y one e =
     let a = taken_bucket b t one in
@@ -65,7 +65,7 @@ given_below b ws t y one e =
     ap (λ z. with_sums (with_item (Bucket b) z t)) e ∙ settle_replaced (Bucket b) (with_weights ws (part_of (Bucket b) t)) t
     ∙ ap with_sums (local (with_weights_below b ws) (Bucket b) (with_weights_below-join b ws) (with_weights_below-absent b ws) (λ h w m k miss. ap (λ z. bucket h w m z none) (pick_no (h.id == b) _ _ miss)) t (with_weights ws (part_of (Bucket b) t)) one all)
 
--- where all can be stored, it can
+-- if all sums can be stored, then so can the bucket's
 given_test : (b : ℕ) (ws : List ℕ) (t : Items) (a : Taken b t) → stores_up_to HEAVIEST_BUCKET (with_sums (with_weights ws (part_of (Bucket b) t))) ≡ nat_le (weight_sum (with_sums (with_weights ws a.kids))) HEAVIEST_BUCKET
 given_test b ws t a =
     let kids = with_sums (with_weights ws a.kids) in
@@ -80,7 +80,7 @@ given_fits b ws t one fits =
     subst (FitsWeights ws) (sym a.is) (fits_or_not (weight_sum (with_sums (with_weights ws a.kids))) (λ large. absurd (
     let e : ◌≡◌ {A = Bool} false true = sym (too_large (Bucket b) HEAVIEST_BUCKET y t one (StoresSums-with_sums (with_weights ws (part_of (Bucket b) t))) (given_test b ws t a ∙ large)) ∙ made in cc)))
 
--- THE OWN WEIGHTS leave items as they are
+-- THE OWN WEIGHTS of items leave them as they are
 own_after : (t : Items) (vs : List ℕ) → weights_after t (weights_in t ++ vs) ≡ vs
 own_after none vs = refl
 own_after (device d r) vs = own_after r vs
@@ -137,7 +137,7 @@ below_sums b ws (bucket h w m k r) =
     let kids = either_sums (h.id == b) (with_weights ws (with_sums k)) (with_weights_below b ws (with_sums k)) (with_weights ws k) (with_weights_below b ws k) (given_sums ws k) (below_sums b ws k) in
     λ j. bucket h (weight_sum (kids j)) m (kids j) (below_sums b ws r j)
 
--- THE INVERSE: of items that got one weight below a bucket, the bucket's devices get their own back
+-- THE INVERSE: after the devices below a bucket got one weight, they get their own weights back
 module _ (b n : ℕ) (ws : List ℕ) where
   abbrev there_and_back : Items → Items
   there_and_back t = with_weights_below b ws (with_below b n t)

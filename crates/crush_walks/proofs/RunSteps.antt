@@ -5,7 +5,7 @@ use Rattle.std.proofs.lemmas.List.{replicate_more, reverse-append, reverse-rever
 use Rattle.crush_walks.specs.Runs.{next_weight, later_weights, weights_of_run, weights_of, weights_left}
 use Rattle.crush_walks.specs.declared.runs.WeightRun.{WeightRun}
 
--- RUNS: the last one's weights are the last
+-- RUNS: the weights of the last run are the last weights
 weights_of-append : (xs ys : List WeightRun) → weights_of (xs ++ ys) ≡ weights_of xs ++ weights_of ys
 weights_of-append [] ys = refl
 weights_of-append (r ∷ xs) ys = ap (λ z. weights_of_run r ++ z) (weights_of-append xs ys) ∙ sym (append_assoc (weights_of_run r) (weights_of xs) (weights_of ys))
@@ -13,7 +13,7 @@ weights_of-append (r ∷ xs) ys = ap (λ z. weights_of_run r ++ z) (weights_of-a
 pub weights_of-last : (xs : List WeightRun) (r : WeightRun) → weights_of (xs ++ r ∷ []) ≡ weights_of xs ++ weights_of_run r
 weights_of-last xs r = weights_of-append xs (r ∷ []) ∙ ap (λ z. weights_of xs ++ z) (append-nil (weights_of_run r))
 
--- a weight that is put last, into the last run
+-- a weight is appended to the last run
 pub longer : (w v m : ℕ) → w ≡ v → weights_of_run (record { weight = w; more = m + 1 }) ≡ weights_of_run (record { weight = w; more = m }) ++ v ∷ []
 longer w v m same = ap (λ z. w ∷ z) (sym (replicate_more m w)) ∙ ap (λ z. weights_of_run (record { weight = w; more = m }) ++ z ∷ []) same
 
@@ -26,7 +26,7 @@ pub same_start : {X E : Type 0} (x : Result X E) (old start new : List WeightRun
 same_start (Ok x) old start new w same is = is ∙ ap (λ z. z ++ w ∷ []) same
 same_start (Err e) old start new w same is = tt
 
--- or into one of its own
+-- or as a run of its own
 pub put_behind : (old new : List WeightRun) (run : WeightRun) (w : ℕ) → new ≡ old ++ run ∷ [] → weights_of_run run ≡ w ∷ [] → weights_of new ≡ weights_of old ++ w ∷ []
 put_behind old new run w is one = ap weights_of is ∙ weights_of-last old run ∙ ap (λ z. weights_of old ++ z) one
 
@@ -37,11 +37,11 @@ left_of-last xs r = ap weights_of (reverse-append xs (r ∷ []))
 pub left_of-reverse : (old new : List WeightRun) → new ≡ reverse old → weights_left new ≡ weights_of old
 left_of-reverse old new is = ap weights_left is ∙ ap weights_of (reverse-reverse old)
 
--- the next is the last run's weight
+-- the next weight is that of the last run
 pub next_left : (old rest : List WeightRun) (r : WeightRun) → old ≡ rest ++ r ∷ [] → r.weight ≡ next_weight (weights_left old)
 next_left old rest r is = sym (ap (λ z. next_weight (weights_left z)) is ∙ ap next_weight (left_of-last rest r))
 
--- none where there is no run
+-- there is no next weight if there is no run
 no_runs : (xs : List WeightRun) → length xs ≡ 0 → xs ≡ []
 no_runs [] e = refl
 no_runs (x ∷ xs) e = absurd (omega (arith, e))
@@ -52,7 +52,7 @@ next_none old none = sym (ap (λ z. next_weight (weights_left z)) (no_runs old n
 pub later_empty : (old new : List WeightRun) → length old ≡ 0 → length new ≡ 0 → weights_left new ≡ later_weights (weights_left old)
 later_empty old new none empty = ap weights_left (no_runs new empty) ∙ sym (ap (λ z. later_weights (weights_left z)) (no_runs old none))
 
--- and after it come the others of that run, or those before it
+-- after it are the other weights of that run, or the runs before that run
 pub later_left : (old rest : List WeightRun) (r : WeightRun) → old ≡ rest ++ r ∷ [] → later_weights (weights_left old) ≡ replicate r.more r.weight ++ weights_left rest
 later_left old rest r is = ap (λ z. later_weights (weights_left z)) is ∙ ap later_weights (left_of-last rest r)
 

@@ -6,12 +6,12 @@ pub mod Named
 pub mod OtherWeights
 pub mod Positions
 pub mod Putting
-pub mod Rehoused
+pub mod BufferReplaced
 pub mod Replaced
 pub mod Runs
 pub mod Shuffled
 pub mod Subtree
 pub mod Swapping
-pub mod WayTo
+pub mod DescendsTo
 pub use Rattle.crush_nodes.specs.Ops
 pub use Rattle.crush_nodes.specs.Seen

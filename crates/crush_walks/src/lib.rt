@@ -1,7 +1,8 @@
-//! Walks that change items and the sums above them, or test whether those stay in range.
+//! Walks that change items and the sums of the buckets above them, and tests whether those sums
+//! stay in range. `crush_tree` calls them.
 //!
-//! Each enters the child that a [`Way`](crush_nodes::way::Way) names; [`change`] has the walk that
-//! changes one item by an act.
+//! At each level a walk enters the item that a [`Descent`](crush_nodes::way::Way) names. Read
+//! [`change`] first: it has the walk that applies a change to one item, which most others use.
 #![tactic(auto)]
 
 pub mod attach;
@@ -10,11 +11,11 @@ pub mod change;
 pub mod classes;
 pub mod detach;
 pub mod fit;
-pub mod grow;
+pub mod grow_buffer;
 pub mod item;
 pub mod moved;
-pub mod rehouse;
 pub mod rename;
+pub mod replace_buffer;
 pub mod runs;
 pub mod subtree;
 pub mod swap;

@@ -1,4 +1,6 @@
-//! Edits the hierarchy of a CRUSH map by the scripts of its operators.
+//! The program `crushedit`: applies operators' scripts to the hierarchy of a CRUSH map, and prints
+//! the result. `crush_options` reads the command line, `crush_run` does the work, and `crush_input`
+//! reports how it ended. This file also checks that the output was stored.
 #![tactic(auto)]
 
 use crush_input::{Words, report, report_options};
@@ -9,6 +11,7 @@ use std::fs::OpenOptions;
 use std::io::ErrorKind;
 use std::process::ExitCode;
 
+/// Standard output, by a path with which it can be opened once more.
 const OUTPUT: &str = "/dev/stdout";
 
 fn main(rt: HostRuntime) -> ExitCode {
@@ -38,7 +41,8 @@ fn main(rt: HostRuntime) -> ExitCode {
     ExitCode::from(status)
 }
 
-/// Some file systems report only behind the writes that they couldn't store them.
+/// Turns a success into a write fault if the output couldn't be stored. Some file systems report
+/// that only after all writes have succeeded, when the file is synced.
 fn stored(rt: &HostRuntime, outcome: Result<Summary, RunFault>) -> Result<Summary, RunFault> {
     match outcome {
         Ok(_) if !is_stored(rt) => Err(RunFault::Write),
@@ -46,7 +50,8 @@ fn stored(rt: &HostRuntime, outcome: Result<Summary, RunFault>) -> Result<Summar
     }
 }
 
-/// A pipe or a terminal stores nothing; what can't be opened once more isn't synced.
+/// Whether the output is stored. Only a regular file is synced, because a pipe or a terminal stores
+/// nothing. A file that can't be opened once more isn't synced, and counts as stored.
 fn is_stored(rt: &HostRuntime) -> bool {
     match fs::metadata(rt, OUTPUT) {
         Ok(metadata) if metadata.is_file() => is_synced(rt),
@@ -66,6 +71,7 @@ fn read_options(rt: &HostRuntime) -> Result<Options, OptionsFault> {
     options(rt.alloc(), words.as_slice())
 }
 
+/// The words of the command line that follow the program's name.
 fn words_behind_name(rt: &HostRuntime) -> Result<Vec<String>, OptionsFault> {
     let alloc = rt.alloc();
     match std::env::args(rt) {

@@ -1,4 +1,4 @@
-//! An item comes to its destination.
+//! Puts an item at its destination, after the tests for room and for sums.
 
 ghost use Rattle.std.specs.Prelude.{◌≡◌, List, None, true, false, IfOk};
 ghost use Rattle.crush_units.specs.declared.id.ItemId.TheVariants.{Device};
@@ -25,6 +25,7 @@ use crush_tree::Leaf;
 use crush_units::ItemId;
 use std::alloc::{AllocError, Allocator};
 
+/// Moves an item to the destination, with everything below it, or refuses to.
 pub(crate) fn place_item<A: Allocator + Clone>(
     hierarchy: &mut Hierarchy<A>,
     id: ItemId,
@@ -47,7 +48,9 @@ pub(crate) fn place_item<A: Allocator + Clone>(
     Ok((done_at(to), Some(undo)))
 }
 
-/// A device that is there keeps its class; a new one has none.
+/// Puts a device at the destination with the weight given, or refuses to.
+///
+/// A device that the map has is moved and keeps its class. Any other is created without a class.
 pub(crate) fn place_device<A: Allocator + Clone>(
     hierarchy: &mut Hierarchy<A>,
     arrival: &NewDevice<'_>,
@@ -76,6 +79,7 @@ pub(crate) fn place_device<A: Allocator + Clone>(
     Ok((done_at(to), Some(undo)))
 }
 
+/// Creates a device at the destination, or refuses to.
 fn place_new<A: Allocator + Clone>(
     hierarchy: &mut Hierarchy<A>,
     arrival: &NewDevice<'_>,

@@ -1,4 +1,4 @@
-//! The name of a location that a refusal is about.
+//! Finds which name in a location a refusal is about.
 
 ghost use Rattle.std.specs.Prelude.{◌≡◌, List};
 ghost use Rattle.std.specs.Option.{option_map};
@@ -16,7 +16,8 @@ use crush_hierarchy::Hierarchy;
 use crush_units::Name;
 use std::alloc::{Allocator, Global};
 
-/// A type that stands twice or is type 0, else a bucket that stands twice.
+/// Returns the name that makes a location bad: the first type name that is type 0's or occurs
+/// again, otherwise the first bucket name that occurs again.
 pub(crate) fn bad_name<'a>(setting: &Setting, at: &'a Location) -> Option<&'a Name<Global>>
     ensures { option_map (λ name. name.now) result ≡ bad_name setting.now at.now }
 {
@@ -59,6 +60,7 @@ fn repeated_bucket(pairs: &[Pair]) -> Option<&Name<Global>>
     None
 }
 
+/// Returns the first type name that the setting doesn't have.
 pub(crate) fn unknown_type<'a>(setting: &Setting, at: &'a Location) -> Option<&'a Name<Global>>
     ensures { option_map (λ name. name.now) result ≡ unknown_type setting.now at.now }
 {
@@ -71,6 +73,7 @@ pub(crate) fn unknown_type<'a>(setting: &Setting, at: &'a Location) -> Option<&'
     None
 }
 
+/// Returns the name of the item that ends the route.
 pub(crate) fn end_name<'a, A: Allocator>(
     hierarchy: &Hierarchy<A>,
     setting: &Setting,

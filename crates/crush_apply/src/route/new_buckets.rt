@@ -1,4 +1,4 @@
-//! New buckets, one in the next.
+//! Builds the new buckets of a route as nodes, each in the next.
 
 ghost use Rattle.std.specs.Prelude.{◌≡◌, ◌<◌, ◌≤◌, ◌∷◌, [], length, IfOk, All};
 ghost use Rattle.crush_units.specs.declared.limits.TheConstants.{HEAVIEST_BUCKET};
@@ -16,7 +16,7 @@ use crush_tree::{Header, Node};
 use crush_units::{Alg, BucketId, Name, TypeId};
 use std::alloc::{AllocError, Allocator, Global};
 
-/// With room for one item.
+/// Returns a new bucket without items, which has room for one.
 pub(crate) fn empty_bucket<A: Allocator + Clone>(
     alloc: &A,
     id: BucketId,
@@ -71,7 +71,10 @@ fn new_bucket<A: Allocator + Clone>(
     empty_bucket(alloc, id, stop.kind, &pair.name)
 }
 
-/// The new buckets of stops, the lowest first, as one item: each in the next.
+/// Returns the new buckets of the stops as one node.
+///
+/// The bucket of each stop is in the bucket of the next stop; the first bucket is empty. `ids` are
+/// the ids of the buckets, in the order of the stops.
 pub(crate) fn new_buckets<A: Allocator + Clone>(
     alloc: &A,
     ids: &[BucketId],
@@ -88,6 +91,8 @@ pub(crate) fn new_buckets<A: Allocator + Clone>(
     in_new_buckets(alloc, &ids[1..], at, &stops[1..], lowest)
 }
 
+/// Returns the item in the new buckets of the stops, as one node; the item itself if there are no
+/// stops.
 pub(crate) fn in_new_buckets<A: Allocator + Clone>(
     alloc: &A,
     ids: &[BucketId],

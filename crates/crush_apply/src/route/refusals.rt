@@ -1,4 +1,4 @@
-//! What refuses a location, a device that is to come, or the end of a route.
+//! Tests for a location, for a device that is put there, and for the item that ends a route.
 
 ghost use Rattle.std.specs.Prelude.{◌≡◌, ◌==◌, List, None, Some, IfOk, IfErr, OnOk, map, bytes_eq, not};
 ghost use Rattle.std.specs.List.{list_any};
@@ -17,6 +17,7 @@ use crush_hierarchy::Hierarchy;
 use crush_units::{BucketId, DeviceId, ItemId, Name, TypeId};
 use std::alloc::{Allocator, Global};
 
+/// Refuses a location that is bad by itself, whatever the map's items are.
 pub(crate) fn check_location(setting: &Setting, at: &Location) -> Result<(), Refusal>
     ensures passes { OnOk result (first_refusal (location_tests setting.now at.now) ≡ None) }
     ensures refused { IfErr result
@@ -35,7 +36,7 @@ pub(crate) fn check_location(setting: &Setting, at: &Location) -> Result<(), Ref
     Ok(())
 }
 
-/// Refuses a device before its route is looked at.
+/// Refuses an edit that puts a device, by the tests that come before those of the route.
 pub(crate) fn check_device<A: Allocator>(
     hierarchy: &Hierarchy<A>,
     setting: &Setting,
@@ -61,6 +62,7 @@ pub(crate) fn check_device<A: Allocator>(
     Ok(())
 }
 
+/// Returns the bucket that ends a route; refuses a device, or a bucket of another type than `kind`.
 pub(crate) fn check_end<A: Allocator>(
     hierarchy: &Hierarchy<A>,
     kind: TypeId,
@@ -146,6 +148,7 @@ fn has_unknown_type(setting: &Setting, pairs: &[Pair]) -> bool
         .any(|pair| setting.kind_number(pair.kind.as_bytes()).is_none())
 }
 
+/// Whether another item has the name, or the device has another name.
 fn is_taken<A: Allocator>(hierarchy: &Hierarchy<A>, device: DeviceId, name: &Name<Global>) -> bool
     ensures { (t : List Row) → Stands hierarchy.now t
         → result ≡ is_taken t (Device device) name.now }

@@ -1,4 +1,4 @@
-//! The stops of a route, and which of them ends it.
+//! The stops of a route, and which stop ends it.
 
 ghost use Rattle.std.specs.Prelude.{◌≡◌, ◌+◌, ◌<◌, ◌≤◌, List, Some, All, IfOk, IfErr, length};
 ghost use Rattle.arrayvec.specs.ArrayVec.{array_vec_len};
@@ -24,16 +24,16 @@ use crush_units::{BucketId, Name, TypeId};
 use std::alloc::{Allocator, Global};
 use std::marker::Model;
 
-/// A pair of a location with its type's number.
+/// A pair of a location, with the number of its type.
 #[derive(Clone, Copy, Debug, PartialEq, Eq)]
 pub(crate) struct Stop {
     pub(crate) kind: TypeId,
-    /// Its index in the location, from 0.
+    /// The index of the pair in the location, from 0.
     pub(crate) pair: usize,
 }
 
 impl Default for Stop {
-    /// What fills a place that isn't used.
+    /// Returns what fills the unused slots of a `Route`'s array; it is never read.
     fn default() -> Stop {
         Stop {
             kind: TypeId::new(0),
@@ -66,7 +66,7 @@ impl Route {
     }
 }
 
-/// A pair of an unknown type has none.
+/// Returns the stops of a location. A pair whose type the setting doesn't have gives no stop.
 pub(crate) fn route_of(setting: &Setting, at: &Location) -> Route
     ensures stops { stops_data at.now result ≡ stops setting.now at.now }
     ensures pairs { All (IsPairOf at.now) result }
@@ -81,6 +81,7 @@ pub(crate) fn route_of(setting: &Setting, at: &Location) -> Route
     Route { stops }
 }
 
+/// Inserts a stop before the first whose type number is not less.
 fn put_stop(stops: &mut ArrayVec<Stop, MOST_PAIRS>, stop: Stop)
     requires { array_vec_len stops.old < MOST_PAIRS }
     ensures put { stops.new.items ≡ put_stop stop stops.old.items }
@@ -90,6 +91,7 @@ fn put_stop(stops: &mut ArrayVec<Stop, MOST_PAIRS>, stop: Stop)
     stops.insert(index, stop);
 }
 
+/// Returns the index of the first stop whose type number is not less, or the number of stops.
 fn index_of(stops: &[Stop], kind: TypeId) -> usize
     ensures value { result ≡ position_or_len (λ (q : Stop). nat_le kind q.kind) stops.now }
     ensures within { result ≤ length stops.now }
@@ -111,7 +113,10 @@ pub(crate) fn stop_name<'a>(at: &'a Location, stop: &Stop) -> &'a Name<Global>
     &pair.name
 }
 
-/// How many stops come before the first bucket that is there, and that bucket.
+/// Returns how many stops come before the one that ends the route, and the bucket of that one.
+///
+/// If no stop's name is in the map, returns the number of all stops and `None`. Refuses a device,
+/// or a bucket of another type than the stop's.
 pub(crate) fn route_end<A: Allocator>(
     hierarchy: &Hierarchy<A>,
     at: &Location,
@@ -133,6 +138,7 @@ pub(crate) fn route_end<A: Allocator>(
     Ok((stops.len(), None))
 }
 
+/// Returns the name of the first stop whose name is in the map.
 pub(crate) fn first_there<'a, A: Allocator>(
     hierarchy: &Hierarchy<A>,
     at: &'a Location,

@@ -1,4 +1,4 @@
-//! Conditions of calls.
+//! Questions about the map that is being built, which `crush_text` asks before it makes a call.
 
 ghost use Rattle.std.specs.Prelude.{◌≡◌, ◌==◌, ◌↔◌, IsTrue, IfSome, IfOk, map, bytes_eq, true, false};
 ghost use Rattle.std.specs.Option.{ok_or};
@@ -26,28 +26,30 @@ use crush_units::{BucketId, DeviceId, ItemId, TypeId};
 use std::alloc::Allocator;
 
 impl<A: Allocator> MapBuilder<A> {
-    /// Whether no statement is in the middle, so that a type, a device or a bucket may come.
+    /// Whether no statement is incomplete, so that a type, tunable, device, bucket or rule may
+    /// follow.
     pub fn is_idle(&self) -> bool
         ensures { IsTrue result ↔ (self.now.pending ≡ nothing) }
     {
         matches!(self.pending, Pending::Nothing)
     }
 
-    /// Whether a bucket has begun and waits for its id.
+    /// Whether a bucket has begun and has no id yet.
     pub fn is_begun(&self) -> bool
         ensures { result ≡ is_begun self.now.pending }
     {
         matches!(self.pending, Pending::Begun(..))
     }
 
-    /// Whether a bucket has its id and waits for its algorithm.
+    /// Whether a bucket has its id and no algorithm yet, so that class ids or the algorithm may
+    /// follow.
     pub fn is_numbered(&self) -> bool
         ensures { result ≡ is_numbered self.now.pending }
     {
         matches!(self.pending, Pending::Numbered(..))
     }
 
-    /// Whether a bucket has its algorithm and waits for items or its end.
+    /// Whether a bucket has its algorithm and isn't complete, so that items or its end may follow.
     pub fn is_filling(&self) -> bool
         ensures { result ≡ is_filling self.now.pending }
     {
@@ -61,28 +63,31 @@ impl<A: Allocator> MapBuilder<A> {
         self.hierarchy.kind(ItemId::Device(id)).is_some()
     }
 
-    /// Whether a bucket or a class id has this id, also the bucket that isn't complete.
+    /// Whether a bucket or a class id has this id. The bucket that isn't complete also counts.
     pub fn has_bucket_id(&self, id: BucketId) -> bool
         ensures { (d : Draft) → IsDraft self.now d → result ≡ has_bucket_id d id }
     {
         self.hierarchy.is_used(id) || self.has_pending_id(id)
     }
 
-    /// Whether the bucket that waits for its algorithm has a class id of this class.
+    /// Whether the bucket that has no algorithm yet has a class id for this class.
+    ///
+    /// Returns `false` if there is no such bucket.
     pub fn has_class(&self, class: &[u8]) -> bool
         ensures { (d : Draft) → IsDraft self.now d → result ≡ has_class d class.now }
     {
         names_class(self.class_ids(), class)
     }
 
-    /// Whether the bucket that waits for its algorithm has 16 class ids.
+    /// Whether the bucket that has no algorithm yet has 16 class ids, the most that a bucket may
+    /// have.
     pub fn is_full_of_class_ids(&self) -> bool
         ensures { (d : Draft) → IsDraft self.now d → result ≡ is_full_of_class_ids d }
     {
         self.class_ids().len() >= MOST_CLASS_IDS
     }
 
-    /// Whether an item has this name, also the bucket that isn't complete.
+    /// Whether an item has this name. The bucket that isn't complete also counts.
     pub fn has_name(&self, name: &[u8]) -> bool
         ensures { (d : Draft) → IsDraft self.now d → result ≡ has_name d name.now }
     {
@@ -115,13 +120,16 @@ impl<A: Allocator> MapBuilder<A> {
         self.setting.tunables().contains_key(name)
     }
 
-    /// Whether buckets can have the type of this number: it isn't 0, and one of the map's types.
+    /// Whether a bucket can have the type with this number: the number isn't 0, and the map has the
+    /// type.
     pub fn is_bucket_kind(&self, number: TypeId) -> bool
         ensures { (d : Draft) → IsDraft self.now d → result ≡ is_bucket_kind d.setting number }
     {
         number.number() > 0 && self.has_kind_number(number)
     }
 
+    /// Whether a bucket can have the type of this name: the map has the type, and its number isn't
+    /// 0.
     pub(super) fn names_bucket_kind(&self, name: &[u8]) -> bool
         ensures { (d : Draft) → IsDraft self.now d
             → result ≡ names_bucket_kind d.setting name.now }
@@ -132,15 +140,16 @@ impl<A: Allocator> MapBuilder<A> {
         }
     }
 
-    /// The number of the type of this name, or `None` where the map has no such type.
+    /// Returns the number of the type with this name, or `None` if the map has no such type.
     pub fn kind_number(&self, name: &[u8]) -> Option<TypeId>
         ensures { (d : Draft) → IsDraft self.now d → result ≡ kind_number d.setting name.now }
     {
         self.setting.kind_number(name)
     }
 
-    /// The device or the complete bucket of this name, or [`BuildFault::UnknownItem`] where there
-    /// is none.
+    /// Returns the id of the device or complete bucket with this name.
+    ///
+    /// Returns [`BuildFault::UnknownItem`] if there is none.
     pub fn item_named(&self, name: &[u8]) -> Result<ItemId, BuildFault>
         ensures value { (d : Draft) → IsDraft self.now d
             → result ≡ ok_or (item_named d name.now) UnknownItem }
@@ -151,6 +160,7 @@ impl<A: Allocator> MapBuilder<A> {
         self.closed_item(name).ok_or(BuildFault::UnknownItem)
     }
 
+    /// Returns the id of the device or complete bucket with this name, or `None` if there is none.
     pub(super) fn closed_item(&self, name: &[u8]) -> Option<ItemId>
         ensures value { (d : Draft) → IsDraft self.now d → result ≡ item_named d name.now }
         ensures there { IfSome result (λ i. (d : Draft) → IsDraft self.now d
@@ -169,48 +179,50 @@ impl<A: Allocator> MapBuilder<A> {
         }
     }
 
-    /// Whether a bucket holds the item.
+    /// Whether a bucket holds the item with this id.
     pub fn is_placed(&self, id: ItemId) -> bool
         ensures { (d : Draft) → IsDraft self.now d → result ≡ is_placed d.table id }
     {
         self.hierarchy.parent(id).is_some()
     }
 
-    /// How many buckets were put into another with a written weight that wasn't their sum.
+    /// Returns how many bucket items were written with a weight other than the bucket's sum, which
+    /// replaced it.
     pub fn adjusted(&self) -> u32
         ensures { (d : Draft) → IsDraft self.now d → result ≡ d.adjusted }
     {
         self.adjusted
     }
 
-    /// Whether there are 65,536 devices.
+    /// Whether the map has 65,536 devices, the most that it may have.
     pub fn is_full_of_devices(&self) -> bool
         ensures { (d : Draft) → IsDraft self.now d → result ≡ is_full_of_devices d }
     {
         self.hierarchy.counts().devices >= MOST_DEVICES
     }
 
-    /// Whether there are 4,096 buckets.
+    /// Whether the map has 4,096 buckets, the most that it may have.
     pub fn is_full_of_buckets(&self) -> bool
         ensures { (d : Draft) → IsDraft self.now d → result ≡ is_full_of_buckets d }
     {
         self.hierarchy.counts().buckets >= MOST_BUCKETS
     }
 
-    /// Whether there are 256 types.
+    /// Whether the map has 256 types, the most that it may have.
     pub fn is_full_of_kinds(&self) -> bool
         ensures { (d : Draft) → IsDraft self.now d → result ≡ is_full_of_kinds d }
     {
         self.setting.kinds().len() >= MOST_TYPES
     }
 
-    /// Whether there are 64 tunables.
+    /// Whether the map has 64 tunables, the most that it may have.
     pub fn is_full_of_tunables(&self) -> bool
         ensures { (d : Draft) → IsDraft self.now d → result ≡ is_full_of_tunables d }
     {
         self.setting.tunables().len() >= MOST_TUNABLES
     }
 
+    /// Whether the bucket that has no algorithm yet has this id, or a class id with this id.
     fn has_pending_id(&self, id: BucketId) -> bool
         ensures { result ≡ has_pending_id self.now.pending id }
     {
@@ -220,6 +232,8 @@ impl<A: Allocator> MapBuilder<A> {
         }
     }
 
+    /// Returns the class ids of the bucket that has no algorithm yet, or none if there is no such
+    /// bucket.
     fn class_ids(&self) -> &[ShadowId<A>]
         ensures { map shadow_data result.now ≡ pending_class_ids self.now.pending }
     {
@@ -229,6 +243,7 @@ impl<A: Allocator> MapBuilder<A> {
         }
     }
 
+    /// Whether this is the bucket that receives items now.
     pub(super) fn fills(&self, id: BucketId) -> bool
         ensures { result ≡ is_open self.now.pending (Bucket id) }
     {

@@ -1,4 +1,4 @@
-//! What speaks against a call.
+//! The checks that a call makes before it changes the map: each returns the call's first fault.
 
 ghost use Rattle.std.specs.Prelude.{◌≡◌, ◌∷◌, [], ℕ, true, false, not};
 ghost use Rattle.crush_model.specs.Forest.{all_items, rows_of};
@@ -24,7 +24,7 @@ impl<A: Allocator> MapBuilder<A> {
     pub(super) fn kind_fault(&self, number: TypeId, name: &[u8]) -> Option<BuildFault>
         ensures { (d : Draft) → IsDraft self.now d → result ≡ kind_fault d number name.now }
     {
-        taken(
+        duplicate_or_full(
             self.has_kind_number(number),
             self.has_kind_name(name),
             self.is_full_of_kinds(),
@@ -34,13 +34,13 @@ impl<A: Allocator> MapBuilder<A> {
     pub(super) fn tunable_fault(&self, name: &[u8]) -> Option<BuildFault>
         ensures { (d : Draft) → IsDraft self.now d → result ≡ tunable_fault d name.now }
     {
-        taken(false, self.has_tunable(name), self.is_full_of_tunables())
+        duplicate_or_full(false, self.has_tunable(name), self.is_full_of_tunables())
     }
 
     pub(super) fn device_fault(&self, id: DeviceId, name: &[u8]) -> Option<BuildFault>
         ensures { (d : Draft) → IsDraft self.now d → result ≡ device_fault d id name.now }
     {
-        taken(
+        duplicate_or_full(
             self.has_device(id),
             self.has_name(name),
             self.is_full_of_devices(),
@@ -65,14 +65,14 @@ impl<A: Allocator> MapBuilder<A> {
     pub(super) fn class_id_fault(&self, id: BucketId, class: &[u8]) -> Option<BuildFault>
         ensures { (d : Draft) → IsDraft self.now d → result ≡ class_id_fault d id class.now }
     {
-        taken(
+        duplicate_or_full(
             self.has_bucket_id(id),
             self.has_class(class),
             self.is_full_of_class_ids(),
         )
     }
 
-    /// A device, or a complete bucket.
+    /// Whether the item is a device or a complete bucket of the map.
     pub(super) fn is_closed(&self, id: ItemId) -> bool
         ensures { (d : Draft) → IsDraft self.now d → result ≡ is_closed d id }
     {
@@ -84,6 +84,8 @@ impl<A: Allocator> MapBuilder<A> {
         self.hierarchy.kind(*item).is_some() && !open
     }
 
+    /// Whether all sums stay in range if the bucket gets the item; `weight` is a device's new
+    /// weight.
     pub(super) fn fits_item(&self, bucket: BucketId, id: ItemId, weight: Weight) -> bool
         requires fills { self.now.pending ≡ filling bucket }
         requires closed { (d : Draft) → IsDraft self.now d → is_closed d id ≡ true }
@@ -98,6 +100,7 @@ impl<A: Allocator> MapBuilder<A> {
             .fits_move(*item, Place::Bucket(bucket), Some(coming))
     }
 
+    /// Returns what the item will weigh in the bucket: a device `weight`, a bucket its sum.
     fn weight_to_come(&self, id: ItemId, weight: Weight) -> Weight
         requires { is_there (rows_of self.now.forest) id ≡ true }
         ensures { result
@@ -115,6 +118,7 @@ impl<A: Allocator> MapBuilder<A> {
         }
     }
 
+    /// Returns 1 if the item is a bucket written with a weight other than its sum, and 0 otherwise.
     pub(super) fn adjustment(&self, id: ItemId, written: Option<Weight>) -> u32
         ensures { (d : Draft) → IsDraft self.now d → is_there d.table id ≡ true
             → result ≡ adjustment d.table id written }
@@ -135,7 +139,9 @@ impl<A: Allocator> MapBuilder<A> {
     }
 }
 
-fn taken(id: bool, name: bool, full: bool) -> Option<BuildFault>
+/// Returns the first fault of a new id and name: the id is taken, the name is taken, the map is
+/// full.
+fn duplicate_or_full(id: bool, name: bool, full: bool) -> Option<BuildFault>
     ensures { result ≡ first_fault
         ((DuplicateId, id) ∷ ((DuplicateName, name) ∷ ((TooMany, full) ∷ []))) }
 {
@@ -151,6 +157,7 @@ fn taken(id: bool, name: bool, full: bool) -> Option<BuildFault>
     None
 }
 
+/// Whether the item is a device and its written weight is above 2147483647 units.
 pub(super) fn is_heavy_device(id: ItemId, written: Option<Weight>) -> bool
     ensures { result ≡ is_heavy_device id written }
 {

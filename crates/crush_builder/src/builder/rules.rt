@@ -1,4 +1,4 @@
-//! Rules, tested and kept.
+//! Adding a rule: its checks, and the form in which a map keeps it.
 
 ghost use Rattle.std.specs.Prelude.{◌≡◌, ◌==◌, None, OnOk, IfErr, IfOk, IfSome, All, map, bytes_eq};
 ghost use Rattle.std.specs.List.{list_any};
@@ -18,7 +18,19 @@ use crush_units::{BucketId, ItemId};
 use std::alloc::{AllocError, Allocator};
 
 impl<A: Allocator> MapBuilder<A> {
-    /// Adds a rule, as `rule NAME { .. }`.
+    /// Adds a rule, for the statement `rule NAME { .. }`.
+    ///
+    /// The map keeps the buckets that the rule takes by their ids. The caller guarantees that no
+    /// statement is incomplete, and that the rule's names and numbers have the form that the text
+    /// requires. If several errors apply, the first of these is returned:
+    ///
+    /// - [`BuildFault::TooMany`] at the statement: there are 256 rules.
+    /// - [`BuildFault::DuplicateName`] at the name: a rule has this name.
+    /// - [`BuildFault::DuplicateId`] at the id: a rule has this id.
+    /// - The fault of the first faulty step. [`BuildFault::TooMany`]: it is the 65th step.
+    ///   [`BuildFault::UnknownBucketInRule`]: it takes no complete bucket.
+    ///   [`BuildFault::UnknownType`]: it chooses a type that the map doesn't have.
+    /// - [`BuildFault::OutOfMemory`] at the statement: memory ran out.
     pub fn rule(&mut self, rule: &Rule) -> Result<(), RuleFault>
         requires idle { self.old.pending ≡ nothing }
         requires form { IsRuleForm rule.now }
@@ -54,13 +66,14 @@ impl<A: Allocator> MapBuilder<A> {
         numbers_rule(self.setting.rules(), id)
     }
 
-    /// Whether there are 256 rules.
+    /// Whether the map has 256 rules, the most that it may have.
     pub fn is_full_of_rules(&self) -> bool
         ensures { (d : Draft) → IsDraft self.now d → result ≡ is_full_of_rules d }
     {
         self.setting.rules().len() >= MOST_RULES
     }
 
+    /// Returns the first fault of the rule, in the order of its parts.
     fn rule_fault(&self, rule: &Rule) -> Option<RuleFault>
         ensures { (d : Draft) → IsDraft self.now d → result ≡ rule_fault d rule.now }
     {
@@ -85,6 +98,7 @@ impl<A: Allocator> MapBuilder<A> {
         self.steps_fault(&rule.steps)
     }
 
+    /// Returns the fault of the first step that has one.
     fn steps_fault(&self, steps: &[Step]) -> Option<RuleFault>
         ensures { (d : Draft) → IsDraft self.now d → result ≡ steps_fault d 0 steps.now }
     {
@@ -99,6 +113,7 @@ impl<A: Allocator> MapBuilder<A> {
         None
     }
 
+    /// Returns the fault of the step with this index: it is above the limit, or its words have one.
     fn step_fault(&self, place: usize, step: &Step) -> Option<BuildFault>
         ensures { (d : Draft) → IsDraft self.now d → result ≡ step_fault d place step.now }
     {
@@ -108,6 +123,8 @@ impl<A: Allocator> MapBuilder<A> {
         self.word_fault(step)
     }
 
+    /// Returns the fault of the step by itself: it names a bucket or a type that the map doesn't
+    /// have.
     fn word_fault(&self, step: &Step) -> Option<BuildFault>
         ensures { (d : Draft) → IsDraft self.now d → result ≡ word_fault d step.now }
     {
@@ -130,7 +147,7 @@ impl<A: Allocator> MapBuilder<A> {
         }
     }
 
-    /// The complete bucket of this name, or `None` where there is none.
+    /// Returns the id of the complete bucket with this name, or `None` if there is none.
     pub fn bucket_named(&self, name: &[u8]) -> Option<BucketId>
         ensures { (d : Draft) → IsDraft self.now d → result ≡ complete_bucket_named d name.now }
     {
@@ -140,13 +157,14 @@ impl<A: Allocator> MapBuilder<A> {
         }
     }
 
+    /// Returns the rule as a map keeps it. The rule has no fault.
     fn kept_rule(&self, rule: &Rule) -> Result<KeptRule, AllocError>
         requires clear { (d : Draft) → IsDraft self.now d → rule_fault d rule.now ≡ None }
         ensures { IfOk result (λ kept. (d : Draft) → IsDraft self.now d
             → rule_data kept ≡ kept_rule d rule.now) }
     {
-        let name = rule.name.try_copy(self.machine)?;
-        let kind = rule.kind.try_copy(self.machine)?;
+        let name = rule.name.try_copy(self.global)?;
+        let kind = rule.kind.try_copy(self.global)?;
         let steps = self.kept_steps(&rule.steps)?;
         Ok(KeptRule {
             name,
@@ -158,13 +176,15 @@ impl<A: Allocator> MapBuilder<A> {
         })
     }
 
+    /// Returns the steps as a map keeps them. Each names a bucket or a type that the map has, if
+    /// any.
     fn kept_steps(&self, steps: &[Step]) -> Result<Vec<KeptStep>, AllocError>
         requires clear { (d : Draft) → IsDraft self.now d
             → All (λ x. word_fault d x ≡ None) steps.now }
         ensures { IfOk result (λ kept. (d : Draft) → IsDraft self.now d
             → map step_data kept.items ≡ map (kept_step d) steps.now) }
     {
-        let mut kept = Vec::new(self.machine);
+        let mut kept = Vec::new(self.global);
         for step in steps {
             let step = self.kept_step(step)?;
             kept.push(step)?;
@@ -172,6 +192,7 @@ impl<A: Allocator> MapBuilder<A> {
         Ok(kept)
     }
 
+    /// Returns the step as a map keeps it: a bucket's id replaces its name.
     fn kept_step(&self, step: &Step) -> Result<KeptStep, AllocError>
         requires clear { (d : Draft) → IsDraft self.now d → word_fault d step.now ≡ None }
         ensures { IfOk result (λ kept. (d : Draft) → IsDraft self.now d
@@ -184,7 +205,7 @@ impl<A: Allocator> MapBuilder<A> {
                     unreachable!()
                 };
                 let class = match class {
-                    Some(class) => Some(class.try_copy(self.machine)?),
+                    Some(class) => Some(class.try_copy(self.global)?),
                     None => None,
                 };
                 Ok(KeptStep::Take(bucket, class))
@@ -198,9 +219,9 @@ impl<A: Allocator> MapBuilder<A> {
                 leaf: *leaf,
                 firstn: *firstn,
                 count: *count,
-                kind: kind.try_copy(self.machine)?,
+                kind: kind.try_copy(self.global)?,
             }),
-            Step::Set(word, value) => Ok(KeptStep::Set(word.try_copy(self.machine)?, *value)),
+            Step::Set(word, value) => Ok(KeptStep::Set(word.try_copy(self.global)?, *value)),
             Step::Emit => Ok(KeptStep::Emit),
         }
     }

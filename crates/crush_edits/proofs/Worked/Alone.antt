@@ -1,4 +1,4 @@
--- For each refusal but NoRoom edits of which its test alone holds.
+-- For each refusal except NoRoom, edits for which only its test holds. Each comment begins with the number of the refusal.
 use Rattle.std.proofs.Common.{◌≡◌, ◌+◌, [], ◌∷◌, refl}
 use Rattle.std.specs.Prelude.{codes, None}
 use Rattle.crush_units.specs.declared.limits.TheConstants.{HEAVIEST_DEVICE}

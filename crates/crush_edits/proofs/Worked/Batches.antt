@@ -19,6 +19,6 @@ add_and_move = refl
 nothing : batch example_setting example_table [] ≡ batch_done no_dones example_table
 nothing = refl
 
--- an id that is free again is given again: `rm osd.2`, `rm h2`, `add osd.2 0.5 host=h2`
+-- the id of a removed bucket is used again: `rm osd.2`, `rm h2`, `add osd.2 0.5 host=h2`
 free_again : shown_batch (batch example_setting example_table (Remove (codes "osd.2") ∷ (Remove (codes "h2") ∷ (Insert 2 (codes "osd.2") 32768 (host (codes "h2") ∷ []) ∷ [])))) ≡ all 3 3 1 (line 1 (codes "default") (Bucket 2 ∷ []) 131072 ∷ (line 2 (codes "h1") (Device 0 ∷ (Device 1 ∷ [])) 131072 ∷ (line 3 (codes "h2") (Device 2 ∷ []) 32768 ∷ [])))
 free_again = refl

@@ -1,4 +1,4 @@
--- The example map as a table, and what an answer shows.
+-- The example map as a table, and how the result of an edit is shown.
 use Rattle.std.specs.Prelude.{ℕ, List, [], ◌∷◌, Option, Some, None, Bool, true, codes, filter, map, pos}
 use Rattle.crush_units.specs.declared.id.ItemId.{ItemId}
 use Rattle.crush_units.specs.declared.id.ItemId.TheVariants.{Device, Bucket}
@@ -89,7 +89,7 @@ rack name = at (codes "rack") name
 abbrev pub root : List ℕ → Pair
 root name = at (codes "root") name
 
--- a bucket as it is printed: how far its id is below 0, its name, its items, its weight
+-- a bucket as the worked lines show it: the distance of its id below 0, its name, its items, its weight
 pub record Line : Type 0 where
   pub id : ℕ
   pub name : List ℕ
@@ -106,7 +106,7 @@ distance (Bucket b) = b
 abbrev pub lines : List Row → List Line
 lines t = map (λ (r : Row). line (distance r.id) r.name (kids t (distance r.id)) (sum_below t (distance r.id))) (filter is_bucket t)
 
--- the refusal, or what was done with the buckets after it
+-- the refusal, or what the edit has done, with the buckets of the table after it
 pub data Shown : Type 0 where
   no : Refusal → Shown
   yes : Bool → ℕ → List Line → Shown

@@ -1,4 +1,4 @@
--- Edits of which several tests hold: the least number is told.
+-- Edits for which several tests hold: the refusal of the least number is reported. Each comment has the numbers whose tests hold.
 use Rattle.std.proofs.Common.{◌≡◌, ◌+◌, [], ◌∷◌, refl}
 use Rattle.std.specs.Prelude.{codes}
 use Rattle.crush_units.specs.declared.limits.TheConstants.{HEAVIEST_DEVICE}

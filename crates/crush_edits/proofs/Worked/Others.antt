@@ -15,7 +15,7 @@ use Rattle.crush_edits.proofs.Worked.Examples.{example_table, table_with_classes
 reweight_device : shown (edit example_setting example_table (Reweight (codes "osd.2") 65536)) ≡ yes true 0 (line 1 (codes "default") (Bucket 2 ∷ (Bucket 3 ∷ [])) 196608 ∷ (line 2 (codes "h1") (Device 0 ∷ (Device 1 ∷ [])) 131072 ∷ (line 3 (codes "h2") (Device 2 ∷ []) 65536 ∷ [])))
 reweight_device = refl
 
--- the weight that is there
+-- the weight that the device has already
 reweight_same : edit example_setting example_table (Reweight (codes "osd.2") 32768) ≡ done false 0 example_table
 reweight_same = refl
 
@@ -26,7 +26,7 @@ reweight_host = refl
 reweight_host_twice : shown_batch (batch example_setting example_table (ReweightSubtree (codes "h1") 16384 ∷ (ReweightSubtree (codes "h1") 16384 ∷ []))) ≡ all 2 1 0 (line 1 (codes "default") (Bucket 2 ∷ (Bucket 3 ∷ [])) 65536 ∷ (line 2 (codes "h1") (Device 0 ∷ (Device 1 ∷ [])) 32768 ∷ (line 3 (codes "h2") (Device 2 ∷ []) 32768 ∷ [])))
 reweight_host_twice = refl
 
--- names and items are exchanged, places and ids are not: `swap-bucket h1 h2`
+-- the two buckets exchange names and items, and keep their places and ids: `swap-bucket h1 h2`
 swap_hosts : shown (edit example_setting example_table (Swap (codes "h1") (codes "h2"))) ≡ yes true 0 (line 1 (codes "default") (Bucket 2 ∷ (Bucket 3 ∷ [])) 163840 ∷ (line 2 (codes "h2") (Device 2 ∷ []) 32768 ∷ (line 3 (codes "h1") (Device 0 ∷ (Device 1 ∷ [])) 131072 ∷ [])))
 swap_hosts = refl
 
@@ -38,7 +38,7 @@ swap_too_heavy = refl
 remove_full : shown (edit example_setting example_table (Remove (codes "default"))) ≡ no NotEmpty
 remove_full = refl
 
--- each of the others goes, and then a rule takes default
+-- each of the other items can be removed, and then default can't, because a rule takes it
 remove_others : shown_batch (batch example_setting example_table (Remove (codes "osd.0") ∷ (Remove (codes "osd.1") ∷ (Remove (codes "h1") ∷ (Remove (codes "osd.2") ∷ (Remove (codes "h2") ∷ [])))))) ≡ all 5 5 0 (line 1 (codes "default") [] 0 ∷ [])
 remove_others = refl
 
@@ -83,7 +83,7 @@ class_removed = refl
 class_removed_again : edit example_setting example_table (RemoveClass (codes "osd.0")) ≡ done false 0 example_table
 class_removed_again = refl
 
--- what the class ssd weighs
+-- the weight of the devices of class ssd
 ssd_in_all : class_weight_of table_with_classes (Bucket 1) (codes "ssd") ≡ Some 98304
 ssd_in_all = refl
 

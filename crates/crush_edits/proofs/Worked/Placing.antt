@@ -18,7 +18,7 @@ add_in_new = refl
 add_in_any_order : shown (edit example_setting example_table (Insert 3 (codes "osd.3") 21823 (root (codes "default") ∷ (host (codes "h3") ∷ (rack (codes "r1") ∷ []))))) ≡ yes true 2 (line 1 (codes "default") (Bucket 2 ∷ (Bucket 3 ∷ (Bucket 5 ∷ []))) 185663 ∷ (line 2 (codes "h1") (Device 0 ∷ (Device 1 ∷ [])) 131072 ∷ (line 3 (codes "h2") (Device 2 ∷ []) 32768 ∷ (line 4 (codes "h3") (Device 3 ∷ []) 21823 ∷ (line 5 (codes "r1") (Bucket 4 ∷ []) 21823 ∷ [])))))
 add_in_any_order = refl
 
--- the pairs above the first bucket that is there make nothing: `add osd.3 1 host=h1 rack=r9 root=other`
+-- no bucket is created for the pairs above the first bucket that the map has: `add osd.3 1 host=h1 rack=r9 root=other`
 add_in_first_there : shown (edit example_setting example_table (Insert 3 (codes "osd.3") 65536 (host (codes "h1") ∷ (rack (codes "r9") ∷ (root (codes "other") ∷ []))))) ≡ yes true 0 (line 1 (codes "default") (Bucket 2 ∷ (Bucket 3 ∷ [])) 229376 ∷ (line 2 (codes "h1") (Device 0 ∷ (Device 1 ∷ (Device 3 ∷ []))) 196608 ∷ (line 3 (codes "h2") (Device 2 ∷ []) 32768 ∷ [])))
 add_in_first_there = refl
 
@@ -30,7 +30,7 @@ create_or_move_moves = refl
 create_or_move_held : edit example_setting example_table (CreateOrMove 0 (codes "osd.0") 327680 (host (codes "h1") ∷ (root (codes "other") ∷ []))) ≡ done false 0 example_table
 create_or_move_held = refl
 
--- what receives is the moved bucket or below it: `move default host=h1`, `move h1 host=h1`
+-- the receiver is the moved bucket or is below it: `move default host=h1`, `move h1 host=h1`
 move_into_itself : shown (edit example_setting example_table (Move (codes "default") (host (codes "h1") ∷ []))) ≡ no Loop
 move_into_itself = refl
 
@@ -52,7 +52,7 @@ add_leaves_no_host = refl
 add_weight_too_large : shown (edit example_setting example_table (Insert 13 (codes "osd.13") (HEAVIEST_DEVICE + 1) (host (codes "hy") ∷ []))) ≡ no WeightTooLarge
 add_weight_too_large = refl
 
--- of two that add one device the later is refused: `add osd.7 1 host=h1`, `add osd.7 1 host=h2`
+-- two edits add the same device, and the later one is refused: `add osd.7 1 host=h1`, `add osd.7 1 host=h2`
 add_twice : shown_batch (batch example_setting example_table (Insert 7 (codes "osd.7") 65536 (host (codes "h1") ∷ []) ∷ (Insert 7 (codes "osd.7") 65536 (host (codes "h2") ∷ []) ∷ []))) ≡ no_at 1 AlreadyPlaced
 add_twice = refl
 
@@ -60,7 +60,7 @@ add_twice = refl
 move_unplaced : shown (edit example_setting table_with_spare (Move (codes "osd.9") (host (codes "h2") ∷ []))) ≡ yes true 0 (line 1 (codes "default") (Bucket 2 ∷ (Bucket 3 ∷ [])) 163840 ∷ (line 2 (codes "h1") (Device 0 ∷ (Device 1 ∷ [])) 131072 ∷ (line 3 (codes "h2") (Device 2 ∷ (Device 9 ∷ [])) 32768 ∷ [])))
 move_unplaced = refl
 
--- one that is declared and stands in no bucket comes with the given weight, and not with its own of 0: `create-or-move osd.9 1.5 host=h2`
+-- a device that is declared and is in no bucket gets the given weight, and doesn't keep its own weight 0: `create-or-move osd.9 1.5 host=h2`
 create_or_move_unplaced : shown (edit example_setting table_with_spare (CreateOrMove 9 (codes "osd.9") 98304 (host (codes "h2") ∷ []))) ≡ yes true 0 (line 1 (codes "default") (Bucket 2 ∷ (Bucket 3 ∷ [])) 262144 ∷ (line 2 (codes "h1") (Device 0 ∷ (Device 1 ∷ [])) 131072 ∷ (line 3 (codes "h2") (Device 2 ∷ (Device 9 ∷ [])) 131072 ∷ [])))
 create_or_move_unplaced = refl
 
@@ -72,7 +72,7 @@ set_unplaced = refl
 add_unplaced : shown (edit example_setting table_with_spare (Insert 9 (codes "osd.9") 65536 (host (codes "h1") ∷ []))) ≡ yes true 0 (line 1 (codes "default") (Bucket 2 ∷ (Bucket 3 ∷ [])) 229376 ∷ (line 2 (codes "h1") (Device 0 ∷ (Device 1 ∷ (Device 9 ∷ []))) 196608 ∷ (line 3 (codes "h2") (Device 2 ∷ []) 32768 ∷ [])))
 add_unplaced = refl
 
--- the weight of a device that is held is set in its place: `set osd.1 3 host=h1`, twice
+-- a device that is held stays where it is and gets the weight: `set osd.1 3 host=h1`, twice
 set_held : shown (edit example_setting example_table (Update 1 (codes "osd.1") 196608 (host (codes "h1") ∷ []))) ≡ yes true 0 (line 1 (codes "default") (Bucket 2 ∷ (Bucket 3 ∷ [])) 294912 ∷ (line 2 (codes "h1") (Device 0 ∷ (Device 1 ∷ [])) 262144 ∷ (line 3 (codes "h2") (Device 2 ∷ []) 32768 ∷ [])))
 set_held = refl
 
@@ -83,7 +83,7 @@ set_held_twice = refl
 move_in_new : shown (edit plain_setting example_table (Move (codes "h2") (rack (codes "r1") ∷ (root (codes "default") ∷ [])))) ≡ yes true 1 (line 1 (codes "default") (Bucket 2 ∷ (Bucket 4 ∷ [])) 163840 ∷ (line 2 (codes "h1") (Device 0 ∷ (Device 1 ∷ [])) 131072 ∷ (line 4 (codes "r1") (Bucket 3 ∷ []) 32768 ∷ (line 3 (codes "h2") (Device 2 ∷ []) 32768 ∷ []))))
 move_in_new = refl
 
--- a class id is no free id: `add osd.3 1 host=h3` with the class id -4 in h1
+-- a class id isn't free for a new bucket: `add osd.3 1 host=h3` with the class id -4 in h1
 add_beside_class : shown (edit plain_setting table_with_class (Insert 3 (codes "osd.3") 65536 (host (codes "h3") ∷ []))) ≡ yes true 1 (line 1 (codes "default") (Bucket 2 ∷ (Bucket 3 ∷ [])) 163840 ∷ (line 2 (codes "h1") (Device 0 ∷ (Device 1 ∷ [])) 131072 ∷ (line 3 (codes "h2") (Device 2 ∷ []) 32768 ∷ (line 5 (codes "h3") (Device 3 ∷ []) 65536 ∷ []))))
 add_beside_class = refl
 

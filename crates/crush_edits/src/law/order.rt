@@ -1,20 +1,20 @@
-//! Laws of refusals.
+//! Laws of refusals: their numbers, and which one an edit reports.
 
 ghost use Rattle.crush_edits.specs.LawOrder.{RowsAreRefusals, TestsRise, LeastIsTold, NoneIsTold, NothingIsTold, GroupPasses, GroupRefuses};
 
-/// Each refusal has one number, name and error.
+/// The table of refusals has one row for each, with its number, name and error.
 pub fn refusals_are_a_table()
     ensures { RowsAreRefusals }
 {}
 
-/// Of the refusals that hold, the least is answered.
+/// If several refusals hold for an edit, it reports the one with the lowest number.
 pub fn least_refusal_is_told()
     ensures rise { TestsRise }
     ensures least { LeastIsTold }
     ensures none { NoneIsTold }
 {}
 
-/// Tests can go group by group.
+/// The tests of an edit can be made group by group: the first group in which one holds decides.
 pub fn groups_are_asked_in_turn()
     ensures nothing { NothingIsTold }
     ensures passes { GroupPasses }

@@ -1,8 +1,9 @@
-//! Laws of puts.
+//! Laws of *puts*: of placing an item at the end of a location's route.
 
 ghost use Rattle.crush_edits.specs.LawPut.{RoomForNew, RoomForNewDevice, PutMoves, PutMovesDevice, PutsNew, PutTakes, PutsBoxed, PutsBoxedDevice, PutsBoxedNew, PutKeepsLawful, PutNewKeepsLawful, PutCounts, PutNewCounts, PutChanges, PutNewChanges, PutFits, NoneNew, PutMovesOnly, NextStays, FormStays, EditedIsOwn, FullOfDevices, FullOfBuckets};
 
-/// The steps of a put, in either order, put the item.
+/// Creating the new buckets, detaching the item and attaching it gives the table of the put, in
+/// whichever order the first two are done.
 pub fn puts_are_steps()
     ensures moves { PutMoves }
     ensures device { PutMovesDevice }
@@ -13,7 +14,7 @@ pub fn puts_are_steps()
     ensures boxed_new { PutsBoxedNew }
 {}
 
-/// Puts keep a table lawful while sums and counts are in range.
+/// A put keeps the table lawful if sums and counts stay in range; the setting still fits.
 pub fn puts_keep_lawful()
     ensures lawful { PutKeepsLawful }
     ensures lawful_new { PutNewKeepsLawful }
@@ -24,7 +25,7 @@ pub fn puts_keep_lawful()
     ensures fits { PutFits }
 {}
 
-/// What the steps need of one another.
+/// What one step of a put leaves for the next: which bucket receives the item, and the item's row.
 pub fn steps_fit_together()
     ensures none_new { NoneNew }
     ensures only { PutMovesOnly }
@@ -33,13 +34,13 @@ pub fn steps_fit_together()
     ensures own { EditedIsOwn }
 {}
 
-/// Puts change a table, unless the lowest stop holds the item.
+/// A put changes the table, unless the bucket of the lowest stop already holds the item.
 pub fn puts_make_another_table()
     ensures there { PutChanges }
     ensures new { PutNewChanges }
 {}
 
-/// Full tables have no room for devices or buckets.
+/// A table with as many devices or buckets as are allowed refuses one more with `NoRoom`.
 pub fn full_tables_refuse()
     ensures devices { FullOfDevices }
     ensures buckets { FullOfBuckets }

@@ -1,15 +1,15 @@
-//! Laws of routes and their new buckets.
+//! Laws of routes, the stops to which a location leads, and of the buckets that they create.
 
 ghost use Rattle.crush_edits.specs.LawRoute.{StopsStep, StopsRise, StopsArePairs, LocationIsRoute, OtherIsNoStop, RouteIsFresh, RouteLeads, BoxesAreRows, NewKeepsLawful, NewKeepsSums};
 
-/// Stops are pairs of known types, by ascending type number.
+/// The stops of a location are its pairs of known types, by ascending type number.
 pub fn stops_are_pairs_in_order()
     ensures step { StopsStep }
     ensures rise { StopsRise }
     ensures pairs { StopsArePairs }
 {}
 
-/// A location that passes its tests is a route.
+/// A location that passes its tests gives a route, which leads to a bucket.
 pub fn locations_are_routes()
     ensures route { LocationIsRoute }
     ensures other { OtherIsNoStop }
@@ -17,7 +17,8 @@ pub fn locations_are_routes()
     ensures leads { RouteLeads }
 {}
 
-/// New buckets are boxes with their rows.
+/// The new buckets of a route, nested as nodes, have the rows that the table gets. They keep it
+/// lawful if there is room, and change no sum.
 pub fn new_buckets_are_boxes()
     ensures boxes { BoxesAreRows }
     ensures lawful { NewKeepsLawful }

@@ -1,4 +1,4 @@
-//! The types of a setting.
+//! The types of a setting, which are found by number and by name.
 
 ghost use Rattle.std.specs.Prelude.{◌≡◌, ◌∷◌, [], ◌++◌, map, None, OnOk, OnErr, IfOk};
 ghost use Rattle.std.specs.Option.{option_copied};
@@ -12,7 +12,10 @@ use std::alloc::{AllocError, Global};
 use std::collections::BTreeMap;
 use std::marker::Model;
 
-/// Names come from strangers: kept in order, not by a hash, no choice of them makes a look-up slow.
+/// The types, in the order in which they were added, with an index of their names.
+///
+/// The index is a sorted map and not a hash map, so that no choice of names in an untrusted map
+/// makes look-ups slow.
 #[derive(Debug, Drop)]
 pub(super) struct Kinds {
     names: IndexMap<TypeId, Name<Global>>,
@@ -99,6 +102,7 @@ impl Kinds {
     }
 }
 
+/// Gives the name this number, unless it has one: the first of several types of one name counts.
 fn tell_first(
     numbers: &mut BTreeMap<Vec<u8>, TypeId>,
     name: Vec<u8>,

@@ -1,4 +1,4 @@
-//! The rules of a setting.
+//! The rules of a setting, with the set of the buckets that they take.
 
 ghost use Rattle.std.specs.Prelude.{◌≡◌, ◌∷◌, [], ◌++◌, map, OnOk, OnErr, IfOk};
 ghost use Rattle.crush_model.specs.Table.{member};
@@ -12,7 +12,9 @@ use std::alloc::{AllocError, Global};
 use std::collections::BTreeSet;
 use std::marker::Model;
 
-/// With the buckets that they take, as distances below 0.
+/// The rules, in the order in which they were added, and the buckets that they take.
+///
+/// `taken` has each such bucket by the distance of its id below 0.
 #[derive(Debug, Drop)]
 pub(super) struct Rules {
     rules: Vec<KeptRule>,
@@ -50,6 +52,7 @@ impl Rules {
         ensures ok { OnOk result (self.new ≡ self.old ++ rule_data rule ∷ []) }
         ensures err { OnErr result (self.new ≡ self.old) }
     {
+        // The rule's buckets are added to a copy, so that an error changes nothing.
         let mut taken = self.taken.clone()?;
         take_all(&mut taken, &rule.steps)?;
         self.rules.push(rule)?;
@@ -79,7 +82,7 @@ impl Rules {
     }
 }
 
-/// After an `Err` some may be missing.
+/// Adds the buckets that the steps take to the set. After an error some of them may be missing.
 fn take_all(taken: &mut BTreeSet<u32>, steps: &[KeptStep]) -> Result<(), AllocError>
     ensures { OnOk result (ComeAsTaken steps.now taken.old taken.new) }
 {

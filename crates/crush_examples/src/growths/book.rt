@@ -1,5 +1,5 @@
-//! The calls of a job by a book whose maps are in memory that refuses requests; `answers` counts
-//! how often one says that memory ran out.
+//! Commits the calls of a job to a book whose maps are in memory that refuses a request. `answers`
+//! counts how many operations report that memory ran out.
 
 ghost use Rattle.std.specs.Prelude.{◌≡◌, ◌<◌, IfOk};
 ghost use Rattle.crush_units.specs.declared.limits.TheConstants.{MOST_OPERATORS};
@@ -13,6 +13,8 @@ use crush_map::CrushMap;
 use crush_units::limits::MOST_OPERATORS;
 use std::alloc::{Allocator, Global};
 
+/// Commits the calls of all scripts to a book of the map, and returns the fewest requests that such
+/// a run makes. Fails if the book's map and history aren't the job's output.
 pub fn run_by_book<A: Allocator + Clone>(
     alloc: Global,
     map: CrushMap<A>,
@@ -34,7 +36,7 @@ pub fn run_by_book<A: Allocator + Clone>(
     Ok(fewest_requests(book.map()))
 }
 
-/// A book of the map, made once more of the map that comes back where memory ran out.
+/// Makes a book of the map. If memory runs out, makes it again of the map that was returned.
 fn open_again<A: Allocator + Clone>(
     alloc: Global,
     map: CrushMap<A>,
@@ -52,6 +54,7 @@ fn open_again<A: Allocator + Clone>(
     }
 }
 
+/// Makes a book of a map that was returned, after a check that the map is unchanged.
 fn open_returned<A: Allocator + Clone>(
     alloc: Global,
     map: CrushMap<A>,
@@ -92,7 +95,8 @@ impl Committing<'_> {
         Ok(())
     }
 
-    /// Commits a call, once more where memory ran out, and answers whether it did.
+    /// Commits a call, and returns whether memory ran out. If it did, then the book must be
+    /// unchanged, and the call is committed again.
     fn commit_again<A: Allocator + Clone>(
         &self,
         book: &mut Book<A>,

@@ -1,5 +1,5 @@
-//! The calls of a job on a map whose memory refuses requests; `answers` counts how often one says
-//! that memory ran out.
+//! Makes the calls of a job on a map whose memory refuses a request. `answers` counts how many
+//! operations report that memory ran out.
 
 use anyhow::ensure;
 use crush_history::{Call, Reply, Script, is_change, make_call, write_entry};
@@ -8,8 +8,8 @@ use crush_print::write_map;
 use crush_text::{TextFaultKind, read_map_in};
 use std::alloc::{Allocator, Global};
 
-/// Makes the calls of all scripts, which write `output`, and answers the fewest requests of such a
-/// run.
+/// Makes the calls of all scripts, and returns the fewest requests that such a run makes. Fails if
+/// the map and the history lines aren't `output`.
 pub fn run_on_map<A: Allocator + Clone>(
     alloc: Global,
     map: CrushMap<A>,
@@ -26,15 +26,15 @@ pub fn run_on_map<A: Allocator + Clone>(
     Ok(fewest_requests(&map))
 }
 
-/// The fewest requests of a run, by the map that it ends with: one for each bucket's list, and one
-/// for the table of devices. Empty buckets and short names take none, so this holds of the jobs
-/// here, not of every map.
+/// The fewest requests for memory of a run that ends with this map: one for the items of each
+/// bucket, and one for the table of devices. That holds for the jobs here, but not for every map,
+/// because empty buckets and short names need no memory.
 pub fn fewest_requests<A: Allocator>(map: &CrushMap<A>) -> usize {
     let counts = map.counts();
     counts.buckets as usize + usize::from(counts.devices > 0)
 }
 
-/// Reads the text, once more where memory ran out.
+/// Reads the text of a map, and reads it again if memory ran out.
 pub fn read_again<A: Allocator + Clone>(
     alloc: Global,
     memory: A,
@@ -78,7 +78,8 @@ fn make_calls<A: Allocator + Clone>(
     Ok(lines)
 }
 
-/// The reply to a call, made once more where memory ran out; the map is then as before.
+/// Makes a call, and returns its reply. If memory runs out, then the map must be unchanged, and the
+/// call is made again.
 fn make_again<A: Allocator + Clone>(
     alloc: Global,
     map: &mut CrushMap<A>,
@@ -98,12 +99,14 @@ fn make_again<A: Allocator + Clone>(
     Ok(make_call(map, changes, call)?)
 }
 
+/// The printed text of the map.
 pub fn text_of<A: Allocator>(alloc: Global, map: &CrushMap<A>) -> anyhow::Result<Vec<u8>> {
     let mut text = Vec::new(alloc);
     write_map(alloc, map, &mut text)?;
     Ok(text)
 }
 
+/// Whether the printed text of the map, followed by `lines`, is `text`.
 pub fn is_written<A: Allocator>(
     alloc: Global,
     map: &CrushMap<A>,

@@ -1,19 +1,20 @@
-//! Memory for tests, of which one request is refused.
+//! An allocator for tests, which refuses one request.
 
 use std::alloc::{AllocError, Allocator};
 use std::cell::Cell;
 
-/// Memory that refuses the request whose number a test has set. Collections hold a `&` to it, so
-/// that all of them count as one. A growth is one request, for its new block; blocks given back
-/// don't count.
+/// An allocator that refuses the request whose number a test has set. Collections hold a `&` to it,
+/// so that the requests of all of them are counted together. A growth is one request, for the new
+/// block; blocks that are freed don't count.
 #[derive(Drop)]
 pub struct Refusing<M: Allocator> {
     memory: M,
-    /// The number of the refused request, from the next as 1; 0 for none.
+    /// Which request is refused: 1 for the next one, 0 for none.
     left: Cell<usize>,
 }
 
 impl<M: Allocator> Refusing<M> {
+    /// An allocator that refuses no request yet.
     pub fn new(memory: M) -> Refusing<M> {
         Refusing {
             memory,
@@ -21,25 +22,26 @@ impl<M: Allocator> Refusing<M> {
         }
     }
 
-    /// Refuses the request of this number, counted from the next as 1; at 0 none.
+    /// Sets which request is refused: 1 for the next one, 0 for none.
     pub fn refuse(&self, number: usize) {
         self.left.set(number);
     }
 
-    /// Whether the request has come; also true where none was to be refused.
+    /// Whether the request was refused; also true if none was to be refused.
     pub fn has_refused(&self) -> bool {
         self.left.get() == 0
     }
 }
 
+/// Counts one request, and returns whether it is the one to refuse.
 fn counts_down(left: &Cell<usize>) -> bool {
     let number = left.get();
     left.set(number.saturating_sub(1));
     number == 1
 }
 
-// SAFETY: a block is one of the memory below, and is given back to it: so the right to free it is that
-// memory's.
+// SAFETY: each block comes from the wrapped allocator and is freed by it, so the right to free a
+// block is the one that the wrapped allocator gave.
 unsafe impl<M: Allocator> Allocator for Refusing<M> {
     ghost dealloc_token = { λ r ty ptr. M.dealloc_token r.memory ty ptr };
 
@@ -51,8 +53,8 @@ unsafe impl<M: Allocator> Allocator for Refusing<M> {
     }
 
     unsafe fn deallocate(&self, ptr: *mut u8, size: usize, align: usize) {
-        // SAFETY: each block came from this memory, for the same type, and the caller hands over the
-        // right to free it.
+        // SAFETY: the block came from this allocator, for the same type, and the caller passes
+        // on the right to free it.
         self.memory.deallocate(ptr, size, align);
     }
 }

@@ -1,4 +1,4 @@
-//! Runs a job on maps whose memory refuses requests.
+//! Runs a job again and again, each time with another request for memory refused.
 
 use crate::growths::book::run_by_book;
 use crate::growths::job::Parts;
@@ -10,15 +10,17 @@ use crush_map::Hashing;
 use crush_script::{Job, read_job};
 use std::alloc::Global;
 
+/// What makes the calls of a job.
 #[derive(Clone, Copy)]
 pub enum Maker {
     Map,
-    /// It has two maps and the history.
+    /// A book has two maps, one of them the opening, and the history.
     Book,
 }
 
-/// In how many runs an answer said that memory ran out, and the fewest requests of a run. Each run
-/// refuses a later request; where a list then does with a smaller block, no answer says so.
+/// Returns in how many runs an operation reported that memory ran out, and the fewest requests that
+/// a run makes. Each run refuses a later request than the run before. If a list gets by with a
+/// smaller block, then no operation reports the refusal.
 pub fn run_each(
     alloc: Global,
     memory: &Refusing<Global>,
@@ -40,6 +42,7 @@ pub fn run_each(
     bail!("no end of requests")
 }
 
+/// One run: how many operations reported that memory ran out, and the fewest requests of a run.
 fn run_refused(
     alloc: Global,
     memory: &Refusing<Global>,

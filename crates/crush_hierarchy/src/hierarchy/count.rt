@@ -1,4 +1,5 @@
-//! Counts and weights, known from change to change.
+//! Arithmetic on counts and weights, with which a change updates them instead of counting all items
+//! again.
 
 ghost use Rattle.std.specs.Prelude.{◌≡◌, ◌≤◌, ◌+◌, ◌∷◌, []};
 ghost use Rattle.crush_units.specs.declared.limits.TheConstants.{HEAVIEST_MAP};

@@ -1,4 +1,4 @@
-//! New names, and old ones that come back without memory.
+//! Gives items other names, and gives them their old names back without allocating.
 
 ghost use Rattle.std.specs.Prelude.{◌≡◌};
 ghost use Rattle.crush_tree.specs.Exact.{forest_with_name};
@@ -6,27 +6,28 @@ ghost use Rattle.crush_tree.specs.Required.{CanRename};
 ghost use Rattle.crush_hierarchy.specs.Naming.{CanRestoreName, ReplacesName, TellsName};
 
 use super::Hierarchy;
-use crush_index::{Index, NameBack};
+use crush_index::{Index, NameMemory};
 use crush_units::{ItemId, Name};
 use std::alloc::{AllocError, Allocator, Global};
 
-/// A name that an item had, and what the index needs as it comes back.
+/// The old name of an item that was given another, with what the index needs to restore it.
 #[derive(Drop)]
 pub struct OldName<A: Allocator> {
     name: Name<A>,
-    back: NameBack,
+    back: NameMemory,
 }
 
 impl<A: Allocator> Hierarchy<A> {
-    /// Gives an item a name that no other item has, so that [`Hierarchy::restore_name`] gives it the
-    /// old one again.
+    /// Gives an item another name, and returns the old one, with which [`Hierarchy::restore_name`]
+    /// undoes the call. The item must exist, and no other item may have the new name. Returns an
+    /// error if memory can't be allocated; then nothing changes.
     pub fn replace_name(&mut self, id: ItemId, name: Name<A>) -> Result<OldName<A>, AllocError>
         requires { CanRename id name self.old }
         ensures { ReplacesName id name self.old self.new result }
     {
         let id = &id;
         self.forest.recall_invariant();
-        let copy = name.try_copy(self.machine)?;
+        let copy = name.try_copy(self.global)?;
         let old = self.forest.rename_by(self.index.places(), *id, name);
         self.forest.recall_invariant();
         match tell_new_name(&mut self.index, *id, copy, &old) {
@@ -38,7 +39,8 @@ impl<A: Allocator> Hierarchy<A> {
         }
     }
 
-    /// Gives an item the name again that it had. It takes no memory.
+    /// Gives an item its old name back, which undoes [`Hierarchy::replace_name`]. The item must
+    /// exist, and no other item may have the old name. Allocates nothing.
     pub fn restore_name(&mut self, id: ItemId, old: OldName<A>)
         requires { CanRestoreName id old self.old }
         ensures { self.new ≡ forest_with_name id old.name self.old }
@@ -57,17 +59,17 @@ impl<A: Allocator> Hierarchy<A> {
     }
 }
 
-/// Tells the index of the new name, unless it is the item's own, and makes what the old one needs to
-/// come back.
+/// Replaces an item's name in the index, unless the new name is the item's own. Returns what the
+/// index needs to restore the old name.
 fn tell_new_name<A: Allocator>(
     index: &mut Index,
     id: ItemId,
     name: Name<Global>,
     old: &Name<A>,
-) -> Result<NameBack, AllocError>
+) -> Result<NameMemory, AllocError>
     ensures { TellsName id name old.now index.old index.new result }
 {
-    let back = index.name_back(old)?;
+    let back = index.name_memory(old)?;
     if index.id_of(name.as_bytes()).is_none() {
         index.add_name(name, id)?;
         index.forget_name(old.as_bytes());

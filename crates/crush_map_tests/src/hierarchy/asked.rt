@@ -1,6 +1,7 @@
-//! How often calls of a forest that take a guide use it: for each climb once for the item, and once
-//! for each bucket above it. A call that searched for what the guide knows would use it less often,
-//! one that climbed again more often.
+//! How often the methods of a forest that take a guide use it. Each climb from an item to its root
+//! should use the guide once for the item, and once for each bucket above it. A method that
+//! searched the forest instead would use the guide less often, and one that climbed again more
+//! often.
 
 ghost use Rattle.std.specs.Option.{option_map};
 ghost use Rattle.std.specs.Prelude.{◌≡◌};
@@ -20,7 +21,8 @@ use std::alloc::Global;
 use std::cell::Cell;
 use std::process::Abort;
 
-/// Answers where an item stands, by a search of the forest, and not which of the items there it is.
+/// A guide that counts how often it is used. It finds the place of an item by a search of the
+/// forest, and doesn't say at which position among the items there it is.
 #[derive(Drop)]
 pub(super) struct Asked<'f> {
     pub(super) forest: &'f Forest<Global>,
@@ -40,7 +42,7 @@ impl Guide for Asked<'_> {
 }
 
 impl Asked<'_> {
-    /// Then it counts anew.
+    /// Whether the guide was used this often since the last such question. Resets the count.
     pub(super) fn was_asked(&self, often: u32) -> bool {
         let times = self.times.get();
         self.times.set(0);
@@ -134,7 +136,8 @@ fn can_move(guide: &Asked<'_>, device: DeviceId, bucket: BucketId, weight: Weigh
         )
 }
 
-/// Three climbs: osd.0, h1 and the root. The first answer names the bucket that holds osd.0.
+/// A climb from osd.0 uses the guide 3 times: for osd.0, h1 and the root. The first use already
+/// says in which bucket osd.0 is.
 fn asks_for_a_device(rt: &impl Abort, guide: &Asked<'_>) -> bool {
     let id = device_item(rt, 0);
     finds(guide, &id)
@@ -147,7 +150,8 @@ fn asks_for_a_device(rt: &impl Abort, guide: &Asked<'_>) -> bool {
         && guide.was_asked(3)
 }
 
-/// Two climbs: h1 and the root; a move of osd.0 to h2 takes 3 for osd.0 and 2 for h2.
+/// A climb from h1 uses the guide 2 times: for h1 and the root. A move of osd.0 to h2 uses it 3
+/// times for osd.0, and 2 times for h2.
 fn asks_for_a_bucket(rt: &impl Abort, guide: &Asked<'_>) -> bool {
     let (h1, id, one) = (bucket(rt, 2), bucket_item(rt, 2), Weight::from_units(65536));
     finds(guide, &id)

@@ -1,4 +1,5 @@
-//! How often the calls that change a forest by a guide use the guide. Each changes a copy.
+//! How often the methods that change a forest with the help of a guide use the guide. Each changes
+//! a copy of the forest.
 
 ghost use Rattle.std.specs.Prelude.{◌≡◌, ◌<◌, false, IsTrue};
 ghost use Rattle.crush_units.specs.Name.{IsName};
@@ -149,7 +150,8 @@ fn classify(
     is_first
 }
 
-/// The guide is used `often` times for the test, and again for the exchange.
+/// Exchanges two buckets, and returns whether the guide was used `often` times for the test, and as
+/// often for the exchange.
 fn exchange(
     guide: &Asked<'_>,
     forest: &mut Forest<Global>,
@@ -239,8 +241,8 @@ fn exchange_asks(rt: &impl Abort, guide: &Asked<'_>, often: u32) -> bool {
     asks
 }
 
-/// One use for the item, and one for each bucket above it: osd.0 is 2 deep, h1 and h2 are 1 deep,
-/// and no bucket holds osd.3.
+/// The guide is used once for the item, and once for each bucket above it: osd.0 has two buckets
+/// above it, h1 and h2 have one, and osd.3 is in no bucket.
 pub(super) fn changes_ask(rt: &(impl Abort + AllocGlobal), guide: &Asked<'_>) -> bool {
     detach_asks(rt, guide, &device_item(rt, 0), 3)
         && detach_asks(rt, guide, &bucket_item(rt, 2), 2)
@@ -254,7 +256,8 @@ pub(super) fn changes_ask(rt: &(impl Abort + AllocGlobal), guide: &Asked<'_>) ->
         && exchange_asks(rt, guide, 4)
 }
 
-/// h1 is 1 deep: 2 uses for the room, and 2 for the device that comes.
+/// h1 has one bucket above it: the guide is used 2 times to make room, and 2 times to attach the
+/// device.
 pub(super) fn attach_asks(
     rt: &(impl Abort + AllocGlobal),
     guide: &Asked<'_>,

@@ -1,4 +1,4 @@
-//! How often the calls that read, test and set a weight by a guide use the guide.
+//! How often the methods that read, test and set a weight with the help of a guide use the guide.
 
 ghost use Rattle.std.specs.Prelude.{◌≡◌};
 ghost use Rattle.crush_model.specs.Forest.{rows_of};
@@ -15,7 +15,8 @@ fn weighs(guide: &Asked<'_>, id: &ItemId, weight: Weight, often: u32) -> bool {
     guide.forest.weight_by(guide, *id) == Some(weight) && guide.was_asked(often)
 }
 
-/// The guide is used `often` times for the test, and again for the change.
+/// Sets the weight of a device, and returns whether the guide was used `often` times for the test,
+/// and as often for the change.
 fn set_one(
     guide: &Asked<'_>,
     forest: &mut Forest<Global>,
@@ -86,7 +87,8 @@ fn sets_all(rt: &impl Abort, guide: &Asked<'_>, id: BucketId, total: u64, often:
     is_set && is_summed
 }
 
-/// osd.0 is 2 deep, h1 is 1 deep: one use for the item and for each bucket above it.
+/// The guide is used once for the item, and once for each bucket above it: osd.0 has two buckets
+/// above it, and h1 has one.
 pub(super) fn weights_ask(rt: &impl Abort, guide: &Asked<'_>) -> bool {
     weighs(guide, &device_item(rt, 0), Weight::from_units(65536), 3)
         && weighs(guide, &bucket_item(rt, 2), Weight::from_units(131072), 2)

@@ -1,10 +1,10 @@
-//! A small hierarchy, and each call of it once.
+//! A small hierarchy, on which each method is called once.
 
 use super::asks::{fits_attach, fits_move, fits_swap, has_item};
 use super::comes::{put_bucket, put_placed, put_root, put_unplaced};
 use super::items::{bucket, bucket_item, device, device_item, name};
 use super::puts::{
-    exchange, give_name, grow, grow_and_back, make_room, put_device, weigh, weigh_all,
+    exchange, give_name, grow_and_back, grow_buffer, make_room, put_device, weigh, weigh_all,
 };
 use crush_hierarchy::{Hashing, Hierarchy};
 use crush_tree::Node;
@@ -58,8 +58,8 @@ fn add_unplaced(
     assert!(rt; put_unplaced(hierarchy, device(rt, number), name(rt, text)));
 }
 
-/// The root `default`, h1 with osd.0 and osd.1 of 1.0 each, h2 with osd.2 of 0.5, and the unplaced
-/// osd.3.
+/// Adds the root `default`, which has h1 with osd.0 and osd.1 (weight 1.0 each) and h2 with osd.2
+/// (weight 0.5), and the device osd.3, which is in no bucket.
 fn fill(rt: &(impl Abort + AllocGlobal), hierarchy: &mut Hierarchy<Global>) {
     add_root(rt, hierarchy, 1, "default");
     add_host(rt, hierarchy, 2, "h1");
@@ -184,7 +184,7 @@ fn what_is_told(rt: HostRuntime) {
     assert!(rt; is_told);
 }
 
-/// The root weighs 163840 units, and may weigh 4294967295.
+/// The root weighs 163840 units, and may weigh at most 4294967295.
 fn tells_what_fits(rt: &impl Abort, hierarchy: &Hierarchy<Global>) -> bool {
     let (h2, osd_0) = (bucket(rt, 3), device(rt, 0));
     fits_attach(hierarchy, h2, Weight::from_units(4294803455)) == Some(true)
@@ -200,8 +200,8 @@ fn tells_what_changes(rt: &impl Abort, hierarchy: &mut Hierarchy<Global>) -> boo
         && weigh_all(hierarchy, h1, Weight::from_units(65537)) == Some(true)
 }
 
-/// The root comes to weigh 4294967295 units, the most, by both devices of h1 beside the 32768 of
-/// h2, and then by osd.2.
+/// The root reaches its greatest weight, 4294967295 units: first the two devices of h1 are set as
+/// high as the 32768 units of h2 permit, then osd.2.
 fn grows_as_far_as_it_fits(rt: &impl Abort, hierarchy: &mut Hierarchy<Global>) -> bool {
     let (h1, osd_2) = (bucket(rt, 2), device(rt, 2));
     weigh_all(hierarchy, h1, Weight::from_units(2147467264)).is_none()
@@ -213,7 +213,8 @@ fn grows_as_far_as_it_fits(rt: &impl Abort, hierarchy: &mut Hierarchy<Global>) -
         && sums_up(hierarchy, 4, 3, 4294967295)
 }
 
-/// With the 32768 of h2 the root may weigh 4294967295 units.
+/// After the exchange, the root would weigh the 32768 units of h2 and the units of `other`, which
+/// may be at most 4294967295 together.
 fn tells_what_can_be_exchanged(
     rt: &(impl Abort + AllocGlobal),
     hierarchy: &mut Hierarchy<Global>,
@@ -263,8 +264,8 @@ fn grows_and_back(rt: &impl Abort, hierarchy: &mut Hierarchy<Global>) -> bool {
     let h1 = bucket(rt, 2);
     grow_and_back(hierarchy, h1) == Some(4)
         && holds_all(rt, hierarchy)
-        && grow(hierarchy, h1) == Some(2)
-        && grow(hierarchy, h1).is_none()
+        && grow_buffer(hierarchy, h1) == Some(2)
+        && grow_buffer(hierarchy, h1).is_none()
         && holds_all(rt, hierarchy)
         && sums_up(hierarchy, 4, 3, 163840)
 }
@@ -349,7 +350,8 @@ fn gets_ssd(
     had_no_class(hierarchy, device(rt, number), class)
 }
 
-/// osd.0 and osd.2 are of the class: 98304 units in the root, 32768 in h2.
+/// osd.0 and osd.2 have the class: together they weigh 98304 units below the root, and osd.2 weighs
+/// 32768 units below h2.
 fn tells_of_classes(rt: &impl Abort, hierarchy: &Hierarchy<Global>) -> bool {
     hierarchy.class(device_item(rt, 0)) == Some("ssd")
         && hierarchy.class(device_item(rt, 1)).is_none()

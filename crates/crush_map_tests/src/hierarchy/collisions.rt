@@ -1,7 +1,7 @@
-//! Names that collide under the plain hash: the first of six letters and digits, by the alphabet
-//! and then the digits, whose hash (SipHash-1-3 with keys of zeros, folded to 32 bits) has the
-//! lowest 16 bits and the highest 8 of that of `aaaaaa`. The lowest choose a name's place in the
-//! table, the highest are its mark there.
+//! Names that collide under the plain hash (SipHash-1-3 with keys of zeros, folded to 32 bits).
+//! They are the first names of six letters and digits, in order, letters before digits, whose hash
+//! has the same lowest 16 bits and the same highest 8 bits as that of `aaaaaa`. The lowest bits
+//! choose a name's place in the table, and the highest bits are its mark there.
 
 use super::names::{add, device};
 use crush_index::{Hashing, Index};

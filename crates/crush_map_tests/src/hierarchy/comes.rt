@@ -1,4 +1,4 @@
-//! New items, each put in after a test that it may come.
+//! New items, each of which is attached after a test that it may be.
 
 ghost use Rattle.std.specs.Prelude.{◌≡◌, ◌++◌, ◌∷◌, [], true, Some, None, IfSome, IsTrue};
 ghost use Rattle.crush_units.specs.Name.{IsName};

@@ -1,4 +1,4 @@
-//! Items as tests name them: a bucket by how far its id is below 0.
+//! Short ways for tests to make items and ids. A bucket is given by how far its id is below 0.
 
 use crush_tree::{Header, Node, Place};
 use crush_units::{Alg, BucketId, DeviceId, ItemId, Name, TypeId, Weight};

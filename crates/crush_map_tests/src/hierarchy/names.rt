@@ -1,4 +1,4 @@
-//! The ids of names, hashed with keys and without.
+//! The ids of names, when names are hashed with keys and without.
 
 use super::index::exchange_hosts;
 use crush_index::{Hashing, Index};

@@ -1,4 +1,4 @@
-//! Where items stand, and the hint where among their bucket's items.
+//! The place of each item, and the hint for its position among the items of its bucket.
 
 use super::items::{bucket, bucket_item, device_item, empty, inside, leaf};
 use crush_index::{Hashing, Index};
@@ -62,7 +62,7 @@ fn leads(index: &Index, id: ItemId, position: Option<Position>, slot: u32) -> bo
 fn a_slot_is_never_trusted(rt: HostRuntime) {
     let mut index = Index::new(rt.alloc(), Hashing::plain());
     add_four(&rt, &mut index);
-    // The slot of a bucket is its own id until it is exchanged.
+    // A bucket's slot is its own id, without the sign, until the bucket is exchanged.
     let leads_there = leads(&index, device_item(&rt, 2), below(&rt, 2, 1), 2)
         && leads(&index, bucket_item(&rt, 2), below(&rt, 1, 0), 1)
         && leads(&index, bucket_item(&rt, 3), None, 0);

@@ -1,4 +1,4 @@
-//! Changes of a hierarchy, each made after a test that it may be.
+//! Changes of a hierarchy, each of which is made after a test that it is allowed.
 
 ghost use Rattle.std.specs.Prelude.{◌≡◌, ◌<◌, true, Some, IfSome, IsTrue};
 ghost use Rattle.crush_units.specs.declared.id.ItemId.TheVariants.{Bucket as BucketItem};
@@ -61,7 +61,8 @@ pub(super) fn weigh(hierarchy: &mut Hierarchy<Global>, device: DeviceId, weight:
     hierarchy.replace_weight(device, weight).is_some()
 }
 
-/// Whether one had another weight; `None` where it isn't done.
+/// Sets one weight for all devices below a bucket. Returns whether a device had another weight
+/// before, or `None` if the change isn't allowed.
 pub(super) fn weigh_all(
     hierarchy: &mut Hierarchy<Global>,
     bucket: BucketId,
@@ -134,12 +135,13 @@ pub(super) fn exchange(hierarchy: &mut Hierarchy<Global>, first: &[u8], second: 
     true
 }
 
-/// For how many a bucket had memory before it grew; `None` where it had room.
-pub(super) fn grow(hierarchy: &mut Hierarchy<Global>, bucket: BucketId) -> Option<usize> {
+/// Makes room for one more item in a bucket. Returns the capacity that the bucket had before it
+/// grew, or `None` if it had room.
+pub(super) fn grow_buffer(hierarchy: &mut Hierarchy<Global>, bucket: BucketId) -> Option<usize> {
     if !has_item(hierarchy, &ItemId::Bucket(bucket)) {
         return None;
     }
-    match hierarchy.grow(Place::Bucket(bucket)) {
+    match hierarchy.grow_buffer(Place::Bucket(bucket)) {
         Ok(Some(before)) => {
             let had = before.capacity();
             drop(before);
@@ -150,14 +152,15 @@ pub(super) fn grow(hierarchy: &mut Hierarchy<Global>, bucket: BucketId) -> Optio
     }
 }
 
-/// For how many a bucket had memory after it grew, and before it was given back.
+/// Makes room for one more item in a bucket, and undoes that. Returns the capacity that the bucket
+/// had in between, or `None` if it had room.
 pub(super) fn grow_and_back(hierarchy: &mut Hierarchy<Global>, bucket: BucketId) -> Option<usize> {
     if !has_item(hierarchy, &ItemId::Bucket(bucket)) {
         return None;
     }
-    match hierarchy.grow(Place::Bucket(bucket)) {
+    match hierarchy.grow_buffer(Place::Bucket(bucket)) {
         Ok(Some(before)) => {
-            let after = hierarchy.rehouse(Place::Bucket(bucket), before);
+            let after = hierarchy.replace_buffer(Place::Bucket(bucket), before);
             let had = after.capacity();
             drop(after);
             Some(had)

@@ -1,4 +1,4 @@
-//! Ids that come into use and are free again, near to 0 and far off.
+//! Ids that become used and free again, near 0 and far from it.
 
 use super::items::{bucket, name};
 use crush_index::{Hashing, Index};
@@ -31,7 +31,7 @@ fn user(
     Node::bucket(rt.alloc(), header).ok().expect(rt, "memory")
 }
 
-/// -1, -2, those from -4 to -64, -66 and the furthest of all.
+/// A bucket that uses the ids -1, -2, -4 to -64, -66, and the one farthest below 0.
 fn user_of_most(rt: &(impl Abort + AllocGlobal)) -> Node<Global> {
     let mut class_ids = Vec::new(rt.alloc());
     class_ids.push(class_id(rt, 2)).expect(rt, "memory");
@@ -45,7 +45,7 @@ fn user_of_most(rt: &(impl Abort + AllocGlobal)) -> Node<Global> {
     user(rt, 1, "h1", class_ids)
 }
 
-/// -3, and the first id for which there is no bit.
+/// A bucket that uses the id -3, and the first id for which the index has no bit.
 fn user_of_two(rt: &(impl Abort + AllocGlobal)) -> Node<Global> {
     let mut class_ids = Vec::new(rt.alloc());
     class_ids.push(class_id(rt, 69_696)).expect(rt, "memory");

@@ -1,4 +1,4 @@
-//! Edits as tests name them, and facts of a map.
+//! Short ways for tests to write an edit, and to state facts about a map.
 
 use crush_map::{BatchFault, CrushMap, Done, Dones, Edit, EditFault, Location};
 use crush_tree::Node;
@@ -7,10 +7,10 @@ use crush_units::{DeviceId, ItemId, Name, Weight};
 use std::alloc::{Allocator, Global};
 use std::process::Abort;
 
-/// A type name and a bucket name each.
+/// The pairs of a location: a type name and a bucket name each.
 pub(super) type Pairs = &'static [(&'static str, &'static str)];
 
-/// Weights are in units. A device N is named osd.N.
+/// An edit. Weights are in units. The device N has the name osd.N.
 #[derive(Clone, Copy)]
 pub(super) enum Asked {
     Add(i32, u32, Pairs),
@@ -27,10 +27,10 @@ pub(super) enum Asked {
     RemoveClass(&'static str),
 }
 
-/// Weights are in units.
+/// A fact about a map. Weights are in units.
 #[derive(Clone, Copy)]
 pub(super) enum Fact {
-    /// A bucket, its items in order, and its weight.
+    /// The bucket has these items, in order, and this weight.
     Holds(&'static str, &'static [&'static str], u32),
     HasId(&'static str, i32),
     IsRoot(&'static str),
@@ -38,7 +38,7 @@ pub(super) enum Fact {
     Weighs(&'static str, u32),
     HasClass(&'static str, &'static str),
     Total(u64),
-    /// Devices and buckets.
+    /// The numbers of devices and of buckets.
     Counts(u32, u32),
 }
 

@@ -6,7 +6,7 @@ use crush_map::{CrushMap, Edit, EditFault, Refusal};
 use std::alloc::Global;
 use std::process::Abort;
 
-/// The last is the name at fault.
+/// An edit, its refusal, and the name at fault.
 type Row = (Asked, Refusal, &'static str);
 
 const ROWS: &[Row] = &[

@@ -1,4 +1,4 @@
-//! The example map, statement by statement, and what a builder answers.
+//! The example map, built statement by statement, and what a builder says of the map so far.
 
 use crate::map::asking::{Fact, are_true_of};
 use crate::map::same::has_the_same;
@@ -84,7 +84,7 @@ const OPENED: &[Statement] = &[
     Statement::ClassId(-5, "ssd"),
 ];
 
-/// It is no item before its end.
+/// The host isn't an item before its end, but its name and its ids are already used.
 fn knows_the_open_host(rt: &impl Abort, builder: &MapBuilder<Global>) -> bool {
     !builder.is_idle()
         && builder.is_numbered()
@@ -95,7 +95,7 @@ fn knows_the_open_host(rt: &impl Abort, builder: &MapBuilder<Global>) -> bool {
         && builder.item_named(b"h9") == Err(BuildFault::UnknownItem)
 }
 
-/// The root's text says one unit more of the host than it weighs.
+/// The root's statement gives the host one unit more than the host weighs.
 const FILLED: &[Statement] = &[
     Statement::Alg,
     Statement::ItemAsItIs("osd.9"),

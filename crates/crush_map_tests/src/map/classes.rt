@@ -11,7 +11,7 @@ use std::process::Abort;
 /// An item, a class, and the units that the item's devices of that class weigh.
 type Row = (&'static str, &'static str, Option<u32>);
 
-/// osd.0 and osd.2 are of the class ssd.
+/// osd.0 and osd.2 have the class ssd.
 const ROWS: &[Row] = &[
     ("default", "ssd", Some(98304)),
     ("h1", "ssd", Some(65536)),

@@ -1,6 +1,6 @@
-//! Batches whose edits move items, bring new ones, and take out and rename others: where one is
-//! refused, items stand in their order as before, in as much memory, and where none is, they do what
-//! the edits do one by one.
+//! Batches whose edits move items, add new ones, and remove and rename others. If an edit is
+//! refused, then the items are in the same order as before and use as much memory. If none is
+//! refused, then the batch does what its edits do one by one.
 
 use crate::map::asking::{Asked, Told, answer, edit, edits};
 use crate::map::same::has_the_same;
@@ -10,8 +10,9 @@ use linked_list_allocator::LocalHeap;
 use std::alloc::Global;
 use std::process::Abort;
 
-/// Into full buckets, new ones and among the roots; a device that is there with another weight and
-/// with its own; a bucket that moves, one that others moved into, and back.
+/// Edits that put items into full buckets, into new buckets and among the roots. Some are for a
+/// device that is already there, with another weight or the same. Some move a bucket, or a bucket
+/// into which others have moved, or move it back.
 const EDITS: &[Asked] = &[
     Asked::Move("osd.0", &[("host", "h2")]),
     Asked::Add(
@@ -59,7 +60,8 @@ fn is_the_example_map(rt: &impl Abort, alloc: Global, map: &CrushMap<&LocalHeap>
     same
 }
 
-/// The heap has as much memory in use as before.
+/// Whether the batch is refused at this position, and the heap then has as much memory in use as
+/// before.
 fn is_refused(
     rt: &impl Abort,
     heap: &LocalHeap,

@@ -1,5 +1,6 @@
-//! Edits and batches for which memory runs out at each of their growths: the map is then as before,
-//! and the same call does as ever where there is memory again. Refused, it leaves the map as before.
+//! Edits and batches for which memory runs out, at each of the points at which they need more. The
+//! map must then be as before, and the same call must have its usual result when there is memory
+//! again. A call that is refused must also leave the map as before.
 
 use crate::map::asking::{
     Asked, CHANGED, Fact, Told, answer, are_true_of, edit, edits, make_batch,
@@ -13,7 +14,7 @@ use std::process::Abort;
 
 const HEAP: usize = 65536;
 
-/// In steps of 64 bytes.
+/// The size of the largest free piece of the heap, found in steps of 64 bytes.
 fn largest_piece(heap: &LocalHeap) -> usize {
     for step in 0..1024 {
         let size = HEAP - 64 * step;
@@ -29,17 +30,17 @@ fn ballast<'h>(rt: &impl Abort, heap: &'h LocalHeap, size: usize) -> Vec<u8, &'h
     Vec::with_capacity(heap, size).expect(rt, "a piece")
 }
 
-/// One edit, or several as a batch.
+/// A call, which is one edit, or several as a batch; its result, and facts about the map after it.
 struct Call {
     asked: &'static [Asked],
     told: Told,
     then: &'static [Fact],
-    /// How often memory runs out at least.
+    /// In how many of the heaps memory must run out at least.
     least: usize,
 }
 
-/// The heap's largest piece is `spare` bytes: the one that the finished map gave back is filled
-/// first.
+/// Makes the edits while the largest free piece of the heap has `spare` bytes. The piece that was
+/// freed when the map was finished is filled, and the largest piece is filled up to `spare` bytes.
 fn answer_with(
     rt: &impl Abort,
     heap: &LocalHeap,
@@ -120,7 +121,7 @@ fn lacks_with(rt: &impl Abort, alloc: Global, spare: usize, asking: &Asking<'_>)
     lacks
 }
 
-/// Heaps have 64 bytes more each until there is enough.
+/// Makes the call in heaps with 64 more free bytes each, until there is enough memory.
 fn lacks_often(rt: &impl Abort, alloc: Global, asking: &Asking<'_>) {
     let place = asking.place;
     for times in 0..256 {
@@ -150,8 +151,8 @@ const ADDED: Told = Told::One(Ok(Done {
     made: 1,
 }));
 
-/// A device in new buckets, one that moves, one with another weight in its place, and a host that
-/// moves into a new bucket.
+/// A device that is added in new buckets, one that moves, one that gets another weight at its
+/// place, and a host that moves to a new bucket.
 const PUTS: &[Call] = &[
     Call {
         asked: &[Asked::Add(
@@ -205,7 +206,7 @@ fn memory_lacks_for_what_is_put(rt: HostRuntime) {
     lack_at_each_growth(&rt, rt.alloc(), PUTS);
 }
 
-/// An exchange, new weights and a removal need no memory.
+/// Other edits. Of these an exchange, new weights and a removal need no memory.
 const OTHERS: &[Call] = &[
     Call {
         asked: &[Asked::Swap("h1", "h2")],
@@ -283,9 +284,10 @@ fn memory_lacks_for_other_edits(rt: HostRuntime) {
     lack_at_each_growth(&rt, rt.alloc(), OTHERS);
 }
 
-/// One is made, one refused at its third edit, two made, one whose first and last edit take memory and
-/// one into full buckets and new ones, and two refused, one behind weights below a bucket and one
-/// behind items that go and a name that another takes.
+/// In this order: a batch that is made; one that is refused at its third edit; one that is made, in
+/// which the first and the last edit need memory; one that is made, which puts items into full and
+/// new buckets; one that is refused after new weights below a bucket; and one that is refused after
+/// items are removed and a bucket takes the name of another.
 const BATCHES: &[Call] = &[
     Call {
         asked: &[

@@ -1,5 +1,5 @@
-//! The example map in heaps of each size. Its setting is in the machine's memory, of which a test
-//! can refuse nothing.
+//! The example map in heaps of each size. Its setting is in the global allocator, which a test
+//! can't make fail.
 
 use crate::map::same::has_the_same;
 use crate::map::statements::make;
@@ -11,14 +11,14 @@ use linked_list_allocator::LocalHeap;
 use std::alloc::Global;
 use std::process::Abort;
 
-/// After how many statements it is there, and held by a bucket.
+/// An item, after how many statements it exists, and after how many it is in a bucket.
 struct Item {
     name: &'static str,
     there: usize,
     held: usize,
 }
 
-/// The root is held by none.
+/// The root is in no bucket: its second number is above the number of statements.
 const ITEMS: &[Item] = &[
     Item {
         name: "osd.0",

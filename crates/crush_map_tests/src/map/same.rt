@@ -1,4 +1,4 @@
-//! Whether two maps have the same items, by a search of each forest.
+//! Whether two maps have the same items, as a search of each forest finds them.
 
 use crate::map::looked_up::NAMES;
 use crush_map::CrushMap;
@@ -67,7 +67,7 @@ fn is_same_name<A: Allocator, B: Allocator>(
     }
 }
 
-/// Every item of `other` has to have a name of the tests.
+/// Whether the maps have the same items. Every item of `other` must have one of the tests' names.
 pub(super) fn has_the_same<A: Allocator, B: Allocator>(
     map: &CrushMap<A>,
     other: &CrushMap<B>,

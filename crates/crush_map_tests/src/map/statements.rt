@@ -1,4 +1,5 @@
-//! Statements of a map's text, with the conditions of their calls.
+//! The statements of a map's text, given to a builder. The conditions of the builder's methods are
+//! tested first.
 
 use crush_builder::{BuildFault, MapBuilder};
 use crush_map::{CrushMap, is_reserved};
@@ -6,7 +7,7 @@ use crush_units::{Alg, BucketId, DeviceId, TypeId, Weight, is_name};
 use std::alloc::{Allocator, Global};
 use std::process::Abort;
 
-/// Weights are in units.
+/// A statement, or a part of a bucket's. Weights are in units.
 #[derive(Clone, Copy)]
 pub(super) enum Statement<'a> {
     Type(u16, &'a str),

@@ -1,4 +1,5 @@
-//! The example map: the plain one with a tunable and a rule, in the machine's memory and in heaps.
+//! The example map, which is the plain example map with a tunable and a rule, in the global
+//! allocator and in heaps.
 
 ghost use Rattle.std.specs.Prelude.{All};
 ghost use Rattle.crush_builder.specs.Rules.{IsStepForm};
@@ -52,7 +53,7 @@ fn steps(rt: &impl Abort, alloc: Global, all: &[Said]) -> Vec<Step>
     made
 }
 
-/// `rule replicated_rule { id 0 type replicated min_size 1 max_size 10 STEPS }`
+/// Adds `rule replicated_rule { id 0 type replicated min_size 1 max_size 10 STEPS }`.
 fn add_rule<A: Allocator>(
     rt: &impl Abort,
     alloc: Global,
@@ -101,7 +102,8 @@ pub(super) const BEFORE_RULE: &[Statement] = &[
     Statement::End,
 ];
 
-/// The rule is in the machine's memory, which doesn't lack.
+/// Makes all statements of the example map. The rule is in the global allocator, which has enough
+/// memory.
 fn make_whole<A: Allocator + Clone>(
     rt: &impl Abort,
     alloc: Global,

@@ -1,5 +1,5 @@
-//! Worked calls on the example map: after each, every name is looked up as a plain table has it,
-//! and as a search of the forest finds it.
+//! Calls on the example map, with results that were worked by hand. After each call, every name
+//! must be found as the plain table has it, and as a search of the forest finds it.
 
 use crate::map::asking::{Asked, CHANGED, Told, answer, edits};
 use crate::map::looked_up::{NAMES, are_looked_up};
@@ -18,7 +18,7 @@ enum Kids {
     Of(&'static str, &'static [Item]),
 }
 
-/// On the map that the call before it left.
+/// A call on the map that the line before left, its result, and the rows of the map after it.
 struct Line {
     asked: &'static [Asked],
     told: Told,
@@ -138,7 +138,7 @@ const IN_A_NEW_RACK: &[Line] = &[Line {
     ],
 }];
 
-/// Later buckets of the location are not made.
+/// The host of the location exists, so the buckets after it in the location are not made.
 const IN_THE_FIRST_THERE: &[Line] = &[Line {
     asked: &[Asked::Add(
         3,
@@ -161,7 +161,7 @@ const IN_THE_FIRST_THERE: &[Line] = &[Line {
     ],
 }];
 
-/// Nothing goes below itself.
+/// Among these, a bucket can't be moved below itself.
 const PLACED: &[Line] = &[
     Line {
         asked: &[Asked::CreateOrMove(0, 327680, &[("host", "h1"), ("root", "other")])],
@@ -208,7 +208,7 @@ const EXCHANGED: &[Line] = &[Line {
     ],
 }];
 
-/// The root that a rule takes stays.
+/// All items are removed, but the root can't be, because a rule takes it.
 const REMOVED: &[Line] = &[
     Line {
         asked: &[Asked::Remove("default")],
@@ -269,7 +269,7 @@ fn what_is_exchanged_or_removed_is_looked_up(rt: HostRuntime) {
     make_all(&rt, rt.alloc(), REMOVED);
 }
 
-/// A bucket may weigh 4294967295 units.
+/// A bucket may weigh at most 4294967295 units.
 const HEAVY: &[Kids] = &[
     Kids::Roots(&[("default", -1, 163840), ("rx", -5, 4294967294)]),
     Kids::Of("rx", &[("hx", -4, 4294967294)]),
@@ -370,8 +370,8 @@ fn what_batches_do_is_looked_up(rt: HostRuntime) {
     make_all(&rt, rt.alloc(), BATCHES);
 }
 
-/// Batches refused at their last edit, one refused before, and one that is made, whose last edit is
-/// an exchange.
+/// Two batches that are refused at their last edit, one that is refused earlier, and one that is
+/// made, whose last edit is an exchange.
 const BATCHES_OF_WEIGHTS: &[Line] = &[
     Line {
         asked: &[
@@ -423,8 +423,8 @@ const BATCHES_OF_WEIGHTS: &[Line] = &[
     },
 ];
 
-/// A batch refused behind three new weights below buckets, one of them below another and one behind
-/// an exchange, one refused before, and one that is made.
+/// A batch that is refused after it has set the weights below three buckets, of which one is below
+/// another and one is set after an exchange; one that is refused earlier; and one that is made.
 const BATCHES_BELOW: &[Line] = &[
     Line {
         asked: &[
@@ -476,8 +476,8 @@ fn what_batches_of_weights_do_is_looked_up(rt: HostRuntime) {
     make_all(&rt, rt.alloc(), BATCHES_OF_WEIGHTS);
 }
 
-/// Devices and empty buckets that go, some of which come again, at their ids and names or at other
-/// ones: refused at the last edit, refused once more, and made.
+/// Batches that remove devices and empty buckets, and add some of them again, with the same ids and
+/// names or with others: two that are refused at their last edit, and one that is made.
 const BATCHES_OF_REMOVALS: &[Line] = &[
     Line {
         asked: &[
@@ -527,7 +527,8 @@ fn what_batches_of_removals_do_is_looked_up(rt: HostRuntime) {
     make_all(&rt, rt.alloc(), BATCHES_OF_REMOVALS);
 }
 
-/// Names that go there and back, that another bucket takes, and that two buckets exchange.
+/// Batches in which a name is changed and changed back, another bucket takes a name, and two
+/// buckets exchange their names.
 const BATCHES_OF_NAMES: &[Line] = &[
     Line {
         asked: &[

@@ -1,4 +1,4 @@
-//! What a caller tests before a change of a forest.
+//! The tests that a caller makes before a change of a forest.
 
 ghost use Rattle.std.specs.Prelude.{◌≡◌, false};
 ghost use Rattle.crush_units.specs.Name.{IsName};

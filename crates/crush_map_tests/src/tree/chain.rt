@@ -1,4 +1,5 @@
-//! The most buckets of a map, each in the one before, on the main thread and on another.
+//! As many buckets as a map can have, each in the one before it, on the main thread, and fewer on
+//! another.
 
 use super::alike::copy_of;
 use super::items::{Item, bucket, bucket_item, node, node_with};
@@ -8,6 +9,13 @@ use std::alloc::Global;
 use std::process::Abort;
 use std::thread;
 
+/// The most buckets of a map.
+const MOST: u32 = 4096;
+
+/// How many buckets the forest on another thread has. Attaching a node compares its buckets with one
+/// another, so a test with the most buckets takes 100 seconds if it isn't proved.
+const FEW: u32 = 512;
+
 fn link(rt: &(impl Abort + AllocGlobal), distance: u32, item: Node<Global>) -> Node<Global> {
     let name = format!(in rt.alloc(); "b{}", distance).expect(rt, "memory");
     let bucket = node_with(rt, Item::Host(distance, name.as_str()), item);
@@ -15,45 +23,56 @@ fn link(rt: &(impl Abort + AllocGlobal), distance: u32, item: Node<Global>) -> N
     bucket
 }
 
-fn links(rt: &(impl Abort + AllocGlobal)) -> Node<Global> {
+fn links(rt: &(impl Abort + AllocGlobal), depth: u32) -> Node<Global> {
     let mut item = node(rt, Item::Device(0, "osd.0", 65536));
-    for i in 0..4096 {
-        item = link(rt, 4096 - i, item);
+    for above in 0..depth {
+        item = link(rt, depth.saturating_sub(above), item);
     }
     item
 }
 
-/// The buckets are held by one another before they come to the forest.
-fn chain(rt: &(impl Abort + AllocGlobal)) -> Forest<Global> {
+/// A forest with a chain of buckets, which was put together before it was added to the forest.
+fn chain(rt: &(impl Abort + AllocGlobal), depth: u32) -> Forest<Global> {
     let mut forest = Forest::new(rt.alloc(), rt.alloc());
-    put(&mut forest, Place::Root, links(rt)).expect(rt, "a place");
+    put(&mut forest, Place::Root, links(rt, depth)).expect(rt, "a place");
     forest
 }
 
-fn is_searched(rt: &impl Abort, forest: &Forest<Global>) -> bool {
+fn is_searched(rt: &impl Abort, forest: &Forest<Global>, depth: u32) -> bool {
     let osd = forest.id_of("osd.0").expect(rt, "osd.0");
+    let above = bucket(rt, depth.saturating_sub(1));
     forest.total() == 65536
         && forest.contains(bucket(rt, 1), osd)
-        && forest.parent(bucket_item(rt, 4096)) == Some(bucket(rt, 4095))
-        && forest.items(bucket(rt, 4096)).is_some()
+        && forest.parent(bucket_item(rt, depth)) == Some(above)
+        && forest.items(bucket(rt, depth)).is_some()
 }
 
-fn is_sound(rt: &(impl Abort + AllocGlobal)) -> bool {
-    let forest = chain(rt);
+fn is_sound(rt: &(impl Abort + AllocGlobal), depth: u32) -> bool {
+    let forest = chain(rt, depth);
     let copy = copy_of(rt, &forest);
-    let is_sound = is_searched(rt, &forest) && is_searched(rt, &copy);
+    let is_sound = is_searched(rt, &forest, depth) && is_searched(rt, &copy, depth);
     drop(copy);
     drop(forest);
     is_sound
 }
 
-#[test]
-fn on_the_main_thread(rt: HostRuntime) {
-    assert!(rt; is_sound(&rt));
+fn is_weighed(rt: &(impl Abort + AllocGlobal), depth: u32) -> bool {
+    let top = links(rt, depth);
+    let is_weighed = top.weight().units() == 65536;
+    drop(top);
+    is_weighed
 }
 
 #[test]
+fn on_the_main_thread(rt: HostRuntime) {
+    assert!(rt; is_sound(&rt, MOST));
+}
+
+/// Builds and drops the most buckets on the thread, for its stack, and then searches fewer.
+#[test]
 fn on_another_thread(rt: HostRuntime) {
-    let worker = thread::spawn(&rt, move || is_sound(&rt)).expect(&rt, "a thread");
+    let worker = thread::spawn(&rt, move || is_weighed(&rt, MOST) && is_sound(&rt, FEW)).expect(
+        &rt, "a thread",
+    );
     assert!(rt; worker.join(&rt));
 }

@@ -1,5 +1,5 @@
-//! The forest of the example map, in the machine's memory and in small heaps, and each call of a
-//! forest once.
+//! The forest of the example map, in the global allocator and in small heaps, with each method of a
+//! forest called once.
 
 use super::alike::{copy_of, is_same};
 use super::asks::{fits, fits_moved, has_item};
@@ -35,7 +35,7 @@ fn put_all<A: Allocator + Copy>(
     put_h2(rt, alloc, forest)
 }
 
-/// h2 holds osd.2 before it comes.
+/// Adds h2, which already has osd.2 when it is added.
 fn put_h2<A: Allocator + Copy>(
     rt: &impl Abort,
     alloc: A,
@@ -50,7 +50,7 @@ fn put_h2<A: Allocator + Copy>(
     put(forest, inside(rt, 1), h2)
 }
 
-/// osd.0 and osd.1 in h1 weigh 1.0 each, osd.2 in h2 weighs 0.5.
+/// The forest with osd.0 and osd.1 in h1, which weigh 1.0 each, and osd.2 in h2, which weighs 0.5.
 fn example_in<A: Allocator + Copy>(rt: &impl Abort, alloc: A) -> Result<Forest<A>, Refused> {
     let mut forest = Forest::new(alloc, alloc);
     match put_all(rt, alloc, &mut forest) {
@@ -93,7 +93,8 @@ fn has_so_many<A: Allocator>(
     has_first(rt, forest, devices, buckets) && forest.total() == units
 }
 
-/// Items come in the order root, h1, osd.0, osd.1, and h2 with osd.2.
+/// Whether the forest has a beginning of its items, which are added in the order root, h1, osd.0,
+/// osd.1, and h2 with osd.2.
 fn is_begun<A: Allocator>(rt: &impl Abort, forest: &Forest<A>) -> bool {
     if !has_item(forest, &bucket_item(rt, 1)) {
         return has_so_many(rt, forest, 0, 0, 0);
@@ -397,8 +398,8 @@ fn memory_and_back(rt: HostRuntime) {
     assert!(rt; is_back);
 }
 
-/// The root weighs 163840 units, and may weigh 4294967295; a device of the root that moves counts
-/// once.
+/// The root weighs 163840 units, and may weigh at most 4294967295. A device that moves within the
+/// root is counted once.
 fn tells_what_fits(rt: &impl Abort, forest: &Forest<Global>) -> bool {
     let (h2, osd_0) = (bucket(rt, 3), device(rt, 0));
     let too_much = Weight::from_units(4294803456);
@@ -415,7 +416,7 @@ fn sums_that_fit(rt: HostRuntime) {
     assert!(rt; is_told);
 }
 
-/// -3 is the id of h2.
+/// `host` can be a root. `other` can't, because its class id, -3, is the id of h2.
 fn can_be_a_root(rt: &(impl Abort + AllocGlobal), forest: &Forest<Global>) -> bool {
     let host = node(rt, Item::HostOfClass(4, "h3", 5));
     let other = node(rt, Item::HostOfClass(4, "h3", 3));

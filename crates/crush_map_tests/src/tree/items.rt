@@ -1,4 +1,5 @@
-//! Items as tests name them: a bucket by how far its id is below 0, a device by its number.
+//! Short ways for tests to make items and ids. A bucket is given by how far its id is below 0, a
+//! device by its number.
 
 use super::puts::Refused;
 use crush_tree::{Header, Node, Place, ShadowId};
@@ -6,15 +7,15 @@ use crush_units::{Alg, BucketId, DeviceId, ItemId, Name, TypeId, Weight};
 use std::alloc::{Allocator, Global};
 use std::process::Abort;
 
-/// Weights are in units.
+/// An item to make. A bucket has its id and name, a device its id, name and weight in units.
 #[derive(Clone, Copy)]
 pub(super) enum Item<'a> {
     Root(u32, &'a str),
     Host(u32, &'a str),
-    /// With how far its class id of `ssd` is below 0.
+    /// A host that has a class id for `ssd`, given by how far it is below 0.
     HostOfClass(u32, &'a str, u32),
     Device(u32, &'a str, u32),
-    /// Of the class `ssd`.
+    /// A device of the class `ssd`.
     DeviceOfClass(u32, &'a str, u32),
 }
 

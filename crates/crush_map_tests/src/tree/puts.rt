@@ -1,4 +1,4 @@
-//! Changes of a forest, each made after a test that it may be.
+//! Changes of a forest, each of which is made after a test that it is allowed.
 
 use super::asks::{are_nested, has_item, has_name, is_held};
 use super::items::{Item, made};
@@ -12,7 +12,8 @@ pub(super) enum Refused {
     NoMemory,
     Malformed,
     Missing,
-    /// An item can't come to its place, a name is taken, or a weight is no device's.
+    /// The item can't be attached at its place, the name is taken, or the weight isn't allowed for
+    /// a device.
     Unfit,
     TooHeavy,
 }
@@ -37,7 +38,7 @@ pub(super) fn put<A: Allocator>(
     place: Place,
     node: Node<A>,
 ) -> Result<(), Refused> {
-    let place = &place; // a place that was passed on by value can't be passed on again
+    let place = &place; // a place that is passed by value is moved, and can't be passed again
     let can_come = forest.can_attach(*place, &node);
     if can_come && forest.reserve(*place).is_ok() {
         forest.attach(*place, node);
@@ -161,7 +162,8 @@ pub(super) fn exchange<A: Allocator>(
     Ok(())
 }
 
-/// Whether a bucket has memory for so many, grows to so many more, and has the first back then.
+/// Lets a bucket grow, and undoes that. Returns whether the bucket had the capacity `had` before it
+/// grew, and the capacity `has` in between.
 pub(super) fn grows_and_back<A: Allocator + Clone>(
     forest: &mut Forest<A>,
     bucket: BucketId,
@@ -171,10 +173,10 @@ pub(super) fn grows_and_back<A: Allocator + Clone>(
     if !has_item(forest, &ItemId::Bucket(bucket)) {
         return false;
     }
-    match forest.grow(Place::Bucket(bucket)) {
+    match forest.grow_buffer(Place::Bucket(bucket)) {
         Ok(Some(before)) => {
             let is_before = before.capacity() == had;
-            let after = forest.rehouse(Place::Bucket(bucket), before);
+            let after = forest.replace_buffer(Place::Bucket(bucket), before);
             let is_after = after.capacity() == has && after.is_empty();
             drop(after);
             is_before && is_after

@@ -1,4 +1,4 @@
--- The setting and the table of the text are those of the map that was read, and of these the calls speak.
+-- The setting and the table of the text are those of the map that was read, and the contracts of the methods refer to these.
 use Rattle.std.proofs.Common.{◌≡◌, ap, subst, ◌∙◌, Err}
 use Rattle.std.specs.Io.KnownBytes.{Appends}
 use Rattle.crush_edits.specs.declared.refusal.EditFault.TheVariants.{Refused}

@@ -1,4 +1,4 @@
-//! The buckets of a printed map.
+//! The section of the buckets.
 
 ghost use Rattle.std.specs.Prelude.{◌≡◌, List, ◌++◌, OnOk, flat_map};
 ghost use Rattle.crush_model.specs.Stands.{Stands};
@@ -13,6 +13,7 @@ use crush_map::Setting;
 use crush_tree::{Bucket, Forest};
 use std::alloc::{AllocError, Allocator, Global};
 
+/// Appends the section of the buckets: its heading, and each bucket after the buckets below it.
 #[tactic(auto, unfolding(crate::specs::MapText::bucket_section))]
 pub(crate) fn push_roots<A: Allocator>(
     alloc: Global,

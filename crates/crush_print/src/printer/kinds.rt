@@ -1,4 +1,4 @@
-//! The types of a printed map.
+//! The section of the types.
 
 ghost use Rattle.std.specs.Prelude.{◌≡◌, ◌++◌, OnOk, IfOk, flat_map};
 ghost use Rattle.indexmap.specs.IndexMap.{keys};
@@ -11,7 +11,7 @@ use crush_units::{Name, TypeId};
 use indexmap::IndexMap;
 use std::alloc::{AllocError, Global};
 
-/// By ascending number.
+/// Appends the section of the types: its heading, and the types by ascending number.
 #[tactic(auto, unfolding(crate::specs::MapText::kind_section))]
 pub(crate) fn push_kinds(
     alloc: Global,
@@ -35,6 +35,7 @@ fn push_numbers(setting: &Setting, numbers: &[u16], out: &mut Vec<u8>) -> Result
     Ok(())
 }
 
+/// Returns the numbers of all types in ascending order.
 fn numbers_in_order(alloc: Global, setting: &Setting) -> Result<Vec<u16>, AllocError>
     ensures { IfOk result (λ numbers. numbers.items ≡ kind_numbers setting.now) }
 {
@@ -49,6 +50,7 @@ fn numbers_of(alloc: Global, kinds: &IndexMap<TypeId, Name<Global>>) -> Result<V
     kinds.keys().map(|number| number.number()).collect(alloc)
 }
 
+/// Returns the name of the type; empty if the setting doesn't have the type.
 #[tactic(auto, unfolding(crate::specs::MapText::kind_text))]
 pub(crate) fn kind_name(setting: &Setting, number: TypeId) -> &[u8]
     ensures { result.now ≡ kind_text setting.now number }

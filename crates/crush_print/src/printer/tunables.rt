@@ -1,4 +1,4 @@
-//! The tunables of a printed map.
+//! The section of the tunables.
 
 ghost use Rattle.std.specs.Prelude.{◌≡◌, ◌++◌, OnOk, flat_map, map};
 ghost use Rattle.crush_edits.specs.SettingSeen.{tunable_data};
@@ -12,7 +12,7 @@ use indexmap::IndexMap;
 use itoa::Buffer;
 use std::alloc::{AllocError, Global};
 
-/// With the first line of a map.
+/// Appends the first line of the text, and the tunables in the order in which they were declared.
 #[tactic(auto, unfolding(crate::specs::MapText::tunable_section))]
 pub(crate) fn push_tunables(setting: &Setting, out: &mut Vec<u8>) -> Result<(), AllocError>
     ensures { OnOk result (out.new.items ≡ out.old.items ++ tunable_section setting.now) }

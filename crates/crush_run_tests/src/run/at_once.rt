@@ -1,10 +1,9 @@
 //! Runs of operators at once. Gates show that threads are at work at the same time, which no clause
 //! says.
 
-use super::{AT_ONCE, joined, put_behind, run_map, summary};
+use super::{AT_ONCE, joined, run_map, summary};
 use crate::maps::PLAIN;
-use crush_run::{Gate, NoGate};
-use std::process::Abort;
+use crush_run::Gate;
 use std::sync::Wait;
 use std::sync::atomic::{AtomicU64, Ordering};
 use std::thread;
@@ -117,41 +116,4 @@ fn a_gate_dictates_the_order_of_calls(rt: HostRuntime) {
     let outcome = run_map(&rt, &gate, AT_ONCE, &mut job.as_slice(), &mut out);
     let in_order = gate.kept_order();
     assert!(&rt; in_order && outcome == Ok(summary(0, 4, 2)) && out.ends_with(BY_TURNS));
-}
-
-const SIXTEEN: &[u8] = b"abcdefghijklmnop";
-
-fn sixteen_scripts(rt: &(impl Abort + AllocGlobal), times: usize) -> Vec<u8> {
-    let mut job = joined(rt, PLAIN, b"");
-    for name in SIXTEEN {
-        put_behind(rt, &mut job, b"%operator ");
-        put_behind(rt, &mut job, &[*name]);
-        put_behind(rt, &mut job, b"\n");
-        for _ in 0..times {
-            put_behind(rt, &mut job, b"reweight osd.0 2\n");
-        }
-    }
-    job
-}
-
-fn lines_of(out: &[u8], name: u8) -> usize {
-    let mut count: usize = 0;
-    for line in out.split(|byte| *byte == b'\n') {
-        let mut words = line.split(|byte| *byte == b' ');
-        if line.ends_with(b" made 0") && words.nth(2) == Some(&[name]) {
-            count = count.saturating_add(1);
-        }
-    }
-    count
-}
-
-#[test]
-fn sixteen_operators_have_all_their_calls_answered(rt: HostRuntime) {
-    let job = sixteen_scripts(&rt, 256);
-    let mut out = Vec::new(rt.alloc());
-    let outcome = run_map(&rt, &NoGate, AT_ONCE, &mut job.as_slice(), &mut out);
-    assert!(&rt; outcome == Ok(summary(0, 4096, 1)));
-    for name in SIXTEEN {
-        assert!(&rt; lines_of(out.as_slice(), *name) == 256);
-    }
 }

@@ -1,6 +1,6 @@
 //! Readers and writers that fail, and readers of blanks alone, some without an end.
 
-use super::{MODE, REWEIGHED, is_listed, joined, run_map, summary};
+use super::{MODE, REWEIGHED, is_listed, joined, run_map};
 use crate::maps::PLAIN;
 use crush_run::{NoGate, RunFault};
 use crush_script::JobFault;
@@ -204,19 +204,4 @@ fn takes_one_byte_too_many_of_a_reader_that_fills_what_it_is_given(rt: HostRunti
         asked: 0,
     };
     assert!(rt; is_too_long(&rt, &mut reader));
-}
-
-const EMPTY: &[u8] =
-    b"# begin crush map\n\n# devices\n\n# types\n\n# buckets\n\n# rules\n\n# end crush map\n";
-
-#[test]
-fn the_most_blanks_are_the_empty_map(rt: HostRuntime) {
-    let mut reader = Blanks {
-        left: LONGEST_JOB,
-        most: usize::MAX,
-        asked: 0,
-    };
-    let mut out = Vec::new(rt.alloc());
-    let outcome = run_map(&rt, &NoGate, MODE, &mut reader, &mut out);
-    assert!(rt; outcome == Ok(summary(0, 0, 0)) && reader.left == 0 && out.as_slice() == EMPTY);
 }

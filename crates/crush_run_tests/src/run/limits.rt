@@ -1,13 +1,15 @@
-//! As much as a map and a job may have: buckets below one another, and calls.
+//! Operators at once on a map of the most buckets.
 
 use super::at_once::ByTurns;
-use super::{AT_ONCE, MODE, joined, put_behind, run_map, summary, writes};
-use crate::maps::PLAIN;
-use crush_run::NoGate;
+use super::{AT_ONCE, joined, run_map, summary};
 use std::process::Abort;
 
 /// The most buckets of a map.
 const DEPTH: u32 = 4096;
+
+fn put_behind(rt: &impl Abort, text: &mut Vec<u8>, bytes: &[u8]) {
+    text.extend_from_slice(bytes).expect(rt, "no memory");
+}
 
 fn put_host(
     rt: &(impl Abort + AllocGlobal),
@@ -39,22 +41,6 @@ fn chain(rt: &(impl Abort + AllocGlobal), weight: &str) -> Vec<u8> {
     text
 }
 
-/// A taken name is refused before a lack of room, and a full map still takes a device.
-const SCRIPT: &[u8] =
-    b"%operator a\nadd-bucket b1 host\nadd-bucket z host\nadd osd.1 1 host=z\nadd osd.1 1 host=b1\nrm osd.1\nreweight osd.0 2.0\n";
-
-const LINES: &[u8] =
-    b"# 1 a add-bucket b1 host = refused NameTaken 17\n# 2 a add-bucket z host = refused NoRoom 28\n# 3 a add osd.1 1.00000 host=z = refused NoRoom 28\n# 4 a add osd.1 1.00000 host=b1 = done changed 1 made 0\n# 5 a rm osd.1 = done changed 1 made 0\n# 6 a reweight osd.0 2.00000 = done changed 1 made 0\n";
-
-#[test]
-fn edits_the_most_buckets(rt: HostRuntime) {
-    let before = chain(&rt, "1.00000");
-    let job = joined(&rt, before.as_slice(), SCRIPT);
-    let after = chain(&rt, "2.00000");
-    let output = (after.as_slice(), LINES);
-    assert!(rt; writes(&rt, MODE, job.as_slice(), output, summary(0, 6, 3)));
-}
-
 /// The innermost device and bucket are edited and end where they were.
 const TWO_SCRIPTS: &[u8] =
     b"%operator a\nreweight osd.0 3.0\nmove b1 host=b4096\n%operator b\nbegin\nreweight-subtree b4096 1.0\nreweight osd.0 2.0\ncommit\nmove b1 host=b2\n";
@@ -73,25 +59,4 @@ fn two_operators_edit_the_most_buckets(rt: HostRuntime) {
     let outcome = run_map(&rt, &gate, AT_ONCE, &mut job.as_slice(), &mut out);
     let in_order = gate.kept_order();
     assert!(&rt; in_order && outcome == Ok(summary(0, 4, 4)) && out == expected);
-}
-
-fn put_most_calls(rt: &impl Abort, job: &mut Vec<u8>) {
-    for _ in 0..32_768 {
-        put_behind(rt, job, b"reweight osd.0 2\nreweight osd.0 1\n");
-    }
-}
-
-#[test]
-fn runs_the_most_calls(rt: HostRuntime) {
-    let mut job = joined(&rt, PLAIN, b"%operator a\n");
-    put_most_calls(&rt, &mut job);
-    let mut out = Vec::new(rt.alloc());
-    let outcome = run_map(&rt, &NoGate, MODE, &mut job.as_slice(), &mut out);
-    assert!(rt;
-        outcome == Ok(summary(0, 65_536, 65_536))
-            && out.starts_with(PLAIN)
-            && out.ends_with(
-                b"\n# 65535 a reweight osd.0 2.00000 = done changed 1 made 0\n# 65536 a reweight osd.0 1.00000 = done changed 1 made 0\n"
-            )
-    );
 }

@@ -18,7 +18,6 @@ fn is_one_fault() -> bool {
 #[test]
 fn reports_what_no_run_here_comes_to(rt: HostRuntime) {
     let of_job = Err(RunFault::Job(JobFault::OutOfMemory));
-    let calls = Err(RunFault::Job(JobFault::TooManyCalls(65_579)));
     assert!(rt;
         is_listed(
             &rt,
@@ -26,7 +25,6 @@ fn reports_what_no_run_here_comes_to(rt: HostRuntime) {
             b"crushedit: out of memory\n",
             4
         ) && is_listed(&rt, &of_job, b"crushedit: out of memory\n", 4)
-            && is_listed(&rt, &calls, b"crushedit: line 65579: TooManyCalls\n", 1)
             && is_one_fault()
     );
 }
@@ -46,12 +44,39 @@ fn differing(adjusted: u32) -> Summary {
 }
 
 #[test]
-fn tells_of_made_buckets_and_where_there_is_something_to_tell(rt: HostRuntime) {
-    let made = Err(RunFault::Made(3));
+fn counts_what_ended_a_run_and_has_a_status_of_what_differs(rt: HostRuntime) {
+    let (made, stays) = (Err(RunFault::Made(3)), Err(RunFault::Differs(7)));
     assert!(rt;
         is_listed(&rt, &made, b"crushedit: made 3\n", 5)
+            && is_listed(&rt, &stays, b"crushedit: differs 7\n", 5)
             && is_listed(&rt, &Ok(differing(0)), b"", 6)
             && is_listed(&rt, &Ok(differing(7)), b"crushedit: adjusted 7\n", 6)
+    );
+}
+
+fn is_explained(rt: &impl AllocGlobal, outcome: &Result<Summary, RunFault>, told: &[u8]) -> bool {
+    let mut err = Vec::new(rt.alloc());
+    let words = Words {
+        explain: true,
+        under: "",
+        down_to: "",
+    };
+    report(words, outcome, b"", &mut err);
+    err.as_slice() == told
+}
+
+#[test]
+fn runs_that_were_not_done_are_told_with_reasons(rt: HostRuntime) {
+    assert!(rt;
+        is_explained(
+            &rt,
+            &Err(RunFault::Thread),
+            b"crushedit: no thread\n  the system started no thread for an operator: --in-turn wants none\n"
+        ) && is_explained(
+            &rt,
+            &Err(RunFault::Memory),
+            b"crushedit: out of memory\n  there is less memory than the job wants\n"
+        )
     );
 }
 

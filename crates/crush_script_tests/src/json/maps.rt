@@ -1,7 +1,7 @@
-//! The texts of maps, and their documents.
+//! The texts of maps, and the JSON documents expected for them.
 
-/// What `crushtool --dump` prints, but for the other tunables, with members by name and on one
-/// line.
+/// What `crushtool --dump` prints, except for the other tunables, with members in the order of
+/// their names and on one line.
 pub const EXAMPLE_DOCUMENT: &[u8] = b"\
     {\"map\":{\
     \"buckets\":[\
@@ -35,7 +35,7 @@ pub const CLASSED_MAP: &[u8] = b"\
     rule slow { id 5 type erasure step set_choose_tries 100 step take default class hdd step choose indep -1 type root step emit }\n\
     rule fast { id 2 type any step take default class ssd step emit }\n";
 
-/// The rule `slow` takes a class for which the bucket has no id.
+/// The rule `slow` takes a class for which the bucket has no class id, so that step has no `item`.
 pub const CLASSED_DOCUMENT: &[u8] = b"\
     {\"map\":{\
     \"buckets\":[\
@@ -58,7 +58,7 @@ pub const CLASSED_DOCUMENT: &[u8] = b"\
 pub const EMPTY_DOCUMENT: &[u8] =
     b"{\"map\":{\"buckets\":[],\"devices\":[],\"rules\":[],\"tunables\":{},\"types\":[]}}\n";
 
-/// A command of each kind, and a reply of each form.
+/// A job with a command of each kind, whose replies have each form.
 pub const JOB: &[u8] = b"\
     type 1 root\n\
     root default { id -1 alg straw2 hash 0 }\n\
@@ -128,7 +128,7 @@ pub const JOB_DOCUMENT: &[u8] = b"\
     \"devices\":[],\"rules\":[],\"tunables\":{},\
     \"types\":[{\"name\":\"root\",\"type_id\":1}]}}\n";
 
-/// A device that no bucket holds, and no type 0.
+/// A map with a device that is in no bucket, and without a type 0.
 pub const STRAY_MAP: &[u8] = b"\
     device 7 osd.7 class ssd\n\
     device 3 osd.3\n\

@@ -1,4 +1,4 @@
-//! Plans, as the commands that a monitor takes.
+//! The JSON documents of plans, which have the commands as a monitor accepts them.
 
 use crush_history::Call;
 use crush_json::write_plan_document;
@@ -26,7 +26,7 @@ const COMMANDS: &[u8] = b"\
 
 const REST: &[u8] = b"osd.1: class hdd, wanted (none)\ntunables differ\n";
 
-/// The keys are those of Ceph's own table of commands.
+/// The expected document. Its keys are those of Ceph's own table of commands.
 const PLAN: &[u8] = b"\
     {\"plan\":[\
     {\"args\":[\"host=h3\",\"root=default\"],\"id\":3,\"prefix\":\"osd crush add\",\"weight\":0.33299},\

@@ -1,4 +1,4 @@
-//! What has changed from one map to another.
+//! The JSON documents of what has changed from one map to another.
 
 use super::maps::STRAY_MAP;
 use crate::maps::EXAMPLE_MAP;
@@ -27,8 +27,8 @@ const MOVING: &[u8] = b"\
     %operator a\n\
     create-or-move osd.0 5.0 host=h2\n";
 
-/// The device keeps its weight of 1.0: h1 goes from 2.0 to 1.0, h2 from 0.5 to 1.5, all stay at
-/// 2.5.
+/// The device keeps its weight of 1.0: h1 changes from 2.0 to 1.0 and h2 from 0.5 to 1.5, and the
+/// total remains 2.5.
 const MOVED: &[u8] = b"\
     {\"since\":{\
     \"counts\":{\"class\":0,\"made\":0,\"moved\":1,\"removed\":0,\"renamed\":0,\"weight\":2},\
@@ -53,7 +53,7 @@ const MOVED_BELOW: &[u8] = b"\
     \"is\":{\"name\":\"osd.0\",\"parent\":\"h2\",\"type\":\"osd\",\"weight\":65536},\
     \"was\":{\"name\":\"osd.0\",\"parent\":\"h1\",\"type\":\"osd\",\"weight\":65536}}]}}\n";
 
-/// A root and a device that no bucket holds have no parent.
+/// A root, and a device that is in no bucket, have no parent.
 const MADE: &[u8] = b"\
     {\"since\":{\
     \"counts\":{\"class\":0,\"made\":3,\"moved\":0,\"removed\":0,\"renamed\":0,\"weight\":0},\

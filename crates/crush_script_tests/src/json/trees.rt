@@ -1,4 +1,4 @@
-//! The trees of maps, with weights in units.
+//! The JSON documents of the trees of maps. Weights in them are in units.
 
 use super::maps::STRAY_MAP;
 use crate::maps::EXAMPLE_MAP;

@@ -1,4 +1,4 @@
-//! The maps that plans lead from and to, mostly the example map with one difference.
+//! The maps from which and to which plans lead. Most are the example map with one difference.
 
 pub const MOVED: &[u8] = b"\
     tunable choose_total_tries 50\n\
@@ -14,7 +14,7 @@ pub const MOVED: &[u8] = b"\
     root default { id -1 alg straw2 hash 0 item h1 item h2 }\n\
     rule replicated_rule { id 0 type replicated step take default step chooseleaf firstn 0 type host step emit }\n";
 
-/// h1 and h2 are exchanged.
+/// The buckets h1 and h2 are exchanged: each has the other's id and position.
 pub const SWAPPED: &[u8] = b"\
     tunable choose_total_tries 50\n\
     device 0 osd.0\n\
@@ -85,7 +85,7 @@ pub const NUMBERED: &[u8] = b"\
     root default { id -1 alg straw2 hash 0 item h1 item h2 }\n\
     rule replicated_rule { id 0 type replicated step take default step chooseleaf firstn 0 type host step emit }\n";
 
-/// h1 and h2 have one another's names.
+/// The buckets h1 and h2 have each other's names.
 pub const RENAMED: &[u8] = b"\
     tunable choose_total_tries 50\n\
     device 0 osd.0\n\
@@ -144,7 +144,7 @@ pub const DEVICE_IN_H2: &[u8] = b"\
     root default { id -1 alg straw2 hash 0 item h1 item h2 }\n\
     rule replicated_rule { id 0 type replicated step take default step chooseleaf firstn 0 type host step emit }\n";
 
-/// A weight isn't whole.
+/// The weight of osd.0 isn't a whole number.
 pub const HEAVY: &[u8] = b"\
     tunable choose_total_tries 50\n\
     device 0 osd.0\n\
@@ -159,7 +159,8 @@ pub const HEAVY: &[u8] = b"\
     root default { id -1 alg straw2 hash 0 item h1 item h2 }\n\
     rule replicated_rule { id 0 type replicated step take default step chooseleaf firstn 0 type host step emit }\n";
 
-/// The same, as Ceph's own tool cuts it.
+/// The same map as Ceph's own tool prints it: the weight of osd.0 is cut off, and so is one
+/// unit less.
 pub const HEAVY_CUT: &[u8] = b"\
     tunable choose_total_tries 50\n\
     device 0 osd.0\n\
@@ -174,7 +175,8 @@ pub const HEAVY_CUT: &[u8] = b"\
     root default { id -1 alg straw2 hash 0 item h1 item h2 }\n\
     rule replicated_rule { id 0 type replicated step take default step chooseleaf firstn 0 type host step emit }\n";
 
-/// Type and algorithm, weight and class, and a place differ; one item is gone, and two come.
+/// The type and the algorithm of h1, the weight and the class of osd.1, and the place of osd.0 are
+/// different. osd.2 is missing; osd.3 and h3 are new.
 pub const OTHERWISE: &[u8] = b"\
     tunable choose_total_tries 50\n\
     device 0 osd.0\n\
@@ -190,7 +192,7 @@ pub const OTHERWISE: &[u8] = b"\
     host h3 { id -4 alg straw2 hash 0 }\n\
     rule replicated_rule { id 0 type replicated step take default step chooseleaf firstn 0 type host step emit }\n";
 
-/// A row with a device, and a root that a rule takes.
+/// A row that has a device, and an empty root that a rule takes.
 pub const NAMES_OF_OTHER_TYPES: &[u8] = b"\
     device 2 osd.2\n\
     device 4 osd.4\n\
@@ -202,7 +204,7 @@ pub const NAMES_OF_OTHER_TYPES: &[u8] = b"\
     row r1 { id -9 alg list hash 0 item osd.2 weight 0.0 }\n\
     rule r { id 0 type replicated step take other step chooseleaf firstn 0 type host step emit }\n";
 
-/// Both have exchanged their names and items, and osd.4 has a class.
+/// The row and the root have exchanged their names and items, and osd.4 has a class.
 pub const NAMES_EXCHANGED: &[u8] = b"\
     device 2 osd.2\n\
     device 4 osd.4 class hdd\n\

@@ -1,4 +1,5 @@
-//! Changes by names. Expected values are worked by hand from the table of docs/names.md.
+//! What has changed between two maps whose items are matched by name. Expected values are worked by
+//! hand from the table of docs/names.md.
 
 use crate::maps::{EXAMPLE_MAP, map_of};
 use crate::plan::maps::*;

@@ -1,4 +1,4 @@
-//! Jobs, and runs of their scripts in turn.
+//! Jobs, and runs of their scripts one after the other.
 
 use crate::script::{PLAIN_EXAMPLE_MAP, is_no_job, job_of, joined};
 use crush_edits::Edit;

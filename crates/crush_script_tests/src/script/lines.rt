@@ -1,4 +1,4 @@
-//! Lines of a history that no job here has, of copies of calls.
+//! Lines of a history, made from copies of calls. No job of these tests has such lines.
 
 use crush_edits::{Done, Dones, Edit, Refusal};
 use crush_history::{Call, Edits, Reply, write_entry};
@@ -47,14 +47,14 @@ fn is_single(rt: &impl AllocGlobal, call: &Call) -> bool {
     has_line(rt, call, (4, b"b"), done, line) && has_line(rt, call, (65536, b"op-1"), refused, last)
 }
 
-/// It is refused as a single call is.
+/// The line of a batch of one edit, which is refused like a single edit.
 fn is_batch(rt: &impl AllocGlobal, call: &Call) -> bool {
     let refused = Reply::Refused(Refusal::Loop);
     let line = b"# 1 a begin ; reweight osd.2 1.00000 ; commit = refused Loop 40\n";
     has_line(rt, call, (1, b"a"), refused, line)
 }
 
-/// It is answered like one that has many edits.
+/// The line of an empty batch, with a reply like that of a batch of many edits.
 fn is_empty_batch(rt: &impl AllocGlobal, call: &Call) -> bool {
     let done = Reply::Dones(Dones {
         edits: 65536,

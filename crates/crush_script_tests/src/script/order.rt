@@ -1,4 +1,4 @@
-//! The ids of devices and buckets, in the order of texts that `crushtool` printed.
+//! The order of the ids of devices and buckets in texts that `crushtool` printed.
 
 use crate::maps::map_of;
 use crate::script::text_of;

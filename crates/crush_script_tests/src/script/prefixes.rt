@@ -1,4 +1,5 @@
-//! Each prefix of the example map's text: a rule of its lines says which of them are maps.
+//! Reads each prefix of the example map's text. A simple rule about its lines says which prefixes
+//! are the text of a map.
 
 use crate::script::{put_behind, text_of};
 use crush_map::CrushMap;
@@ -6,8 +7,8 @@ use crush_text::{TextFault, TextFaultKind, read_map};
 use std::alloc::Global;
 use std::process::Abort;
 
-/// Each tunable, device and type is a line of three words, each bucket and rule ends with a line of
-/// its brace.
+/// The text has one line of three words for each tunable, device and type, and each bucket and rule
+/// ends with a line that is just a brace.
 const EXAMPLE_MAP: &[u8] = b"\
     # begin crush map\n\
     tunable choose_total_tries 50\n\
@@ -93,8 +94,8 @@ fn count_words(line: &[u8]) -> u32 {
     count
 }
 
-/// The last word of a tunable, a device or a type, cut short, is still a number, or a name that no
-/// other has.
+/// Whether the prefix is the text of a map. It is so even if the last word of a tunable, a device
+/// or a type is cut short, because what is left is a number, or a name that isn't used otherwise.
 fn is_whole(prefix: &[u8]) -> bool {
     let line = last_line(prefix);
     let is_between = line.is_empty() || line.starts_with(b"#") || line == b"}".as_slice();
@@ -139,7 +140,7 @@ fn has_the_statements(
     statements(rt, text.as_slice()) == statements(rt, prefix)
 }
 
-/// `is_cut` says that the word in which the prefix ends goes on.
+/// Whether the prefix is read as expected. `is_cut` says that the prefix ends within a word.
 fn is_due(rt: &(impl Abort + AllocGlobal), prefix: &[u8], is_cut: bool) -> bool {
     match read_map(rt.alloc(), prefix) {
         Ok((map, adjusted)) => {
@@ -151,7 +152,7 @@ fn is_due(rt: &(impl Abort + AllocGlobal), prefix: &[u8], is_cut: bool) -> bool 
     }
 }
 
-/// No word of a comment counts.
+/// Whether the prefix ends within a word that isn't part of a comment.
 fn cuts_a_word(prefix: &[u8], rest: &[u8]) -> bool {
     let goes_on = match rest.first() {
         Some(byte) => is_of_a_word(*byte),

@@ -1,10 +1,10 @@
-//! Writers that take little, and that fail.
+//! Writers that accept only a few bytes at a time, and that fail.
 
 use crush_units::{WriteFault, put, put_all};
 use std::io::{self, Error, ErrorKind, Write};
 
-/// Takes seven bytes at a call. After `room` bytes it fails once, or takes none, then it takes all:
-/// who wrote again would get all out.
+/// A writer that accepts at most seven bytes in a call. After `room` bytes it fails once, or
+/// accepts nothing once. Then it accepts all, so that code that tried again would be noticed.
 #[derive(Drop)]
 struct Slow {
     held: Vec<u8>,

@@ -1,4 +1,4 @@
-//! What has changed of a part, and whether anything has.
+//! What has changed in a part of a map, and whether anything has.
 
 use super::EXAMPLE_MAP;
 use super::changes::MOVED;

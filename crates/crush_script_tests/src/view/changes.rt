@@ -1,4 +1,4 @@
-//! What has changed from one map to another.
+//! What has changed from one map to another, as text.
 
 use super::EXAMPLE_MAP;
 use crate::maps::map_of;
@@ -7,7 +7,7 @@ use crush_since::write_since;
 use std::alloc::Global;
 use std::process::Abort;
 
-/// After `create-or-move osd.0 5.0 host=h2`.
+/// The map after `create-or-move osd.0 5.0 host=h2`.
 pub(super) const MOVED: &[u8] = b"\
     tunable chooseleaf_stable 1\n\
     device 0 osd.0\n\
@@ -60,7 +60,7 @@ const RULE: &[u8] = b"\
     root default { id -1 alg straw2 hash 0 item h1 weight 1.0 item h2 weight 0.0 }\n\
     rule data { id 0 type replicated step take default class hdd step take h1 step take h2 step emit }\n";
 
-/// After `move osd.0 host=h2` and another class.
+/// The map after `move osd.0 host=h2`, and with another class of osd.0.
 const RULE_EMPTIED: &[u8] = b"\
     device 0 osd.0 class ssd\n\
     type 1 host\n\

@@ -1,4 +1,4 @@
-//! The items of a map by their ids, and those below a bucket.
+//! The items of a map in the order of their ids, and the items below a bucket.
 
 use super::EXAMPLE_MAP;
 use crate::maps::map_of;

@@ -1,4 +1,4 @@
-//! Parts of trees as text, and walks of them.
+//! Parts of trees as text, and the walks of which their lines are made.
 
 use super::EXAMPLE_MAP;
 use crate::maps::map_of;

@@ -1,4 +1,4 @@
-//! Trees as text, and walks.
+//! Trees as text, and the walks of which their lines are made.
 
 use super::EXAMPLE_MAP;
 use crate::maps::map_of;

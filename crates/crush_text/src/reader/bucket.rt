@@ -1,4 +1,4 @@
-//! The first lines of a bucket.
+//! Reads a bucket, and its lines up to the algorithm.
 
 ghost use Rattle.std.specs.Prelude.{◌≡◌, false, IfOk, Some, None, drop, if◌then◌else◌};
 ghost use Rattle.std.specs.Str.Parse.{digits_value};
@@ -21,6 +21,7 @@ use crush_units::{Alg, BucketId, Reader};
 use std::alloc::Allocator;
 
 impl<'a, A: Allocator + Clone> MapReader<'a, A> {
+    /// Reads a bucket to its closing brace, after its first word, which is the name of its type.
     pub(crate) fn bucket(&mut self, kind: &[u8]) -> Result<(), TextFault>
         requires { HasRoomForBucket kind.now self.old.builder }
         ensures { ReadsOn (λ d. arrive d self.old.text.words (bucket_line d (kind_of_word d kind.now)))
@@ -44,6 +45,7 @@ impl<'a, A: Allocator + Clone> MapReader<'a, A> {
             .map_err(|fault| out_of_memory_at(name.place, fault))
     }
 
+    /// Reads `{ id -N`.
     #[tactic(auto, unfolding(crate::specs::Reads::line_at))]
     fn id_line(&mut self) -> Result<(), TextFault>
         requires { IsAmid is_begun self.old.builder }
@@ -58,6 +60,7 @@ impl<'a, A: Allocator + Clone> MapReader<'a, A> {
         Ok(())
     }
 
+    /// Reads the class ids and, after them, the algorithm.
     fn class_ids(&mut self) -> Result<(), TextFault>
         requires { IsAmid is_numbered self.old.builder }
         ensures { ReadsOn (λ d. between (at numbered d)) (λ _. filling false)
@@ -67,7 +70,7 @@ impl<'a, A: Allocator + Clone> MapReader<'a, A> {
         Ok(())
     }
 
-    /// Answers whether it was a class id.
+    /// Reads a class id or the algorithm, and returns whether it was a class id.
     #[tactic(auto, unfolding(crate::specs::Reads::line_at))]
     fn class_id_or_alg(&mut self) -> Result<bool, TextFault>
         requires { IsAmid is_numbered self.old.builder }
@@ -82,6 +85,7 @@ impl<'a, A: Allocator + Clone> MapReader<'a, A> {
         Ok(true)
     }
 
+    /// Reads `-N class CLASS`, after `id`.
     #[tactic(auto, unfolding(crate::specs::Reads::line_at))]
     fn class_id(&mut self) -> Result<(), TextFault>
         requires { HasRoomForId self.old.builder }
@@ -95,7 +99,7 @@ impl<'a, A: Allocator + Clone> MapReader<'a, A> {
             .map_err(|fault| out_of_memory_at(class.place, fault))
     }
 
-    /// A hash other than 0 isn't read.
+    /// Reads an algorithm, after `alg`, and its hash if there is one. Only hash 0 is supported.
     #[tactic(auto, unfolding(crate::specs::Reads::line_at))]
     fn alg(&mut self) -> Result<(), TextFault>
         requires { IsAmid is_numbered self.old.builder }
@@ -110,7 +114,7 @@ impl<'a, A: Allocator + Clone> MapReader<'a, A> {
             .map_err(|fault| out_of_memory_at(place, fault))
     }
 
-    /// `-` and a number from 1 to 2147483648.
+    /// Reads an id that no bucket has yet: `-` and a number from 1 to 2147483648.
     #[tactic(auto, unfolding(crate::specs::Reads::word_at))]
     fn bucket_id(&mut self) -> Result<BucketId, TextFault>
         ensures { FindsValue bucket_id (λ b. b) self.old self.new result }
@@ -125,7 +129,7 @@ impl<'a, A: Allocator + Clone> MapReader<'a, A> {
         Ok(id)
     }
 
-    /// Whether a class id follows.
+    /// Reads `id` or `alg`, and returns whether it was `id`, so that a class id follows.
     #[tactic(auto, unfolding(crate::specs::Reads::word_at))]
     fn id_or_alg(&mut self) -> Result<bool, TextFault>
         ensures { FindsValue id_or_alg (λ more. more) self.old self.new result }
@@ -143,6 +147,7 @@ impl<'a, A: Allocator + Clone> MapReader<'a, A> {
         Err(word.fault(TextFaultKind::Unexpected))
     }
 
+    /// Reads a class for which the bucket has no class id yet.
     #[tactic(auto, unfolding(crate::specs::Reads::word_at))]
     fn id_class(&mut self) -> Result<PlacedWord<'a>, TextFault>
         ensures { FindsWord id_class self.old self.new result }
@@ -155,6 +160,7 @@ impl<'a, A: Allocator + Clone> MapReader<'a, A> {
     }
 }
 
+/// Returns the bucket id that the text spells, if it spells one.
 fn below_zero(text: &[u8]) -> Option<BucketId>
     ensures { result ≡ (if is_negative text.now
         then Some (digits_value 10 (drop 1 text.now)) else None) }
@@ -165,6 +171,7 @@ fn below_zero(text: &[u8]) -> Option<BucketId>
     number_up_to(FARTHEST_BUCKET_ID, digits).and_then(BucketId::below_zero)
 }
 
+/// Reads the name of an algorithm, and returns the algorithm with the word's place.
 #[tactic(auto, unfolding(crate::specs::Reads::word_at))]
 fn read_algorithm(reader: &mut Reader<'_>) -> Result<(Alg, usize), TextFault>
     ensures alg { ReadsValue algorithm (λ x. x.0) AnyDraft reader.old reader.new result }

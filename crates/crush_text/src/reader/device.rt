@@ -1,4 +1,4 @@
-//! The line of a device.
+//! Reads the line of a device.
 
 ghost use Rattle.crush_text.specs.Role.{device_id};
 ghost use Rattle.crush_text.specs.Form.{first};
@@ -17,6 +17,7 @@ use crush_units::number::number_up_to;
 use std::alloc::Allocator;
 
 impl<'a, A: Allocator + Clone> MapReader<'a, A> {
+    /// Reads `N NAME [class CLASS]`, after `device`.
     #[tactic(auto, unfolding(crate::specs::Reads::line_at))]
     pub(crate) fn device(&mut self) -> Result<(), TextFault>
         requires { HasRoomFor Opening.Device self.old.builder }
@@ -36,6 +37,7 @@ impl<'a, A: Allocator + Clone> MapReader<'a, A> {
             .map_err(|_| memory_at(name.place))
     }
 
+    /// Reads an id that no device has yet.
     #[tactic(auto, unfolding(crate::specs::Reads::word_at))]
     fn device_id(&mut self) -> Result<DeviceId, TextFault>
         ensures { FindsValue device_id (λ n. n) self.old self.new result }

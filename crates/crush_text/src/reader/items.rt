@@ -1,4 +1,4 @@
-//! The items of a bucket.
+//! Reads the items of a bucket.
 
 ghost use Rattle.std.specs.Prelude.{◌≡◌, true, false, IfOk, IfSome, Some};
 ghost use Rattle.crush_builder.specs.Built.{Draft};
@@ -10,7 +10,7 @@ ghost use Rattle.crush_text.specs.Grammar.{item_line, item_weight_line, line_for
 ghost use Rattle.crush_text.specs.Flow.{between, placed};
 ghost use Rattle.crush_text.specs.Tests.{word_for};
 ghost use Rattle.crush_text.specs.Room.{IsFreeItem};
-ghost use Rattle.crush_text.specs.Reads.{own_weight};
+ghost use Rattle.crush_text.specs.Reads.{parsed_weight};
 ghost use Rattle.crush_text.specs.ReadsWords.{ReadsValue, AnyDraft};
 ghost use Rattle.crush_text.specs.ReadsLines.{IsAmid, behind_item, ReadsLine, ReadsOn, CanTake, PutsItem};
 
@@ -22,6 +22,7 @@ use crush_units::{ItemId, Reader, Weight};
 use std::alloc::Allocator;
 
 impl<'a, A: Allocator + Clone> MapReader<'a, A> {
+    /// Reads the items, and the bucket's closing brace after them.
     pub(crate) fn items(&mut self) -> Result<(), TextFault>
         requires { IsAmid is_filling self.old.builder }
         ensures { ReadsOn (λ d. between (at (filling false) d)) (λ _. second)
@@ -34,7 +35,8 @@ impl<'a, A: Allocator + Clone> MapReader<'a, A> {
         Ok(())
     }
 
-    /// Answers whether it was an item.
+    /// Reads an item or the closing brace, and returns whether it was an item. `any` says that an
+    /// item was read before it.
     #[tactic(auto, unfolding(crate::specs::Reads::line_at))]
     fn item_or_end(&mut self, any: bool) -> Result<bool, TextFault>
         requires { IsAmid is_filling self.old.builder }
@@ -49,7 +51,8 @@ impl<'a, A: Allocator + Clone> MapReader<'a, A> {
         Ok(true)
     }
 
-    /// Without a weight, faults are at the item's name.
+    /// Reads `NAME [weight WEIGHT]`, after `item`. If the item has no weight, a sum that is too
+    /// large is reported at its name, otherwise at its weight.
     fn item(&mut self) -> Result<(), TextFault>
         requires { IsAmid is_filling self.old.builder }
         ensures { ReadsLine item_line (λ _. filling true) self.old self.new result }
@@ -62,17 +65,19 @@ impl<'a, A: Allocator + Clone> MapReader<'a, A> {
         add_item(name, item, None, &mut self.builder)
     }
 
+    /// Reads the item's weight, and puts the item into the bucket.
     fn weight(&mut self, item: ItemId) -> Result<(), TextFault>
         requires { CanTake item self.old.builder }
         ensures { ReadsLine (λ d. item_weight_line d item) (λ _. filling true)
             self.old self.new result }
     {
         let word = next_word(&mut self.text)?;
-        let weight = own_weight(word, &item)?;
+        let weight = parsed_weight(word, &item)?;
         add_item(word, item, Some(weight), &mut self.builder)
     }
 }
 
+/// Puts the item into the bucket that is being read; a fault has the place of `word`.
 fn add_item<A: Allocator>(
     word: PlacedWord<'_>,
     item: ItemId,
@@ -90,10 +95,10 @@ fn add_item<A: Allocator>(
     }
 }
 
-/// A device's is at most 2147483647 units.
-fn own_weight(word: PlacedWord<'_>, item: &ItemId) -> Result<Weight, TextFault>
+/// Returns the weight that the word spells for this item. A device's is at most 2147483647 units.
+fn parsed_weight(word: PlacedWord<'_>, item: &ItemId) -> Result<Weight, TextFault>
     ensures weighs { (d : Draft)
-        → result ≡ placed word.entry.place (own_weight d item.now word.entry.text.now) }
+        → result ≡ placed word.entry.place (parsed_weight d item.now word.entry.text.now) }
     ensures light { IfOk result (λ w. is_heavy_device item.now (Some w) ≡ false) }
 {
     if word.is_brace() {
@@ -108,7 +113,8 @@ fn own_weight(word: PlacedWord<'_>, item: &ItemId) -> Result<Weight, TextFault>
     Ok(weight)
 }
 
-/// `pos` behind an item isn't read.
+/// Reads `item` or `}`, and returns whether it was `item`. `pos` after an item is refused, since
+/// positions aren't supported.
 #[tactic(auto, unfolding(crate::specs::Reads::word_at))]
 fn read_item_or_end(reader: &mut Reader<'_>, any: bool) -> Result<bool, TextFault>
     ensures { ReadsValue (item_or_end any) (λ more. more) AnyDraft reader.old reader.new result }
@@ -125,7 +131,8 @@ fn read_item_or_end(reader: &mut Reader<'_>, any: bool) -> Result<bool, TextFaul
     }
 }
 
-/// The device or the closed bucket, which no bucket holds.
+/// Returns the item with this name: a device, or a bucket that was read to its end, which no bucket
+/// holds yet.
 fn free_item<A: Allocator>(
     word: PlacedWord<'_>,
     builder: &MapBuilder<A>,
@@ -144,6 +151,7 @@ fn free_item<A: Allocator>(
     }
 }
 
+/// Returns the device, or the bucket that was read to its end, with this name.
 fn item_named<A: Allocator>(builder: &MapBuilder<A>, name: &[u8]) -> Option<ItemId>
     ensures value { (d : Draft) → IsDraft builder.now d → result ≡ item_named d name.now }
     ensures closed { IfSome result (λ i. (d : Draft) → IsDraft builder.now d

@@ -1,4 +1,4 @@
-//! Words that several statements have.
+//! Reads words that occur in several kinds of statements.
 
 ghost use Rattle.crush_text.specs.Role.{key, any_word, number, new_name};
 ghost use Rattle.crush_text.specs.ReadsWords.{FindsWord, ReadsWord, ReadsValue, AnyDraft};
@@ -10,6 +10,7 @@ use crush_units::Reader;
 use crush_units::number::number_up_to;
 use std::alloc::Allocator;
 
+/// Reads exactly this word.
 #[tactic(auto, unfolding(crate::specs::Reads::word_at))]
 pub(crate) fn read_key(reader: &mut Reader<'_>, expected: &[u8]) -> Result<(), TextFault>
     ensures { ReadsValue (key expected.now) (λ x. x) AnyDraft reader.old reader.new result }
@@ -22,7 +23,7 @@ pub(crate) fn read_key(reader: &mut Reader<'_>, expected: &[u8]) -> Result<(), T
     }
 }
 
-/// Any word but a brace.
+/// Reads any word except a brace.
 #[tactic(auto, unfolding(crate::specs::Reads::word_at))]
 pub(crate) fn read_word<'a>(reader: &mut Reader<'a>) -> Result<PlacedWord<'a>, TextFault>
     ensures { ReadsWord any_word AnyDraft reader.old reader.new result }
@@ -34,6 +35,7 @@ pub(crate) fn read_word<'a>(reader: &mut Reader<'a>) -> Result<PlacedWord<'a>, T
     Ok(word)
 }
 
+/// Reads a number from 0 to `most`.
 #[tactic(auto, unfolding(crate::specs::Reads::word_at))]
 pub(crate) fn read_number(reader: &mut Reader<'_>, most: u32) -> Result<u32, TextFault>
     ensures { ReadsValue (number most) (λ n. n) AnyDraft reader.old reader.new result }
@@ -46,7 +48,7 @@ pub(crate) fn read_number(reader: &mut Reader<'_>, most: u32) -> Result<u32, Tex
 }
 
 impl<'a, A: Allocator> MapReader<'a, A> {
-    /// Of no device and no bucket.
+    /// Reads a name that no device and no bucket has yet.
     #[tactic(auto, unfolding(crate::specs::Reads::word_at))]
     pub(crate) fn new_name(&mut self) -> Result<PlacedWord<'a>, TextFault>
         ensures { FindsWord new_name self.old self.new result }

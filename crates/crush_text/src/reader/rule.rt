@@ -1,4 +1,4 @@
-//! The lines of a rule.
+//! Reads a rule.
 
 ghost use Rattle.std.specs.Prelude.{◌≡◌, ◌⊎◌, ◌≤◌, ◌<◌, length, true, IfOk, IfErr, IfSome, OnOk, Ok};
 ghost use Rattle.crush_units.specs.Name.{IsName};
@@ -29,7 +29,8 @@ use crush_units::number::number_up_to;
 use std::alloc::{Allocator, Global};
 
 impl<'a, A: Allocator> MapReader<'a, A> {
-    /// What is read of it so far is in the machine's memory.
+    /// Reads a rule to its closing brace, after `rule`. Until the rule is complete, it is kept in
+    /// the machine's memory and the map doesn't have it.
     pub(crate) fn rule(&mut self) -> Result<(), TextFault>
         requires { HasRoomFor Opening.Rule self.old.builder }
         ensures { ReadsOn (λ d. arrive d self.old.text.words (rule_line d)) (λ _. second)
@@ -42,6 +43,7 @@ impl<'a, A: Allocator> MapReader<'a, A> {
             .map_err(|refused| out_of_memory_at(place, refused.fault))
     }
 
+    /// Reads the rule up to its first step, and returns it without steps.
     #[tactic(auto, unfolding(crate::specs::Reads::line_at))]
     fn rule_head(&mut self) -> Result<Rule, TextFault>
         ensures { ReadsHead self.old self.new result }
@@ -54,10 +56,10 @@ impl<'a, A: Allocator> MapReader<'a, A> {
         let kind = read_word(&mut self.text)?;
         let min_size = read_size(&mut self.text, b"min_size")?;
         let max_size = read_size(&mut self.text, b"max_size")?;
-        own_head(name, id, kind, (min_size, max_size), self.machine)
+        rule_head_values(name, id, kind, (min_size, max_size), self.global)
     }
 
-    /// Answers the place of the closing brace.
+    /// Reads all steps into the rule, and returns the place of the closing brace.
     fn steps(&mut self, rule: &mut Rule) -> Result<usize, TextFault>
         requires { IsRightSoFar self.old.builder rule.old }
         ensures { ReadsSteps rule.old rule.new self.old self.new result }
@@ -69,7 +71,8 @@ impl<'a, A: Allocator> MapReader<'a, A> {
         }
     }
 
-    /// `None` behind a step.
+    /// Reads a step into the rule and returns `None`, or reads the closing brace and returns its
+    /// place.
     #[tactic(auto, unfolding(crate::specs::Reads::line_at))]
     fn step_or_end(&mut self, rule: &mut Rule) -> Result<Option<usize>, TextFault>
         requires { IsRightSoFar self.old.builder rule.old }
@@ -112,13 +115,14 @@ impl<'a, A: Allocator> MapReader<'a, A> {
     }
 }
 
-/// The sizes are the least and the largest.
-fn own_head(
+/// Returns a rule without steps, with copies of its name and its `type` word. `sizes` are the least
+/// and the largest pool size.
+fn rule_head_values(
     name: PlacedWord<'_>,
     id: u32,
     kind: PlacedWord<'_>,
     sizes: (Option<u32>, Option<u32>),
-    machine: Global,
+    global: Global,
 ) -> Result<Rule, TextFault>
     requires name { IsName name.text.now }
     requires id { id ≤ LARGEST_RULE_NUMBER }
@@ -131,18 +135,19 @@ fn own_head(
     ensures memory { IfErr result
         (λ f. IsOutOfMemory f × ((f.place ≡ name.entry.place) ⊎ (f.place ≡ kind.entry.place))) }
 {
-    let name = name.own_name(machine)?;
-    let kind = kind.own_name(machine)?;
+    let name = name.owned_name(global)?;
+    let kind = kind.owned_name(global)?;
     Ok(Rule {
         name,
         id,
         kind,
         min_size: sizes.0,
         max_size: sizes.1,
-        steps: Vec::new(machine),
+        steps: Vec::new(global),
     })
 }
 
+/// Reads the key `size` and a number, if this key is the next word.
 #[tactic(auto, unfolding(crate::specs::Reads::line_at))]
 fn read_size(reader: &mut Reader<'_>, size: &[u8]) -> Result<Option<u32>, TextFault>
     ensures { ReadsSize size.now reader.old reader.new result }
@@ -154,6 +159,7 @@ fn read_size(reader: &mut Reader<'_>, size: &[u8]) -> Result<Option<u32>, TextFa
     Ok(Some(number))
 }
 
+/// Reads `step`, for which the rule must have room, or `}`.
 #[tactic(auto, unfolding(crate::specs::Reads::word_at))]
 fn read_step_or_end<'a>(
     reader: &mut Reader<'a>,
@@ -184,7 +190,7 @@ impl<'a> PlacedWord<'a> {
     }
 }
 
-/// `id`, or `ruleset` as older releases of Ceph print.
+/// Reads `id`, or `ruleset`, which older releases of Ceph print instead.
 #[tactic(auto, unfolding(crate::specs::Reads::word_at))]
 fn read_rule_id_key(reader: &mut Reader<'_>) -> Result<(), TextFault>
     ensures { ReadsValue rule_id_key (λ x. x) AnyDraft reader.old reader.new result }

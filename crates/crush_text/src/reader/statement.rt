@@ -1,4 +1,4 @@
-//! Statements, one after the other.
+//! Reads all statements, one after the other.
 
 ghost use Rattle.std.specs.Prelude.{◌≡◌, Ok, Err, false, if◌then◌else◌, IfOk};
 ghost use Rattle.crush_text.specs.declared.fault.TextFaultKind.TheVariants.{TooMany};
@@ -17,6 +17,7 @@ use crush_units::Token;
 use std::alloc::Allocator;
 
 impl<'a, A: Allocator + Clone> MapReader<'a, A> {
+    /// Reads all statements, to the end of the text.
     pub(crate) fn statements(&mut self) -> Result<(), TextFault>
         requires { IsIdle self.old.builder }
         ensures { ReadsAll self.old self.new result }
@@ -28,7 +29,8 @@ impl<'a, A: Allocator + Clone> MapReader<'a, A> {
         Ok(())
     }
 
-    /// Whether only buckets and rules may follow; `None` at the end of the text.
+    /// Reads the next statement, and returns whether only buckets and rules may follow it; returns
+    /// `None` at the end of the text. `late` says that a bucket or a rule was read before.
     fn next_statement(&mut self, late: bool) -> Result<Option<bool>, TextFault>
         requires { IsIdle self.old.builder }
         ensures { ReadsNext late self.old self.new result }
@@ -47,6 +49,8 @@ impl<'a, A: Allocator + Clone> MapReader<'a, A> {
         }
     }
 
+    /// Reads the statement after its first word, and returns whether only buckets and rules may
+    /// follow it.
     fn statement(&mut self, opening: Opening, word: &[u8]) -> Result<bool, TextFault>
         requires { CanOpen opening word.now self.old.builder }
         ensures { ReadsOn (λ d. arrive d self.old.text.words (statement d opening)) behind
@@ -76,7 +80,8 @@ impl<'a, A: Allocator + Clone> MapReader<'a, A> {
         }
     }
 
-    /// `late` is behind the first bucket or rule.
+    /// Returns which kind of statement the word begins, if the map has room for one more of this
+    /// kind. `late` says that a bucket or a rule was read before.
     fn opening_of(&self, word: PlacedWord<'_>, late: bool) -> Result<Opening, TextFault>
         ensures { Opens word.entry late self.now.builder result }
     {
@@ -111,19 +116,22 @@ impl<'a, A: Allocator + Clone> MapReader<'a, A> {
     }
 }
 
-/// Tunables, devices and types come before the buckets and the rules.
+/// Whether the word can't begin a statement here. Tunables, devices and types must come before the
+/// first bucket or rule (`late` says that one was read).
 pub(crate) fn is_out_of_place(word: PlacedWord<'_>, late: bool) -> bool
     ensures { result ≡ is_out_of_place late word.entry.text.now }
 {
     word.is(b"{") || word.is(b"}") || word.is(b"class") || (late && comes_first(word))
 }
 
+/// Whether the word begins a statement that must come before the buckets and the rules.
 pub(crate) fn comes_first(word: PlacedWord<'_>) -> bool
     ensures { result ≡ comes_first word.entry.text.now }
 {
     word.is(b"tunable") || word.is(b"device") || word.is(b"type")
 }
 
+/// Returns `opening`, or `TooMany` at the word if the map is full of this kind of statement.
 fn with_room(word: PlacedWord<'_>, opening: Opening, full: bool) -> Result<Opening, TextFault>
     ensures opens { result ≡ placed word.entry.place (if full then Err TooMany else Ok opening) }
     ensures room { IfOk result (λ o. (o ≡ opening) × (full ≡ false)) }

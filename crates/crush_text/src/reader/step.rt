@@ -1,4 +1,4 @@
-//! The steps of a rule.
+//! Reads a step of a rule.
 
 ghost use Rattle.std.specs.Prelude.{◌≡◌, ◌≤◌, length, IfOk, OnOk, nat_eq, true, Some, None, if◌then◌else◌, codes};
 ghost use Rattle.std.specs.List.{starts_with};
@@ -23,18 +23,21 @@ use crush_units::number::number_up_to;
 use crush_units::{Name, Reader};
 use std::alloc::{Allocator, Global};
 
+/// What the first word of a step says.
 #[derive(Clone, Copy)]
 pub(crate) enum FirstOfStep<'a> {
     Take,
     Choose {
-        /// `chooseleaf`, which chooses devices.
+        /// Whether it is `chooseleaf`, which chooses devices.
         leaf: bool,
     },
+    /// A word that begins with `set_`.
     Set(PlacedWord<'a>),
     Emit,
 }
 
 impl<'a, A: Allocator> MapReader<'a, A> {
+    /// Reads a step, after `step`.
     #[tactic(auto, unfolding(crate::specs::Reads::line_at))]
     pub(crate) fn step(&mut self) -> Result<Step, TextFault>
         ensures { GivesStep (λ d r. word step_word (step_behind d r)) self.old self.new result }
@@ -43,27 +46,29 @@ impl<'a, A: Allocator> MapReader<'a, A> {
             FirstOfStep::Take => self.take(),
             FirstOfStep::Choose { leaf } => self.choose(leaf),
             FirstOfStep::Set(word) => {
-                let name = word.own_name(self.machine)?;
+                let name = word.owned_name(self.global)?;
                 read_set(&mut self.text, name)
             }
             FirstOfStep::Emit => Ok(Step::Emit),
         }
     }
 
+    /// Reads `BUCKET [class CLASS]`, after `take`.
     #[tactic(auto, unfolding(crate::specs::Reads::line_at))]
     fn take(&mut self) -> Result<Step, TextFault>
         ensures { GivesStep take_step self.old self.new result }
     {
         let bucket = self.taken_bucket()?;
-        let bucket = bucket.own_name(self.machine)?;
+        let bucket = bucket.owned_name(self.global)?;
         if !self.text.take_key(b"class") {
             return Ok(Step::Take(bucket, None));
         }
         let class = read_word(&mut self.text)?;
-        let class = class.own_name(self.machine)?;
+        let class = class.owned_name(self.global)?;
         Ok(Step::Take(bucket, Some(class)))
     }
 
+    /// Reads `(firstn | indep) N type TYPE`, after `choose` or `chooseleaf`.
     #[tactic(auto, unfolding(crate::specs::Reads::line_at))]
     fn choose(&mut self, leaf: bool) -> Result<Step, TextFault>
         ensures { GivesStep (λ d r. choose_step d r leaf) self.old self.new result }
@@ -72,7 +77,7 @@ impl<'a, A: Allocator> MapReader<'a, A> {
         let count = read_count(&mut self.text)?;
         read_key(&mut self.text, b"type")?;
         let kind = self.step_type()?;
-        let kind = kind.own_name(self.machine)?;
+        let kind = kind.owned_name(self.global)?;
         Ok(Step::Choose {
             leaf,
             firstn,
@@ -81,6 +86,7 @@ impl<'a, A: Allocator> MapReader<'a, A> {
         })
     }
 
+    /// Reads the name of a bucket that was read before.
     #[tactic(auto, unfolding(crate::specs::Reads::word_at))]
     fn taken_bucket(&mut self) -> Result<PlacedWord<'a>, TextFault>
         ensures { FindsWord taken_bucket self.old self.new result }
@@ -92,6 +98,7 @@ impl<'a, A: Allocator> MapReader<'a, A> {
         }
     }
 
+    /// Reads the name of a declared type.
     #[tactic(auto, unfolding(crate::specs::Reads::word_at))]
     fn step_type(&mut self) -> Result<PlacedWord<'a>, TextFault>
         ensures { FindsWord step_type self.old self.new result }
@@ -104,6 +111,7 @@ impl<'a, A: Allocator> MapReader<'a, A> {
     }
 }
 
+/// Reads the number after a word that begins with `set_`, and returns the step.
 #[tactic(auto, unfolding(crate::specs::Reads::line_at))]
 fn read_set(reader: &mut Reader<'_>, name: Name<Global>) -> Result<Step, TextFault>
     requires sets { starts_with nat_eq name (codes "set_") ≡ true }
@@ -118,7 +126,7 @@ fn read_set(reader: &mut Reader<'_>, name: Name<Global>) -> Result<Step, TextFau
     Ok(Step::Set(name, value))
 }
 
-/// Steps of MSR rules (`choosemsr`) aren't read.
+/// Reads the first word of a step. `choosemsr` is refused, since MSR rules aren't supported.
 #[tactic(auto, unfolding(crate::specs::Reads::word_at))]
 fn read_first<'a>(reader: &mut Reader<'a>) -> Result<FirstOfStep<'a>, TextFault>
     ensures word { ReadsValue step_word first_of_step AnyDraft reader.old reader.new result }
@@ -142,13 +150,15 @@ fn read_first<'a>(reader: &mut Reader<'a>) -> Result<FirstOfStep<'a>, TextFault>
     }
 }
 
+/// Whether the text begins with `set_`.
 fn sets(text: &[u8]) -> bool
     ensures { result ≡ starts_with nat_eq text.now (codes "set_") }
 {
     matches!(text, [b's', b'e', b't', b'_', ..])
 }
 
-/// Whether a lost item moves the others up, `firstn`, or each keeps its place, `indep`.
+/// Reads `firstn` or `indep`, and returns whether it was `firstn`. If an item is lost, the items
+/// after it move up with `firstn`, and keep their positions with `indep`.
 #[tactic(auto, unfolding(crate::specs::Reads::word_at))]
 fn read_order(reader: &mut Reader<'_>) -> Result<bool, TextFault>
     ensures { ReadsValue step_order (λ b. b) AnyDraft reader.old reader.new result }
@@ -163,7 +173,7 @@ fn read_order(reader: &mut Reader<'_>) -> Result<bool, TextFault>
     }
 }
 
-/// From -2147483648 to 2147483647.
+/// Reads a number from -2147483648 to 2147483647.
 #[tactic(auto, unfolding(crate::specs::Reads::word_at))]
 fn read_count(reader: &mut Reader<'_>) -> Result<i32, TextFault>
     ensures { ReadsValue step_count (λ n. n) AnyDraft reader.old reader.new result }
@@ -175,6 +185,7 @@ fn read_count(reader: &mut Reader<'_>) -> Result<i32, TextFault>
     }
 }
 
+/// Returns the number from -2147483648 to 2147483647 that the text spells, if it spells one.
 fn signed_number(text: &[u8]) -> Option<i32>
     ensures { result ≡ (if is_signed text.now then Some (signed_value text.now) else None) }
 {

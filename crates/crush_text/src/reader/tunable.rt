@@ -1,4 +1,4 @@
-//! The line of a tunable.
+//! Reads the line of a tunable.
 
 ghost use Rattle.crush_text.specs.Role.{tunable_name};
 ghost use Rattle.crush_text.specs.Form.{first};
@@ -15,6 +15,7 @@ use crush_units::limits::LARGEST_TUNABLE;
 use std::alloc::Allocator;
 
 impl<'a, A: Allocator> MapReader<'a, A> {
+    /// Reads `NAME N`, after `tunable`.
     #[tactic(auto, unfolding(crate::specs::Reads::line_at))]
     pub(crate) fn tunable(&mut self) -> Result<(), TextFault>
         requires { HasRoomFor Opening.Tunable self.old.builder }
@@ -27,6 +28,7 @@ impl<'a, A: Allocator> MapReader<'a, A> {
             .map_err(|fault| out_of_memory_at(name.place, fault))
     }
 
+    /// Reads a name that no tunable has yet.
     #[tactic(auto, unfolding(crate::specs::Reads::word_at))]
     fn tunable_name(&mut self) -> Result<PlacedWord<'a>, TextFault>
         ensures { FindsWord tunable_name self.old self.new result }

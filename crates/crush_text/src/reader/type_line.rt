@@ -1,4 +1,4 @@
-//! The line of a type.
+//! Reads the line of a type.
 
 ghost use Rattle.crush_text.specs.Role.{type_number, type_name};
 ghost use Rattle.crush_text.specs.Form.{first};
@@ -18,6 +18,7 @@ use crush_units::number::number_up_to;
 use std::alloc::Allocator;
 
 impl<'a, A: Allocator> MapReader<'a, A> {
+    /// Reads `N NAME`, after `type`.
     #[tactic(auto, unfolding(crate::specs::Reads::line_at))]
     pub(crate) fn kind(&mut self) -> Result<(), TextFault>
         requires { HasRoomFor Opening.Type self.old.builder }
@@ -30,6 +31,7 @@ impl<'a, A: Allocator> MapReader<'a, A> {
             .map_err(|fault| out_of_memory_at(name.place, fault))
     }
 
+    /// Reads a number that no type has yet.
     #[tactic(auto, unfolding(crate::specs::Reads::word_at))]
     fn type_number(&mut self) -> Result<TypeId, TextFault>
         ensures { FindsValue type_number (λ n. n) self.old self.new result }
@@ -45,7 +47,8 @@ impl<'a, A: Allocator> MapReader<'a, A> {
         Ok(number)
     }
 
-    /// Only type 0 may have one of the grammar's words.
+    /// Reads a name that no type has yet. Only type 0 may have one of the grammar's words as its
+    /// name.
     #[tactic(auto, unfolding(crate::specs::Reads::word_at))]
     fn type_name(&mut self, number: TypeId) -> Result<PlacedWord<'a>, TextFault>
         ensures { FindsWord (type_name number) self.old self.new result }

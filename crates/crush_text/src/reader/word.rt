@@ -1,4 +1,4 @@
-//! One word of a map's text.
+//! Reads one word of a map's text.
 
 ghost use Rattle.std.specs.Prelude.{◌≡◌, IfOk, IfErr, bytes_eq};
 ghost use Rattle.crush_units.specs.Name.{IsName};
@@ -11,12 +11,14 @@ use crush_builder::BuildFault;
 use crush_units::{Name, Reader, Token};
 use std::alloc::Global;
 
+/// A word, and the index of its first byte in the text.
 #[derive(Clone, Copy)]
 pub(crate) struct PlacedWord<'a> {
     pub(crate) place: usize,
     pub(crate) text: &'a [u8],
 }
 
+/// Reads the next word, which may be a brace. The end of the text is a fault.
 #[tactic(auto, unfolding(crate::specs::Reads::next_at))]
 pub(crate) fn next_word<'a>(reader: &mut Reader<'a>) -> Result<PlacedWord<'a>, TextFault>
     ensures { TakesWord reader.old reader.new result }
@@ -34,6 +36,7 @@ pub(crate) fn next_word<'a>(reader: &mut Reader<'a>) -> Result<PlacedWord<'a>, T
     }
 }
 
+/// Returns the fault that memory ran out at this place.
 pub(crate) fn memory_at(place: usize) -> TextFault
     ensures { result ≡ record { kind = OutOfMemory; place = place } }
 {
@@ -43,7 +46,8 @@ pub(crate) fn memory_at(place: usize) -> TextFault
     }
 }
 
-/// The builder can lack nothing but memory here.
+/// Returns the fault of a step of the builder at this place. The word was checked before the step,
+/// so the builder's only possible fault is out of memory.
 pub(crate) fn out_of_memory_at(place: usize, fault: BuildFault) -> TextFault
     requires { fault ≡ BuildFault.OutOfMemory }
     ensures { result ≡ record { kind = OutOfMemory; place = place } }
@@ -55,6 +59,7 @@ pub(crate) fn out_of_memory_at(place: usize, fault: BuildFault) -> TextFault
 }
 
 impl<'a> PlacedWord<'a> {
+    /// Returns a fault of this kind at the word's place.
     pub(crate) fn fault(self, kind: TextFaultKind) -> TextFault
         ensures { result ≡ record { kind = kind; place = self.entry.place } }
     {
@@ -76,13 +81,14 @@ impl<'a> PlacedWord<'a> {
         self.is(b"{") || self.is(b"}")
     }
 
-    pub(crate) fn own_name(self, machine: Global) -> Result<Name<Global>, TextFault>
+    /// Returns a copy of the word as a name, or out of memory at the word's place.
+    pub(crate) fn owned_name(self, global: Global) -> Result<Name<Global>, TextFault>
         requires { IsName self.text.now }
         ensures name { IfOk result (λ name. name ≡ self.entry.text.now) }
         ensures memory { IfErr result
             (λ f. f ≡ record { kind = OutOfMemory; place = self.entry.place }) }
     {
-        match Name::read(machine, self.text) {
+        match Name::read(global, self.text) {
             Ok(name) => Ok(name),
             Err(_) => Err(self.fault(TextFaultKind::OutOfMemory)),
         }

@@ -29,8 +29,8 @@ returns-in_err-addition g c =
     when_short _ _ _ _ c.from_residual-in_err-addition.ensures.1 c.in_err-addition.ensures.adds.err
     (λ t st. (1, _, add_bucket_done c.args.setting.now t c.args.name.now c.args.kind.now c.in_ok-number.number c.first_free-id.result st.lawful (c.in_ok-number.ensures.can t st) (c.first_free-id.ensures t st)))
 
-pub bring-requires : goal.bring-requires
-bring-requires g c = record {
+pub add_logged-requires : goal.add_logged-requires
+add_logged-requires g c = record {
   there = refl;
   sums = search rules;
   kind = search rules;
@@ -47,6 +47,6 @@ returns g c =
     (λ t st. (
       t ++ bucket_row None (new_header (record { id = c.first_free-id.result; kind = c.in_ok-number.number; name = c.args.name.now })) ∷ [],
       add_bucket_done c.args.setting.now t c.args.name.now c.args.kind.now c.in_ok-number.number c.first_free-id.result st.lawful (c.in_ok-number.ensures.can t st) (c.first_free-id.ensures t st),
-      subst (λ (n : Items). Stands c.bring.new.hierarchy (t ++ rows None n)) c.in_ok-node.ensures (c.in_ok-addition.ensures.adds.stands t st),
+      subst (λ (n : Items). Stands c.add_logged.new.hierarchy (t ++ rows None n)) c.in_ok-node.ensures (c.in_ok-addition.ensures.adds.stands t st),
     ))
     c.in_ok-addition.ensures.goes

@@ -16,11 +16,11 @@ use Rattle.crush_apply.specs.UndoLog.{AnswersLogged, AnswersLoggedIf}
 use Rattle.crush_apply.proofs.RolledBack.{noted_anyway}
 use Rattle.crush_apply.proofs.apply.make.Goals as goal
 
--- the edit e is d
+-- if the edits e and d are equal, what is promised for d is promised for e
 made : {A : Type 0} (s : SettingData) (e d : Edit) (logged : Bool) (f g : ForestData) (x : Result (Done × Option (Undo A)) EditFault) → e ≡ d → AnswersLoggedIf logged (takes_memory d) (λ t. edit s t d) f g x → AnswersLoggedIf logged (takes_memory e) (λ t. edit s t e) f g x
 made s e d logged f g x is told = subst (λ z. AnswersLoggedIf logged (takes_memory z) (λ t. edit s t z) f g x) (sym is) told
 
--- of which it is noted anyway what takes it back
+-- the same for a call that always returns what undoes the edit
 noted : {A : Type 0} (s : SettingData) (e d : Edit) (logged : Bool) (f g : ForestData) (x : Result (Done × Option (Undo A)) EditFault) → e ≡ d → AnswersLogged (λ t. edit s t d) f g x → (x ≡ Err OutOfMemory → takes_memory d ≡ true) → AnswersLoggedIf logged (takes_memory e) (λ t. edit s t e) f g x
 noted s e d logged f g x is told memory = made s e d logged f g x is (noted_anyway logged (takes_memory d) (λ t. edit s t d) f g x told memory)
 

@@ -26,7 +26,7 @@ pub set_class-old-requires : goal.set_class-old-requires
 set_class-old-requires g c =
     there_by_name (rows_of c.args.hierarchy.now) c.args.name.now (Device c.in_ok-device.device) (c.in_ok-device.ensures.can (rows_of c.args.hierarchy.now) (stands_for_rows c.args.hierarchy.now c.recall_invariant.ensures))
 
--- no class
+-- the device had no class
 none_had : (k : Option (List ℕ)) → is_some k ≡ false → k ≡ None
 none_had None e = refl
 none_had (Some k) e = absurd cc

@@ -15,7 +15,7 @@ use Rattle.crush_apply.proofs.RolledBack.{class_given, when_short, when_unnoted}
 use Rattle.crush_apply.proofs.Weights.{refused_edit}
 use Rattle.crush_apply.proofs.classes.set_class.Goals as goal
 
--- the device that is to get a class is there
+-- the forest has the device that is to get a class
 there_to_get : (f : ForestData) (n class : List ℕ) (d : ℕ) → IsSound f → ((t : List Row) → Stands f t → GetsClass t n class (Some d)) → is_there (rows_of f) (Device d) ≡ true
 there_to_get f n class d sound can = there_by_name (rows_of f) n (Device d) (can (rows_of f) (stands_for_rows f sound)).named
 

@@ -2,7 +2,7 @@ use Rattle.std.proofs.Common.{◌≡◌, ℕ, rules, refl}
 use Rattle.crush_units.specs.declared.id.ItemId.{ItemId}
 use Rattle.crush_units.specs.declared.id.ItemId.TheVariants.{Device, Bucket}
 use Rattle.crush_model.specs.Forest.{ForestData}
-use Rattle.crush_hierarchy.specs.Taking.{StandsAlone}
+use Rattle.crush_hierarchy.specs.Removing.{StandsAlone}
 use Rattle.crush_apply.proofs.Found.{found_there}
 use Rattle.crush_apply.proofs.remove.check_remove.Goals as goal
 

@@ -11,8 +11,8 @@ use Rattle.crush_apply.proofs.Singles.{remove_done}
 use Rattle.crush_apply.proofs.Weights.{refused_edit}
 use Rattle.crush_apply.proofs.remove.remove.Goals as goal
 
-pub take-requires-clause-there : goal.take-requires-clause-there
-take-requires-clause-there g c = there_by_name (rows_of c.args.hierarchy.now) c.args.name.now c.in_ok-id.id (c.in_ok-id.ensures.can (rows_of c.args.hierarchy.now) (stands_for_rows c.args.hierarchy.now c.recall_invariant.ensures)).named
+pub remove_logged-requires-clause-there : goal.remove_logged-requires-clause-there
+remove_logged-requires-clause-there g c = there_by_name (rows_of c.args.hierarchy.now) c.args.name.now c.in_ok-id.id (c.in_ok-id.ensures.can (rows_of c.args.hierarchy.now) (stands_for_rows c.args.hierarchy.now c.recall_invariant.ensures)).named
 
 pub unreachable-requires : goal.unreachable-requires
 unreachable-requires g c =
@@ -25,15 +25,15 @@ returns-in_err-id g c = noted_anyway _ _ _ _ _ _
     (when_unnoted _ _ _ _ _ c.from_residual.ensures.1 refl (λ t st. refused_edit c.args.setting.now t (Remove c.args.name.now) _ (c.in_err-id.ensures.refused t st)))
     (λ is. absurd (no_want _ _ c.from_residual.ensures.1 is))
 
-pub returns-in_err-taken : goal.returns-in_err-taken
-returns-in_err-taken g c = noted_lacking _ _ _ _ _ _ c.if-logged.true c.from_residual-in_err-taken.ensures.1 c.in_err-taken.ensures.err
+pub returns-in_err-removed : goal.returns-in_err-removed
+returns-in_err-removed g c = noted_lacking _ _ _ _ _ _ c.if-logged.true c.from_residual-in_err-removed.ensures.1 c.in_err-removed.ensures.err
 
 pub returns-then-logged : goal.returns-then-logged
 returns-then-logged g c = noted_if _ _ _ _ _ _ _
     (when_changed _ _ _ _ (λ t st.
     let i = c.in_ok-id.id in
-    (table_without i t, remove_done c.args.setting.now t c.args.name.now i (c.in_ok-id.ensures.can t st), c.in_ok-taken.ensures.stands t st)))
-    (λ logged. record { can = c.in_ok-taken.ensures.can; is = c.in_ok-taken.ensures.back })
+    (table_without i t, remove_done c.args.setting.now t c.args.name.now i (c.in_ok-id.ensures.can t st), c.in_ok-removed.ensures.stands t st)))
+    (λ logged. record { can = c.in_ok-removed.ensures.can; is = c.in_ok-removed.ensures.back })
 
 pub returns : goal.returns
 returns g c = noted_if _ _ _ _ _ _ _

@@ -1,6 +1,6 @@
 use Rattle.std.proofs.Common.{sym, subst, ◌∙◌}
 use Rattle.crush_apply.specs.UndoLog.{Undoes}
-use Rattle.crush_apply.specs.UndoSteps.{Goes}
+use Rattle.crush_apply.specs.UndoSteps.{UndoesAddition}
 use Rattle.crush_apply.proofs.RolledBack.{weight_taken_back}
 use Rattle.crush_apply.proofs.undo_log.undo_one.Goals as goal
 
@@ -43,21 +43,21 @@ restore_name-requires g c = (subst (λ u. Undoes u c.args.hierarchy.now c.requir
 pub returns-in-Renamed : goal.returns-in-Renamed
 returns-in-Renamed g c = λ f back. c.restore_name.ensures ∙ sym (subst (λ u. Undoes u c.args.hierarchy.now f) c.in-Renamed.is back).is
 
-pub send_back-requires : goal.send_back-requires
-send_back-requires g c = (c.requires.0, subst (λ u. Undoes u c.args.hierarchy.now c.requires.0) c.in-Arrived.is c.requires.1)
+pub undo_addition-requires : goal.undo_addition-requires
+undo_addition-requires g c = (c.requires.0, subst (λ u. Undoes u c.args.hierarchy.now c.requires.0) c.in-Arrived.is c.requires.1)
 
 pub returns-in-Arrived : goal.returns-in-Arrived
-returns-in-Arrived g c = λ f back. c.send_back.ensures f (subst (λ u. Undoes u c.args.hierarchy.now f) c.in-Arrived.is back)
+returns-in-Arrived g c = λ f back. c.undo_addition.ensures f (subst (λ u. Undoes u c.args.hierarchy.now f) c.in-Arrived.is back)
 
 pub move_back-requires : goal.move_back-requires
 move_back-requires g c = let back = subst (λ u. Undoes u c.args.hierarchy.now c.requires.0) c.in-Moved.is c.requires.1 in (back.stood, back.back)
 
-pub send_back-requires-in-Moved : goal.send_back-requires-in-Moved
-send_back-requires-in-Moved g c =
+pub undo_addition-requires-in-Moved : goal.undo_addition-requires-in-Moved
+undo_addition-requires-in-Moved g c =
     let back = subst (λ u. Undoes u c.args.hierarchy.now c.requires.0) c.in-Moved.is c.requires.1 in
-    (c.requires.0, subst (λ z. Goes c.in-Moved.addition z c.requires.0) (sym (c.move_back.ensures back.stood back.back)) back.goes)
+    (c.requires.0, subst (λ z. UndoesAddition c.in-Moved.addition z c.requires.0) (sym (c.move_back.ensures back.stood back.back)) back.goes)
 
 pub returns-in-Moved : goal.returns-in-Moved
 returns-in-Moved g c = λ f h.
     let back = subst (λ u. Undoes u c.args.hierarchy.now f) c.in-Moved.is h in
-    c.send_back-in-Moved.ensures f (subst (λ z. Goes c.in-Moved.addition z f) (sym (c.move_back.ensures back.stood back.back)) back.goes)
+    c.undo_addition-in-Moved.ensures f (subst (λ z. UndoesAddition c.in-Moved.addition z f) (sym (c.move_back.ensures back.stood back.back)) back.goes)

@@ -5,7 +5,7 @@ use Rattle.crush_units.specs.Writes.{Writes}
 use Rattle.crush_units.proofs.Appending.{appends_both, less_of_both, then_less}
 use Rattle.crush_input.proofs.ending.write_ending.Goals as goal
 
--- a text, and then what becomes of another
+-- a text that was written, followed by a second one: the result of the second write is that of both
 then_writes : {X E : Type 0} (r : Result X E) (a b c : Option (List ℕ)) (x y : List ℕ) → Appends a b x → Writes r b c y → Writes r a c (x ++ y)
 then_writes (Ok v) a b c x y first second = appends_both a b c x y first second
 then_writes (Err e) a b c x y first second = then_less a b c x y first second

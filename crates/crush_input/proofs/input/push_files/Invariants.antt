@@ -4,7 +4,7 @@ use Rattle.crush_input.specs.Input.{IsJoined}
 use Rattle.crush_input.specs.Joined.{PartData, parts_of, with_scripts}
 use Rattle.crush_input.proofs.input.push_files.Given as goal
 
--- what is known of the job and the scripts so far was read, and those that are left come behind it
+-- the job and the scripts so far were read, as far as their bytes are known; the remaining scripts follow them
 abbrev pub invariant-loop-name : goal.invariant-loop-name
 invariant-loop-name g l = (known : Option (List ℕ)) (parts : List PartData) → IfSome known (λ b. IsJoined l.fn.job b parts)
     → (now : Option (List ℕ)) × (own : List PartData)

@@ -6,7 +6,7 @@ use Rattle.crush_input.proofs.Told.{kept_short}
 use Rattle.crush_units.specs.declared.limits.TheConstants.{LONGEST_JOB}
 use Rattle.crush_input.proofs.job.job_of.Goals as goal
 
--- what was read is the job, and what is told of its text was kept before a script ran
+-- what was read is the job, and what is kept of its text belongs to these bytes
 pub returns-in-Ok-weighed-clause-only : goal.returns-in-Ok-weighed-clause-only
 returns-in-Ok-weighed-clause-only g c = λ job is.
     let same = c.as_slice-text.ensures.value in

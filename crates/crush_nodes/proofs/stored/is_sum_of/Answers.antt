@@ -30,7 +30,7 @@ loop-node-preserved g c =
     ap weight_sum (items_of-taken ns i x c.loop-node-test.true c.node-item.is) ∙ weight_sum-join (items_of (take i ns)) (items_of (x ∷ [])) in
     omega (arith, c.loop-node.invariant, c.if-units-left.false, c.units-units.ensures.value, c.weight.ensures, more)
 
--- what is left of the sum where all is taken from it
+-- what is left of the sum after all weights are subtracted from it
 left_over : (l w s : ℕ) → l + w ≡ s → (l == 0) ≡ (w == s)
 left_over l w s e = grind (arith, eqb_tells)
 

@@ -5,6 +5,6 @@ use Rattle.crush_print.specs.Tree.{StepData}
 use Rattle.crush_print.specs.TreePart.{down_to}
 use Rattle.crush_print.proofs.part.steps_down_to.Given as goal
 
--- those kept so far, whatever is to come
+-- the steps kept so far, whatever steps follow
 abbrev pub invariant-loop-step : goal.invariant-loop-step
 invariant-loop-step g l = (rest : List StepData) → down_to l.kind None (map step_data (take l.step-index l.steps) ++ rest) ≡ map step_data l.kept.items ++ down_to l.kind l.closed rest

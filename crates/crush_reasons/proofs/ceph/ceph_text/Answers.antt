@@ -1,5 +1,6 @@
 use Rattle.std.proofs.Common.{◌++◌, ℕ, List, ap, ◌∙◌}
-use Rattle.crush_reasons.specs.Ceph.{ceph_heading, ceph_lines, ceph_text}
+use Rattle.crush_history.specs.Ceph.{ceph_heading}
+use Rattle.crush_reasons.specs.Ceph.{ceph_lines, ceph_text}
 use Rattle.crush_reasons.specs.Replay.{history_edits}
 use Rattle.crush_reasons.proofs.ceph.ceph_text.Goals as goal
 

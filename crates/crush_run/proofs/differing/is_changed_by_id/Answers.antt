@@ -4,7 +4,7 @@ use Rattle.crush_model.specs.Forest.{rows_of, IsSound}
 use Rattle.crush_model.proofs.Stands.{stands_for_rows}
 use Rattle.crush_run.proofs.differing.is_changed_by_id.Goals as goal
 
--- the other map stands for its rows
+-- the other map represents the table of its rows
 pub returns-in-Some : goal.returns-in-Some
 returns-in-Some c =
     let f = c.args.old.now.forest in

@@ -4,7 +4,7 @@ use Rattle.crush_model.specs.Forest.{rows_of, IsSound}
 use Rattle.crush_model.proofs.Stands.{stands_for_rows}
 use Rattle.crush_run.proofs.differing.is_named_changed.Goals as goal
 
--- the other map stands for its rows
+-- the other map represents the table of its rows
 pub returns : goal.returns
 returns c =
     let f = c.args.old.now.map.forest in

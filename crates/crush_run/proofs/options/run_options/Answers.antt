@@ -18,7 +18,7 @@ returns-in-Err-clause-fault g c = rw c.of_aborted.ensures.outcome (options_fault
 pub returns-clause-job : goal.returns-clause-job
 returns-clause-job g c = job_where_done c.run_read.result.outcome (job_bytes (g.F.Opens.content c.args.files.now) c.args.options.now (g.R.Read.remaining c.args.input.now)) c.in-Ok.ensures.job
 
--- it is the run of the job that was read, with what is asked for
+-- it is the run of the job that was read, with the selected output
 pub returns-clause-output : goal.returns-clause-output
 returns-clause-output g c = λ bytes job all is.
     let read = c.in-Ok.ensures.only bytes job all is in

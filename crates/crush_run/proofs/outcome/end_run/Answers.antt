@@ -5,7 +5,7 @@ use Rattle.crush_run.proofs.outcome.end_run.Goals as goal
 pub returns-in_default : goal.returns-in_default
 returns-in_default g c = memory_ends _ _ _ _ _ _ _ _ _ _ _ _ c.quietly.ensures.outcome c.quietly.ensures.quiet
 
--- it ends as what is written comes to
+-- the run ends with the outcome of its write
 pub returns : goal.returns
 returns g c =
     let w = c.write_outcome-outcome.ensures in

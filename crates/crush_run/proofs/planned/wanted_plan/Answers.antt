@@ -4,7 +4,7 @@ use Rattle.crush_model.specs.Forest.{rows_of, IsSound}
 use Rattle.crush_model.proofs.Stands.{stands_for_rows}
 use Rattle.crush_run.proofs.planned.wanted_plan.Goals as goal
 
--- the wanted map stands for its rows
+-- the wanted map represents the table of its rows
 pub returns-in-To : goal.returns-in-To
 returns-in-To c =
     let f = c.in-To.wanted.map.forest in

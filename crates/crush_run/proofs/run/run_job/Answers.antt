@@ -20,7 +20,7 @@ returns-in-Ok-clause-noted g c = ending_of_all c.args.request.now.mode no_origin
 pub returns-in-Ok-clause-fault : goal.returns-in-Ok-clause-fault
 returns-in-Ok-clause-fault g c = run_fault_of_all c.args.request.now.mode c.run_bytes.result.outcome _ _ (known_of_take _ _ c.in-Ok.ensures.bytes) c.run_bytes.ensures.fault
 
--- what was read is what was taken of the reader
+-- the bytes that were read are those that the reader has given
 pub returns-in-Ok-clause-taken : goal.returns-in-Ok-clause-taken
 returns-in-Ok-clause-taken g c = (c.in-Ok.bytes.items, c.in-Ok.ensures.few, c.in-Ok.ensures.consumed)
 

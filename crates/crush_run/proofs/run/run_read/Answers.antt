@@ -8,7 +8,7 @@ use Rattle.crush_run.proofs.Runs.{ended_early, kept_opening, left_ends}
 use Rattle.crush_run.proofs.Told.{outcome_fault_of_scripts, outcome_fault_of_writing}
 use Rattle.crush_run.proofs.run.run_read.Goals as goal
 
--- without room for the names nothing comes of the job
+-- without memory for the names, the run ends early
 pub returns-in_default-clause-ends : goal.returns-in_default-clause-ends
 returns-in_default-clause-ends g c = λ read stands.
     ended_early c.args.request.now.mode c.args.request.now.output read _ _ _ _ _ c.quietly.ensures.outcome tt
@@ -26,12 +26,12 @@ returns-in-Err-clause-fault g c = rw c.quietly-in-Err.ensures.outcome (outcome_f
 pub returns-in-Err-clause-noted : goal.returns-in-Err-clause-noted
 returns-in-Err-clause-noted g c = λ origin all. scripts_noted _ _ origin all _ _ _ c.quietly-in-Err.ensures.outcome c.in-Err.ensures.fault c.quietly-in-Err.ensures.quiet
 
--- nor without room for the map as it was read
+-- so it does without memory for the copy of the map as it was read
 pub returns-in_default-wanted_opening-clause-ends : goal.returns-in_default-wanted_opening-clause-ends
 returns-in_default-wanted_opening-clause-ends g c = λ read stands.
     ended_early c.args.request.now.mode c.args.request.now.output read _ _ _ _ _ c.quietly-in_default-wanted_opening.ensures.outcome tt
 
--- nor without room for the plan
+-- so it does without memory for the plan
 pub returns-in_default-wanted_plan-clause-ends : goal.returns-in_default-wanted_plan-clause-ends
 returns-in_default-wanted_plan-clause-ends g c = λ read stands.
     ended_early c.args.request.now.mode c.args.request.now.output read _ _ _ _ _ c.quietly-in_default-wanted_plan.ensures.outcome tt
@@ -39,7 +39,7 @@ returns-in_default-wanted_plan-clause-ends g c = λ read stands.
 pub returns-in_default-wanted_plan-clause-nothing : goal.returns-in_default-wanted_plan-clause-nothing
 returns-in_default-wanted_plan-clause-nothing g c = rw c.quietly-in_default-wanted_plan.ensures.outcome (λ other. keeps_same _)
 
--- what is left of the job is written, and what was refused is noted
+-- otherwise the output is written, and the run has its notes
 pub returns-clause-ends : goal.returns-clause-ends
 returns-clause-ends g c = λ read stands.
     let ran = c.in-Ok-run_scripts.ensures.runs read stands.map stands.scripts in

@@ -4,7 +4,7 @@ use Rattle.crush_model.proofs.Stands.{stands_for_rows}
 use Rattle.crush_run.proofs.Written.{put_of_part, put_of_writes}
 use Rattle.crush_run.proofs.text.write_by_name.Goals as goal
 
--- the other map stands for its rows
+-- the other map represents the table of its rows
 pub returns-in-Some-clause-writes : goal.returns-in-Some-clause-writes
 returns-in-Some-clause-writes g c = λ t stands.
     let f = c.args.old.now.map.forest in

@@ -13,7 +13,7 @@ returns-in-Tree-clause-writes g c = λ o t opening stands. rw (c.in-Tree.is, ←
 pub returns-in-Since-clause-writes : goal.returns-in-Since-clause-writes
 returns-in-Since-clause-writes g c = λ o t opening stands. rw c.in-Since.is (c.write_changed.ensures.writes t stands)
 
--- the other map stands for its rows
+-- the other map represents the table of its rows
 pub returns-in-Changes-clause-writes : goal.returns-in-Changes-clause-writes
 returns-in-Changes-clause-writes g c = λ o t opening stands.
     let f = c.in-Changes.old.forest in

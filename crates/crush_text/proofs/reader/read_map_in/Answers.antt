@@ -1,4 +1,4 @@
--- What comes of all statements is what the text says.
+-- The result of all statements is that of the text.
 use Rattle.std.proofs.Common.{ℕ, ◌∙◌, sym, subst}
 use Rattle.std.proofs.lemmas.Result.{err_from_is_err_and}
 use Rattle.crush_model.specs.Stands.{Stands}
@@ -39,10 +39,10 @@ returns-clause-spelled g c = λ s t n k.
     (record { setting = m.setting ∙ o.0; forest = subst (Stands c.finish.result.forest) o.1 m.forest }, c.adjusted-adjusted.ensures a.0 a.1 ∙ o.2)
 
 pub returns-in_default-clause-only : goal.returns-in_default-clause-only
-returns-in_default-clause-only g c = λ s t n k. no_map c.args.text.now c.new-words.result c.new-words.ensures c.unbegun.result s t n c.unbegun.ensures k
+returns-in_default-clause-only g c = λ s t n k. no_map c.args.text.now c.new-words.result c.new-words.ensures c.fault_without_memory.result s t n c.fault_without_memory.ensures k
 
 pub returns-in_default-clause-flaw : goal.returns-in_default-clause-flaw
-returns-in_default-clause-flaw g c = is_flaw c.args.text.now c.new-words.result c.new-words.ensures c.unbegun.result c.unbegun.ensures
+returns-in_default-clause-flaw g c = is_flaw c.args.text.now c.new-words.result c.new-words.ensures c.fault_without_memory.result c.fault_without_memory.ensures
 
 pub returns-in_default-clause-memory : goal.returns-in_default-clause-memory
-returns-in_default-clause-memory g c = in_time c.args.text.now c.new-words.result c.new-words.ensures c.unbegun.result c.unbegun.ensures
+returns-in_default-clause-memory g c = in_time c.args.text.now c.new-words.result c.new-words.ensures c.fault_without_memory.result c.fault_without_memory.ensures

@@ -1,6 +1,6 @@
 use Rattle.crush_two_operators.proofs.plan.follow_at_once.Given as goal
 
--- the editor's name: its gauge and its opening are those of what was started, and so is its ledger
+-- the editor's name has the gauge, the opening and the ledger of what was started
 abbrev pub ghosts-work_together-N-Desk : goal.ghosts-work_together-N-Desk
 ghosts-work_together-N-Desk g a = record { gauge = a.started.table; opening = a.started.opening }
 

@@ -11,9 +11,9 @@ change_at-requires g c =
     let k = c.args.class in
     let t = items_of c.args.items.now in
     record {
-      way = c.requires.way;
-      can = leaf_taken i t c.requires.way.one;
-      fits = λ y out does. subst (StoresUpTo HEAVIEST_BUCKET) (sym (classed i k t y c.requires.way.one c.requires.way.sums does.0)) (StoresUpTo-with_class HEAVIEST_BUCKET i k t c.requires.stored);
+      descent = c.requires.descent;
+      can = leaf_taken i t c.requires.descent.one;
+      fits = λ y out does. subst (StoresUpTo HEAVIEST_BUCKET) (sym (classed i k t y c.requires.descent.one c.requires.descent.sums does.0)) (StoresUpTo-with_class HEAVIEST_BUCKET i k t c.requires.stored);
     }
 
 pub returns : goal.returns
@@ -21,5 +21,5 @@ returns g c =
     let change = c.change_at.ensures in
     record {
       old = change.comes.1;
-      after = change.is ∙ classed c.args.id c.args.class (items_of c.args.items.now) change.item c.requires.way.one c.requires.way.sums change.comes.0;
+      after = change.is ∙ classed c.args.id c.args.class (items_of c.args.items.now) change.item c.requires.descent.one c.requires.descent.sums change.comes.0;
     }

@@ -10,9 +10,9 @@ change_at-requires g c =
     let i = c.args.id.now in
     let t = items_of c.args.items.now in
     record {
-      way = c.requires.way;
+      descent = c.requires.descent;
       can = tt;
-      fits = λ y out does. subst (StoresUpTo HEAVIEST_BUCKET) (sym (named i c.args.name t y c.requires.way.one c.requires.way.sums does.0)) (StoresUpTo-with_name HEAVIEST_BUCKET i c.args.name t c.requires.stored);
+      fits = λ y out does. subst (StoresUpTo HEAVIEST_BUCKET) (sym (named i c.args.name t y c.requires.descent.one c.requires.descent.sums does.0)) (StoresUpTo-with_name HEAVIEST_BUCKET i c.args.name t c.requires.stored);
     }
 
 pub returns : goal.returns
@@ -22,5 +22,5 @@ returns g c =
     let change = c.change_at.ensures in
     record {
       old = change.comes.1 ∙ sym (name_taken i t);
-      after = change.is ∙ named i c.args.name t change.item c.requires.way.one c.requires.way.sums change.comes.0;
+      after = change.is ∙ named i c.args.name t change.item c.requires.descent.one c.requires.descent.sums change.comes.0;
     }

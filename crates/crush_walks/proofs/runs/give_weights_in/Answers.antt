@@ -13,9 +13,9 @@ change_at-requires g c =
     let ws = weights_left c.last_first-runs.result.items in
     let fits : StoresUpTo HEAVIEST_BUCKET (with_sums (with_weights_below b ws t)) = subst (λ vs. StoresUpTo HEAVIEST_BUCKET (with_sums (with_weights_below b vs t))) (sym c.last_first-runs.ensures) c.requires.fits in
     record {
-      way = c.requires.way;
-      can = given_fits b ws t c.requires.way.one fits;
-      fits = λ y out does. subst (StoresUpTo HEAVIEST_BUCKET) (sym (given_below b ws t y c.requires.way.one does)) fits;
+      descent = c.requires.descent;
+      can = given_fits b ws t c.requires.descent.one fits;
+      fits = λ y out does. subst (StoresUpTo HEAVIEST_BUCKET) (sym (given_below b ws t y c.requires.descent.one does)) fits;
     }
 
 pub returns : goal.returns
@@ -24,4 +24,4 @@ returns g c =
     let b = c.args.id in
     let ws = weights_left c.last_first-runs.result.items in
     let change = c.change_at.ensures in
-    record { after = change.is ∙ given_below b ws t change.item c.requires.way.one change.comes ∙ ap (λ vs. with_sums (with_weights_below b vs t)) c.last_first-runs.ensures }
+    record { after = change.is ∙ given_below b ws t change.item c.requires.descent.one change.comes ∙ ap (λ vs. with_sums (with_weights_below b vs t)) c.last_first-runs.ensures }

@@ -22,8 +22,8 @@ use Rattle.crush_apply.proofs.Destinations.{parent_of_place, stops-length, place
 use Rattle.crush_apply.proofs.Undone.{no_room_made}
 use Rattle.crush_apply.proofs.route.put.attach_new.Goals as goal
 
-pub bring-requires : goal.bring-requires
-bring-requires g c =
+pub add_logged-requires : goal.add_logged-requires
+add_logged-requires g c =
     let f = c.args.hierarchy.now in
     let ps = stops_data c.args.at.now c.args.stops.now in
     let ids = c.free_ids.new.ids in
@@ -55,7 +55,7 @@ returns-in_err-addition g c = no_room_made _ _ _ _ _ _ c.from_residual-in_err-ad
 pub returns : goal.returns
 returns g c =
     let f = c.args.hierarchy.now in
-    let h = c.bring.new.hierarchy in
+    let h = c.add_logged.new.hierarchy in
     let adds = c.in_ok-addition.ensures.adds in
     let ps = stops_data c.args.at.now c.args.stops.now in
     let ids = c.free_ids.new.ids in

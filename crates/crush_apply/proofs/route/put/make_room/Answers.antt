@@ -55,8 +55,8 @@ unreachable-requires g c =
     let f = c.args.hierarchy.now in
     receives (rows_of f) c.args.to.now (c.requires.leads (rows_of f) (stands_for_rows f c.recall_invariant.ensures)) (omega (arith, c.fresh.ensures.value, c.if-fresh-gt0.false)) (sym c.receiver-2.ensures ∙ c.in_default.is)
 
-pub grow-requires : goal.grow-requires
-grow-requires g c =
+pub grow_buffer-requires : goal.grow_buffer-requires
+grow_buffer-requires g c =
     let f = c.args.hierarchy.now in
     subst (λ o. is_place (rows_of f) (place_at o) ≡ true) (sym c.receiver-2.ensures ∙ c.in-Some.is) (place_there (rows_of f) c.args.to.now (c.requires.leads (rows_of f) (stands_for_rows f c.recall_invariant.ensures)))
 
@@ -68,8 +68,8 @@ returns g c =
     let few : c.args.to.now.fresh ≤ 0 = omega (arith, c.fresh.ensures.value, c.if-fresh-gt0.false) in
     record {
       next = λ t st. next_receives t c.args.to.now (c.requires.leads t st) few ∙ sym c.receiver-2.ensures ∙ c.in-Some.is;
-      stands = λ t st. subst (Stands c.grow.new.self) (none_made t c.args.to.now (c.requires.leads t st) few) (c.in_ok-memory.ensures.stands t st);
+      stands = λ t st. subst (Stands c.grow_buffer.new.self) (none_made t c.args.to.now (c.requires.leads t st) few) (c.in_ok-memory.ensures.stands t st);
       room = c.in_ok-memory.ensures.room;
-      goes = record { without = c.grow.new.self; leaves = refl; memory = noted_memory _ c.in_ok-memory.memory c.args.hierarchy.now c.grow.new.self c.in_ok-memory.ensures };
+      goes = record { without = c.grow_buffer.new.self; leaves = refl; memory = noted_memory _ c.in_ok-memory.memory c.args.hierarchy.now c.grow_buffer.new.self c.in_ok-memory.ensures };
       unchanged = tt;
     }

@@ -26,8 +26,8 @@ in_new_buckets-requires-clause-forms g c =
     let f = c.args.hierarchy.now in
     fresh_forms (rows_of f) c.new_stops.result.0.now c.new_stops.result.1.now c.args.to.now c.new_stops.ensures.stops (c.requires.leads (rows_of f) (stands_for_rows f c.recall_invariant.ensures))
 
-pub bring-requires : goal.bring-requires
-bring-requires g c =
+pub add_logged-requires : goal.add_logged-requires
+add_logged-requires g c =
     let f = c.args.hierarchy.now in
     let t : List Row = rows_of f in
     let st : Stands f t = stands_for_rows f c.recall_invariant.ensures in
@@ -61,8 +61,8 @@ returns-clause-stands g c = λ t st.
     let ids : c.free_ids.new.ids ≡ free_ids t (length (stops_data l xs)) = c.free_ids.ensures.first t st ∙ ap (free_ids t) (length-take-le (length xs) c.new_slots-slots.result few ∙ sym (stops-length l xs)) in
     let is : items_of (c.in_ok-node.node ∷ []) ≡ new_item t st.lawful to leads d can = c.in_ok-node.ensures ∙ boxes_are t l xs to c.new_stops.ensures.stops leads (device d none) c.free_ids.new.ids ids in
     let at : parent_at c.place.result ≡ to.receiver = ap parent_at c.place.ensures ∙ parent_of_place to.receiver in
-    same_stands c.bring.new.hierarchy (t ++ rows to.receiver (new_item t st.lawful to leads d can)) (put t (device_row None d) to.stops) (new_same t st.lawful to leads d can)
-    (subst (λ p. Stands c.bring.new.hierarchy (t ++ rows p (new_item t st.lawful to leads d can))) at (subst (λ (n : Items). Stands c.bring.new.hierarchy (t ++ rows (parent_at c.place.result) n)) is (c.in_ok-addition.ensures.adds.stands t st)))
+    same_stands c.add_logged.new.hierarchy (t ++ rows to.receiver (new_item t st.lawful to leads d can)) (put t (device_row None d) to.stops) (new_same t st.lawful to leads d can)
+    (subst (λ p. Stands c.add_logged.new.hierarchy (t ++ rows p (new_item t st.lawful to leads d can))) at (subst (λ (n : Items). Stands c.add_logged.new.hierarchy (t ++ rows (parent_at c.place.result) n)) is (c.in_ok-addition.ensures.adds.stands t st)))
 
 pub returns-in_err-addition-clause-unchanged : goal.returns-in_err-addition-clause-unchanged
 returns-in_err-addition-clause-unchanged g c = anyway c.from_residual-in_err-addition.result c.in_err-addition.ensures.adds.err

@@ -4,6 +4,6 @@ use Rattle.crush_edits.specs.declared.location.Pair.{Pair}
 use Rattle.crush_edits.specs.Located.{has_twice}
 use Rattle.crush_apply.proofs.route.refusals.has_bucket_twice.Given as goal
 
--- what is left decides
+-- the pairs that are left have a bucket name twice if and only if all pairs do
 abbrev pub invariant-loop-k : goal.invariant-loop-k
 invariant-loop-k l = has_twice (map (λ (p : Pair). p.name) l.pairs) ≡ has_twice (map (λ (p : Pair). p.name) (drop l.k l.pairs))

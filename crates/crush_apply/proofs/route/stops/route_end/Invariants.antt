@@ -4,6 +4,6 @@ use Rattle.crush_model.specs.Stands.{Stands}
 use Rattle.crush_apply.proofs.Ends.{Left}
 use Rattle.crush_apply.proofs.route.stops.route_end.Given as goal
 
--- what is left decides
+-- no stop so far ends the route: the stops that are left decide which one does
 abbrev pub invariant-loop-k : goal.invariant-loop-k
 invariant-loop-k g l = (t : List Row) → Stands l.hierarchy t → Left t l.at l.stops l.k

@@ -3,6 +3,6 @@ use Rattle.std.specs.Prelude.{map}
 use Rattle.crush_edits.specs.SettingSeen.{rule_data}
 use Rattle.crush_edits.proofs.setting.rules.copy_rules.Given as goal
 
--- those so far are copied
+-- the rules so far are copied
 abbrev pub invariant-loop-rule : goal.invariant-loop-rule
 invariant-loop-rule l = map rule_data l.copies.items ≡ map rule_data (take l.rule-index l.rules)

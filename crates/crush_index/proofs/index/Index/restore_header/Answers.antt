@@ -10,6 +10,6 @@ pub returns-clause-answers : goal.returns-clause-answers
 returns-clause-answers g c =
     let r = bucket_row c.args.parent (header_data c.args.header.now) in
     let mid : Index = c.restore_name.new.self in
-    let new : Index = record { machine = mid.machine; names = mid.names; places = c.restore_bucket.new.self; used = c.restore_ids.new.used } in
-    came_named r c.args.way.name.name c.place_under-place.result (answers c.args.self.now) (answers mid) (answers new) c.requires.name c.place_under-place.ensures c.restore_name.ensures.answers
+    let new : Index = record { global = mid.global; names = mid.names; places = c.restore_bucket.new.self; used = c.restore_ids.new.used } in
+    came_named r c.args.memory.name.name c.place_under-place.result (answers c.args.self.now) (answers mid) (answers new) c.requires.name c.place_under-place.ensures c.restore_name.ensures.answers
     (λ n. refl) c.restore_bucket.ensures.answers c.restore_ids.ensures.ids

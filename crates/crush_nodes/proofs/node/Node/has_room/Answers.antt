@@ -7,7 +7,7 @@ use Rattle.crush_nodes.specs.Seen.{items_of}
 use Rattle.crush_nodes.proofs.Steps.{count-items_of}
 use Rattle.crush_nodes.proofs.node.Node.has_room.Goals as goal
 
--- one number is below another where something is left
+-- one number is less than another if something is left after subtraction
 nat_lt-sub : (a b : ℕ) → nat_lt a b ≡ nat_lt 0 (b - a)
 nat_lt-sub a b = grind arith
 

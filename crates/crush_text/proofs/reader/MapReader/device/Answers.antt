@@ -1,4 +1,4 @@
--- A device's line word by word, of which nothing speaks against the device.
+-- A device's line word by word: after it the device has no fault.
 use Rattle.std.proofs.Common.{rules, Bool, None, refl, sym, ap, ◌∙◌}
 use Rattle.std.specs.Prelude.{if◌then◌else◌}
 use Rattle.crush_units.specs.Words.{past}

@@ -1,4 +1,4 @@
--- What a statement's first word opens, and what comes of the statement.
+-- Which kind of statement the first word begins, and the result of the statement.
 use Rattle.std.proofs.Common.{rules, inr}
 use Rattle.std.proofs.lemmas.Result.{err_from_is_err_and}
 use Rattle.crush_text.proofs.Reached.{leads_then, fails_then}

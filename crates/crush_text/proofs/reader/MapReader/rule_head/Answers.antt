@@ -63,7 +63,7 @@ returns-in_err-max_size g c =
 
 pub returns : goal.returns
 returns g c = record {
-  right = head_right _ _ _ _ _ _ _ _ (c.in_ok-id.ensures.kept ∙ c.in_ok-name.ensures.kept) c.own_head.ensures.form c.own_head.ensures.head c.in_ok-name.ensures.reads.free (λ d h. c.in_ok-id.ensures.reads.free d (still c.in_ok-name.ensures.kept h));
+  right = head_right _ _ _ _ _ _ _ _ (c.in_ok-id.ensures.kept ∙ c.in_ok-name.ensures.kept) c.rule_head_values.ensures.form c.rule_head_values.ensures.head c.in_ok-name.ensures.reads.free (λ d h. c.in_ok-id.ensures.reads.free d (still c.in_ok-name.ensures.kept h));
   gives = λ d h.
       let head = head_goes d _ _ _ _ _ _ _ _ _ _ (c.in_ok-name.ensures.reads.gives d h) (c.in_ok-read_key.ensures.gives d tt) (c.in_ok-read_rule_id_key.ensures.gives d tt) (c.in_ok-id.ensures.reads.gives d (still c.in_ok-name.ensures.kept h)) (c.in_ok-read_key-2.ensures.gives d tt) (c.in_ok-kind.ensures.gives d tt) in
       let least = c.in_ok-min_size.ensures.gives d (max_size d c.in_ok-name.name.text.now c.in_ok-id.id c.in_ok-kind.kind.text.now) in
@@ -71,7 +71,7 @@ returns g c = record {
       head_made d _ _ _ _ _ _ _ _ _ _ (head ∙ least ∙ most)
       (reaches_word d _ _ _ _ _ _ _ (c.in_ok-name.ensures.reads.gives d h) (_, c.in_ok-name.ensures.reads.next))
       (kind_reached d _ _ _ _ _ _ _ _ _ _ _ (c.in_ok-name.ensures.reads.gives d h) (c.in_ok-read_key.ensures.gives d tt) (c.in_ok-read_rule_id_key.ensures.gives d tt) (c.in_ok-id.ensures.reads.gives d (still c.in_ok-name.ensures.kept h)) (c.in_ok-read_key-2.ensures.gives d tt) (c.in_ok-kind.ensures.gives d tt) (_, c.in_ok-kind.ensures.next))
-      c.own_head.ensures.head c.own_head.ensures.memory;
+      c.rule_head_values.ensures.head c.rule_head_values.ensures.memory;
   kept = (c.in_ok-id.ensures.kept ∙ c.in_ok-name.ensures.kept);
   shorter = search rules;
 }

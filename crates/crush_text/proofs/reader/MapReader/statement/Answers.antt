@@ -21,7 +21,7 @@ use Rattle.crush_text.proofs.Reached.{line_leads, fails_line}
 use Rattle.crush_text.proofs.Refused.{no_lines}
 use Rattle.crush_text.proofs.reader.MapReader.statement.Goals as goal
 
--- a statement of one line was read, behind which all may come
+-- a statement of one line was read, after which all statements may follow
 one_line : {A : _} (o s : Opening) (old new : MapReader A) → o ≡ s → ReadsLine (λ d. statement d s) (λ (x : Unit {0}). first) old new (Ok tt) → ReadsOn (λ d. arrive d old.text.words (statement d o)) behind old new (Ok false)
 one_line o s old new is h = rw is (record {
   reads = λ d at.
@@ -31,11 +31,11 @@ one_line o s old new is h = rw is (record {
   shorter = let lt = h.shorter in omega (arith, lt);
 })
 
--- or has a fault
+-- or it has a fault
 no_one_line : {A : _} (o s : Opening) (old new : MapReader A) (f : TextFault) → o ≡ s → ReadsLine (λ d. statement d s) (λ (x : Unit {0}). first) old new (Err f) → ReadsOn (λ d. arrive d old.text.words (statement d o)) behind old new (Err f)
 no_one_line o s old new f is h = rw is (no_lines _ _ _ _ _ (λ d at. fails_line _ d (statement d s) _ (h.reads d at)))
 
--- there is room for what a first word opens
+-- there is room for the statement that a first word begins
 room_for : {w : List ℕ} {b : BuilderData} (o s : Opening) → o ≡ s → CanOpen o w b → HasRoomFor s b
 room_for o s is h = record { idle = h.idle; room = λ d at. subst (HasRoom d) is (h.room d at) }
 

@@ -1,4 +1,4 @@
--- The statements so far, and what comes of the rest.
+-- The statements so far lead to the rest of the text.
 use Rattle.std.proofs.Common.{length}
 use Rattle.crush_builder.specs.Built.{Draft}
 use Rattle.crush_builder.specs.Building.{IsDraft}

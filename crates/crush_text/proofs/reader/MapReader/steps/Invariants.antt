@@ -1,4 +1,4 @@
--- The steps so far, and what comes of the rest.
+-- The steps so far lead to the rest of the text.
 use Rattle.std.proofs.Common.{◌≡◌, ◌≤◌, length}
 use Rattle.crush_builder.specs.Built.{Draft}
 use Rattle.crush_builder.specs.Building.{IsDraft}

@@ -1,0 +1,42 @@
+-- The edits that a command can say.
+use Rattle.std.specs.Prelude.{◌≡◌, ℕ, ◌<◌, ◌^◌, ◌==◌, Bool, not, ◌&&◌, ◌||◌, List, length, take, drop, slice_index, codes, bytes_eq, Option, Some, None, if◌then◌else◌}
+use Rattle.std.specs.Str.Parse.{digits_value}
+use Rattle.crush_units.specs.Name.{IsName}
+use Rattle.crush_units.specs.Weight.{are_digits}
+use Rattle.crush_units.specs.Id.{device_from}
+use Rattle.crush_edits.specs.declared.location.Pair.{Pair}
+use Rattle.crush_edits.specs.declared.edit.Edit.{Edit}
+use Rattle.crush_edits.specs.declared.edit.Edit.TheVariants.{Insert, CreateOrMove, Update, Move, Swap, Reweight, ReweightSubtree, Remove, AddBucket, Rename, SetClass, RemoveClass}
+use Rattle.crush_edits.specs.Pushed.{IsLocation}
+
+-- whether these are 1 to 10 digits, and the first isn't 0 unless it is the only one
+abbrev pub is_plain : List ℕ → Bool
+is_plain digits = are_digits 10 digits && (length digits == 1 || not (slice_index digits 0 == 48))
+
+-- the id N of the device whose name is `osd.N`, if the name has this form and N is in range
+abbrev pub device_named : List ℕ → Option ℕ
+device_named name =
+    if bytes_eq (take 4 name) (codes "osd.") && is_plain (drop 4 name) then device_from (digits_value 10 (drop 4 name))
+    else None
+
+-- what a command can say to place a device: its name n is `osd.N` with the id d as N, its weight w is below 2^32, and l is a location
+pub record IsSaidPlacing (d : ℕ) (n : List ℕ) (w : ℕ) (l : List Pair) : Type 0 where
+  pub name : IsName n
+  pub device : device_named n ≡ Some d
+  pub weight : w < 2 ^ 32
+  pub at : IsLocation l
+
+-- the edits that a command can say: each name is a name, each weight is below 2^32, each location is one, and a device to place is as above
+abbrev pub IsSaid : Edit → Type 0
+IsSaid (Insert d n w l) = IsSaidPlacing d n w l
+IsSaid (CreateOrMove d n w l) = IsSaidPlacing d n w l
+IsSaid (Update d n w l) = IsSaidPlacing d n w l
+IsSaid (Move n l) = IsName n × IsLocation l
+IsSaid (Swap a b) = IsName a × IsName b
+IsSaid (Reweight n w) = IsName n × (w < 2 ^ 32)
+IsSaid (ReweightSubtree n w) = IsName n × (w < 2 ^ 32)
+IsSaid (Remove n) = IsName n
+IsSaid (AddBucket n kind) = IsName n × IsName kind
+IsSaid (Rename from to) = IsName from × IsName to
+IsSaid (SetClass n c) = IsName n × IsName c
+IsSaid (RemoveClass n) = IsName n

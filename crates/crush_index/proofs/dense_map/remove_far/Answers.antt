@@ -1,5 +1,0 @@
-use Rattle.crush_index.proofs.FarLaws.{far_without}
-use Rattle.crush_index.proofs.dense_map.remove_far.Goals as goal
-
-pub returns-clause-answers : goal.returns-clause-answers
-returns-clause-answers g c = far_without c.args.far.now c.swap_remove.new.self c.args.late.now c.remove.new.self c.args.number c.swap_remove.ensures.updates.0 c.remove.ensures

@@ -1,0 +1,26 @@
+-- What is needed to restore an item to an index even if memory runs out.
+use Rattle.std.specs.Prelude.{◌≡◌, ℕ, [], ◌∷◌, Option, Bool, true, false, length}
+use Rattle.crush_model.specs.ItemRows.{rows}
+use Rattle.crush_model.specs.Table.{Row, is_device}
+use Rattle.crush_nodes.specs.Seen.{items_of}
+use Rattle.crush_nodes.specs.declared.node.Node.{Node}
+use Rattle.crush_index.specs.IndexAnswers.{own_row}
+use Rattle.crush_index.specs.UsedLaw.{uses}
+use Rattle.crush_index.specs.declared.index.restore.PlaceMemory.{PlaceMemory}
+use Rattle.crush_index.specs.declared.index.restore.PlaceMemory.TheVariants.{Device, Bucket}
+use Rattle.crush_index.specs.declared.index.restore.RestoreMemory.{RestoreMemory}
+
+-- no item is below the node: its own row is all of its rows
+abbrev pub IsAlone : {A : _} → Node A → Type 0
+IsAlone x = (p : Option ℕ) → rows p (items_of (x ∷ [])) ≡ own_row p x ∷ []
+
+-- whether the memory is for the place of a device, not of a bucket
+abbrev pub is_for_device : PlaceMemory → Bool
+is_for_device (Device e) = true
+is_for_device (Bucket n s) = false
+
+-- WAY BACK: the name is the row's name, the memory for its place is of the row's kind, and there is memory for as many ids as the row uses
+pub record CanRestoreRow (r : Row) (memory : RestoreMemory) : Type 0 where
+  pub name : memory.name.name ≡ r.name
+  pub place : is_for_device memory.place ≡ is_device r
+  pub ids : length memory.ids.items ≡ length (uses r)

@@ -1,5 +1,0 @@
-use Rattle.std.proofs.Common.{rules}
-use Rattle.crush_reasons.proofs.ceph.assent.Goals as goal
-
-pub returns-in-Swap : goal.returns-in-Swap
-returns-in-Swap c = search rules

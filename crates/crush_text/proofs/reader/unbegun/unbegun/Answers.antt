@@ -1,9 +1,0 @@
--- What a first word tells, the end or a bad byte is told of the text.
-use Rattle.crush_text.proofs.Unbegun.{text_unopened, text_bad}
-use Rattle.crush_text.proofs.reader.unbegun.unbegun.Goals as goal
-
-pub returns-in-Word : goal.returns-in-Word
-returns-in-Word c = text_unopened _ _ c.in-Word.place c.in-Word.text.now _ c.in-Word.ensures.nexts c.unopened.ensures
-
-pub returns-in-Bad : goal.returns-in-Bad
-returns-in-Bad c = text_bad _ c.in-Bad.place c.in-Bad.ensures.nexts.0

@@ -1,0 +1,47 @@
+//! The fault of a text if there isn't enough memory even for an empty map.
+
+ghost use Rattle.std.specs.Prelude.{◌≡◌};
+ghost use Rattle.crush_text.specs.ReadsStatements.{FailsText, FailsFirst, opens_alone};
+
+use crate::fault::{TextFault, TextFaultKind};
+use crate::reader::statement::{comes_first, is_out_of_place};
+use crate::reader::word::{PlacedWord, memory_at};
+use crush_units::{Reader, Token};
+
+/// Returns the fault of the text's first word. If this word has no fault, or the text has no words,
+/// returns out of memory at the word or at the end of the text.
+pub(crate) fn fault_without_memory(reader: &mut Reader<'_>) -> TextFault
+    ensures { FailsText result reader.old }
+{
+    match reader.next() {
+        Token::Word { place, text } => unopened(PlacedWord { place, text }),
+        Token::End { place } => memory_at(place),
+        Token::Bad { place } => TextFault {
+            kind: TextFaultKind::BadWord,
+            place,
+        },
+    }
+}
+
+/// Returns the fault of the text's first word, or out of memory if it has none. No type is declared
+/// yet, so no word begins a bucket.
+fn unopened(word: PlacedWord<'_>) -> TextFault
+    ensures { FailsFirst result word.entry.place word.entry.text.now }
+{
+    if is_out_of_place(word, false) {
+        word.fault(TextFaultKind::Unexpected)
+    } else if word.is(b"choose_args") {
+        word.fault(TextFaultKind::LeftOut)
+    } else if opens_alone(word) {
+        memory_at(word.place)
+    } else {
+        word.fault(TextFaultKind::UnknownType)
+    }
+}
+
+/// Whether the word begins a statement without a declared type.
+fn opens_alone(word: PlacedWord<'_>) -> bool
+    ensures { result ≡ opens_alone word.entry.text.now }
+{
+    comes_first(word) || word.is(b"rule")
+}
