@@ -23,7 +23,7 @@ def sentences(heading, name):
 
 OF_TEXTS, OF_JOBS = sentences("Faults of a text", "Fault"), sentences("Faults of a job", "Fault")
 OF_REFUSALS, OF_RUNS = sentences("Refusals", "Refusal"), sentences("Sentences of runs", "Line")
-OF_NAMES = sentences("Refusals that tell a name", "Refusal")
+OF_NAMES = sentences("Refusals that name what is in the way", "Refusal")
 # The forms of lines by their first words, and what each word behind is to be.
 FORMS = {
     "%operator": ("NAME", ["name"]), "begin": ("", ["at", "count"]), "commit": ("", []),

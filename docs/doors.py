@@ -31,7 +31,7 @@ OFFERED = {
     "crush_map": {
         "CrushMap::culprit", "CrushMap::class_of", "CrushMap::contains", "CrushMap::kind_of", "CrushMap::weight_of_class",
     },
-    "crush_print": {"buckets", "devices", "Part::whole", "Step::view", "walk", "walk_below", "walk_part", "write_tree"},
+    "crush_print": {"buckets", "devices", "TreePart::whole", "WalkStep::view", "walk", "walk_below", "walk_part", "write_tree"},
     "crush_since": {"count_changes", "is_changed", "is_part_changed", "same_kinds", "same_rules", "same_tunables", "since_part_text", "listed_ids"},
     "crush_json": {"write_map_document", "write_plan_document", "write_since_document", "write_tree_document"},
     "crush_names": {"is_changed_by_name", "is_in", "stays", "write_since_by_name", "write_since_by_name_part"},

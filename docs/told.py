@@ -64,15 +64,15 @@ def run_sentence_faults():
 def named_sentence_faults():
     """Which sentences with a name RULES.md hasn't, and which of its it has that nothing in crush_reasons tells."""
     specs = "\n".join(path.read_text() for path in sorted((TOP / "crates/crush_reasons/specs").glob("*.antt")))
-    told = {quoted(row[0])[0]: row[1] for _, rows in tables(sections_of("RULES.md")["Refusals that tell a name"]) for row in rows}
+    told = {quoted(row[0])[0]: row[1] for _, rows in tables(sections_of("RULES.md")["Refusals that name what is in the way"]) for row in rows}
     for name, said in re.findall(r'(?m)^said_of refusal\.(\w+) = Some \(codes "(.*)"\)$', specs):
         if told.get(name) != f"NAME{said}":
-            yield f"Refusals that tell a name has no row of {name} with {said!r}"
+            yield f"Refusals that name what is in the way has no row of {name} with {said!r}"
     literals = re.findall(r'codes "([^"]*)"', specs)
     for name, sentence in told.items():
         for part in re.split(r"\b(?:[A-Z]{4,}|N)\b", sentence):
             if not any(part.strip() in literal for literal in literals):
-                yield f"Refusals that tell a name: nothing tells {part.strip()!r}, as of {name}"
+                yield f"Refusals that name what is in the way: nothing prints {part.strip()!r}, as of {name}"
 
 
 def number_faults():

@@ -35,7 +35,7 @@ use Rattle.crush_editor.specs.contracts.book.Book as Book
 use Rattle.crush_editor.specs.contracts.locked.Locked as Locked
 use Rattle.crush_editor.specs.contracts.locked.Locked.TheInside as LockedInside
 use Rattle.crush_editor.specs.declared.locked.Desk as Desk
-use Rattle.crush_editor.specs.declared.opening.Opening as Opening
+use Rattle.crush_editor.specs.declared.opening.KeptOpening as KeptOpening
 use Rattle.std.specs.declared.sync.ledger.Ledger as Ledger
 use Rattle.std.specs.contracts.sync.ledger.Book as Count
 use Rattle.std.specs.contracts.sync.ledger.Share as Share
@@ -95,7 +95,7 @@ history_sent = search (entry_sent, sendable, crosses) depth 20
 seat_sent : IsSend (BookSeat.the_row (CrushMap.the_row Global.the_row GlobalImpl.ghosts) Entry.the_row)
 seat_sent = search (table_seat_send, sendable, crosses) depth 20
 
-module _ (O : RattleType) (o : Opening.Ghosts O.Denot) (opening : IsSend O) where
+module _ (O : RattleType) (o : KeptOpening.Ghosts O.Denot) (opening : IsSend O) where
   opening_field : IsSend (as_row (row_field O))
   opening_field = search (opening, sendable)
 
@@ -103,7 +103,7 @@ module _ (O : RattleType) (o : Opening.Ghosts O.Denot) (opening : IsSend O) wher
   book_send = view_send _ _ _ _ _ (declared_send (Inside.the_type Global.the_row O GlobalImpl.ghosts o)
       (opening_field, (as_row_send (CrushMap.the_field Global.the_row GlobalImpl.ghosts) map_sent, (history_sent, (changes_sent, (as_row_send (BookSeat.the_field (CrushMap.the_row Global.the_row GlobalImpl.ghosts) Entry.the_row) seat_sent, tt))))))
 
-module _ (N O : RattleType) (g : Desk.Ghosts N.Denot) (g' : Ledger.Ghosts N.Denot) (o : Opening.Ghosts O.Denot) (opening : IsSend O) where
+module _ (N O : RattleType) (g : Desk.Ghosts N.Denot) (g' : Ledger.Ghosts N.Denot) (o : KeptOpening.Ghosts O.Denot) (opening : IsSend O) where
   count_sent : IsSend (as_row (Count.the_field N g'))
   count_sent = search (count_send, sendable)
 

@@ -19,14 +19,14 @@ use Rattle.crush_editor.specs.contracts.editor.Editor as Editor
 use Rattle.crush_editor.specs.contracts.lock_free_reader.LockFreeReader as LockFreeReader
 use Rattle.crush_editor.specs.contracts.state_lock.StateLock as StateLock
 use Rattle.crush_editor.specs.declared.locked.Desk as Desk
-use Rattle.crush_editor.specs.declared.opening.Opening as Opening
+use Rattle.crush_editor.specs.declared.opening.KeptOpening as KeptOpening
 use Rattle.crush_editor.specs.contracts.opening.WithoutSnapshot as WithoutSnapshot
 use Rattle.crush_editor.proofs.Crossing.{locked_send, map_sent}
 
 gauge_sync : IsSync (as_row (Gauge.the_field (CrushMap.the_row Global.the_row GlobalImpl.ghosts) Entry.the_row OfMap.the_row OfMapImpl.ghosts))
 gauge_sync = search (any_gauge_sync, sendable, crosses) depth 20
 
-module _ (N O : RattleType) (g : Desk.Ghosts N.Denot) (g' : Ledger.Ghosts N.Denot) (o : Opening.Ghosts O.Denot) (opening : IsSend O) where
+module _ (N O : RattleType) (g : Desk.Ghosts N.Denot) (g' : Ledger.Ghosts N.Denot) (o : KeptOpening.Ghosts O.Denot) (opening : IsSend O) where
   locked : IsSend (Locked.the_row N O g g' o)
   locked = locked_send N O g g' o opening
 
@@ -53,8 +53,8 @@ unkept_sent = search (sendable, crosses) depth 10
 
 -- the same for an editor that keeps its opening, and for one that doesn't
 module _ (N : RattleType) (g : Desk.Ghosts N.Denot) (g' : Ledger.Ghosts N.Denot) where
-  pub editor_sync : (o : Opening.Ghosts (CrushMap.the_row Global.the_row GlobalImpl.ghosts).Denot) → IsSync (Editor.the_row N (CrushMap.the_row Global.the_row GlobalImpl.ghosts) g g' o)
+  pub editor_sync : (o : KeptOpening.Ghosts (CrushMap.the_row Global.the_row GlobalImpl.ghosts).Denot) → IsSync (Editor.the_row N (CrushMap.the_row Global.the_row GlobalImpl.ghosts) g g' o)
   editor_sync o = any_editor_sync N (CrushMap.the_row Global.the_row GlobalImpl.ghosts) g g' o map_sent
 
-  pub unkept_editor_sync : (o : Opening.Ghosts WithoutSnapshot.the_row.Denot) → IsSync (Editor.the_row N WithoutSnapshot.the_row g g' o)
+  pub unkept_editor_sync : (o : KeptOpening.Ghosts WithoutSnapshot.the_row.Denot) → IsSync (Editor.the_row N WithoutSnapshot.the_row g g' o)
   unkept_editor_sync o = any_editor_sync N WithoutSnapshot.the_row g g' o unkept_sent

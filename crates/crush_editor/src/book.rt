@@ -16,7 +16,7 @@ ghost use Rattle.crush_editor.specs.Seat.{seen_of, reads};
 ghost use mathlib.Core.List.{IsPrefix};
 
 use crate::law::{MapBookSeat, MapGauge, MapNote, Reader};
-use crate::opening::{Opening, WithoutSnapshot};
+use crate::opening::{KeptOpening, WithoutSnapshot};
 use crush_history::{Call, Entry, Reply, is_change, make_call};
 use crush_map::CrushMap;
 use crush_units::limits::MOST_ENTRIES;
@@ -38,7 +38,7 @@ pub enum SubmitFault {
 /// A map, with the history of the calls made on it since its opening. `A` is the allocator of its
 /// maps; the history is in the machine's memory. `O` is what the book keeps of the opening.
 #[derive(Drop)]
-pub struct Book<A: Allocator, O: Opening = CrushMap<A>> {
+pub struct Book<A: Allocator, O: KeptOpening = CrushMap<A>> {
     opening: O,
     map: CrushMap<A>,
     history: Vec<Entry>,
@@ -46,7 +46,7 @@ pub struct Book<A: Allocator, O: Opening = CrushMap<A>> {
     seat: MapBookSeat,
 }
 
-impl<A: Allocator, O: Opening> Model for Book<A, O> {
+impl<A: Allocator, O: KeptOpening> Model for Book<A, O> {
     ghost use Rattle.std.specs.Prelude.{Option};
     ghost use Rattle.crush_map.specs.MapData.{MapData};
     ghost use Rattle.crush_editor.specs.Book.{BookData, book_data, opening_of, IsKept};
@@ -129,7 +129,7 @@ impl<A: Allocator> Book<A, WithoutSnapshot> {
     }
 }
 
-impl<A: Allocator + Clone, O: Opening> Book<A, O> {
+impl<A: Allocator + Clone, O: KeptOpening> Book<A, O> {
     /// Makes a call of operator `k` (from 0, below 16) on the map, appends it with its reply to the
     /// history, and returns the reply.
     ///
@@ -214,7 +214,7 @@ impl<A: Allocator + Clone, O: Opening> Book<A, O> {
 
     /// Joins a note into the book's seat. It is for the contract alone: the note's history is a
     /// prefix of the book's history.
-    pub(crate) fn absorb(&mut self, gauge: &MapGauge, note: MapNote)
+    pub(crate) fn merge_note(&mut self, gauge: &MapGauge, note: MapNote)
         requires gauge { self.old.table ≡ gauge.now.table.shared.table_id }
         requires note { (note.table ≡ self.old.table)
             × (note.view ≡ reads self.old.opening (seen_of note.view)) }
@@ -263,7 +263,7 @@ impl<A: Allocator + Clone, O: Opening> Book<A, O> {
         ensures seen { reader.new ≡ held self.old.table (reads self.old.opening self.new.history) }
     {
         let note = gauge.note(reader);
-        self.absorb(gauge, note);
+        self.merge_note(gauge, note);
         let outcome = self.commit_copied(gauge, k, call);
         let snapshot = self.snapshot(gauge);
         gauge.learn(reader, snapshot);
@@ -283,7 +283,7 @@ impl<A: Allocator + Clone, O: Opening> Book<A, O> {
         ensures seen { reader.new ≡ held self.old.table (reads self.old.opening self.new.history) }
     {
         let note = gauge.note(reader);
-        self.absorb(gauge, note);
+        self.merge_note(gauge, note);
         let snapshot = self.snapshot(gauge);
         gauge.learn(reader, snapshot);
         self.lacking()
@@ -323,7 +323,7 @@ impl<A: Allocator> Book<A> {
     }
 }
 
-impl<A: Allocator, O: Opening> Book<A, O> {
+impl<A: Allocator, O: KeptOpening> Book<A, O> {
     /// The map now, after all entries of the history.
     pub fn map(&self) -> &CrushMap<A>
         ensures { result.now ≡ self.now.map }
@@ -379,7 +379,7 @@ impl<A: Allocator, O: Opening> Book<A, O> {
 
 /// What [`Editor::close`](crate::Editor::close) and [`Book::into_closed`] return.
 #[derive(Drop)]
-pub struct Closed<A: Allocator, O: Opening = CrushMap<A>> {
+pub struct Closed<A: Allocator, O: KeptOpening = CrushMap<A>> {
     /// What was kept of the map before the first call.
     pub opening: O,
     /// The map after the last call.

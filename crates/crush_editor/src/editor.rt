@@ -19,7 +19,7 @@ use crate::book::{Book, Closed, SubmitFault};
 use crate::law::{MapBookSeat, MapGauge, Reader};
 use crate::lock_free_reader::{LockFreeReader, Note};
 use crate::locked::{Desk, Locked, Seat};
-use crate::opening::{Opening, WithoutSnapshot};
+use crate::opening::{KeptOpening, WithoutSnapshot};
 use crate::ready::Ready;
 use crate::state_lock::StateLock;
 use crush_gauge::Reading;
@@ -37,14 +37,14 @@ use std::sync::ledger::Blank;
 /// editor's, so these must exist first. A caller therefore creates a `Started`, and then calls a
 /// function that is generic in `N`, with [`Brand`] for `N`; that function calls [`Editor::open`].
 #[derive(Drop)]
-pub struct Started<A: Allocator = Global, O: Opening = CrushMap<A>> {
+pub struct Started<A: Allocator = Global, O: KeptOpening = CrushMap<A>> {
     gauge: MapGauge,
     book: Book<A, O>,
     readers: Vec<Reader>,
     blank: Blank,
 }
 
-impl<A: Allocator, O: Opening> Model for Started<A, O> {
+impl<A: Allocator, O: KeptOpening> Model for Started<A, O> {
     ghost use Rattle.std.specs.Prelude.{◌≡◌, ◌≤◌, [], vec_len};
     ghost use Rattle.std.specs.List.{All};
     ghost use Rattle.std.specs.Coded.{codes};
@@ -126,7 +126,7 @@ impl<A: Allocator> Started<A, WithoutSnapshot> {
     }
 }
 
-impl<A: Allocator, O: Opening> Started<A, O> {
+impl<A: Allocator, O: KeptOpening> Started<A, O> {
     /// Returns the gauge and the book, for a single thread that needs no lock.
     pub fn into_book(self) -> (MapGauge, Book<A, O>)
         ensures table { result.1.table ≡ result.0.table.shared.table_id }
@@ -147,20 +147,20 @@ impl<A: Allocator, O: Opening> Started<A, O> {
 
 /// The opening map, for contracts alone: a gauge is created with only its weight. The proof of each
 /// call picks the map.
-trait Opened {
+trait GhostOpening {
     ghost use Rattle.crush_map.specs.MapData.{MapData};
 
     ghost map: { MapData };
 }
 
-impl Opened for Brand {
+impl GhostOpening for Brand {
     ghost use Rattle.crush_editor.specs.Book.{no_map};
 
     ghost map = { no_map };
 }
 
 /// Creates a gauge for the map, with the book's seat and a reader for each operator.
-fn make_gauge<M: Opened, A: Allocator>(
+fn make_gauge<M: GhostOpening, A: Allocator>(
     map: &CrushMap<A>,
     operators: usize,
     alloc: Global,
@@ -177,7 +177,7 @@ fn make_gauge<M: Opened, A: Allocator>(
 }
 
 /// Creates a gauge for the opening map `M`, whose weight this is.
-fn new_gauge<M: Opened>(
+fn new_gauge<M: GhostOpening>(
     weight: u64,
     operators: usize,
     alloc: Global,
@@ -195,12 +195,12 @@ fn new_gauge<M: Opened>(
 /// The editor with the name `N`: a book under one lock, and a gauge that is read without the lock.
 /// Threads share it by reference; each of them needs a [`Seat`] of its own.
 #[derive(Drop)]
-pub struct Editor<N: Desk, O: Opening = CrushMap<Global>> {
+pub struct Editor<N: Desk, O: KeptOpening = CrushMap<Global>> {
     lock_free_reader: LockFreeReader<N>,
     state_lock: StateLock<N, O>,
 }
 
-impl<N: Desk, O: Opening> Editor<N, O> {
+impl<N: Desk, O: KeptOpening> Editor<N, O> {
     /// Makes a call of the seat's operator under the lock, and returns the reply. It waits for the
     /// lock, perhaps for ever.
     ///
@@ -259,10 +259,13 @@ impl<N: Desk, O: Opening> Editor<N, O> {
         };
         let operator = seat.operator;
         let gauge = self.lock_free_reader.gauge();
-        let outcome = self
-            .state_lock
-            .lock(rt, &seat.slips, &ready)
-            .submit(gauge, &mut seat.reader, &mut seat.share, operator, call);
+        let outcome = self.state_lock.lock(rt, &seat.slips, &ready).submit(
+            gauge,
+            &mut seat.reader,
+            &mut seat.ledger_share,
+            operator,
+            call,
+        );
         let reply = match outcome {
             Ok(answer) => answer,
             Err(unanswered) => return Err(unanswered),
@@ -360,7 +363,7 @@ impl<N: Desk> Editor<N, WithoutSnapshot> {
     }
 }
 
-impl<N: Desk, O: Opening> Editor<N, O> {
+impl<N: Desk, O: KeptOpening> Editor<N, O> {
     /// Creates the editor and its seats. If memory runs out, it returns the book, without entries.
     fn begin(
         started: Started<Global, O>,
@@ -385,13 +388,13 @@ impl<N: Desk, O: Opening> Editor<N, O> {
         let (count, mut all) = blank.open::<N>();
         let mut seats = Vec::new(alloc);
         for reader in readers {
-            let share = all.split_off(1, 0);
+            let ledger_share = all.split_off(1, 0);
             let operator = seats.len();
             let Ok(()) = seats.push(Seat {
                 operator,
                 slips: Vec::new(alloc),
                 reader,
-                share,
+                ledger_share,
             }) else {
                 return Err(book);
             };
@@ -439,10 +442,10 @@ impl<N: Desk, O: Opening> Editor<N, O> {
                 operator: _,
                 slips: _,
                 reader,
-                share,
+                ledger_share,
             } = seat;
-            book.absorb(lock_free_reader.gauge(), reader.into_note());
-            all.merge(share);
+            book.merge_note(lock_free_reader.gauge(), reader.into_note());
+            all.merge(ledger_share);
         }
         count.audit(&mut all);
         book.into_closed()

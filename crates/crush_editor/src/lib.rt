@@ -21,4 +21,4 @@ pub use editor::{Editor, Started};
 pub use law::{MapBookSeat, MapGauge};
 pub use lock_free_reader::{LockFreeReader, Note};
 pub use locked::{Desk, Seat};
-pub use opening::{Opening, WithoutSnapshot};
+pub use opening::{KeptOpening, WithoutSnapshot};

@@ -10,7 +10,7 @@ ghost use Rattle.crush_editor.specs.Seat.{reads, seen_of};
 
 use crate::book::{Book, SubmitFault};
 use crate::law::{MapGauge, Reader};
-use crate::opening::Opening;
+use crate::opening::KeptOpening;
 use crush_history::{Call, Reply, Slip};
 use std::alloc::Global;
 use std::marker::{Brand, Model};
@@ -44,7 +44,7 @@ pub struct Seat<N: Desk> {
     pub(crate) operator: usize,
     pub(crate) slips: Vec<Slip>,
     pub(crate) reader: Reader,
-    pub(crate) share: Share<N>,
+    pub(crate) ledger_share: Share<N>,
 }
 
 impl<N: Desk> Model for Seat<N> {
@@ -56,21 +56,21 @@ impl<N: Desk> Model for Seat<N> {
     ghost view = { λ s. seat_data s.operator s.slips.items (seen_of s.reader.view) };
 
     ghost invariant = { λ s. (s.reader.table ≡ N.gauge)
-        × (s.reader.view ≡ reads N.opening (seen_of s.reader.view)) × (s.share.parts ≡ 1)
-        × (s.share.amount ≡ length s.slips.items)
+        × (s.reader.view ≡ reads N.opening (seen_of s.reader.view)) × (s.ledger_share.parts ≡ 1)
+        × (s.ledger_share.amount ≡ length s.slips.items)
         × IsSeat N.opening s.operator s.slips.items (seen_of s.reader.view) };
 }
 
 /// What the lock protects: the book; the length of its history, `count`, of which each seat has its
 /// share; and the share that is left after each seat has taken its own.
 #[derive(Drop)]
-pub(crate) struct Locked<N: Desk, O: Opening> {
+pub(crate) struct Locked<N: Desk, O: KeptOpening> {
     pub(crate) book: Book<Global, O>,
     pub(crate) count: ledger::Book<N>,
     pub(crate) spare: Share<N>,
 }
 
-impl<N: Desk, O: Opening> Model for Locked<N, O> {
+impl<N: Desk, O: KeptOpening> Model for Locked<N, O> {
     ghost use Rattle.std.specs.Prelude.{◌≡◌, length};
     ghost use Rattle.std.specs.Coded.{codes};
     ghost use Rattle.crush_map.specs.Codes.{coded_map};
@@ -87,7 +87,7 @@ impl<N: Desk, O: Opening> Model for Locked<N, O> {
         × (l.spare.amount ≡ 0) };
 }
 
-impl<N: Desk, O: Opening> Locked<N, O> {
+impl<N: Desk, O: KeptOpening> Locked<N, O> {
     /// Executes a call of operator `k`, and counts it in the seat's share if it is answered. The
     /// reader has then seen the whole history, also after an error. An error returns the call, and
     /// leaves the book and the share unchanged.
@@ -95,7 +95,7 @@ impl<N: Desk, O: Opening> Locked<N, O> {
         &mut self,
         gauge: &MapGauge,
         reader: &mut Reader,
-        share: &mut Share<N>,
+        ledger_share: &mut Share<N>,
         k: usize,
         call: Call,
     ) -> Result<Reply, (SubmitFault, Call)>
@@ -103,12 +103,12 @@ impl<N: Desk, O: Opening> Locked<N, O> {
         requires gauge { gauge.now.table.shared.table_id ≡ N.gauge }
         requires reader { (reader.old.table ≡ N.gauge)
             × (reader.old.view ≡ reads N.opening (seen_of reader.old.view)) }
-        requires share { share.old.parts ≡ 1 }
+        requires ledger_share { ledger_share.old.parts ≡ 1 }
         ensures history { IfOk result (λ r.
             self.new.history ≡ self.old.history ++ entry k call r ∷ []) }
-        ensures counted { IfOk result (λ r. share.new.amount ≡ share.old.amount + 1) }
-        ensures parts { share.new.parts ≡ share.old.parts }
-        ensures unchanged { OnErr result ((self.new ≡ self.old) × (share.new ≡ share.old)) }
+        ensures counted { IfOk result (λ r. ledger_share.new.amount ≡ ledger_share.old.amount + 1) }
+        ensures parts { ledger_share.new.parts ≡ ledger_share.old.parts }
+        ensures unchanged { OnErr result ((self.new ≡ self.old) × (ledger_share.new ≡ ledger_share.old)) }
         ensures room { OnOk result (length self.old.history < MOST_ENTRIES) }
         ensures full { IfErr result (λ e.
             (e.0 ≡ SubmitFault.Full) ↔ (length self.old.history ≡ MOST_ENTRIES)) }
@@ -125,7 +125,7 @@ impl<N: Desk, O: Opening> Locked<N, O> {
             Ok(answer) => answer,
             Err(unanswered) => return Err(unanswered),
         };
-        self.count.add(share, 1);
+        self.count.add(ledger_share, 1);
         Ok(reply)
     }
 

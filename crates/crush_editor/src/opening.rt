@@ -7,7 +7,7 @@ use std::alloc::Allocator;
 /// [`CrushMap`] it keeps the whole opening and returns it at the close; this costs the time and
 /// memory of one copy of the map. With [`WithoutSnapshot`] it keeps nothing, and only contracts
 /// speak of the opening.
-pub trait Opening: Drop {
+pub trait KeptOpening: Drop {
     ghost use Rattle.std.specs.Prelude.{Option};
     ghost use Rattle.crush_map.specs.MapData.{MapData};
 
@@ -18,13 +18,13 @@ pub trait Opening: Drop {
 #[derive(Clone, Copy, Debug, PartialEq, Eq)]
 pub struct WithoutSnapshot;
 
-impl<A: Allocator> Opening for CrushMap<A> {
+impl<A: Allocator> KeptOpening for CrushMap<A> {
     ghost use Rattle.std.specs.Prelude.{Some};
 
     ghost kept = { λ map. Some map };
 }
 
-impl Opening for WithoutSnapshot {
+impl KeptOpening for WithoutSnapshot {
     ghost use Rattle.std.specs.Prelude.{None};
 
     ghost kept = { λ _. None };

@@ -11,21 +11,21 @@ ghost use Rattle.crush_editor.specs.Seat.{reads, seen_of};
 use crate::book::SubmitFault;
 use crate::law::{MapGauge, Reader};
 use crate::locked::{Desk, Locked};
-use crate::opening::Opening;
+use crate::opening::KeptOpening;
 use crate::ready::Ready;
 use crush_history::Slip;
 use std::sync::{Mutex, MutexGuard, Wait};
 
 /// The lock, with the book that it protects.
 #[derive(Drop)]
-pub(crate) struct StateLock<N: Desk, O: Opening> {
-    desk: Mutex<Locked<N, O>>,
+pub(crate) struct StateLock<N: Desk, O: KeptOpening> {
+    state: Mutex<Locked<N, O>>,
 }
 
-impl<N: Desk, O: Opening> StateLock<N, O> {
+impl<N: Desk, O: KeptOpening> StateLock<N, O> {
     pub(crate) fn new(locked: Locked<N, O>) -> StateLock<N, O> {
         StateLock {
-            desk: Mutex::new(locked),
+            state: Mutex::new(locked),
         }
     }
 
@@ -41,7 +41,7 @@ impl<N: Desk, O: Opening> StateLock<N, O> {
     {
         let _slips = slips;
         let _ready = ready;
-        self.desk.lock(rt)
+        self.state.lock(rt)
     }
 
     /// Acquires the lock, and returns the fault of a call that could not be copied: `Full` if the
@@ -63,12 +63,12 @@ impl<N: Desk, O: Opening> StateLock<N, O> {
             ↔ (length (seen_of reader.new.view) ≡ MOST_ENTRIES) }
         ensures few { length (seen_of reader.new.view) ≤ MOST_ENTRIES }
     {
-        self.desk.lock(rt).refuse(gauge, reader)
+        self.state.lock(rt).refuse(gauge, reader)
     }
 
     /// Returns what the lock protects. Nobody else can have the lock, so this doesn't wait.
     pub(crate) fn into_inner(self) -> Locked<N, O> {
-        let StateLock { desk } = self;
-        desk.into_inner()
+        let StateLock { state } = self;
+        state.into_inner()
     }
 }

@@ -30,18 +30,18 @@ abbrev pub two_names : List ℕ → List ℕ → List ℕ → List ℕ
 two_names first a b = first ++ codes " " ++ a ++ codes " " ++ b
 
 -- a command's first word, a name, and a weight with five decimals, each after a space
-abbrev pub weighed : List ℕ → List ℕ → ℕ → List ℕ
-weighed first name weight = first ++ codes " " ++ name ++ codes " " ++ weight_text weight
+abbrev pub name_and_weight : List ℕ → List ℕ → ℕ → List ℕ
+name_and_weight first name weight = first ++ codes " " ++ name ++ codes " " ++ weight_text weight
 
 -- AN EDIT as its command in a script
 abbrev pub edit_text : Edit → List ℕ
-edit_text (Insert device name weight at) = weighed (codes "add") name weight ++ pairs_text at
-edit_text (CreateOrMove device name weight at) = weighed (codes "create-or-move") name weight ++ pairs_text at
-edit_text (Update device name weight at) = weighed (codes "set") name weight ++ pairs_text at
+edit_text (Insert device name weight at) = name_and_weight (codes "add") name weight ++ pairs_text at
+edit_text (CreateOrMove device name weight at) = name_and_weight (codes "create-or-move") name weight ++ pairs_text at
+edit_text (Update device name weight at) = name_and_weight (codes "set") name weight ++ pairs_text at
 edit_text (Move name at) = one_name (codes "move") name ++ pairs_text at
 edit_text (Swap a b) = two_names (codes "swap-bucket") a b
-edit_text (Reweight name weight) = weighed (codes "reweight") name weight
-edit_text (ReweightSubtree name weight) = weighed (codes "reweight-subtree") name weight
+edit_text (Reweight name weight) = name_and_weight (codes "reweight") name weight
+edit_text (ReweightSubtree name weight) = name_and_weight (codes "reweight-subtree") name weight
 edit_text (Remove name) = one_name (codes "rm") name
 edit_text (AddBucket name kind) = two_names (codes "add-bucket") name kind
 edit_text (Rename from to) = two_names (codes "rename-bucket") from to

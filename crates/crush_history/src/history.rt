@@ -173,7 +173,7 @@ fn write_reply<W: Write>(reply: Reply, out: &mut W) -> Result<(), WriteFault>
 /// Writes the line of one entry of a history: `# NUMBER OPERATOR CALL = REPLY`.
 ///
 /// `number` is the entry's number in the history, from 1, and `operator` the operator's name. The
-/// line is a comment in a map's text; `docs/FORMATS.md` has its form. Fails only with
+/// line is a comment in a map's text; `docs/user/FORMATS.md` has its form. Fails only with
 /// [`WriteFault::Write`]; then only a proper prefix of the line has been written.
 pub fn write_entry<W: Write>(
     number: u32,

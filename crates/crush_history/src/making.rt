@@ -10,12 +10,12 @@ use crush_map::CrushMap;
 use std::alloc::{AllocError, Allocator};
 
 /// Applies one edit; a refusal is a reply, and running out of memory is an error.
-fn make_edit<A: Allocator + Clone>(map: &mut CrushMap<A>, asked: &Edit) -> Result<Reply, AllocError>
+fn make_edit<A: Allocator + Clone>(map: &mut CrushMap<A>, edit: &Edit) -> Result<Reply, AllocError>
     ensures made { IfOk result (λ reply. (n : ℕ)
-        → Makes n map.old map.new (Call.One asked.now) reply) }
+        → Makes n map.old map.new (Call.One edit.now) reply) }
     ensures unchanged { OnErr result (map.new ≡ map.old) }
 {
-    match map.apply(asked) {
+    match map.apply(edit) {
         Ok(done) => Ok(Reply::Done(done)),
         Err(EditFault::Refused(refusal)) => Ok(Reply::Refused(refusal)),
         Err(EditFault::OutOfMemory) => Err(AllocError),
@@ -25,14 +25,14 @@ fn make_edit<A: Allocator + Clone>(map: &mut CrushMap<A>, asked: &Edit) -> Resul
 /// Applies a batch of edits; a refusal is a reply, and running out of memory is an error.
 fn make_batch<A: Allocator + Clone>(
     map: &mut CrushMap<A>,
-    asked: &[Edit],
+    edits: &[Edit],
 ) -> Result<Reply, AllocError>
-    requires { length asked.now ≤ MOST_EDITS }
+    requires { length edits.now ≤ MOST_EDITS }
     ensures made { IfOk result (λ reply. (n : ℕ)
-        → Makes n map.old map.new (Call.Batch asked.now) reply) }
+        → Makes n map.old map.new (Call.Batch edits.now) reply) }
     ensures unchanged { OnErr result (map.new ≡ map.old) }
 {
-    match map.apply_batch(asked) {
+    match map.apply_batch(edits) {
         Ok(dones) => Ok(Reply::Dones(dones)),
         Err(BatchFault::Refused(index, refusal)) => Ok(Reply::BatchRefused(index, refusal)),
         Err(BatchFault::OutOfMemory) => Err(AllocError),
@@ -44,16 +44,16 @@ fn make_guarded<A: Allocator + Clone>(
     map: &mut CrushMap<A>,
     count: u32,
     seen: u32,
-    asked: &[Edit],
+    edits: &[Edit],
 ) -> Result<Reply, AllocError>
-    requires { length asked.now ≤ MOST_EDITS }
-    ensures made { IfOk result (Makes count map.old map.new (Call.Guarded seen asked.now)) }
+    requires { length edits.now ≤ MOST_EDITS }
+    ensures made { IfOk result (Makes count map.old map.new (Call.Guarded seen edits.now)) }
     ensures unchanged { OnErr result (map.new ≡ map.old) }
 {
     if seen != count {
         return Ok(Reply::Stale(count));
     }
-    make_batch(map, asked)
+    make_batch(map, edits)
 }
 
 /// Makes one call on a map, and returns its reply.

@@ -2,7 +2,7 @@
 
 ghost use Rattle.std.specs.Prelude.{◌≡◌, ◌++◌, codes, IfErr};
 ghost use Rattle.crush_units.specs.Writes.{Writes};
-ghost use Rattle.crush_history.specs.HistoryText.{pair_text, pairs_text, one_name, two_names, weighed, edit_text, edits_text, rest_text, guard_text, call_text};
+ghost use Rattle.crush_history.specs.HistoryText.{pair_text, pairs_text, one_name, two_names, name_and_weight, edit_text, edits_text, rest_text, guard_text, call_text};
 
 use crate::call::Call;
 use crush_edits::{Edit, Location, Pair};
@@ -48,14 +48,14 @@ fn write_two_names<W: Write>(
 }
 
 /// Writes a command's first word, a name, and a weight with five decimals.
-fn write_weighed<W: Write>(
+fn write_name_and_weight<W: Write>(
     first: &[u8],
     name: &Name<Global>,
     weight: Weight,
     out: &mut W,
 ) -> Result<(), WriteFault>
     ensures writes { Writes result (W.contents out.old) (W.contents out.new)
-        (weighed first.now name.now weight) }
+        (name_and_weight first.now name.now weight) }
     ensures fault { IfErr result (λ fault. fault ≡ WriteFault.Write) }
 {
     let mut digits = [0u8; 16];
@@ -110,10 +110,10 @@ fn write_placing<W: Write>(
     out: &mut W,
 ) -> Result<(), WriteFault>
     ensures writes { Writes result (W.contents out.old) (W.contents out.new)
-        (weighed first.now name.now weight ++ pairs_text at.now) }
+        (name_and_weight first.now name.now weight ++ pairs_text at.now) }
     ensures fault { IfErr result (λ fault. fault ≡ WriteFault.Write) }
 {
-    write_weighed(first, name, weight, out)?;
+    write_name_and_weight(first, name, weight, out)?;
     write_pairs(at.pairs(), out)
 }
 
@@ -155,9 +155,9 @@ pub fn write_edit<W: Write>(edit: &Edit, out: &mut W) -> Result<(), WriteFault>
         } => write_placing(b"set", name, *weight, at, out),
         Edit::Move { name, at } => write_move(name, at, out),
         Edit::Swap { a, b } => write_two_names(b"swap-bucket", a, b, out),
-        Edit::Reweight { name, weight } => write_weighed(b"reweight", name, *weight, out),
+        Edit::Reweight { name, weight } => write_name_and_weight(b"reweight", name, *weight, out),
         Edit::ReweightSubtree { name, weight } => {
-            write_weighed(b"reweight-subtree", name, *weight, out)
+            write_name_and_weight(b"reweight-subtree", name, *weight, out)
         }
         Edit::Remove { name } => write_one_name(b"rm", name, out),
         Edit::AddBucket { name, kind } => write_two_names(b"add-bucket", name, kind, out),

@@ -10,7 +10,7 @@ use Rattle.crush_units.specs.declared.limits.TheConstants.{LONGEST_JOB}
 use Rattle.crush_input.specs.declared.fault.RunFault.{RunFault}
 use Rattle.crush_input.specs.declared.fault.RunFault.TheVariants as run
 use Rattle.crush_input.specs.Input.{IsInput}
-use Rattle.crush_input.specs.Notes.{IsFaultNoted, place_notes}
+use Rattle.crush_input.specs.Notes.{AreNotesOfFault, place_notes}
 use Rattle.crush_input.specs.Stages.{IsNoJob}
 
 -- the notes are the same for the same bytes and origins
@@ -41,7 +41,7 @@ place_of_front explain o bytes front f own text on same h there is =
     is ∙ ap (λ a. fault_text a front f) there ∙ sym (same_text o o bytes front f same (λ short. refl) h) ∙ ap (λ e. place_notes e o bytes f) (sym on)
 
 -- the place notes of a fault are right: they have its place, and there are none without `--explain`
-pub place_noted : (explain : Bool) (o : ℕ → OriginData) (bytes : List ℕ) (f : JobFault) (notes : List ℕ) → notes ≡ place_notes explain o bytes f → IsFaultNoted explain o (Some bytes) (run.Job f) notes
+pub place_noted : (explain : Bool) (o : ℕ → OriginData) (bytes : List ℕ) (f : JobFault) (notes : List ℕ) → notes ≡ place_notes explain o bytes f → AreNotesOfFault explain o (Some bytes) (run.Job f) notes
 place_noted explain o bytes f notes is = (λ quiet. is ∙ ap (λ e. place_notes e o bytes f) quiet, is)
 
 -- the bytes were read of `all`, and if they are no more than a job may have, the origins of their lines are the same
@@ -58,8 +58,8 @@ pub place_of_all : (explain : Bool) (o p : ℕ → OriginData) (all : Option (Li
 place_of_all explain o p None bytes f notes input h is = tt
 place_of_all explain o p (Some xs) bytes f notes input h is = is ∙ same_notes explain o p bytes xs f input.0.read input.1 h
 
-pub noted_of_all : (explain : Bool) (o p : ℕ → OriginData) (all : Option (List ℕ)) (bytes : List ℕ) (f : RunFault) (notes : List ℕ) → IfSome all (ComeFrom o p bytes) → IsNoJob (Some bytes) f → IsFaultNoted explain o (Some bytes) f notes
-    → IsFaultNoted explain p all f notes
+pub noted_of_all : (explain : Bool) (o p : ℕ → OriginData) (all : Option (List ℕ)) (bytes : List ℕ) (f : RunFault) (notes : List ℕ) → IfSome all (ComeFrom o p bytes) → IsNoJob (Some bytes) f → AreNotesOfFault explain o (Some bytes) f notes
+    → AreNotesOfFault explain p all f notes
 noted_of_all explain o p all bytes (run.Job f) notes input h told = (told.0, place_of_all explain o p all bytes f notes input h.1 told.1)
 noted_of_all explain o p all bytes run.Read notes input h told = absurd h
 noted_of_all explain o p all bytes run.Write notes input h told = absurd h
@@ -70,4 +70,4 @@ noted_of_all explain o p all bytes (run.Made n) notes input h told = absurd h
 noted_of_all explain o p all bytes (run.Differs n) notes input h told = absurd h
 noted_of_all explain o p all bytes run.NoItem notes input h told = absurd h
 noted_of_all explain o p all bytes run.NoType notes input h told = absurd h
-noted_of_all explain o p all bytes (run.Other w s) notes input h told = absurd h
+noted_of_all explain o p all bytes (run.SecondMap w s) notes input h told = absurd h

@@ -84,7 +84,7 @@ no_job_of_all (run.Made n) all bytes input h = absurd h
 no_job_of_all (run.Differs n) all bytes input h = absurd h
 no_job_of_all run.NoItem all bytes input h = absurd h
 no_job_of_all run.NoType all bytes input h = absurd h
-no_job_of_all (run.Other w s) all bytes input h = absurd h
+no_job_of_all (run.SecondMap w s) all bytes input h = absurd h
 
 pub read_fault_of_input : (f : RunFault) (all : Option (List ℕ)) → IsInputFault f → IsReadFault all f
 read_fault_of_input (run.Job f) all h = absurd h
@@ -97,15 +97,15 @@ read_fault_of_input (run.Made n) all h = absurd h
 read_fault_of_input (run.Differs n) all h = absurd h
 read_fault_of_input run.NoItem all h = absurd h
 read_fault_of_input run.NoType all h = absurd h
-read_fault_of_input (run.Other w s) all h = absurd h
+read_fault_of_input (run.SecondMap w s) all h = absurd h
 
 -- what is kept of the bytes that were read is what is kept of all bytes, if these are a job, since their lines come from the same files
 pub weighed_of_all : {E : Type 0} (explain : Bool) (o p : ℕ → OriginData) (all : Option (List ℕ)) (bytes xs : List ℕ) (job : JobData) (r : Result ParsedJob E) → IfSome all (ComeFrom o p bytes) → all ≡ Some xs → length bytes ≤ LONGEST_JOB → bytes ≡ xs
     → IfOk r (IsParsedJob explain o bytes job) → IfOk r (IsParsedJob explain p xs job)
-weighed_of_all explain o p all bytes xs job r from is_xs short same weighed =
+weighed_of_all explain o p all bytes xs job r from is_xs short same parsed_job =
     let come : ComeFrom o p bytes xs = subst (λ (a : Option (List ℕ)). IfSome a (ComeFrom o p bytes)) is_xs from in
     let origins : o ≡ p = come.1 short in
-    subst (λ (z : List ℕ). IfOk r (IsParsedJob explain p z job)) same (subst (λ (q : ℕ → OriginData). IfOk r (IsParsedJob explain q bytes job)) origins weighed)
+    subst (λ (z : List ℕ). IfOk r (IsParsedJob explain p z job)) same (subst (λ (q : ℕ → OriginData). IfOk r (IsParsedJob explain q bytes job)) origins parsed_job)
 
 -- the bytes that are kept are no more than a job may have
 pub kept_short : (explain : Bool) (bytes : List ℕ) → length bytes ≤ LONGEST_JOB → length (bytes_kept explain bytes) ≤ LONGEST_JOB

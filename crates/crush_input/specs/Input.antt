@@ -1,9 +1,9 @@
 -- How the bytes that were read compare with all bytes that could be read.
 use Rattle.std.specs.Prelude.{◌≡◌, ◌≤◌, ◌+◌, ◌-◌, ◌++◌, ◌∷◌, ℕ, List, [], Option, None, Some, IfSome, String, length, map, take}
 use Rattle.std.specs.Io.KnownBytes.{Consumes}
-use Rattle.crush_options.specs.declared.asked.Options.{Options}
+use Rattle.crush_options.specs.declared.parsed_options.Options.{Options}
 use Rattle.crush_input.specs.declared.input.Joined.{Joined}
-use Rattle.crush_input.specs.Joined.{PartData, joined, part_data, part_of, parts_of, with_scripts}
+use Rattle.crush_input.specs.Joined.{ScriptSpanData, joined, script_span_data, script_span_of, script_spans_of, with_scripts}
 use Rattle.crush_units.specs.declared.limits.TheConstants.{LONGEST_JOB}
 
 -- `bytes` were read of `all`: if either is no longer than a job may be, both are the same
@@ -12,20 +12,20 @@ pub record IsInput (bytes all : List ℕ) : Type 0 where
   pub whole : length all ≤ LONGEST_JOB → bytes ≡ all
 
 -- the job `read` has bytes that were read of `all`, as above, and its parts are `stand`, unless `all` is longer than a job may be
-pub record IsJoined (read : Joined) (all : List ℕ) (stand : List PartData) : Type 0 where
+pub record IsJoined (read : Joined) (all : List ℕ) (stand : List ScriptSpanData) : Type 0 where
   pub bytes : IsInput read.bytes.items all
-  pub parts : length all ≤ LONGEST_JOB → map part_data read.parts.items ≡ stand
+  pub spans : length all ≤ LONGEST_JOB → map script_span_data read.spans.items ≡ stand
 
 -- how many more bytes may be read after these: as many as the job may still have, and one more, so that a longer job is noticed
-abbrev pub left_behind : List ℕ → ℕ
-left_behind bytes = (LONGEST_JOB + 1) - length bytes
+abbrev pub readable_bytes : List ℕ → ℕ
+readable_bytes bytes = (LONGEST_JOB + 1) - length bytes
 
--- READ BEHIND: the script of the file `name` was appended to what was read of a job, and its lines were noted. The script is the first `left_behind` bytes of the file, if the file's bytes are known.
-pub record IsReadBehind (before after : Joined) (name : List ℕ) (all : Option (List ℕ)) : Type 0 where
+-- READ BEHIND: the script of the file `name` was appended to what was read of a job, and its lines were noted. The script is the first `readable_bytes` bytes of the file, if the file's bytes are known.
+pub record IsReadAndAppended (before after : Joined) (name : List ℕ) (all : Option (List ℕ)) : Type 0 where
   pub script : List ℕ
-  pub read : IfSome all (λ bytes. script ≡ take (left_behind before.bytes.items) bytes)
+  pub read : IfSome all (λ bytes. script ≡ take (readable_bytes before.bytes.items) bytes)
   pub bytes : after.bytes.items ≡ joined before.bytes.items name script
-  pub parts : map part_data after.parts.items ≡ map part_data before.parts.items ++ part_of before.bytes.items name script ∷ []
+  pub spans : map script_span_data after.spans.items ≡ map script_span_data before.spans.items ++ script_span_of before.bytes.items name script ∷ []
 
 -- the bytes that a job begins with: those of its file, or those of standard input if there is no file
 abbrev pub first_bytes : {Z : Type 0} → (List ℕ → Option (List ℕ)) → Option (String Z) → Option (List ℕ) → Option (List ℕ)
@@ -37,8 +37,8 @@ abbrev pub job_bytes : (List ℕ → Option (List ℕ)) → Options → Option (
 job_bytes content options input = with_scripts content (first_bytes content options.file input) options.scripts.items
 
 -- which lines of the job are the scripts of these files
-abbrev pub job_parts : (List ℕ → Option (List ℕ)) → Options → Option (List ℕ) → List PartData
-job_parts content options input = parts_of content (first_bytes content options.file input) options.scripts.items
+abbrev pub job_script_spans : (List ℕ → Option (List ℕ)) → Options → Option (List ℕ) → List ScriptSpanData
+job_script_spans content options input = script_spans_of content (first_bytes content options.file input) options.scripts.items
 
 -- TAKEN: at most `most` bytes were taken from the reader, the first that it had
 abbrev pub TakesMost : ℕ → Option (List ℕ) → Option (List ℕ) → Type 0

@@ -3,7 +3,7 @@ use Rattle.std.specs.Prelude.{ℕ, ◌+◌, ◌-◌, ◌==◌, Bool, true, false
 use Rattle.std.specs.List.{position_or_len}
 use Rattle.crush_units.specs.Name.{is_name}
 use Rattle.crush_script.specs.Lines.{line_feeds}
-use Rattle.crush_input.specs.declared.joined.Part.{Part}
+use Rattle.crush_input.specs.declared.joined.ScriptSpan.{ScriptSpan}
 
 -- a line feed, or nothing if the bytes end with a line feed already
 abbrev pub line_end : List ℕ → List ℕ
@@ -51,18 +51,18 @@ joined job name script = job ++ line_end job ++ operator_line name script ++ scr
 
 -- PART: which lines of a job are the script of the file `name`. They begin with the line `from`, counted from 1, which is the `%operator`
 -- line if one is put before the script. `before` is the number of lines of the job before the first line of the file itself.
-pub record PartData : Type 0 where
+pub record ScriptSpanData : Type 0 where
   pub name : List ℕ
   pub from : ℕ
   pub before : ℕ
 
 -- a part as the program holds it, as data
-abbrev pub part_data : Part → PartData
-part_data p = record { name = p.name.now; from = p.from; before = p.before }
+abbrev pub script_span_data : ScriptSpan → ScriptSpanData
+script_span_data p = record { name = p.name.now; from = p.from; before = p.before }
 
 -- the part for a script that is appended to a job
-abbrev pub part_of : List ℕ → List ℕ → List ℕ → PartData
-part_of job name script = record {
+abbrev pub script_span_of : List ℕ → List ℕ → List ℕ → ScriptSpanData
+script_span_of job name script = record {
   name = name;
   from = line_feeds (job ++ line_end job) + 1;
   before = line_feeds (job ++ line_end job ++ operator_line name script);
@@ -74,9 +74,9 @@ joined_known (Some job) name (Some script) = Some (joined job name script)
 joined_known job name script = None
 
 -- the part of the script if the bytes of the job and of the script are known, otherwise none
-abbrev pub part_known : Option (List ℕ) → List ℕ → Option (List ℕ) → List PartData
-part_known (Some job) name (Some script) = part_of job name script ∷ []
-part_known job name script = []
+abbrev pub script_span_known : Option (List ℕ) → List ℕ → Option (List ℕ) → List ScriptSpanData
+script_span_known (Some job) name (Some script) = script_span_of job name script ∷ []
+script_span_known job name script = []
 
 -- the bytes of a job followed by the scripts of these files, in order, if all of these bytes are known; `content` gives the bytes of a file by its name
 abbrev pub with_scripts : {Z : Type 0} → (List ℕ → Option (List ℕ)) → Option (List ℕ) → List (String Z) → Option (List ℕ)
@@ -84,7 +84,7 @@ with_scripts content job [] = job
 with_scripts content job (name ∷ names) = with_scripts content (joined_known job name.bytes.items (content name.bytes.items)) names
 
 -- the part of each of these scripts in the joined job, if it is known
-abbrev pub parts_of : {Z : Type 0} → (List ℕ → Option (List ℕ)) → Option (List ℕ) → List (String Z) → List PartData
-parts_of content job [] = []
-parts_of content job (name ∷ names) =
-    part_known job name.bytes.items (content name.bytes.items) ++ parts_of content (joined_known job name.bytes.items (content name.bytes.items)) names
+abbrev pub script_spans_of : {Z : Type 0} → (List ℕ → Option (List ℕ)) → Option (List ℕ) → List (String Z) → List ScriptSpanData
+script_spans_of content job [] = []
+script_spans_of content job (name ∷ names) =
+    script_span_known job name.bytes.items (content name.bytes.items) ++ script_spans_of content (joined_known job name.bytes.items (content name.bytes.items)) names

@@ -11,15 +11,15 @@ use Rattle.crush_history.specs.History.{EntryData}
 use Rattle.crush_history.specs.HistoryText.{entry_text}
 
 -- whether an edit is an `add-bucket`, which makes one bucket if it is done
-abbrev pub wants_bucket : Edit → Bool
-wants_bucket (AddBucket name kind) = true
-wants_bucket e = false
+abbrev pub is_add_bucket : Edit → Bool
+is_add_bucket (AddBucket name kind) = true
+is_add_bucket e = false
 
 -- the number of `add-bucket` commands in a call
-abbrev pub wanted_buckets : Call → ℕ
-wanted_buckets (One e) = if wants_bucket e then 1 else 0
-wanted_buckets (Batch es) = count_by wants_bucket es
-wanted_buckets (Guarded seen es) = count_by wants_bucket es
+abbrev pub add_bucket_count : Call → ℕ
+add_bucket_count (One e) = if is_add_bucket e then 1 else 0
+add_bucket_count (Batch es) = count_by is_add_bucket es
+add_bucket_count (Guarded seen es) = count_by is_add_bucket es
 
 -- the number of buckets that a call made, by its reply
 abbrev pub buckets_made : Reply → ℕ
@@ -31,7 +31,7 @@ buckets_made (Stale n) = 0
 
 -- MAKES MORE: whether an entry made more buckets than its call has `add-bucket` commands; then a location named a bucket that wasn't there
 abbrev pub makes_more : EntryData → Bool
-makes_more e = nat_lt (wanted_buckets e.call) (buckets_made e.reply)
+makes_more e = nat_lt (add_bucket_count e.call) (buckets_made e.reply)
 
 -- the number of such entries
 abbrev pub makings : List EntryData → ℕ

@@ -13,12 +13,12 @@ use Rattle.crush_script.specs.Lines.{map_part}
 use Rattle.crush_text.specs.declared.fault.TextFault.{TextFault}
 use Rattle.crush_script.specs.declared.fault.JobFault.{JobFault}
 use Rattle.crush_script.specs.declared.fault.JobFault.TheVariants as job
-use Rattle.crush_options.specs.declared.asked.Mode.{Mode}
+use Rattle.crush_options.specs.declared.parsed_options.Mode.{Mode}
 use Rattle.crush_input.specs.declared.fault.RunFault.{RunFault}
 use Rattle.crush_input.specs.declared.fault.RunFault.TheVariants as run
-use Rattle.crush_input.specs.declared.fault.OtherFault.{OtherFault}
-use Rattle.crush_input.specs.declared.fault.OtherFault.TheVariants as unread
-use Rattle.crush_input.specs.declared.aborted.TextKept.{TextKept}
+use Rattle.crush_input.specs.declared.fault.SecondMapFault.{SecondMapFault}
+use Rattle.crush_input.specs.declared.fault.SecondMapFault.TheVariants as unread
+use Rattle.crush_input.specs.declared.aborted.KeptText.{KeptText}
 use Rattle.crush_input.specs.Made.{made_text, makings}
 use Rattle.crush_input.specs.Origins.{origin_of, whole_of}
 
@@ -34,7 +34,7 @@ pub record TextData : Type 0 where
   pub weights : List ℕ
 
 -- what the program keeps, as data
-abbrev pub text_data : TextKept → TextData
+abbrev pub text_data : KeptText → TextData
 text_data k = record { origin = origin_of k.origins; bytes = k.bytes.items; weights = k.weights.items }
 
 -- NOTES OF REFUSED CALLS: with `--explain`, the lines of these calls with reasons, which depend on the job's text and on the setting
@@ -69,59 +69,59 @@ abbrev pub unread_text : List ℕ → List ℕ → List ℕ
 unread_text name reason = codes "  " ++ name ++ codes ": " ++ reason ++ codes "\n"
 
 -- the notes are such a note of the file `name`, with any reason
-abbrev pub IsUnread : List ℕ → List ℕ → Type 0
-IsUnread name notes = (reason : List ℕ) × (notes ≡ unread_text name reason)
+abbrev pub IsNoteOfUnreadFile : List ℕ → List ℕ → Type 0
+IsNoteOfUnreadFile name notes = (reason : List ℕ) × (notes ≡ unread_text name reason)
 
 -- NOTES OF A FILE of this name, whose reading ended with a fault: after a failed read the note above with `--explain`; otherwise nothing
-abbrev pub IsFileNoted : Bool → List ℕ → RunFault → List ℕ → Type 0
-IsFileNoted explain name run.Read notes = (explain ≡ false → notes ≡ []) × (explain ≡ true → IsUnread name notes)
-IsFileNoted explain name fault notes = notes ≡ []
+abbrev pub AreNotesOfFile : Bool → List ℕ → RunFault → List ℕ → Type 0
+AreNotesOfFile explain name run.Read notes = (explain ≡ false → notes ≡ []) × (explain ≡ true → IsNoteOfUnreadFile name notes)
+AreNotesOfFile explain name fault notes = notes ≡ []
 
 -- the notes of a flaw of another map: with `--explain`, its place, with the name of the map's file, and the reason; otherwise nothing
 abbrev pub flaw_notes : Bool → List ℕ → List ℕ → TextFault → List ℕ
 flaw_notes explain name bytes fault = if explain then fault_text (whole_of name) bytes (job.Text fault) else []
 
 -- the notes of a fault of another map: for a flaw those above, if the map's bytes are known; if it is too long, nothing; if its file can't be read, the note of the file
-abbrev pub IsOtherNoted : Bool → List ℕ → Option (List ℕ) → OtherFault → List ℕ → Type 0
-IsOtherNoted explain name all (unread.Text fault) notes = (explain ≡ false → notes ≡ []) × IfSome all (λ bytes. notes ≡ flaw_notes explain name bytes fault)
-IsOtherNoted explain name all unread.TooLong notes = notes ≡ []
-IsOtherNoted explain name all unread.Read notes = IsFileNoted explain name run.Read notes
+abbrev pub AreNotesOfSecondMapFault : Bool → List ℕ → Option (List ℕ) → SecondMapFault → List ℕ → Type 0
+AreNotesOfSecondMapFault explain name all (unread.Text fault) notes = (explain ≡ false → notes ≡ []) × IfSome all (λ bytes. notes ≡ flaw_notes explain name bytes fault)
+AreNotesOfSecondMapFault explain name all unread.TooLong notes = notes ≡ []
+AreNotesOfSecondMapFault explain name all unread.Read notes = AreNotesOfFile explain name run.Read notes
 
 -- NOTES OF ANOTHER MAP in a file of this name: those of its fault as above, and nothing for any other fault of the run
-abbrev pub IsMapNoted : Bool → List ℕ → Option (List ℕ) → RunFault → List ℕ → Type 0
-IsMapNoted explain name all (run.Other which fault) notes = IsOtherNoted explain name all fault notes
-IsMapNoted explain name all fault notes = notes ≡ []
+abbrev pub AreNotesOfSecondMap : Bool → List ℕ → Option (List ℕ) → RunFault → List ℕ → Type 0
+AreNotesOfSecondMap explain name all (run.SecondMap which fault) notes = AreNotesOfSecondMapFault explain name all fault notes
+AreNotesOfSecondMap explain name all fault notes = notes ≡ []
 
 -- NOTES OF A HISTORY: the notes of refused calls and of weights, if the run is done or ends by a failed write, by refused calls or by a name that the map lacks. If it
 -- ends by made buckets, the lines of the calls that made them precede these notes. If it ends by differences that remain after a plan, `rest`, the lines of these
 -- differences, follows these notes. Nothing is said of other faults.
-abbrev pub HistoryNoted : {X : Type 0} → Mode → TextData → SettingData → List Row → List (List ℕ) → List EntryData → List ℕ → Result X RunFault → List ℕ → Type 0
-HistoryNoted mode text s t names h rest (Ok x) notes = notes ≡ history_notes mode text s t names h
-HistoryNoted mode text s t names h rest (Err run.Write) notes = notes ≡ history_notes mode text s t names h
-HistoryNoted mode text s t names h rest (Err (run.Refused n)) notes = notes ≡ history_notes mode text s t names h
-HistoryNoted mode text s t names h rest (Err (run.Made n)) notes = notes ≡ made_text names 1 h ++ history_notes mode text s t names h
-HistoryNoted mode text s t names h rest (Err (run.Differs n)) notes = notes ≡ history_notes mode text s t names h ++ rest
-HistoryNoted mode text s t names h rest (Err run.NoItem) notes = notes ≡ history_notes mode text s t names h
-HistoryNoted mode text s t names h rest (Err run.NoType) notes = notes ≡ history_notes mode text s t names h
-HistoryNoted mode text s t names h rest (Err fault) notes = Unit {0}
+abbrev pub AreNotesOfHistory : {X : Type 0} → Mode → TextData → SettingData → List Row → List (List ℕ) → List EntryData → List ℕ → Result X RunFault → List ℕ → Type 0
+AreNotesOfHistory mode text s t names h rest (Ok x) notes = notes ≡ history_notes mode text s t names h
+AreNotesOfHistory mode text s t names h rest (Err run.Write) notes = notes ≡ history_notes mode text s t names h
+AreNotesOfHistory mode text s t names h rest (Err (run.Refused n)) notes = notes ≡ history_notes mode text s t names h
+AreNotesOfHistory mode text s t names h rest (Err (run.Made n)) notes = notes ≡ made_text names 1 h ++ history_notes mode text s t names h
+AreNotesOfHistory mode text s t names h rest (Err (run.Differs n)) notes = notes ≡ history_notes mode text s t names h ++ rest
+AreNotesOfHistory mode text s t names h rest (Err run.NoItem) notes = notes ≡ history_notes mode text s t names h
+AreNotesOfHistory mode text s t names h rest (Err run.NoType) notes = notes ≡ history_notes mode text s t names h
+AreNotesOfHistory mode text s t names h rest (Err fault) notes = Unit {0}
 
 -- NOTES WITHOUT A HISTORY: what holds of the notes of a fault, whatever the history is. For a fault of the bytes, the notes have its place if the bytes are known, and there
 -- are none without `--explain`. For a failed write, or a name that the map lacks, there are none without `--explain`. Of refused calls, made buckets and remaining
 -- differences nothing is said. For any other fault there are none.
-abbrev pub IsFaultNoted : Bool → (ℕ → OriginData) → Option (List ℕ) → RunFault → List ℕ → Type 0
-IsFaultNoted explain origin all (run.Job fault) notes = (explain ≡ false → notes ≡ []) × IfSome all (λ bytes. notes ≡ place_notes explain origin bytes fault)
-IsFaultNoted explain origin all run.Write notes = explain ≡ false → notes ≡ []
-IsFaultNoted explain origin all (run.Refused n) notes = Unit {0}
-IsFaultNoted explain origin all (run.Made n) notes = Unit {0}
-IsFaultNoted explain origin all (run.Differs n) notes = Unit {0}
-IsFaultNoted explain origin all run.NoItem notes = explain ≡ false → notes ≡ []
-IsFaultNoted explain origin all run.NoType notes = explain ≡ false → notes ≡ []
-IsFaultNoted explain origin all fault notes = notes ≡ []
+abbrev pub AreNotesOfFault : Bool → (ℕ → OriginData) → Option (List ℕ) → RunFault → List ℕ → Type 0
+AreNotesOfFault explain origin all (run.Job fault) notes = (explain ≡ false → notes ≡ []) × IfSome all (λ bytes. notes ≡ place_notes explain origin bytes fault)
+AreNotesOfFault explain origin all run.Write notes = explain ≡ false → notes ≡ []
+AreNotesOfFault explain origin all (run.Refused n) notes = Unit {0}
+AreNotesOfFault explain origin all (run.Made n) notes = Unit {0}
+AreNotesOfFault explain origin all (run.Differs n) notes = Unit {0}
+AreNotesOfFault explain origin all run.NoItem notes = explain ≡ false → notes ≡ []
+AreNotesOfFault explain origin all run.NoType notes = explain ≡ false → notes ≡ []
+AreNotesOfFault explain origin all fault notes = notes ≡ []
 
 -- the same for the result of a run: a run that was done has no notes without `--explain`
-abbrev pub IsNoted : {X : Type 0} → Bool → (ℕ → OriginData) → Option (List ℕ) → Result X RunFault → List ℕ → Type 0
-IsNoted explain origin all (Ok x) notes = explain ≡ false → notes ≡ []
-IsNoted explain origin all (Err fault) notes = IsFaultNoted explain origin all fault notes
+abbrev pub AreNotesOfResult : {X : Type 0} → Bool → (ℕ → OriginData) → Option (List ℕ) → Result X RunFault → List ℕ → Type 0
+AreNotesOfResult explain origin all (Ok x) notes = explain ≡ false → notes ≡ []
+AreNotesOfResult explain origin all (Err fault) notes = AreNotesOfFault explain origin all fault notes
 
 -- STRICT: if a run is strict, its history has no refused entry when it is done, or when it ends by a failed write, by made buckets, by remaining differences or
 -- by a name that the map lacks. A run that ends by refusals is strict, and its fault has their number, at least 1. Only a strict run ends by remaining

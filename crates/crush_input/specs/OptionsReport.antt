@@ -2,8 +2,8 @@
 use Rattle.std.specs.Prelude.{◌≡◌, ◌⊎◌, ℕ, List, [], Option}
 use Rattle.std.specs.Io.KnownBytes.{Appends, Keeps}
 use Rattle.crush_units.specs.Writes.{AppendsLess}
-use Rattle.crush_options.specs.declared.asked.OptionsFault.{OptionsFault}
-use Rattle.crush_options.specs.declared.asked.OptionsFault.TheVariants.{Help, Refused, Memory}
+use Rattle.crush_options.specs.declared.parsed_options.OptionsFault.{OptionsFault}
+use Rattle.crush_options.specs.declared.parsed_options.OptionsFault.TheVariants.{Help, Refused, Memory}
 use Rattle.crush_input.specs.Report.{run_fault}
 use Rattle.crush_input.specs.Words.{no_words}
 use Rattle.crush_input.specs.declared.fault.RunFault.TheVariants as run

@@ -7,10 +7,10 @@ use Rattle.crush_script.specs.declared.fault.JobFault.TheVariants.{BadLine, NoSu
 use Rattle.crush_script.specs.Fault.{is_out_of_memory, lacks_memory}
 use Rattle.crush_input.specs.declared.fault.RunFault.{RunFault}
 use Rattle.crush_input.specs.declared.fault.RunFault.TheVariants as run
-use Rattle.crush_input.specs.declared.fault.OtherFault.{OtherFault}
-use Rattle.crush_input.specs.declared.fault.OtherFault.TheVariants as unread
-use Rattle.crush_input.specs.declared.fault.OtherMap.{OtherMap}
-use Rattle.crush_input.specs.declared.fault.OtherMap.TheVariants as beside
+use Rattle.crush_input.specs.declared.fault.SecondMapFault.{SecondMapFault}
+use Rattle.crush_input.specs.declared.fault.SecondMapFault.TheVariants as unread
+use Rattle.crush_input.specs.declared.fault.SecondMap.{SecondMap}
+use Rattle.crush_input.specs.declared.fault.SecondMap.TheVariants as second
 use Rattle.crush_input.specs.declared.summary.Summary.{Summary}
 use Rattle.crush_input.specs.Words.{WordsData}
 
@@ -55,19 +55,19 @@ abbrev pub differs_line : ℕ → List ℕ
 differs_line count = codes "crushedit: differs " ++ decimal count ++ codes "\n"
 
 -- the word in the line for a fault of another map: the option that names the map
-abbrev pub map_word : OtherMap → List ℕ
-map_word beside.Since = codes "since"
-map_word beside.To = codes "to"
+abbrev pub map_word : SecondMap → List ℕ
+map_word second.Since = codes "since"
+map_word second.To = codes "to"
 
 -- the line for a fault of another map's text: the option, its place and its name
-abbrev pub other_text_fault : OtherMap → TextFault → List ℕ
-other_text_fault which f = codes "crushedit: " ++ map_word which ++ codes ": byte " ++ decimal f.place ++ codes ": " ++ fault_name f.kind ++ codes "\n"
+abbrev pub second_map_text_fault : SecondMap → TextFault → List ℕ
+second_map_text_fault which f = codes "crushedit: " ++ map_word which ++ codes ": byte " ++ decimal f.place ++ codes ": " ++ fault_name f.kind ++ codes "\n"
 
 -- the line for a fault of another map
-abbrev pub other_fault : OtherMap → OtherFault → List ℕ
-other_fault which (unread.Text f) = if is_out_of_memory f.kind then out_of_memory else other_text_fault which f
-other_fault which unread.TooLong = codes "crushedit: " ++ map_word which ++ codes ": TooLong\n"
-other_fault which unread.Read = codes "crushedit: " ++ map_word which ++ codes ": read fault\n"
+abbrev pub second_map_fault : SecondMap → SecondMapFault → List ℕ
+second_map_fault which (unread.Text f) = if is_out_of_memory f.kind then out_of_memory else second_map_text_fault which f
+second_map_fault which unread.TooLong = codes "crushedit: " ++ map_word which ++ codes ": TooLong\n"
+second_map_fault which unread.Read = codes "crushedit: " ++ map_word which ++ codes ": read fault\n"
 
 -- the line for an item or a type that the map lacks, with its name from the command line
 abbrev pub lacking_line : List ℕ → List ℕ → List ℕ
@@ -85,7 +85,7 @@ run_fault w (run.Made count) = made_line count
 run_fault w (run.Differs count) = differs_line count
 run_fault w run.NoItem = lacking_line (codes "item ") w.under
 run_fault w run.NoType = lacking_line (codes "type ") w.down_to
-run_fault w (run.Other which f) = other_fault which f
+run_fault w (run.SecondMap which f) = second_map_fault which f
 
 -- the one line for the result of a run; nothing if the run was done and no weight was replaced
 abbrev pub report_line : WordsData → Result Summary RunFault → List ℕ
@@ -97,20 +97,20 @@ abbrev pub memory_reason : List ℕ
 memory_reason = codes "  there is less memory than the job wants\n"
 
 -- the reason if the file of another map is too long
-abbrev pub long_reason : OtherMap → List ℕ
-long_reason beside.Since = codes "  the file of --since has at most 16777216 bytes\n"
-long_reason beside.To = codes "  the file of --to has at most 16777216 bytes\n"
+abbrev pub long_reason : SecondMap → List ℕ
+long_reason second.Since = codes "  the file of --since has at most 16777216 bytes\n"
+long_reason second.To = codes "  the file of --to has at most 16777216 bytes\n"
 
 -- the reason if the file of another map can't be opened or read
-abbrev pub unread_reason : OtherMap → List ℕ
-unread_reason beside.Since = codes "  the file of --since is to be there, and to be read to its end\n"
-unread_reason beside.To = codes "  the file of --to is to be there, and to be read to its end\n"
+abbrev pub unread_reason : SecondMap → List ℕ
+unread_reason second.Since = codes "  the file of --since is to be there, and to be read to its end\n"
+unread_reason second.To = codes "  the file of --to is to be there, and to be read to its end\n"
 
 -- the reason for a fault of another map; nothing for a flaw of its text, whose reason is in the notes
-abbrev pub other_reason : OtherMap → OtherFault → List ℕ
-other_reason which (unread.Text f) = if is_out_of_memory f.kind then memory_reason else []
-other_reason which unread.TooLong = long_reason which
-other_reason which unread.Read = unread_reason which
+abbrev pub second_map_reason : SecondMap → SecondMapFault → List ℕ
+second_map_reason which (unread.Text f) = if is_out_of_memory f.kind then memory_reason else []
+second_map_reason which unread.TooLong = long_reason which
+second_map_reason which unread.Read = unread_reason which
 
 -- the reason why a run was not done; nothing if the notes of the run have it
 abbrev pub fault_reason : RunFault → List ℕ
@@ -124,7 +124,7 @@ fault_reason (run.Made count) = []
 fault_reason (run.Differs count) = []
 fault_reason run.NoItem = codes "  --under wants the name of an item of the map after the scripts\n"
 fault_reason run.NoType = codes "  --down-to wants the name of a type of the map\n"
-fault_reason (run.Other which f) = other_reason which f
+fault_reason (run.SecondMap which f) = second_map_reason which f
 
 -- the reason for the result of a run; nothing if the run was done
 abbrev pub outcome_reason : Result Summary RunFault → List ℕ
@@ -140,10 +140,10 @@ abbrev pub report_text : WordsData → Result Summary RunFault → List ℕ → 
 report_text w outcome notes = report_lines w outcome ++ notes
 
 -- the status for a fault of another map
-abbrev pub other_status : OtherFault → ℕ
-other_status (unread.Text f) = if is_out_of_memory f.kind then 4 else 1
-other_status unread.TooLong = 1
-other_status unread.Read = 3
+abbrev pub second_map_status : SecondMapFault → ℕ
+second_map_status (unread.Text f) = if is_out_of_memory f.kind then 4 else 1
+second_map_status unread.TooLong = 1
+second_map_status unread.Read = 3
 
 -- the status for a run that was not done
 abbrev pub fault_status : RunFault → ℕ
@@ -157,7 +157,7 @@ fault_status (run.Made count) = 5
 fault_status (run.Differs count) = 5
 fault_status run.NoItem = 1
 fault_status run.NoType = 1
-fault_status (run.Other which f) = other_status f
+fault_status (run.SecondMap which f) = second_map_status f
 
 -- STATUS: 0 if the run was done, or 6 if its summary says that there is something to report. If it was not done: 1 if the bytes aren't a job or another map isn't a map, or
 -- if the map lacks a name of the command line; 3 if reading or writing failed; 4 if memory ran out or a thread couldn't be started; 5 if calls of a strict

@@ -1,7 +1,7 @@
 -- The words of a command line that the report of its run needs.
 use Rattle.std.specs.Prelude.{ℕ, Bool, false, List, [], unwrap_or}
-use Rattle.crush_options.specs.declared.asked.Options.{Options}
-use Rattle.crush_options.specs.Printed.{said_by}
+use Rattle.crush_options.specs.declared.parsed_options.Options.{Options}
+use Rattle.crush_options.specs.OutputFlags.{flags_by}
 use Rattle.crush_input.specs.declared.words.Words.{Words}
 
 -- whether `--explain` is given, and the names that `--under` and `--down-to` give, each empty if it isn't given
@@ -22,6 +22,6 @@ no_words = record { explain = false; under = []; down_to = [] }
 abbrev pub words_of : Options → WordsData
 words_of options = record {
   explain = options.mode.explain;
-  under = unwrap_or (said_by options.mode.json options.printed).under [];
-  down_to = unwrap_or (said_by options.mode.json options.printed).down_to [];
+  under = unwrap_or (flags_by options.mode.json options.output_spec).under [];
+  down_to = unwrap_or (flags_by options.mode.json options.output_spec).down_to [];
 }

@@ -9,7 +9,7 @@ use std::alloc::Global;
 
 /// What is kept of a job's text to write notes from.
 #[derive(Drop)]
-pub struct TextKept<'a> {
+pub struct KeptText<'a> {
     /// The bytes of the job; empty without `explain`.
     pub bytes: Vec<u8>,
     /// The files that the lines of the job come from.
@@ -23,7 +23,7 @@ pub struct TextKept<'a> {
 #[derive(Drop)]
 pub struct ParsedJob<'a> {
     pub job: Job,
-    pub text: TextKept<'a>,
+    pub text: KeptText<'a>,
 }
 
 /// Why a run stopped before its scripts ran.
@@ -35,7 +35,7 @@ pub struct Aborted {
 }
 
 impl Aborted {
-    pub(crate) fn quietly(alloc: Global, fault: RunFault) -> Aborted
+    pub(crate) fn without_notes(alloc: Global, fault: RunFault) -> Aborted
         ensures fault { result.fault ≡ fault }
         ensures quiet { result.notes.items ≡ [] }
     {

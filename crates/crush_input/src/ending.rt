@@ -5,9 +5,9 @@ ghost use Rattle.crush_units.specs.Writes.{Writes, AppendsPrefix};
 ghost use Rattle.crush_input.specs.OptionsReport.{IsHelpWhole, IsOptionsStatus, options_error, options_output};
 ghost use Rattle.crush_input.specs.Report.{adjusted_line, fault_reason, line_fault, text_fault, job_fault, made_line, outcome_reason, run_fault, refused_line, report_line, report_lines, report_text, status};
 ghost use Rattle.crush_input.specs.Words.{no_words, words_data};
-ghost use Rattle.crush_input.specs.Report.{differs_line, lacking_line, long_reason, map_word, other_fault, other_reason, other_status, other_text_fault, unread_reason};
+ghost use Rattle.crush_input.specs.Report.{differs_line, lacking_line, long_reason, map_word, second_map_fault, second_map_reason, second_map_status, second_map_text_fault, unread_reason};
 
-use crate::fault::{OtherFault, OtherMap, RunFault};
+use crate::fault::{RunFault, SecondMap, SecondMapFault};
 use crate::summary::Summary;
 use crate::words::Words;
 use crush_options::OptionsFault;
@@ -77,22 +77,22 @@ fn write_job_fault<E: Write>(fault: JobFault, err: &mut E) -> Result<(), WriteFa
     }
 }
 
-fn map_word(which: OtherMap) -> &'static [u8]
+fn map_word(which: SecondMap) -> &'static [u8]
     ensures { result.now ≡ map_word which }
 {
     match which {
-        OtherMap::Since => b"since",
-        OtherMap::To => b"to",
+        SecondMap::Since => b"since",
+        SecondMap::To => b"to",
     }
 }
 
-fn write_other_text<E: Write>(
-    which: OtherMap,
+fn write_second_map_text<E: Write>(
+    which: SecondMap,
     fault: TextFault,
     err: &mut E,
 ) -> Result<(), WriteFault>
     ensures { Writes result (E.contents err.old) (E.contents err.new)
-        (other_text_fault which fault) }
+        (second_map_text_fault which fault) }
 {
     let mut buffer = Buffer::new();
     let place = buffer.format(fault.place).as_bytes();
@@ -112,7 +112,7 @@ fn write_other_text<E: Write>(
 }
 
 fn write_of_map<E: Write>(
-    which: OtherMap,
+    which: SecondMap,
     what: &'static [u8],
     err: &mut E,
 ) -> Result<(), WriteFault>
@@ -122,19 +122,22 @@ fn write_of_map<E: Write>(
     put_all(err, &[b"crushedit: ".as_slice(), map_word(which), what])
 }
 
-fn write_other_fault<E: Write>(
-    which: OtherMap,
-    fault: OtherFault,
+fn write_second_map_fault<E: Write>(
+    which: SecondMap,
+    fault: SecondMapFault,
     err: &mut E,
 ) -> Result<(), WriteFault>
     ensures { Writes result (E.contents err.old) (E.contents err.new)
-        (other_fault which fault) }
+        (second_map_fault which fault) }
 {
     match fault {
-        OtherFault::Text(fault) if JobFault::Text(fault).lacks_memory() => put(err, OUT_OF_MEMORY),
-        OtherFault::Text(fault) => write_other_text(which, fault, err),
-        OtherFault::TooLong => write_of_map(which, b": TooLong\n", err),
-        OtherFault::Read => write_of_map(which, b": read fault\n", err),
+        SecondMapFault::Text(fault) if JobFault::Text(fault).lacks_memory() => put(
+            err,
+            OUT_OF_MEMORY,
+        ),
+        SecondMapFault::Text(fault) => write_second_map_text(which, fault, err),
+        SecondMapFault::TooLong => write_of_map(which, b": TooLong\n", err),
+        SecondMapFault::Read => write_of_map(which, b": read fault\n", err),
     }
 }
 
@@ -173,7 +176,7 @@ fn write_run_fault<E: Write>(
         RunFault::Differs(count) => write_differs(count, err),
         RunFault::NoItem => write_lacking(b"item ", words.under, err),
         RunFault::NoType => write_lacking(b"type ", words.down_to, err),
-        RunFault::Other(which, fault) => write_other_fault(which, fault, err),
+        RunFault::SecondMap(which, fault) => write_second_map_fault(which, fault, err),
     }
 }
 
@@ -251,32 +254,32 @@ fn put_fault<E: Write>(fault: RunFault, err: &mut E)
     let _ = write_run_fault(Words::none(), fault, err);
 }
 
-fn long_reason(which: OtherMap) -> &'static [u8]
+fn long_reason(which: SecondMap) -> &'static [u8]
     ensures { result.now ≡ long_reason which }
 {
     match which {
-        OtherMap::Since => b"  the file of --since has at most 16777216 bytes\n",
-        OtherMap::To => b"  the file of --to has at most 16777216 bytes\n",
+        SecondMap::Since => b"  the file of --since has at most 16777216 bytes\n",
+        SecondMap::To => b"  the file of --to has at most 16777216 bytes\n",
     }
 }
 
-fn unread_reason(which: OtherMap) -> &'static [u8]
+fn unread_reason(which: SecondMap) -> &'static [u8]
     ensures { result.now ≡ unread_reason which }
 {
     match which {
-        OtherMap::Since => b"  the file of --since is to be there, and to be read to its end\n",
-        OtherMap::To => b"  the file of --to is to be there, and to be read to its end\n",
+        SecondMap::Since => b"  the file of --since is to be there, and to be read to its end\n",
+        SecondMap::To => b"  the file of --to is to be there, and to be read to its end\n",
     }
 }
 
-fn other_reason(which: OtherMap, fault: OtherFault) -> &'static [u8]
-    ensures { result.now ≡ other_reason which fault }
+fn second_map_reason(which: SecondMap, fault: SecondMapFault) -> &'static [u8]
+    ensures { result.now ≡ second_map_reason which fault }
 {
     match fault {
-        OtherFault::Text(fault) if JobFault::Text(fault).lacks_memory() => MEMORY_REASON,
-        OtherFault::Text(_) => b"",
-        OtherFault::TooLong => long_reason(which),
-        OtherFault::Read => unread_reason(which),
+        SecondMapFault::Text(fault) if JobFault::Text(fault).lacks_memory() => MEMORY_REASON,
+        SecondMapFault::Text(_) => b"",
+        SecondMapFault::TooLong => long_reason(which),
+        SecondMapFault::Read => unread_reason(which),
     }
 }
 
@@ -297,7 +300,7 @@ fn fault_reason(fault: RunFault) -> &'static [u8]
         RunFault::Refused(_) | RunFault::Made(_) | RunFault::Differs(_) => b"",
         RunFault::NoItem => b"  --under wants the name of an item of the map after the scripts\n",
         RunFault::NoType => b"  --down-to wants the name of a type of the map\n",
-        RunFault::Other(which, fault) => other_reason(which, fault),
+        RunFault::SecondMap(which, fault) => second_map_reason(which, fault),
     }
 }
 
@@ -310,7 +313,7 @@ fn outcome_reason(outcome: &Result<Summary, RunFault>) -> &'static [u8]
     }
 }
 
-fn wanted_reason(words: Words<'_>, outcome: &Result<Summary, RunFault>) -> &'static [u8]
+fn reason_if_requested(words: Words<'_>, outcome: &Result<Summary, RunFault>) -> &'static [u8]
     ensures { result.now ≡ (if words.entry.explain then outcome_reason outcome.now else []) }
 {
     if words.explain {
@@ -329,7 +332,7 @@ fn write_lines<E: Write>(
         (report_lines (words_data words.entry) outcome.now) }
 {
     write_report(words, outcome, err)?;
-    put(err, wanted_reason(words, outcome))
+    put(err, reason_if_requested(words, outcome))
 }
 
 fn write_ending<E: Write>(
@@ -351,13 +354,13 @@ fn put_prefix<E: Write>(bytes: &[u8], err: &mut E)
     let _ = put(err, bytes);
 }
 
-fn other_status(fault: OtherFault) -> u8
-    ensures { result ≡ other_status fault }
+fn second_map_status(fault: SecondMapFault) -> u8
+    ensures { result ≡ second_map_status fault }
 {
     match fault {
-        OtherFault::Text(fault) if JobFault::Text(fault).lacks_memory() => 4,
-        OtherFault::Text(_) | OtherFault::TooLong => 1,
-        OtherFault::Read => 3,
+        SecondMapFault::Text(fault) if JobFault::Text(fault).lacks_memory() => 4,
+        SecondMapFault::Text(_) | SecondMapFault::TooLong => 1,
+        SecondMapFault::Read => 3,
     }
 }
 
@@ -371,14 +374,14 @@ fn status_of(outcome: &Result<Summary, RunFault>) -> u8
         Err(RunFault::Refused(_) | RunFault::Made(_) | RunFault::Differs(_)) => 5,
         Err(RunFault::Job(fault)) if fault.lacks_memory() => 4,
         Err(RunFault::Job(_) | RunFault::NoItem | RunFault::NoType) => 1,
-        Err(RunFault::Other(_, fault)) => other_status(*fault),
+        Err(RunFault::SecondMap(_, fault)) => second_map_status(*fault),
         Err(RunFault::Read | RunFault::Write) => 3,
     }
 }
 
 /// What [`report`] did.
 #[derive(Clone, Copy, Debug, PartialEq, Eq)]
-pub struct Reported {
+pub struct ReportOutcome {
     /// The status with which the program ends.
     pub status: u8,
     /// Whether the whole text was written to standard error.
@@ -405,13 +408,13 @@ pub fn report<E: Write>(
     outcome: &Result<Summary, RunFault>,
     notes: &[u8],
     err: &mut E,
-) -> Reported
+) -> ReportOutcome
     ensures status { result.status ≡ status outcome.now }
     ensures text { Writes result.written (E.contents err.old) (E.contents err.new)
         (report_text (words_data words.entry) outcome.now notes.now) }
 {
     let written = write_ending(words, outcome, notes, err);
-    Reported {
+    ReportOutcome {
         status: status_of(outcome),
         written,
     }

@@ -8,7 +8,7 @@ use thiserror::Error;
 
 /// For which option a map other than the job's is read.
 #[derive(Clone, Copy, Debug, PartialEq, Eq)]
-pub enum OtherMap {
+pub enum SecondMap {
     /// `--since`: the changes since this map are printed.
     Since,
     /// `--to`: the commands that lead to this map are printed.
@@ -17,7 +17,7 @@ pub enum OtherMap {
 
 /// Why the map of `--since` or `--to` was not read.
 #[derive(Clone, Copy, Debug, PartialEq, Eq, Error)]
-pub enum OtherFault {
+pub enum SecondMapFault {
     /// The map's text has this flaw; its place is a byte of the file, from 0. It is never out of
     /// memory.
     #[error("{0}")]
@@ -55,7 +55,7 @@ pub enum RunFault {
     Made(usize),
     /// The job was read, but the map of `--since` or `--to` was not.
     #[error("another map: {1}")]
-    Other(OtherMap, OtherFault),
+    SecondMap(SecondMap, SecondMapFault),
     /// In a strict run, this many differences remain after the commands of the plan.
     #[error("differs {0}")]
     Differs(usize),

@@ -2,16 +2,16 @@
 
 ghost use Rattle.std.specs.Prelude.{◌≡◌, ◌≤◌, ◌<◌, ◌≢◌, ◌++◌, ◌∷◌, ℕ, List, [], Option, None, OnOk, IfOk, IfErr, IfSome, length, map, take};
 ghost use Rattle.std.specs.Io.KnownBytes.{Consumes};
-ghost use Rattle.crush_input.specs.Input.{IsInput, IsJoined, IsReadBehind, first_bytes, job_bytes, job_parts, left_behind, TakesFew, TakesMost};
-ghost use Rattle.crush_input.specs.Joined.{PartData, joined, part_data, part_of, parts_of, with_scripts};
-ghost use Rattle.crush_input.specs.Notes.{IsFileNoted};
-ghost use Rattle.crush_input.specs.Options.{IsPartNoted};
+ghost use Rattle.crush_input.specs.Input.{IsInput, IsJoined, IsReadAndAppended, first_bytes, job_bytes, job_script_spans, readable_bytes, TakesFew, TakesMost};
+ghost use Rattle.crush_input.specs.Joined.{ScriptSpanData, joined, script_span_data, script_span_of, script_spans_of, with_scripts};
+ghost use Rattle.crush_input.specs.Notes.{AreNotesOfFile};
+ghost use Rattle.crush_input.specs.Options.{AreNotesOfInputFault};
 ghost use Rattle.crush_input.specs.Stages.{IsInputFault};
 
 use crate::aborted::Aborted;
 use crate::fault::RunFault;
 use crate::files::Opens;
-use crate::joined::{Part, push_script};
+use crate::joined::{ScriptSpan, push_script};
 use crate::notes::unread;
 use crush_options::Options;
 use crush_units::limits::LONGEST_JOB;
@@ -105,7 +105,11 @@ fn read_most<R: Read>(alloc: Global, most: usize, reader: &mut R) -> Result<Vec<
     Ok(bytes)
 }
 
-fn read_quietly<R: Read>(alloc: Global, most: usize, reader: &mut R) -> Result<Vec<u8>, Aborted>
+fn read_without_notes<R: Read>(
+    alloc: Global,
+    most: usize,
+    reader: &mut R,
+) -> Result<Vec<u8>, Aborted>
     ensures few { IfOk result (λ bytes. length bytes.items ≤ most) }
     ensures bytes { IfOk result (λ bytes. IfSome (R.remaining reader.old)
         (λ all. bytes.items ≡ take most all)) }
@@ -115,7 +119,7 @@ fn read_quietly<R: Read>(alloc: Global, most: usize, reader: &mut R) -> Result<V
 {
     match read_most(alloc, most, reader) {
         Ok(bytes) => Ok(bytes),
-        Err(unread) => Err(Aborted::quietly(alloc, unread.fault())),
+        Err(unread) => Err(Aborted::without_notes(alloc, unread.fault())),
     }
 }
 
@@ -133,13 +137,13 @@ fn read_named<R: Read>(
         (λ all. bytes.items ≡ take most all)) }
     ensures fault { IfErr result (λ aborted. IsInputFault aborted.fault) }
     ensures noted { IfErr result (λ aborted.
-        IsFileNoted explain name.now aborted.fault aborted.notes.items) }
+        AreNotesOfFile explain name.now aborted.fault aborted.notes.items) }
     ensures taken { TakesMost most (R.remaining file.old) (R.remaining file.new) }
 {
     match read_most(alloc, most, file) {
         Ok(bytes) => Ok(bytes),
         Err(ReadFailure::Error(error)) => Err(unread(alloc, explain, name, error)),
-        Err(ReadFailure::Memory) => Err(Aborted::quietly(alloc, RunFault::Memory)),
+        Err(ReadFailure::Memory) => Err(Aborted::without_notes(alloc, RunFault::Memory)),
     }
 }
 
@@ -154,7 +158,7 @@ pub(crate) fn read_file<F: Opens>(
         (IsInput bytes.items)) }
     ensures fault { IfErr result (λ aborted. IsInputFault aborted.fault) }
     ensures noted { IfErr result (λ aborted.
-        IsFileNoted explain name.now aborted.fault aborted.notes.items) }
+        AreNotesOfFile explain name.now aborted.fault aborted.notes.items) }
 {
     match files.open(name) {
         Ok(mut file) => read_named(alloc, explain, name, MOST_BYTES, &mut file),
@@ -176,10 +180,10 @@ fn read_first<F: Opens, R: Read>(
     ensures taken { TakesFew (R.remaining input.old) (R.remaining input.new) }
     ensures fault { IfErr result (λ aborted. IsInputFault aborted.fault) }
     ensures noted { IfErr result (λ aborted.
-        IsPartNoted options.now aborted.fault aborted.notes.items) }
+        AreNotesOfInputFault options.now aborted.fault aborted.notes.items) }
 {
     match &options.file {
-        None => read_quietly(alloc, MOST_BYTES, input),
+        None => read_without_notes(alloc, MOST_BYTES, input),
         Some(name) => read_file(alloc, files, options.mode.explain, name.as_str()),
     }
 }
@@ -188,12 +192,12 @@ fn read_first<F: Opens, R: Read>(
 #[derive(Drop)]
 pub(crate) struct Joined<'a> {
     pub(crate) bytes: Vec<u8>,
-    pub(crate) parts: Vec<Part<'a>>,
+    pub(crate) spans: Vec<ScriptSpan<'a>>,
 }
 
 impl<'a> Joined<'a> {
-    fn left(&self) -> usize
-        ensures { result ≡ left_behind self.now.bytes.items }
+    fn readable_bytes(&self) -> usize
+        ensures { result ≡ readable_bytes self.now.bytes.items }
     {
         MOST_BYTES.saturating_sub(self.bytes.len())
     }
@@ -201,18 +205,18 @@ impl<'a> Joined<'a> {
     fn push(&mut self, name: &'a [u8], script: &[u8]) -> Result<(), AllocError>
         ensures bytes { OnOk result
             (self.new.bytes.items ≡ joined self.old.bytes.items name.now script.now) }
-        ensures parts { OnOk result (map part_data self.new.parts.items
-            ≡ map part_data self.old.parts.items
-            ++ part_of self.old.bytes.items name.now script.now ∷ []) }
+        ensures spans { OnOk result (map script_span_data self.new.spans.items
+            ≡ map script_span_data self.old.spans.items
+            ++ script_span_of self.old.bytes.items name.now script.now ∷ []) }
     {
-        let part = push_script(name, script, &mut self.bytes)?;
-        let Ok(()) = self.parts.push(part) else {
+        let span = push_script(name, script, &mut self.bytes)?;
+        let Ok(()) = self.spans.push(span) else {
             return Err(AllocError);
         };
         Ok(())
     }
 
-    fn read_behind<R: Read>(
+    fn read_and_append<R: Read>(
         &mut self,
         alloc: Global,
         explain: bool,
@@ -220,17 +224,17 @@ impl<'a> Joined<'a> {
         file: &mut R,
     ) -> Result<(), Aborted>
         ensures read { OnOk result
-            (IsReadBehind self.old self.new name.now (R.remaining file.old)) }
-        ensures taken { TakesMost (left_behind self.old.bytes.items) (R.remaining file.old)
+            (IsReadAndAppended self.old self.new name.now (R.remaining file.old)) }
+        ensures taken { TakesMost (readable_bytes self.old.bytes.items) (R.remaining file.old)
             (R.remaining file.new) }
         ensures fault { IfErr result (λ aborted. IsInputFault aborted.fault) }
         ensures noted { IfErr result (λ aborted.
-            IsFileNoted explain name.now aborted.fault aborted.notes.items) }
+            AreNotesOfFile explain name.now aborted.fault aborted.notes.items) }
     {
-        let script = read_named(alloc, explain, name, self.left(), file)?;
+        let script = read_named(alloc, explain, name, self.readable_bytes(), file)?;
         match self.push(name.as_bytes(), script.as_slice()) {
             Ok(()) => Ok(()),
-            Err(_) => Err(Aborted::quietly(alloc, RunFault::Memory)),
+            Err(_) => Err(Aborted::without_notes(alloc, RunFault::Memory)),
         }
     }
 }
@@ -242,14 +246,14 @@ fn push_file<'a, F: Opens>(
     name: &'a str,
     job: &mut Joined<'a>,
 ) -> Result<(), Aborted>
-    ensures read { OnOk result (IsReadBehind job.old job.new name.now
+    ensures read { OnOk result (IsReadAndAppended job.old job.new name.now
         (F.content files.now name.now)) }
     ensures fault { IfErr result (λ aborted. IsInputFault aborted.fault) }
     ensures noted { IfErr result (λ aborted.
-        IsFileNoted explain name.now aborted.fault aborted.notes.items) }
+        AreNotesOfFile explain name.now aborted.fault aborted.notes.items) }
 {
     match files.open(name) {
-        Ok(mut file) => job.read_behind(alloc, explain, name, &mut file),
+        Ok(mut file) => job.read_and_append(alloc, explain, name, &mut file),
         Err(error) => Err(unread(alloc, explain, name, error)),
     }
 }
@@ -260,14 +264,14 @@ fn push_files<'a, F: Opens>(
     options: &'a Options,
     job: &mut Joined<'a>,
 ) -> Result<(), Aborted>
-    ensures job { OnOk result ((known : Option (List ℕ)) (parts : List PartData)
-        → IfSome known (λ all. IsJoined job.old all parts)
+    ensures job { OnOk result ((known : Option (List ℕ)) (spans : List ScriptSpanData)
+        → IfSome known (λ all. IsJoined job.old all spans)
         → IfSome (with_scripts (F.content files.now) known options.now.scripts.items)
         (λ all. IsJoined job.new all
-        (parts ++ parts_of (F.content files.now) known options.now.scripts.items))) }
+        (spans ++ script_spans_of (F.content files.now) known options.now.scripts.items))) }
     ensures fault { IfErr result (λ aborted. IsInputFault aborted.fault) }
     ensures noted { IfErr result (λ aborted.
-        IsPartNoted options.now aborted.fault aborted.notes.items) }
+        AreNotesOfInputFault options.now aborted.fault aborted.notes.items) }
 {
     let names = options.scripts.as_slice();
     for name in names {
@@ -285,17 +289,17 @@ pub(crate) fn read_all<'a, F: Opens, R: Read>(
     ensures job { IfOk result (λ job.
         IfSome (job_bytes (F.content files.now) options.now (R.remaining input.old))
         (λ all. IsJoined job all
-        (job_parts (F.content files.now) options.now (R.remaining input.old)))) }
+        (job_script_spans (F.content files.now) options.now (R.remaining input.old)))) }
     ensures input { options.now.file ≢ None → R.remaining input.new ≡ R.remaining input.old }
     ensures taken { TakesFew (R.remaining input.old) (R.remaining input.new) }
     ensures fault { IfErr result (λ aborted. IsInputFault aborted.fault) }
     ensures noted { IfErr result (λ aborted.
-        IsPartNoted options.now aborted.fault aborted.notes.items) }
+        AreNotesOfInputFault options.now aborted.fault aborted.notes.items) }
 {
     let bytes = read_first(alloc, files, options, input)?;
     let mut job = Joined {
         bytes,
-        parts: Vec::new(alloc),
+        spans: Vec::new(alloc),
     };
     push_files(alloc, files, options, &mut job)?;
     Ok(job)

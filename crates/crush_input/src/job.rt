@@ -3,8 +3,8 @@
 ghost use Rattle.std.specs.Prelude.{◌≡◌, ◌≢◌, ◌≤◌, ℕ, List, [], Err, None, Some, IfErr, IfOk, IfSome, false, length};
 ghost use Rattle.crush_script.specs.Job.{HasJob, IsJob, JobData};
 ghost use Rattle.crush_input.specs.Input.{TakesFew, job_bytes};
-ghost use Rattle.crush_input.specs.Notes.{IsFaultNoted};
-ghost use Rattle.crush_input.specs.Options.{IsNotedAsWanted};
+ghost use Rattle.crush_input.specs.Notes.{AreNotesOfFault};
+ghost use Rattle.crush_input.specs.Options.{AreNotesForOptions};
 ghost use Rattle.crush_input.specs.Origins.{job_origin, origin_of};
 ghost use Rattle.crush_input.specs.Stages.{IsNoJob, IsReadFault, IsParsedJob};
 ghost use Rattle.crush_units.specs.declared.limits.TheConstants.{LONGEST_JOB, MOST_OPERATORS};
@@ -13,7 +13,7 @@ use crate::aborted::{Aborted, ParsedJob};
 use crate::fault::RunFault;
 use crate::files::Opens;
 use crate::input::{Joined, read_all};
-use crate::notes::{stopped_by, weighed};
+use crate::notes::{parsed_job, stopped_by};
 use crate::origins::{Origins, first_name};
 use crush_map::Hashing;
 use crush_options::Options;
@@ -47,7 +47,7 @@ pub fn job_of<'a, H: AllocGlobal + RandomSource>(
     ensures plain { IfOk result (λ read. explain ≡ false → read.text.weights.items ≡ []) }
     ensures short { IfOk result (λ read. length read.text.bytes.items ≤ LONGEST_JOB) }
     ensures fault { IfErr result (λ aborted. IsNoJob (Some bytes.items) aborted.fault) }
-    ensures noted { IfErr result (λ aborted. IsFaultNoted explain (origin_of origins.entry)
+    ensures noted { IfErr result (λ aborted. AreNotesOfFault explain (origin_of origins.entry)
         (Some bytes.items) aborted.fault aborted.notes.items) }
     ensures few { IfOk result (λ read. length read.job.scripts.items ≤ MOST_OPERATORS) }
 {
@@ -57,9 +57,9 @@ pub fn job_of<'a, H: AllocGlobal + RandomSource>(
         Ok(job) => job,
         Err(fault) => return Err(stopped_by(alloc, explain, &origins, text, fault)),
     };
-    match weighed(alloc, explain, origins, bytes, job) {
+    match parsed_job(alloc, explain, origins, bytes, job) {
         Ok(read) => Ok(read),
-        Err(_) => Err(Aborted::quietly(alloc, RunFault::Memory)),
+        Err(_) => Err(Aborted::without_notes(alloc, RunFault::Memory)),
     }
 }
 
@@ -89,13 +89,13 @@ pub fn read_whole<'a, H: AllocGlobal + RandomSource, F: Opens, R: Read>(
     ensures taken { TakesFew (R.remaining input.old) (R.remaining input.new) }
     ensures fault { IfErr result (λ aborted. IsReadFault
         (job_bytes (F.content files.now) options.now (R.remaining input.old)) aborted.fault) }
-    ensures noted { IfErr result (λ aborted. IsNotedAsWanted (F.content files.now) options.now
+    ensures noted { IfErr result (λ aborted. AreNotesForOptions (F.content files.now) options.now
         (R.remaining input.old) (Err aborted.fault) aborted.notes.items) }
 {
-    let Joined { bytes, parts } = read_all(rt.alloc(), files, options, input)?;
+    let Joined { bytes, spans } = read_all(rt.alloc(), files, options, input)?;
     let origins = Origins {
         first: first_name(options),
-        parts,
+        spans,
     };
     job_of(rt, options.mode.explain, origins, bytes)
 }

@@ -2,7 +2,7 @@
 
 ghost use Rattle.std.specs.Prelude.{◌≡◌, ◌≤◌, ◌++◌, ◌==◌, ◌-◌, IfOk, OnOk, false, length, slice_index, true};
 ghost use Rattle.std.specs.List.{position_or_len};
-ghost use Rattle.crush_input.specs.Joined.{begins_section_in, folder_length, is_line_blank, joined, line_end, operator_line, operator_of, part_data, part_of, section_head};
+ghost use Rattle.crush_input.specs.Joined.{begins_section_in, folder_length, is_line_blank, joined, line_end, operator_line, operator_of, script_span_data, script_span_of, section_head};
 
 use crush_script::line_feeds;
 use crush_units::is_name;
@@ -10,7 +10,7 @@ use std::alloc::AllocError;
 
 /// The lines of a job that are the script of a file.
 #[derive(Clone, Copy)]
-pub(crate) struct Part<'a> {
+pub(crate) struct ScriptSpan<'a> {
     pub(crate) name: &'a [u8],
     /// The number of the script's first line in the job, from 1. If a line `%operator NAME` was
     /// put before the script, it is that line.
@@ -129,15 +129,15 @@ pub(crate) fn push_script<'a>(
     name: &'a [u8],
     script: &[u8],
     bytes: &mut Vec<u8>,
-) -> Result<Part<'a>, AllocError>
+) -> Result<ScriptSpan<'a>, AllocError>
     ensures bytes { OnOk result (bytes.new.items ≡ joined bytes.old.items name.now script.now) }
     ensures part { IfOk result (λ part.
-        part_data part ≡ part_of bytes.old.items name.now script.now) }
+        script_span_data part ≡ script_span_of bytes.old.items name.now script.now) }
 {
     push_line_end(bytes)?;
     let from = line_feeds(bytes.as_slice()) + 1;
     push_operator_line(name, script, bytes)?;
     let before = line_feeds(bytes.as_slice());
     bytes.extend_from_slice(script)?;
-    Ok(Part { name, from, before })
+    Ok(ScriptSpan { name, from, before })
 }

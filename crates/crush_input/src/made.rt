@@ -6,7 +6,7 @@ ghost use Rattle.std.specs.List.{count_by};
 ghost use Rattle.crush_history.specs.Entries.{AreOf};
 ghost use Rattle.crush_history.specs.HistoryText.{names_of};
 ghost use Rattle.crush_history.specs.Script.{scripts_data};
-ghost use Rattle.crush_input.specs.Made.{wants_bucket, wanted_buckets, buckets_made, made_line, made_text, makes_more, makings};
+ghost use Rattle.crush_input.specs.Made.{is_add_bucket, add_bucket_count, buckets_made, made_line, made_text, makes_more, makings};
 ghost use Rattle.crush_input.specs.Notes.{IsNoMake};
 ghost use Rattle.crush_input.specs.Stages.{IsMadeFault};
 ghost use Rattle.crush_units.specs.declared.limits.TheConstants.{MOST_ENTRIES};
@@ -16,31 +16,31 @@ use crush_edits::Edit;
 use crush_history::{Call, Entry, Reply, Script, operator_name, write_entry};
 use std::alloc::{AllocError, Global};
 
-fn wants_bucket(edit: &Edit) -> bool
-    ensures { result ≡ wants_bucket edit.now }
+fn is_add_bucket(edit: &Edit) -> bool
+    ensures { result ≡ is_add_bucket edit.now }
 {
     matches!(edit, Edit::AddBucket { .. })
 }
 
-fn count_wanted(edits: &[Edit]) -> usize
-    ensures { result ≡ count_by wants_bucket edits.now }
+fn count_add_buckets(edits: &[Edit]) -> usize
+    ensures { result ≡ count_by is_add_bucket edits.now }
 {
     let mut count = 0;
     for edit in edits {
-        if wants_bucket(edit) {
+        if is_add_bucket(edit) {
             count += 1;
         }
     }
     count
 }
 
-fn wanted_buckets(call: &Call) -> usize
-    ensures { result ≡ wanted_buckets call.now }
+fn add_bucket_count(call: &Call) -> usize
+    ensures { result ≡ add_bucket_count call.now }
 {
     match call {
-        Call::One(edit) => wants_bucket(edit) as usize,
-        Call::Batch(edits) => count_wanted(edits.as_slice()),
-        Call::Guarded { seen: _, edits } => count_wanted(edits.as_slice()),
+        Call::One(edit) => is_add_bucket(edit) as usize,
+        Call::Batch(edits) => count_add_buckets(edits.as_slice()),
+        Call::Guarded { seen: _, edits } => count_add_buckets(edits.as_slice()),
     }
 }
 
@@ -59,7 +59,7 @@ fn buckets_made(reply: Reply) -> usize
 fn makes_more(entry: &Entry) -> bool
     ensures { result ≡ makes_more entry.now }
 {
-    buckets_made(entry.reply) > wanted_buckets(&entry.call)
+    buckets_made(entry.reply) > add_bucket_count(&entry.call)
 }
 
 fn count_making(entries: &[Entry]) -> usize

@@ -8,13 +8,13 @@ ghost use Rattle.crush_history.specs.Entries.{AreOf};
 ghost use Rattle.crush_history.specs.HistoryText.{names_of};
 ghost use Rattle.crush_history.specs.Script.{scripts_data};
 ghost use Rattle.crush_script.specs.Job.{IsJobFault};
-ghost use Rattle.crush_input.specs.Notes.{IsFaultNoted, IsFileNoted, IsKept, IsUnread, bytes_kept, history_notes, place_notes, refused_notes, text_data, weight_notes, IsStrict};
+ghost use Rattle.crush_input.specs.Notes.{AreNotesOfFault, AreNotesOfFile, IsKept, IsNoteOfUnreadFile, bytes_kept, history_notes, place_notes, refused_notes, text_data, weight_notes, IsStrict};
 ghost use Rattle.crush_reasons.specs.Explained.{explained_job};
 ghost use Rattle.crush_input.specs.Origins.{origin_of};
 ghost use Rattle.crush_input.specs.Stages.{IsInputFault, IsNoJob, IsStrictFault};
 ghost use Rattle.crush_units.specs.declared.limits.TheConstants.{LONGEST_JOB, MOST_ENTRIES};
 
-use crate::aborted::{Aborted, ParsedJob, TextKept};
+use crate::aborted::{Aborted, KeptText, ParsedJob};
 use crate::fault::RunFault;
 use crate::origins::Origins;
 use crush_history::{Entry, Script, count_refused, refused_text};
@@ -65,7 +65,7 @@ pub fn history_notes(
     alloc: Global,
     mode: Mode,
     history: History<'_>,
-    text: &TextKept<'_>,
+    text: &KeptText<'_>,
 ) -> Result<Vec<u8>, AllocError>
     requires short { length text.now.bytes.items ≤ LONGEST_JOB }
     requires few { length history.entries.now ≤ MOST_ENTRIES }
@@ -87,7 +87,7 @@ fn refused_notes(
     alloc: Global,
     mode: Mode,
     history: History<'_>,
-    text: &TextKept<'_>,
+    text: &KeptText<'_>,
 ) -> Result<Vec<u8>, AllocError>
     requires short { length text.now.bytes.items ≤ LONGEST_JOB }
     requires few { length history.entries.now ≤ MOST_ENTRIES }
@@ -110,7 +110,7 @@ fn refused_notes(
 fn reasons_of(
     alloc: Global,
     history: History<'_>,
-    text: &TextKept<'_>,
+    text: &KeptText<'_>,
 ) -> Result<Vec<u8>, AllocError>
     requires short { length text.now.bytes.items ≤ LONGEST_JOB }
     requires few { length history.entries.now ≤ MOST_ENTRIES }
@@ -159,7 +159,7 @@ fn bytes_kept(alloc: Global, explain: bool, bytes: Vec<u8>) -> Vec<u8>
     Vec::new(alloc)
 }
 
-pub(crate) fn weighed<'a>(
+pub(crate) fn parsed_job<'a>(
     alloc: Global,
     explain: bool,
     origins: Origins<'a>,
@@ -174,7 +174,7 @@ pub(crate) fn weighed<'a>(
     ensures plain { IfOk result (λ read. explain ≡ false → read.text.weights.items ≡ []) }
 {
     let weights = weight_notes(alloc, explain, bytes.as_slice(), &job.map)?;
-    let text = TextKept {
+    let text = KeptText {
         bytes: bytes_kept(alloc, explain, bytes),
         origins,
         weights,
@@ -183,7 +183,7 @@ pub(crate) fn weighed<'a>(
 }
 
 fn unread_text(alloc: Global, name: &str, error: &io::Error) -> Result<Vec<u8>, AllocError>
-    ensures { IfOk result (λ text. IsUnread name.now text.items) }
+    ensures { IfOk result (λ text. IsNoteOfUnreadFile name.now text.items) }
 {
     let reason = format!(in alloc; "{error}")?;
     let mut text = Vec::new(alloc);
@@ -202,7 +202,7 @@ fn unread_notes(
     error: &io::Error,
 ) -> Result<Vec<u8>, AllocError>
     ensures plain { IfOk result (λ text. explain ≡ false → text.items ≡ []) }
-    ensures told { IfOk result (λ text. explain ≡ true → IsUnread name.now text.items) }
+    ensures told { IfOk result (λ text. explain ≡ true → IsNoteOfUnreadFile name.now text.items) }
 {
     if explain {
         return unread_text(alloc, name, error);
@@ -212,14 +212,14 @@ fn unread_notes(
 
 pub(crate) fn unread(alloc: Global, explain: bool, name: &str, error: io::Error) -> Aborted
     ensures fault { IsInputFault result.fault }
-    ensures noted { IsFileNoted explain name.now result.fault result.notes.items }
+    ensures noted { AreNotesOfFile explain name.now result.fault result.notes.items }
 {
     match unread_notes(alloc, explain, name, &error) {
         Ok(notes) => Aborted {
             fault: RunFault::Read,
             notes,
         },
-        Err(_) => Aborted::quietly(alloc, RunFault::Memory),
+        Err(_) => Aborted::without_notes(alloc, RunFault::Memory),
     }
 }
 
@@ -265,17 +265,17 @@ pub(crate) fn stopped_by(
 ) -> Aborted
     requires { IsJobFault bytes.now fault }
     ensures fault { IsNoJob (Some bytes.now) result.fault }
-    ensures noted { IsFaultNoted explain (origin_of origins.now) (Some bytes.now) result.fault
+    ensures noted { AreNotesOfFault explain (origin_of origins.now) (Some bytes.now) result.fault
         result.notes.items }
 {
     if fault.lacks_memory() {
-        return Aborted::quietly(alloc, RunFault::Memory);
+        return Aborted::without_notes(alloc, RunFault::Memory);
     }
     match place_notes(alloc, explain, origins, bytes, fault) {
         Ok(notes) => Aborted {
             fault: RunFault::Job(fault),
             notes,
         },
-        Err(_) => Aborted::quietly(alloc, RunFault::Memory),
+        Err(_) => Aborted::without_notes(alloc, RunFault::Memory),
     }
 }

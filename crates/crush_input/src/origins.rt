@@ -2,10 +2,10 @@
 
 ghost use Rattle.std.specs.Prelude.{◌≡◌, map as each};
 ghost use Rattle.crush_reasons.specs.Place.{origin_data};
-ghost use Rattle.crush_input.specs.Joined.{part_data};
+ghost use Rattle.crush_input.specs.Joined.{script_span_data};
 ghost use Rattle.crush_input.specs.Origins.{first_name, no_origin, origin_in, origin_of, whole_of, within};
 
-use crate::joined::Part;
+use crate::joined::ScriptSpan;
 use crush_options::Options;
 use crush_reasons::{Locates, Origin};
 use std::alloc::Global;
@@ -15,7 +15,7 @@ use std::alloc::Global;
 pub struct Origins<'a> {
     /// The name of the first file; empty if notes aren't to name it.
     pub(crate) first: &'a [u8],
-    pub(crate) parts: Vec<Part<'a>>,
+    pub(crate) spans: Vec<ScriptSpan<'a>>,
 }
 
 impl Origins<'_> {
@@ -25,7 +25,7 @@ impl Origins<'_> {
     {
         Origins {
             first: b"",
-            parts: Vec::new(alloc),
+            spans: Vec::new(alloc),
         }
     }
 }
@@ -36,29 +36,29 @@ impl Locates for Origins<'_> {
     ghost origin = { λ origins line. origin_of origins line };
 
     fn at(&self, line: usize) -> Origin<'_> {
-        origin_in(self.first, self.parts.as_slice(), line)
+        origin_in(self.first, self.spans.as_slice(), line)
     }
 }
 
-fn origin_in<'a>(first: &'a [u8], parts: &[Part<'a>], line: usize) -> Origin<'a>
+fn origin_in<'a>(first: &'a [u8], spans: &[ScriptSpan<'a>], line: usize) -> Origin<'a>
     ensures { origin_data result
-        ≡ origin_in (whole_of first.now) (each part_data parts.now) line }
+        ≡ origin_in (whole_of first.now) (each script_span_data spans.now) line }
 {
     let mut origin = Origin {
         name: first,
         before: 0,
     };
-    for part in parts {
-        if part.from <= line {
-            origin = part.origin();
+    for span in spans {
+        if span.from <= line {
+            origin = span.origin();
         }
     }
     origin
 }
 
-impl<'a> Part<'a> {
+impl<'a> ScriptSpan<'a> {
     fn origin(&self) -> Origin<'a>
-        ensures { origin_data result ≡ within (part_data self.now) }
+        ensures { origin_data result ≡ within (script_span_data self.now) }
     {
         Origin {
             name: self.name,

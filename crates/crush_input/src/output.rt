@@ -1,15 +1,15 @@
 //! What a run prints, with the other map that this needs.
 
 ghost use Rattle.std.specs.Prelude.{◌≡◌, IfErr, IfOk, []};
-ghost use Rattle.crush_input.specs.Notes.{IsMapNoted};
-ghost use Rattle.crush_input.specs.Options.{IsOutputFault, IsOutputNoted, IsOutputOf, IsMapFault, IsOldOf, IsPartOf, IsTreeOf, IsWantedOf, name_text};
+ghost use Rattle.crush_input.specs.Notes.{AreNotesOfSecondMap};
+ghost use Rattle.crush_input.specs.Options.{IsOutputFault, AreNotesOfOutputFault, IsOutputOf, IsMapFault, IsOldOf, IsPartOf, IsTreeOf, IsTargetOf, name_text};
 
 use crate::aborted::Aborted;
-use crate::fault::{OtherMap, RunFault};
+use crate::fault::{RunFault, SecondMap};
 use crate::files::Opens;
-use crate::other::read_other;
+use crate::second_map::read_second_map;
 use crush_map::CrushMap;
-use crush_options::{Mode, Part, Printed, Since, Wanted};
+use crush_options::{Mode, OutputSpec, Since, Target, TreePartSpec};
 use std::alloc::{AllocError, Global};
 use std::random::RandomSource;
 
@@ -26,7 +26,7 @@ pub struct OldMap {
 
 /// The map that commands are to lead to, and how they are found and printed.
 #[derive(Drop)]
-pub struct WantedMap {
+pub struct TargetMap {
     pub map: CrushMap<Global>,
     /// Whether the commands are printed as Ceph's own.
     pub as_ceph: bool,
@@ -43,7 +43,7 @@ pub enum Output {
     /// The text of the map.
     Map,
     /// The tree of the map, or a part of it.
-    Tree(Part),
+    Tree(TreePartSpec),
     /// What has changed since this old map, item by item.
     Since(OldMap),
     /// What has changed since this old map, as a tree.
@@ -51,7 +51,7 @@ pub enum Output {
     /// The commands that changed the map, as Ceph's own.
     AsCeph,
     /// The commands that lead from the map to this wanted map.
-    To(WantedMap),
+    To(TargetMap),
 }
 
 /// How the job is run, and what is printed after the run.
@@ -70,22 +70,22 @@ fn name_of(alloc: Global, name: &Option<String>) -> Result<Option<String>, Alloc
     }
 }
 
-fn part_of(alloc: Global, part: &Part) -> Result<Part, AllocError>
+fn part_of(alloc: Global, part: &TreePartSpec) -> Result<TreePartSpec, AllocError>
     ensures { IfOk result (IsPartOf part.now) }
 {
     let under = name_of(alloc, &part.under)?;
     let down_to = name_of(alloc, &part.down_to)?;
-    Ok(Part { under, down_to })
+    Ok(TreePartSpec { under, down_to })
 }
 
-fn tree_of(alloc: Global, part: &Part) -> Result<Output, Aborted>
+fn tree_of(alloc: Global, part: &TreePartSpec) -> Result<Output, Aborted>
     ensures output { IfOk result (IsTreeOf part.now) }
     ensures fault { IfErr result (λ aborted. aborted.fault ≡ RunFault.Memory) }
     ensures quiet { IfErr result (λ aborted. aborted.notes.items ≡ []) }
 {
     match part_of(alloc, part) {
         Ok(part) => Ok(Output::Tree(part)),
-        Err(_) => Err(Aborted::quietly(alloc, RunFault::Memory)),
+        Err(_) => Err(Aborted::without_notes(alloc, RunFault::Memory)),
     }
 }
 
@@ -97,15 +97,15 @@ fn old_of<H: AllocGlobal + RandomSource, F: Opens>(
 ) -> Result<OldMap, Aborted>
     ensures old { IfOk result (IsOldOf (F.content files.now) since.now) }
     ensures fault { IfErr result (λ aborted.
-        IsMapFault OtherMap.Since (F.content files.now since.now.map.bytes.items) aborted.fault) }
+        IsMapFault SecondMap.Since (F.content files.now since.now.map.bytes.items) aborted.fault) }
     ensures noted { IfErr result (λ aborted.
-        IsMapNoted explain since.now.map.bytes.items
+        AreNotesOfSecondMap explain since.now.map.bytes.items
         (F.content files.now since.now.map.bytes.items) aborted.fault aborted.notes.items) }
 {
     let Ok(under) = name_of(rt.alloc(), &since.under) else {
-        return Err(Aborted::quietly(rt.alloc(), RunFault::Memory));
+        return Err(Aborted::without_notes(rt.alloc(), RunFault::Memory));
     };
-    match read_other(rt, files, explain, OtherMap::Since, since.map.as_str()) {
+    match read_second_map(rt, files, explain, SecondMap::Since, since.map.as_str()) {
         Ok(map) => Ok(OldMap {
             map,
             by_name: since.by_name,
@@ -115,27 +115,27 @@ fn old_of<H: AllocGlobal + RandomSource, F: Opens>(
     }
 }
 
-fn wanted_of<H: AllocGlobal + RandomSource, F: Opens>(
+fn target_of<H: AllocGlobal + RandomSource, F: Opens>(
     rt: &H,
     files: &F,
     explain: bool,
-    wanted: &Wanted,
-) -> Result<WantedMap, Aborted>
-    ensures wanted { IfOk result (IsWantedOf (F.content files.now) wanted.now) }
+    target: &Target,
+) -> Result<TargetMap, Aborted>
+    ensures target { IfOk result (IsTargetOf (F.content files.now) target.now) }
     ensures fault { IfErr result (λ aborted.
-        IsMapFault OtherMap.To (F.content files.now wanted.now.map.bytes.items) aborted.fault) }
+        IsMapFault SecondMap.To (F.content files.now target.now.map.bytes.items) aborted.fault) }
     ensures noted { IfErr result (λ aborted.
-        IsMapNoted explain wanted.now.map.bytes.items
-        (F.content files.now wanted.now.map.bytes.items) aborted.fault aborted.notes.items) }
+        AreNotesOfSecondMap explain target.now.map.bytes.items
+        (F.content files.now target.now.map.bytes.items) aborted.fault aborted.notes.items) }
 {
-    let Ok(under) = name_of(rt.alloc(), &wanted.under) else {
-        return Err(Aborted::quietly(rt.alloc(), RunFault::Memory));
+    let Ok(under) = name_of(rt.alloc(), &target.under) else {
+        return Err(Aborted::without_notes(rt.alloc(), RunFault::Memory));
     };
-    match read_other(rt, files, explain, OtherMap::To, wanted.map.as_str()) {
-        Ok(map) => Ok(WantedMap {
+    match read_second_map(rt, files, explain, SecondMap::To, target.map.as_str()) {
+        Ok(map) => Ok(TargetMap {
             map,
-            as_ceph: wanted.as_ceph,
-            by_name: wanted.by_name,
+            as_ceph: target.as_ceph,
+            by_name: target.by_name,
             under,
         }),
         Err(aborted) => Err(aborted),
@@ -144,37 +144,37 @@ fn wanted_of<H: AllocGlobal + RandomSource, F: Opens>(
 
 /// Returns what a run prints, and reads the other map for it if the command line names one.
 ///
-/// Fails with [`RunFault::Other`] if the other map's file can't be opened or read, is too long or
+/// Fails with [`RunFault::SecondMap`] if the other map's file can't be opened or read, is too long or
 /// isn't a map. With `explain`, notes say where the map's flaw is, or why its file can't be read.
 /// Fails with [`RunFault::Memory`], without notes, if memory runs out.
 pub fn output_of<H: AllocGlobal + RandomSource, F: Opens>(
     rt: &H,
     files: &F,
     explain: bool,
-    printed: &Printed,
+    output_spec: &OutputSpec,
 ) -> Result<Output, Aborted>
-    ensures output { IfOk result (IsOutputOf (F.content files.now) printed.now) }
+    ensures output { IfOk result (IsOutputOf (F.content files.now) output_spec.now) }
     ensures fault { IfErr result (λ aborted.
-        IsOutputFault (F.content files.now) printed.now aborted.fault) }
+        IsOutputFault (F.content files.now) output_spec.now aborted.fault) }
     ensures noted { IfErr result (λ aborted.
-        IsOutputNoted (F.content files.now) explain printed.now aborted.fault aborted.notes.items) }
+        AreNotesOfOutputFault (F.content files.now) explain output_spec.now aborted.fault aborted.notes.items) }
 {
-    match printed {
-        Printed::Map => Ok(Output::Map),
-        Printed::Tree(part) => tree_of(rt.alloc(), part),
-        Printed::Since(since) => match old_of(rt, files, explain, since) {
+    match output_spec {
+        OutputSpec::Map => Ok(Output::Map),
+        OutputSpec::Tree(part) => tree_of(rt.alloc(), part),
+        OutputSpec::Since(since) => match old_of(rt, files, explain, since) {
             Ok(old) => Ok(Output::Since(old)),
             Err(aborted) => Err(aborted),
         },
-        Printed::Changes(name) => {
-            match read_other(rt, files, explain, OtherMap::Since, name.as_str()) {
+        OutputSpec::Changes(name) => {
+            match read_second_map(rt, files, explain, SecondMap::Since, name.as_str()) {
                 Ok(map) => Ok(Output::Changes(map)),
                 Err(aborted) => Err(aborted),
             }
         }
-        Printed::AsCeph => Ok(Output::AsCeph),
-        Printed::To(wanted) => match wanted_of(rt, files, explain, wanted) {
-            Ok(wanted) => Ok(Output::To(wanted)),
+        OutputSpec::AsCeph => Ok(Output::AsCeph),
+        OutputSpec::To(target) => match target_of(rt, files, explain, target) {
+            Ok(target) => Ok(Output::To(target)),
             Err(aborted) => Err(aborted),
         },
     }

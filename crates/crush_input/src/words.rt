@@ -1,10 +1,10 @@
 //! The words of a command line that the report of its run needs.
 
 ghost use Rattle.std.specs.Prelude.{◌≡◌, [], Bool, unwrap_or};
-ghost use Rattle.crush_options.specs.Printed.{name_text, said_by};
+ghost use Rattle.crush_options.specs.OutputFlags.{name_text, flags_by};
 ghost use Rattle.crush_input.specs.Words.{no_words, words_data, words_of};
 
-use crush_options::{Options, Printed};
+use crush_options::{Options, OutputSpec};
 
 /// The words of a command line that the report of its run needs.
 #[derive(Clone, Copy, Debug)]
@@ -35,8 +35,8 @@ impl<'a> Words<'a> {
     {
         Words {
             explain: options.mode.explain,
-            under: under_of(&options.printed),
-            down_to: down_to_of(&options.printed),
+            under: under_of(&options.output_spec),
+            down_to: down_to_of(&options.output_spec),
         }
     }
 }
@@ -50,22 +50,22 @@ fn name_or_empty(name: &Option<String>) -> &str
     }
 }
 
-fn under_of(printed: &Printed) -> &str
-    ensures { (json : Bool) → result.now ≡ unwrap_or (said_by json printed.now).under [] }
+fn under_of(output_spec: &OutputSpec) -> &str
+    ensures { (json : Bool) → result.now ≡ unwrap_or (flags_by json output_spec.now).under [] }
 {
-    match printed {
-        Printed::Tree(part) => name_or_empty(&part.under),
-        Printed::Since(since) => name_or_empty(&since.under),
-        Printed::To(wanted) => name_or_empty(&wanted.under),
-        Printed::Map | Printed::Changes(_) | Printed::AsCeph => "",
+    match output_spec {
+        OutputSpec::Tree(part) => name_or_empty(&part.under),
+        OutputSpec::Since(since) => name_or_empty(&since.under),
+        OutputSpec::To(target) => name_or_empty(&target.under),
+        OutputSpec::Map | OutputSpec::Changes(_) | OutputSpec::AsCeph => "",
     }
 }
 
-fn down_to_of(printed: &Printed) -> &str
-    ensures { (json : Bool) → result.now ≡ unwrap_or (said_by json printed.now).down_to [] }
+fn down_to_of(output_spec: &OutputSpec) -> &str
+    ensures { (json : Bool) → result.now ≡ unwrap_or (flags_by json output_spec.now).down_to [] }
 {
-    match printed {
-        Printed::Tree(part) => name_or_empty(&part.down_to),
+    match output_spec {
+        OutputSpec::Tree(part) => name_or_empty(&part.down_to),
         _ => "",
     }
 }

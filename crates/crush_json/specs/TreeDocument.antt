@@ -6,7 +6,7 @@ use Rattle.crush_units.specs.Id.{item_number}
 use Rattle.crush_model.specs.Table.{Row, kids}
 use Rattle.crush_nodes.specs.Views.{ViewData}
 use Rattle.crush_edits.specs.Setting.{SettingData, kind_name}
-use Rattle.crush_print.specs.Tree.{StepData}
+use Rattle.crush_print.specs.Tree.{WalkStepData}
 use Rattle.serde_json.specs.Data.{Data, string, object, Members, member, no_members}
 use Rattle.crush_json.specs.Values.{natural, whole, list, text_if}
 
@@ -51,14 +51,14 @@ is_stray v = is_stray_in v.id v.parent
 abbrev pub is_among : Bool → ViewData → Bool
 is_among stray v = if stray then is_stray v else not (is_stray v)
 
-abbrev pub node_if : SettingData → List Row → Bool → StepData → List Data
+abbrev pub node_if : SettingData → List Row → Bool → WalkStepData → List Data
 node_if s t stray x = if is_among stray x.item then node_document s t x.depth x.item ∷ [] else []
 
 -- of the steps of a tree the stray ones, or the others
-unfoldable pub node_documents : SettingData → List Row → Bool → List StepData → List Data
+unfoldable pub node_documents : SettingData → List Row → Bool → List WalkStepData → List Data
 node_documents s t stray steps = flat_map (node_if s t stray) steps
 
 -- TREE DOCUMENT: of these steps
-unfoldable pub tree_document : SettingData → List Row → List StepData → Data
+unfoldable pub tree_document : SettingData → List Row → List WalkStepData → Data
 tree_document s t steps =
     object (member (codes "nodes") (list (node_documents s t false steps)) (member (codes "stray") (list (node_documents s t true steps)) no_members))

@@ -1,7 +1,7 @@
 //! Calls as text: the commands of a history's line.
 
 ghost use Rattle.std.specs.Prelude.{◌≡◌, ◌++◌, codes, IfOk, OnOk, string_bytes};
-ghost use Rattle.crush_history.specs.HistoryText.{call_text, edit_text, edits_text, guard_text, one_name, pair_text, pairs_text, rest_text, two_names, weighed};
+ghost use Rattle.crush_history.specs.HistoryText.{call_text, edit_text, edits_text, guard_text, one_name, pair_text, pairs_text, rest_text, two_names, name_and_weight};
 
 use crush_history::Call;
 use crush_map::{Edit, Location, Pair};
@@ -114,7 +114,7 @@ fn push_placing(
     text: &mut String,
 ) -> Result<(), AllocError>
     ensures { OnOk result (string_bytes text.new
-        ≡ string_bytes text.old ++ (weighed first.now name.now weight ++ pairs_text at.now)) }
+        ≡ string_bytes text.old ++ (name_and_weight first.now name.now weight ++ pairs_text at.now)) }
 {
     push_weighed(first, name, weight, text)?;
     push_pairs(at.pairs(), text)
@@ -173,7 +173,7 @@ fn push_weighed(
     text: &mut String,
 ) -> Result<(), AllocError>
     ensures { OnOk result (string_bytes text.new
-        ≡ string_bytes text.old ++ weighed first.now name.now weight) }
+        ≡ string_bytes text.old ++ name_and_weight first.now name.now weight) }
 {
     write!(text, "{first} {name} {weight}")
 }

@@ -6,7 +6,7 @@ ghost use Rattle.crush_nodes.specs.SeenView.{view_data};
 ghost use Rattle.crush_model.specs.Stands.{Stands};
 ghost use Rattle.crush_model.specs.Table.{Row};
 ghost use Rattle.crush_units.specs.Id.{item_number};
-ghost use Rattle.crush_print.specs.SeenStep.{step_data};
+ghost use Rattle.crush_print.specs.WalkStep.{walk_step_data};
 ghost use Rattle.crush_json.specs.Tokens.{children_tokens, item_tokens, tokens_of, tokens_of_all};
 ghost use Rattle.crush_json.specs.TreeDocument.{is_among, is_stray, node_document, node_documents, node_if, tree_document, type_word};
 ghost use Rattle.crush_json.specs.Values.{list, whole};
@@ -14,7 +14,7 @@ ghost use Rattle.crush_json.specs.Values.{list, whole};
 use crate::buckets::items_of;
 use crate::document::Document;
 use crush_map::{CrushMap, Setting};
-use crush_print::Step;
+use crush_print::WalkStep;
 use crush_tree::{Node, View};
 use crush_units::{ItemId, TypeId};
 use std::alloc::{AllocError, Allocator};
@@ -22,11 +22,11 @@ use std::alloc::{AllocError, Allocator};
 #[tactic(auto, unfolding(crate::specs::TreeDocument::tree_document))]
 pub(crate) fn push_tree<A: Allocator>(
     map: &CrushMap<A>,
-    steps: &[Step<'_, A>],
+    steps: &[WalkStep<'_, A>],
     out: &mut Document,
 ) -> Result<(), AllocError>
     ensures { (t : List Row) → Stands map.now.forest t → OnOk result (out.new ≡ out.old
-        ++ tokens_of (tree_document map.now.setting t (each step_data steps.now))) }
+        ++ tokens_of (tree_document map.now.setting t (each walk_step_data steps.now))) }
 {
     out.begin_object()?;
     out.key("nodes")?;
@@ -40,11 +40,11 @@ pub(crate) fn push_tree<A: Allocator>(
 fn push_nodes<A: Allocator>(
     map: &CrushMap<A>,
     stray: bool,
-    steps: &[Step<'_, A>],
+    steps: &[WalkStep<'_, A>],
     out: &mut Document,
 ) -> Result<(), AllocError>
     ensures { (t : List Row) → Stands map.now.forest t → OnOk result (out.new ≡ out.old
-        ++ tokens_of (list (node_documents map.now.setting t stray (each step_data steps.now)))) }
+        ++ tokens_of (list (node_documents map.now.setting t stray (each walk_step_data steps.now)))) }
 {
     out.begin_array()?;
     push_each(map, stray, steps, out)?;
@@ -54,11 +54,11 @@ fn push_nodes<A: Allocator>(
 fn push_each<A: Allocator>(
     map: &CrushMap<A>,
     stray: bool,
-    steps: &[Step<'_, A>],
+    steps: &[WalkStep<'_, A>],
     out: &mut Document,
 ) -> Result<(), AllocError>
     ensures { (t : List Row) → Stands map.now.forest t → OnOk result (out.new ≡ out.old
-        ++ flat_map (λ x. tokens_of_all (node_if map.now.setting t stray (step_data x)))
+        ++ flat_map (λ x. tokens_of_all (node_if map.now.setting t stray (walk_step_data x)))
         steps.now) }
 {
     for step in steps {
@@ -70,11 +70,11 @@ fn push_each<A: Allocator>(
 fn push_step<A: Allocator>(
     map: &CrushMap<A>,
     stray: bool,
-    step: &Step<'_, A>,
+    step: &WalkStep<'_, A>,
     out: &mut Document,
 ) -> Result<(), AllocError>
     ensures { (t : List Row) → Stands map.now.forest t → OnOk result (out.new ≡ out.old
-        ++ tokens_of_all (node_if map.now.setting t stray (step_data step.now))) }
+        ++ tokens_of_all (node_if map.now.setting t stray (walk_step_data step.now))) }
 {
     let item = step.view();
     if is_among(stray, &item) {

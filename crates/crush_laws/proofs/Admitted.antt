@@ -22,8 +22,8 @@ use Rattle.crush_edits.specs.Stops.{number_of}
 use Rattle.crush_builder.specs.Built.{Draft, Pending, nothing, begun as is_begun, filling as is_filling, with_class_id, with_next_item, pending_with_id, pending_with_class_id}
 use Rattle.crush_builder.specs.Building.{IsPending, is_bucket_kind, has_name, has_bucket_id, has_class, has_pending_name, has_pending_id, pending_class_ids, closed_item, item_named, is_full_of_buckets, is_full_of_class_ids}
 use Rattle.crush_units.specs.Words.{is_brace_word}
-use Rattle.crush_text.specs.declared.opening.Opening.{Opening}
-use Rattle.crush_text.specs.declared.opening.Opening.TheVariants as openings
+use Rattle.crush_text.specs.declared.statement_kind.StatementKind.{StatementKind}
+use Rattle.crush_text.specs.declared.statement_kind.StatementKind.TheVariants as statement_kinds
 use Rattle.crush_units.specs.Numbers.{is_number, is_signed, signed_value}
 use Rattle.crush_text.specs.Role.{Role, value, kind_of_word, opened, item_of, bucket_of_word, units, key, any_word, number, opening, tunable_name, type_number, type_name, device_id, new_name, bucket_id, id_or_alg, id_class, algorithm, item_or_end, item, lone_item, weight, rule_name, rule_id_key, rule_id, step_or_end, step_word, StepWord, takes, chooses, sets, emits, step_said, taken_bucket, step_order, step_count, step_type}
 use Rattle.crush_text.specs.Form.{Mode, first, second, begun, numbered, filling, ruled, Form, done, word, optional, ahead}
@@ -79,8 +79,8 @@ pub right_key : (d : Draft) (k w : List ℕ) → w ≡ k → IsRight d (key k) w
 right_key d k w h = passed d (key k) w (not_from_true _ ((bytes_eq-Decides w k).1 h), tt)
 
 -- a word that isn't reserved opens a bucket
-pub opens : (d : Draft) (w : List ℕ) (k : ℕ) → is_reserved w ≡ false → kind_of_word d w ≡ k → opened d w ≡ openings.Bucket k
-opens d w k h e = let n = no_key w h in rw (n.tunable, n.device, n.kind, n.rule) (ap (λ (x : ℕ). openings.Bucket x) e)
+pub opens : (d : Draft) (w : List ℕ) (k : ℕ) → is_reserved w ≡ false → kind_of_word d w ≡ k → opened d w ≡ statement_kinds.Bucket k
+opens d w k h e = let n = no_key w h in rw (n.tunable, n.device, n.kind, n.rule) (ap (λ (x : ℕ). statement_kinds.Bucket x) e)
 
 -- an item that is found is named so
 found_named : (p : Pending) (o : Option ItemId) (i : ItemId) → option_and_then (closed_item p) o ≡ Some i → is_some o ≡ true
@@ -408,8 +408,8 @@ module _ (d : Draft) (m : IsMap d) where
   opened_bucket idle late w some =
       let t = type_named d.setting.kinds w m.fits.setting.kinds some in
       let n = no_key w t.free in
-      let is : value d (opening late) w ≡ openings.Bucket (kind_of_word d w) = opens d w (kind_of_word d w) t.free refl in
-      subst (λ (o : Opening). Possible d (statement d o) → IsRight d (opening late) w × Rightly d (statement d o)) (sym is) (λ p.
+      let is : value d (opening late) w ≡ statement_kinds.Bucket (kind_of_word d w) = opens d w (kind_of_word d w) t.free refl in
+      subst (λ (o : StatementKind). Possible d (statement d o) → IsRight d (opening late) w × Rightly d (statement d o)) (sym is) (λ p.
       let known : is_bucket_kind d.setting (kind_of_word d w) ≡ true = p.2.0.pending.known in
       let full : is_full_of_buckets d ≡ false = lt-leb MOST_BUCKETS (bucket_count d.table) p.2.0.pending.few in (
         passed d (opening late) w (

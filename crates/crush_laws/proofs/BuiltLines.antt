@@ -21,7 +21,7 @@ use Rattle.crush_model.specs.Table.{is_placed}
 use Rattle.crush_builder.specs.Built.{Draft, with_tunable, with_kind, with_device, begun_bucket, with_id, with_class_id, with_alg, with_next_item, with_end}
 use Rattle.crush_builder.specs.Building.{item_named}
 use Rattle.crush_units.specs.Words.{Word, texts, begins_with_key}
-use Rattle.crush_text.specs.declared.opening.Opening.TheVariants as openings
+use Rattle.crush_text.specs.declared.statement_kind.StatementKind.TheVariants as statement_kinds
 use Rattle.crush_units.specs.Numbers.{is_number}
 use Rattle.crush_text.specs.Role.{value, kind_of_word, item_of, opened, units, units_or_none, key, any_word, number, type_name, new_name, bucket_id, id_class}
 use Rattle.crush_text.specs.Form.{Mode, first, second, begun, numbered, filling, at, Form, done, word, optional, ahead}
@@ -193,11 +193,11 @@ abbrev pub idle : Bool → Mode
 idle late = if late then second else first
 
 -- a bucket's type, its name and its id
-pub opens_bucket : (late : Bool) (d : Draft) (k : ℕ) (kind : List ℕ) (rest : List Word) → 0 < kind_of_word d kind → opened d kind ≡ openings.Bucket k → WordLeads (between (at (idle late) d)) kind rest (amid d (bucket_line d k))
+pub opens_bucket : (late : Bool) (d : Draft) (k : ℕ) (kind : List ℕ) (rest : List Word) → 0 < kind_of_word d kind → opened d kind ≡ statement_kinds.Bucket k → WordLeads (between (at (idle late) d)) kind rest (amid d (bucket_line d k))
 opens_bucket true d k kind rest some is = (inr (inr some), ap (λ o. arrive d rest (statement d o)) (sym is))
 opens_bucket false d k kind rest some is = (inr (inr some), ap (λ o. arrive d rest (statement d o)) (sym is))
 
-pub head_goes : (late : Bool) (d : Draft) (k : ℕ) (kind x : List ℕ) (b : ℕ) (others : List (List ℕ)) → 0 < kind_of_word d kind → opened d kind ≡ openings.Bucket k → b < 10 ^ 10
+pub head_goes : (late : Bool) (d : Draft) (k : ℕ) (kind x : List ℕ) (b : ℕ) (others : List (List ℕ)) → 0 < kind_of_word d kind → opened d kind ≡ statement_kinds.Bucket k → b < 10 ^ 10
     → IsLawfulDraft (begun_bucket d k x) → IsLawfulDraft (with_id (begun_bucket d k x) b)
     → Goes (between (at (idle late) d)) (kind ∷ x ∷ codes "{" ∷ codes "id" ∷ (45 ∷ decimal b) ∷ []) others (between (at numbered (with_id (begun_bucket d k x) b)))
 head_goes late d k kind x b others some is le l m = (

@@ -14,8 +14,8 @@ use Rattle.crush_builder.specs.Built.{Draft, Pending, nothing, with_device, with
 use Rattle.crush_builder.specs.Building.{IsPending}
 use Rattle.crush_builder.proofs.RowSteps.{new_device, new_bucket}
 use Rattle.crush_print.proofs.PrintedTexts.{All-left}
-use Rattle.crush_text.specs.declared.opening.Opening.{Opening}
-use Rattle.crush_text.specs.declared.opening.Opening.TheVariants as openings
+use Rattle.crush_text.specs.declared.statement_kind.StatementKind.{StatementKind}
+use Rattle.crush_text.specs.declared.statement_kind.StatementKind.TheVariants as statement_kinds
 use Rattle.crush_units.specs.Numbers.{signed_value}
 use Rattle.crush_text.specs.Role.{opening, StepWord, takes, chooses, sets, emits, item_of, bucket_of_word, units, opened, step_said}
 use Rattle.crush_text.specs.Form.{Mode, first, second, begun, numbered, filling, ruled, word}
@@ -51,12 +51,12 @@ module _ (d : Draft) where
   head_map x n k (inr h) = max_map x n k None h
 
   -- the types of each statement's map begin with those before it
-  kinds_before : (o : Opening) → Possible d (statement d o) → All IsKind d.setting.kinds
-  kinds_before openings.Tunable p = p.2.2.0.map.fits.setting.kinds
-  kinds_before openings.Type p = All-left IsKind d.setting.kinds (record { number = digits_value 10 p.0; name = p.2.0 } ∷ []) p.2.2.0.map.fits.setting.kinds
-  kinds_before openings.Device p = class_kinds (digits_value 10 p.0) p.2.0 p.2.2
-  kinds_before (openings.Bucket k) p = p.2.0.map.fits.setting.kinds
-  kinds_before openings.Rule p = (head_map p.0 (digits_value 10 p.2.2.2.0) p.2.2.2.2.2.0 p.2.2.2.2.2.2).fits.setting.kinds
+  kinds_before : (o : StatementKind) → Possible d (statement d o) → All IsKind d.setting.kinds
+  kinds_before statement_kinds.Tunable p = p.2.2.0.map.fits.setting.kinds
+  kinds_before statement_kinds.Type p = All-left IsKind d.setting.kinds (record { number = digits_value 10 p.0; name = p.2.0 } ∷ []) p.2.2.0.map.fits.setting.kinds
+  kinds_before statement_kinds.Device p = class_kinds (digits_value 10 p.0) p.2.0 p.2.2
+  kinds_before (statement_kinds.Bucket k) p = p.2.0.map.fits.setting.kinds
+  kinds_before statement_kinds.Rule p = (head_map p.0 (digits_value 10 p.2.2.2.0) p.2.2.2.2.2.0 p.2.2.2.2.2.2).fits.setting.kinds
 
   module _ (tied : IsTied (taken_buckets d.setting) d.table) where
     -- before a device
@@ -74,12 +74,12 @@ module _ (d : Draft) where
     class_back n x (inr h) = device_back n x None h.0.map
 
     -- before a statement
-    statement_back : (o : Opening) → (is_early o ≡ true → IsEarly d) → Possible d (statement d o) → IsMap d
-    statement_back openings.Tunable early p = tunable_back d p.0 (digits_value 10 p.2.0) (early refl) p.2.2.0.map
-    statement_back openings.Type early p = kind_back d (digits_value 10 p.0) p.2.0 (early refl) p.2.2.0.map
-    statement_back openings.Device early p = class_back (digits_value 10 p.0) p.2.0 p.2.2
-    statement_back (openings.Bucket k) early p = record { lawful = p.2.0.map.lawful; fits = p.2.0.map.fits }
-    statement_back openings.Rule early p = head_map p.0 (digits_value 10 p.2.2.2.0) p.2.2.2.2.2.0 p.2.2.2.2.2.2
+    statement_back : (o : StatementKind) → (is_early o ≡ true → IsEarly d) → Possible d (statement d o) → IsMap d
+    statement_back statement_kinds.Tunable early p = tunable_back d p.0 (digits_value 10 p.2.0) (early refl) p.2.2.0.map
+    statement_back statement_kinds.Type early p = kind_back d (digits_value 10 p.0) p.2.0 (early refl) p.2.2.0.map
+    statement_back statement_kinds.Device early p = class_back (digits_value 10 p.0) p.2.0 p.2.2
+    statement_back (statement_kinds.Bucket k) early p = record { lawful = p.2.0.map.lawful; fits = p.2.0.map.fits }
+    statement_back statement_kinds.Rule early p = head_map p.0 (digits_value 10 p.2.2.2.0) p.2.2.2.2.2.0 p.2.2.2.2.2.2
 
     -- by its first word
     opening_back : (late : Bool) → (late ≡ false → All IsKind d.setting.kinds → IsEarly d) → Possible d (word (opening late) (statement d)) → IsMap d

@@ -24,7 +24,7 @@ use Rattle.crush_history.specs.declared.call.Call.TheVariants.{One, Batch, Guard
 use Rattle.crush_history.specs.declared.call.Reply.{Reply}
 use Rattle.crush_history.specs.declared.call.Reply.TheVariants.{Done, Dones, Refused, BatchRefused, Stale}
 use Rattle.crush_history.specs.History.{EntryData}
-use Rattle.crush_history.specs.HistoryText.{pair_text, pairs_text, one_name, two_names, weighed, edit_text, edits_text, rest_text, guard_text, call_text, digit_of, line_head, refusal_text, refused_at_text, line_end, line_text, entries_text}
+use Rattle.crush_history.specs.HistoryText.{pair_text, pairs_text, one_name, two_names, name_and_weight, edit_text, edits_text, rest_text, guard_text, call_text, digit_of, line_head, refusal_text, refused_at_text, line_end, line_text, entries_text}
 use Rattle.crush_laws.specs.Written.{IsNamed, IsNamedCall, HistoryLinesAreComments, WhatIsWrittenIsReadBack}
 
 -- no byte ends the line
@@ -100,16 +100,16 @@ one_in_line word n h is = three_in_line word (codes " ") n h refl (name_in_line 
 two_in_line : (word a b : List ℕ) → IsInLine word → IsInLine a → IsInLine b → IsInLine (word ++ codes " " ++ a ++ codes " " ++ b)
 two_in_line word a b h ha hb = five_in_line word (codes " ") a (codes " ") b h refl ha refl hb
 
-weighed_in_line : (word n : List ℕ) (w : ℕ) → IsInLine word → IsName n → IsInLine (weighed word n w)
+weighed_in_line : (word n : List ℕ) (w : ℕ) → IsInLine word → IsName n → IsInLine (name_and_weight word n w)
 weighed_in_line word n w h is = two_in_line word n (weight_text w) h (name_in_line n is) (weight_in_line w)
 
 names_in_line : (word a b : List ℕ) → IsInLine word → IsName a → IsName b → IsInLine (two_names word a b)
 names_in_line word a b h first second = two_in_line word a b h (name_in_line a first) (name_in_line b second)
 
 pub edit_in_line : (e : Edit) → IsNamed e → IsInLine (edit_text e)
-edit_in_line (Insert d n w l) is = both_in_line (weighed (codes "add") n w) (pairs_text l) (weighed_in_line (codes "add") n w refl is.0) (location_in_line l is.1)
-edit_in_line (CreateOrMove d n w l) is = both_in_line (weighed (codes "create-or-move") n w) (pairs_text l) (weighed_in_line (codes "create-or-move") n w refl is.0) (location_in_line l is.1)
-edit_in_line (Update d n w l) is = both_in_line (weighed (codes "set") n w) (pairs_text l) (weighed_in_line (codes "set") n w refl is.0) (location_in_line l is.1)
+edit_in_line (Insert d n w l) is = both_in_line (name_and_weight (codes "add") n w) (pairs_text l) (weighed_in_line (codes "add") n w refl is.0) (location_in_line l is.1)
+edit_in_line (CreateOrMove d n w l) is = both_in_line (name_and_weight (codes "create-or-move") n w) (pairs_text l) (weighed_in_line (codes "create-or-move") n w refl is.0) (location_in_line l is.1)
+edit_in_line (Update d n w l) is = both_in_line (name_and_weight (codes "set") n w) (pairs_text l) (weighed_in_line (codes "set") n w refl is.0) (location_in_line l is.1)
 edit_in_line (Move n l) is = both_in_line (one_name (codes "move") n) (pairs_text l) (one_in_line (codes "move") n refl is.0) (location_in_line l is.1)
 edit_in_line (Swap a b) is = names_in_line (codes "swap-bucket") a b refl is.0 is.1
 edit_in_line (Reweight n w) is = weighed_in_line (codes "reweight") n w refl is

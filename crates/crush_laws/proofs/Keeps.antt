@@ -34,7 +34,7 @@ use Rattle.crush_edits.proofs.FitLaws.{Fits-push}
 use Rattle.crush_units.specs.Words.{Word, Text, words, is_brace_word, AreFormed, begins_with_key}
 use Rattle.crush_units.proofs.Forms.{words_are_formed}
 use Rattle.crush_text.specs.declared.fault.TextFaultKind.TheVariants.{Unexpected, BadNumber, BadWeight, DuplicateId, DuplicateName, UnknownType, UnknownItem, LeftOut, UnknownBucketInRule, TooMany, SumTooLarge}
-use Rattle.crush_text.specs.declared.opening.Opening.TheVariants as openings
+use Rattle.crush_text.specs.declared.statement_kind.StatementKind.TheVariants as statement_kinds
 use Rattle.crush_units.specs.Numbers.{is_number, is_signed, signed_value}
 use Rattle.crush_text.specs.Role.{opening, device_id, new_name, weight, step_word, takes, chooses, sets, emits, value, kind_of_word, item_of, bucket_of_word, units_or_none, units}
 use Rattle.crush_text.specs.Form.{Mode, first, second, begun, numbered, filling, ruled, Progress, at, Form, done, word, optional, ahead}
@@ -424,7 +424,7 @@ module _ (d : Draft) (m : IsMap d) where
     where
       by_it : (w : List ℕ) → IsRight d (opening late) w → (a b c e : Bool) → bytes_eq w (codes "tunable") ≡ a → bytes_eq w (codes "device") ≡ b → bytes_eq w (codes "type") ≡ c → bytes_eq w (codes "rule") ≡ e
           → (IsOneTooMany d w → ⊥)
-          → Keeps Good d (statement d (cond a openings.Tunable (cond b openings.Device (cond c openings.Type (cond e openings.Rule (openings.Bucket (kind_of_word d w)))))))
+          → Keeps Good d (statement d (cond a statement_kinds.Tunable (cond b statement_kinds.Device (cond c statement_kinds.Type (cond e statement_kinds.Rule (statement_kinds.Bucket (kind_of_word d w)))))))
       by_it w r true b c e ha hb hc he few = keeps_tunable idle (not_true _ (λ t. few (inl ((bytes_eq-Decides w _).0 ha, t))))
       by_it w r false true c e ha hb hc he few = keeps_device idle (not_true _ (λ t. few (inr (inl ((bytes_eq-Decides w _).0 hb, t)))))
       by_it w r false false true e ha hb hc he few = keeps_type idle (not_true _ (λ t. few (inr (inr (inl ((bytes_eq-Decides w _).0 hc, t))))))

@@ -5,8 +5,8 @@ use Rattle.std.specs.Prelude.{◌⊎◌, bytes_eq, codes, drop}
 use Rattle.crush_builder.specs.Built.{Draft}
 use Rattle.crush_edits.specs.Setting.{RuleData}
 use Rattle.crush_units.specs.Words.{Word, Stop, words, begins_with_key}
-use Rattle.crush_text.specs.declared.opening.Opening.{Opening}
-use Rattle.crush_text.specs.declared.opening.Opening.TheVariants as openings
+use Rattle.crush_text.specs.declared.statement_kind.StatementKind.{StatementKind}
+use Rattle.crush_text.specs.declared.statement_kind.StatementKind.TheVariants as statement_kinds
 use Rattle.crush_text.specs.declared.fault.TextFault.{TextFault}
 use Rattle.crush_text.specs.Role.{El, StepWord, takes, chooses, sets, emits, value}
 use Rattle.crush_text.specs.Form.{Mode, first, second, begun, numbered, filling, ruled, Form, done, word, optional, ahead}
@@ -42,12 +42,12 @@ LooksForWeights (optional k f g) = LooksForWeights f × LooksForWeights g
 LooksForWeights (ahead k f g) = (k ≡ codes "weight") × LooksForWeights f × LooksForWeights g
 
 -- so it is in each statement
-statement_looks : (d : Draft) (o : Opening) → LooksForWeights (statement d o)
-statement_looks d openings.Tunable = λ x n. tt
-statement_looks d openings.Type = λ n x. tt
-statement_looks d openings.Device = λ n x. (λ k c. tt, tt)
-statement_looks d (openings.Bucket k) = λ x. tt
-statement_looks d openings.Rule = λ x a b n c k. (λ e u. (λ g v. tt, tt), (λ g v. tt, tt))
+statement_looks : (d : Draft) (o : StatementKind) → LooksForWeights (statement d o)
+statement_looks d statement_kinds.Tunable = λ x n. tt
+statement_looks d statement_kinds.Type = λ n x. tt
+statement_looks d statement_kinds.Device = λ n x. (λ k c. tt, tt)
+statement_looks d (statement_kinds.Bucket k) = λ x. tt
+statement_looks d statement_kinds.Rule = λ x a b n c k. (λ e u. (λ g v. tt, tt), (λ g v. tt, tt))
 
 -- in each step
 step_looks : (d : Draft) (r : RuleData) (w : StepWord) → LooksForWeights (step_behind d r w)

@@ -21,7 +21,7 @@ use Rattle.crush_builder.specs.Built.{Draft, empty_draft, Pending, nothing, numb
 use Rattle.crush_units.specs.Numbers.{is_number}
 use Rattle.crush_units.specs.Words.{words, texts}
 use Rattle.crush_text.specs.declared.fault.TextFaultKind.TheVariants.{BadNumber}
-use Rattle.crush_text.specs.declared.opening.Opening.TheVariants as openings
+use Rattle.crush_text.specs.declared.statement_kind.StatementKind.TheVariants as statement_kinds
 use Rattle.crush_text.specs.Role.{key, number, id_or_alg, algorithm, item, lone_item, item_or_end, step_or_end, weight, kind_of_word, item_of, units}
 use Rattle.crush_text.specs.Form.{Mode, first, second, begun, numbered, filling, ruled, at, done, word}
 use Rattle.crush_text.specs.Grammar.{id_or_alg_line, item_or_brace, step_or_brace, with_step, statement}
@@ -69,7 +69,7 @@ parse (suc n) first d ws e h = λ idle rules count. by_it (λ m u k. parse n m u
     more rec x idle rules count = more_first d x.statement ws h.0 e x.spelled (rec first (behind_first d x.statement) (along n (at first (behind_first d x.statement)) h.1 h.0 e x.leads h.3)) idle rules count
 
     by_it : ((m : Mode) (u : Draft) → Lines n (at m u) h.0 e → Goal m u h.0 e) → d.pending ≡ nothing → d.setting.rules ≡ [] → d.adjusted ≡ 0 → (a b c : Bool) → bytes_eq h.2.0 (codes "tunable") ≡ a → bytes_eq h.2.0 (codes "device") ≡ b → bytes_eq h.2.0 (codes "type") ≡ c
-        → Line d (statement d (cond a openings.Tunable (cond b openings.Device (cond c openings.Type (cond (bytes_eq h.2.0 (codes "rule")) openings.Rule (openings.Bucket (kind_of_word d h.2.0))))))) h.2.1 h.0 h.1
+        → Line d (statement d (cond a statement_kinds.Tunable (cond b statement_kinds.Device (cond c statement_kinds.Type (cond (bytes_eq h.2.0 (codes "rule")) statement_kinds.Rule (statement_kinds.Bucket (kind_of_word d h.2.0))))))) h.2.1 h.0 h.1
         → FirstsRead d.setting.kinds d.setting.tunables d.table ws e
     by_it rec idle rules count true b c ha hb hc l = more rec (read_tunable d ws h.2.1 h.0 h.1 (opened_by h.2.0 (codes "tunable") h.2.1 h.2.2 ha) l) idle rules count
     by_it rec idle rules count false true c ha hb hc l = more rec (read_device d ws h.2.1 h.0 h.1 (opened_by h.2.0 (codes "device") h.2.1 h.2.2 hb) l) idle rules count

@@ -14,7 +14,7 @@ use Rattle.crush_edits.specs.Setting.{KindData, TunableData, StepData, RuleData,
 use Rattle.crush_map.specs.WrittenItems.{put_below, weight_or_one, adjustment}
 use Rattle.crush_builder.specs.Built.{Draft, nothing, begun as is_begun, numbered as is_numbered, filling as is_filling, begun_bucket}
 use Rattle.crush_text.specs.declared.fault.TextFaultKind.TheVariants.{BadNumber, Unexpected}
-use Rattle.crush_text.specs.declared.opening.Opening.TheVariants as openings
+use Rattle.crush_text.specs.declared.statement_kind.StatementKind.TheVariants as statement_kinds
 use Rattle.crush_text.specs.Role.{key, opening, rule_id_key, kind_of_word, opened}
 use Rattle.crush_text.specs.Form.{Mode, first, second, begun, numbered, filling, ruled, Progress, at}
 use Rattle.crush_text.specs.Grammar.{bucket_line, rule_line, with_step, new_rule, statement}
@@ -288,7 +288,7 @@ open_second late n d ws v e q rest idle w us head right none l lines = by_it (by
         (rest (ruled r) d (along n (at (ruled r) d) q v e sizes_read.5 lines) idle)
 
     by_it : (a b c f : Bool) → bytes_eq w (codes "tunable") ≡ a → bytes_eq w (codes "device") ≡ b → bytes_eq w (codes "type") ≡ c → bytes_eq w (codes "rule") ≡ f
-        → Line d (statement d (cond a openings.Tunable (cond b openings.Device (cond c openings.Type (cond f openings.Rule (openings.Bucket (kind_of_word d w))))))) us v q → SecondsRead d.setting d.table d.adjusted ws e
+        → Line d (statement d (cond a statement_kinds.Tunable (cond b statement_kinds.Device (cond c statement_kinds.Type (cond f statement_kinds.Rule (statement_kinds.Bucket (kind_of_word d w))))))) us v q → SecondsRead d.setting d.table d.adjusted ws e
     by_it true b c f ha hb hc hf x = absurd (out (inl (is_word w (codes "tunable") ha)))
     by_it false true c f ha hb hc hf x = absurd (out (inr (inl (is_word w (codes "device") hb))))
     by_it false false true f ha hb hc hf x = absurd (out (inr (inr (is_word w (codes "type") hc))))

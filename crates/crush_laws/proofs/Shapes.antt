@@ -24,8 +24,8 @@ use Rattle.crush_builder.specs.Building.{IsRoot, is_open}
 use Rattle.crush_builder.proofs.ItemSteps.{root_put}
 use Rattle.crush_builder.proofs.RowSteps.{new_device, new_bucket}
 use Rattle.crush_print.proofs.PrintedTexts.{All-left}
-use Rattle.crush_text.specs.declared.opening.Opening.{Opening}
-use Rattle.crush_text.specs.declared.opening.Opening.TheVariants as openings
+use Rattle.crush_text.specs.declared.statement_kind.StatementKind.{StatementKind}
+use Rattle.crush_text.specs.declared.statement_kind.StatementKind.TheVariants as statement_kinds
 use Rattle.crush_units.specs.Numbers.{signed_value}
 use Rattle.crush_text.specs.Role.{opening, taken_bucket, StepWord, takes, chooses, sets, emits, value, kind_of_word, item_of, bucket_of_word, units, opened, step_said}
 use Rattle.crush_text.specs.Form.{Mode, first, second, begun, numbered, filling, ruled, Progress, at, Form, done, word, optional, ahead}
@@ -115,12 +115,12 @@ Shapes d (optional k f g) = Shapes d f × Shapes d g
 Shapes d (ahead k f g) = Shapes d f × Shapes d g
 
 -- the lines that stand before buckets and rules
-abbrev pub is_early : Opening → Bool
-is_early openings.Tunable = true
-is_early openings.Type = true
-is_early openings.Device = true
-is_early (openings.Bucket k) = false
-is_early openings.Rule = false
+abbrev pub is_early : StatementKind → Bool
+is_early statement_kinds.Tunable = true
+is_early statement_kinds.Type = true
+is_early statement_kinds.Device = true
+is_early (statement_kinds.Bucket k) = false
+is_early statement_kinds.Rule = false
 
 -- where such a line may come, or else a type is called as no type may be
 pub early_opening : (d : Draft) (late : Bool) → (late ≡ false → All IsKind d.setting.kinds → IsEarly d) → (w : List ℕ) → IsFor d (opening late) w
@@ -129,7 +129,7 @@ early_opening d late h w (inl e) is kinds = h e.0 kinds
 early_opening d late h w (inr (inl e)) is kinds = let no : false ≡ true = ap (λ (x : List ℕ). is_early (opened d x)) (sym e) ∙ is in absurd cc
 early_opening d late h w (inr (inr some)) is kinds =
     let t = type_named d.setting.kinds w kinds some in
-    let bucket : opened d w ≡ openings.Bucket (kind_of_word d w) = opens d w (kind_of_word d w) t.free refl in
+    let bucket : opened d w ≡ statement_kinds.Bucket (kind_of_word d w) = opens d w (kind_of_word d w) t.free refl in
     let no : false ≡ true = sym (ap is_early bucket) ∙ is in
     absurd cc
 
@@ -170,12 +170,12 @@ module _ (d : Draft) (tied : IsTied (taken_buckets d.setting) d.table) where
       head x n k least most = record { tied = tied; stage = (idle, All-nil (IsThere d.table)) }
 
   -- a statement by its first word
-  shapes_statement : (o : Opening) → d.pending ≡ nothing → (is_early o ≡ true → All IsKind d.setting.kinds → IsEarly d) → Shapes d (statement d o)
-  shapes_statement openings.Tunable idle early = shapes_tunable idle (early refl)
-  shapes_statement openings.Type idle early = shapes_type idle (early refl)
-  shapes_statement openings.Device idle early = shapes_device idle (early refl)
-  shapes_statement (openings.Bucket k) idle early = shapes_bucket k
-  shapes_statement openings.Rule idle early = shapes_rule idle
+  shapes_statement : (o : StatementKind) → d.pending ≡ nothing → (is_early o ≡ true → All IsKind d.setting.kinds → IsEarly d) → Shapes d (statement d o)
+  shapes_statement statement_kinds.Tunable idle early = shapes_tunable idle (early refl)
+  shapes_statement statement_kinds.Type idle early = shapes_type idle (early refl)
+  shapes_statement statement_kinds.Device idle early = shapes_device idle (early refl)
+  shapes_statement (statement_kinds.Bucket k) idle early = shapes_bucket k
+  shapes_statement statement_kinds.Rule idle early = shapes_rule idle
 
   -- the id
   shapes_id : Shape begun d → Shapes d (id_line d)

@@ -128,15 +128,15 @@ fn copies(rt: HostRuntime) {
     drop(others);
 }
 
-fn is_told(refusal: Refusal, name: &str, number: u8, error: u8) -> bool {
+fn has_name_and_numbers(refusal: Refusal, name: &str, number: u8, error: u8) -> bool {
     refusal.name() == name && refusal.number() == number && refusal.error() == error
 }
 
 #[test]
 fn refusals(rt: HostRuntime) {
     assert!(rt;
-        is_told(Refusal::Loop, "Loop", 13, 40)
-            && is_told(Refusal::ClassBound, "ClassBound", 21, 16)
+        has_name_and_numbers(Refusal::Loop, "Loop", 13, 40)
+            && has_name_and_numbers(Refusal::ClassBound, "ClassBound", 21, 16)
             && EditFault::from(Refusal::Loop) == EditFault::Refused(Refusal::Loop)
             && LocationFault::OutOfMemory.number() == 3
     );

@@ -3,9 +3,9 @@
 //! edit that it owns by `drop`, so that proofs take its parts apart in one place.
 
 mod asking;
-mod blaming;
 mod building;
 mod classes;
+mod culprits;
 mod faults;
 mod in_place;
 mod lacking;

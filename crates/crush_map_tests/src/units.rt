@@ -153,7 +153,7 @@ fn names_refused(rt: HostRuntime) {
     );
 }
 
-fn may_stand(bytes: &[u8], may: bool) -> bool {
+fn are_name_bytes(bytes: &[u8], may: bool) -> bool {
     for byte in bytes {
         if is_name_byte(*byte) != may {
             return false;
@@ -164,7 +164,7 @@ fn may_stand(bytes: &[u8], may: bool) -> bool {
 
 #[test]
 fn bytes_of_names(rt: HostRuntime) {
-    assert!(rt; may_stand(b"azAZ09-_.", true) && may_stand(b"@[`{/:,+ ", false));
+    assert!(rt; are_name_bytes(b"azAZ09-_.", true) && are_name_bytes(b"@[`{/:,+ ", false));
 }
 
 /// A weight as text, its number of units, and the text that is printed for it.

@@ -7,13 +7,13 @@ use Rattle.crush_since.specs.ItemData.{ItemData}
 use Rattle.crush_since.specs.Tallies.{is_made, is_reweighed, is_reclassed}
 use Rattle.crush_since.specs.declared.since.tally.Tally.{Tally}
 use Rattle.crush_since.proofs.TallyLaws.{AtMost, count_more}
-use Rattle.crush_print.specs.Tree.{StepData}
+use Rattle.crush_print.specs.Tree.{WalkStepData}
 use Rattle.crush_names.specs.declared.named.Devices.TheVariants.{ByName}
 use Rattle.crush_names.specs.Counted.{both_meet, is_moved_by_name, new_tally, tally_plus}
 use Rattle.crush_names.specs.Named.{counterpart}
 use Rattle.crush_names.specs.Pairs.{step_item}
 
-pub tally_more : {X : Type 0} (t u : List Row) (see : X → StepData) (steps : List X) (i : ℕ) (x : X) (n m : Tally) (before after : Option ItemData) → i < length steps → x ≡ get_or steps i x → n ≡ new_tally t u see (take i steps) → m ≡ tally_plus n before after
+pub tally_more : {X : Type 0} (t u : List Row) (see : X → WalkStepData) (steps : List X) (i : ℕ) (x : X) (n m : Tally) (before after : Option ItemData) → i < length steps → x ≡ get_or steps i x → n ≡ new_tally t u see (take i steps) → m ≡ tally_plus n before after
     → before ≡ counterpart ByName t (step_item u (see x)) → after ≡ Some (step_item u (see x)) → m ≡ new_tally t u see (take (i + 1) steps)
 tally_more t u see steps i x n m before after lt is so_far with_it is_before is_after =
     with_it ∙ (λ k. tally_plus (so_far k) (is_before k) (is_after k)) ∙ (λ k. record {

@@ -5,7 +5,7 @@ use Rattle.std.proofs.lemmas.List.Concat.{flat_map-append}
 use Rattle.crush_model.specs.Table.{Row}
 use Rattle.crush_since.specs.ItemData.{ItemData}
 use Rattle.crush_since.specs.Since.{PlainMap}
-use Rattle.crush_print.specs.Tree.{StepData, tree_rows}
+use Rattle.crush_print.specs.Tree.{WalkStepData, tree_rows}
 use Rattle.crush_names.specs.declared.named.Devices.{Devices}
 use Rattle.crush_names.specs.declared.named.Devices.TheVariants.{ById}
 use Rattle.crush_names.specs.Named.{counterpart}
@@ -23,10 +23,10 @@ line_if f true p = append-nil (f p)
 line_if f false p = refl
 
 module _ {Z : Type 0} (g : PairData → List Z) (by : Devices) (t u : List Row) where
-  abbrev of_new : StepData → List Z
+  abbrev of_new : WalkStepData → List Z
   of_new s = g (record { before = counterpart by t (step_item u s); after = Some (step_item u s) })
 
-  abbrev of_old : StepData → List Z
+  abbrev of_old : WalkStepData → List Z
   of_old s = if is_some (counterpart by u (step_item t s)) then [] else g (record { before = Some (step_item t s); after = None })
 
   by_test : (b : Bool) (p : PairData) → flat_map g (if_listed (not b) p) ≡ (if b then [] else g p)

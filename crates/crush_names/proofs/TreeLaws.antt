@@ -13,7 +13,7 @@ use Rattle.crush_model.proofs.Moved.{row_id}
 use Rattle.crush_model.proofs.Renamed.{All-row}
 use Rattle.crush_nodes.specs.Views.{ViewData, row_view}
 use Rattle.crush_print.specs.MapText.{put_in, ascending, device_number, root_number, root_numbers}
-use Rattle.crush_print.specs.Tree.{StepData, step_at, steps_at, unplaced_number, unplaced_numbers, tree_rows}
+use Rattle.crush_print.specs.Tree.{WalkStepData, step_at, steps_at, unplaced_number, unplaced_numbers, tree_rows}
 
 -- LISTS side by side of which each is empty
 pub nil_left : {X : Type 0} (xs ys : List X) → xs ++ ys ≡ [] → xs ≡ []
@@ -76,65 +76,65 @@ of_kid g t b i r found own e = ap g (sym (row_id i t r found)) ∙ here (is_pare
 
 -- WHERE NOTHING IS TOLD of any row the steps tell nothing
 module _ (t : List Row) (f : ViewData → List ℕ) (none : (i : ItemId) (r : Row) → row_of t i ≡ Some r → f (row_view t r) ≡ []) where
-  at_none : (depth : ℕ) (i : ItemId) → flat_map (λ (s : StepData). f s.item) (step_at t depth i) ≡ []
+  at_none : (depth : ℕ) (i : ItemId) → flat_map (λ (s : WalkStepData). f s.item) (step_at t depth i) ≡ []
   unfolding step_at
   at_none depth i = by_row (row_of t i) refl where
-    by_row : (o : Option Row) → row_of t i ≡ o → flat_map (λ (s : StepData). f s.item) (option_map_or (λ (v : ViewData). record { depth = depth; item = v } ∷ []) (option_map (row_view t) o) []) ≡ []
+    by_row : (o : Option Row) → row_of t i ≡ o → flat_map (λ (s : WalkStepData). f s.item) (option_map_or (λ (v : ViewData). record { depth = depth; item = v } ∷ []) (option_map (row_view t) o) []) ≡ []
     by_row None e = refl
     by_row (Some r) e = append-nil (f (row_view t r)) ∙ none i r e
 
-  steps_none : (n depth : ℕ) (i : ItemId) → flat_map (λ (s : StepData). f s.item) (steps_at t n depth i) ≡ []
+  steps_none : (n depth : ℕ) (i : ItemId) → flat_map (λ (s : WalkStepData). f s.item) (steps_at t n depth i) ≡ []
   unfolding steps_at
   steps_none n depth (Device d) = at_none depth (Device d)
   steps_none zero depth (Bucket b) = refl
   steps_none (suc n) depth (Bucket b) =
-      flat_map-append (λ (s : StepData). f s.item) (step_at t depth (Bucket b)) (flat_map (steps_at t n (depth + 1)) (kids t b))
-      ∙ (λ k. at_none depth (Bucket b) k ++ (flat_twice (λ (s : StepData). f s.item) (steps_at t n (depth + 1)) (kids t b) ∙ nothing_of (λ i. flat_map (λ (s : StepData). f s.item) (steps_at t n (depth + 1) i)) (λ i. steps_none n (depth + 1) i) (kids t b)) k)
+      flat_map-append (λ (s : WalkStepData). f s.item) (step_at t depth (Bucket b)) (flat_map (steps_at t n (depth + 1)) (kids t b))
+      ∙ (λ k. at_none depth (Bucket b) k ++ (flat_twice (λ (s : WalkStepData). f s.item) (steps_at t n (depth + 1)) (kids t b) ∙ nothing_of (λ i. flat_map (λ (s : WalkStepData). f s.item) (steps_at t n (depth + 1) i)) (λ i. steps_none n (depth + 1) i) (kids t b)) k)
 
-  pub tree_none : flat_map (λ (s : StepData). f s.item) (tree_rows t) ≡ []
+  pub tree_none : flat_map (λ (s : WalkStepData). f s.item) (tree_rows t) ≡ []
   unfolding tree_rows
   tree_none =
-      flat_map-append (λ (s : StepData). f s.item) (flat_map (λ b. steps_at t (length t) 0 (Bucket b)) (root_numbers t)) (flat_map (λ d. step_at t 0 (Device d)) (unplaced_numbers t))
-      ∙ (λ k. (flat_twice (λ (s : StepData). f s.item) (λ b. steps_at t (length t) 0 (Bucket b)) (root_numbers t) ∙ nothing_of (λ b. flat_map (λ (s : StepData). f s.item) (steps_at t (length t) 0 (Bucket b))) (λ b. steps_none (length t) 0 (Bucket b)) (root_numbers t)) k
-      ++ (flat_twice (λ (s : StepData). f s.item) (λ d. step_at t 0 (Device d)) (unplaced_numbers t) ∙ nothing_of (λ d. flat_map (λ (s : StepData). f s.item) (step_at t 0 (Device d))) (λ d. at_none 0 (Device d)) (unplaced_numbers t)) k)
+      flat_map-append (λ (s : WalkStepData). f s.item) (flat_map (λ b. steps_at t (length t) 0 (Bucket b)) (root_numbers t)) (flat_map (λ d. step_at t 0 (Device d)) (unplaced_numbers t))
+      ∙ (λ k. (flat_twice (λ (s : WalkStepData). f s.item) (λ b. steps_at t (length t) 0 (Bucket b)) (root_numbers t) ∙ nothing_of (λ b. flat_map (λ (s : WalkStepData). f s.item) (steps_at t (length t) 0 (Bucket b))) (λ b. steps_none (length t) 0 (Bucket b)) (root_numbers t)) k
+      ++ (flat_twice (λ (s : WalkStepData). f s.item) (λ d. step_at t 0 (Device d)) (unplaced_numbers t) ∙ nothing_of (λ d. flat_map (λ (s : WalkStepData). f s.item) (step_at t 0 (Device d))) (λ d. at_none 0 (Device d)) (unplaced_numbers t)) k)
 
 -- WHERE THE STEPS TELL NOTHING it is told of no row
-module _ (t : List Row) (l : Lawful t) (f : ViewData → List ℕ) (none : flat_map (λ (s : StepData). f s.item) (tree_rows t) ≡ []) where
+module _ (t : List Row) (l : Lawful t) (f : ViewData → List ℕ) (none : flat_map (λ (s : WalkStepData). f s.item) (tree_rows t) ≡ []) where
   -- no step of an item, so many steps deep
   abbrev NoStep : ℕ → ItemId → Type 0
-  NoStep n i = (depth : ℕ) × (flat_map (λ (s : StepData). f s.item) (steps_at t n depth i) ≡ [])
+  NoStep n i = (depth : ℕ) × (flat_map (λ (s : WalkStepData). f s.item) (steps_at t n depth i) ≡ [])
 
-  both : flat_map (λ (s : StepData). f s.item) (flat_map (λ b. steps_at t (length t) 0 (Bucket b)) (root_numbers t)) ++ flat_map (λ (s : StepData). f s.item) (flat_map (λ d. step_at t 0 (Device d)) (unplaced_numbers t)) ≡ []
+  both : flat_map (λ (s : WalkStepData). f s.item) (flat_map (λ b. steps_at t (length t) 0 (Bucket b)) (root_numbers t)) ++ flat_map (λ (s : WalkStepData). f s.item) (flat_map (λ d. step_at t 0 (Device d)) (unplaced_numbers t)) ≡ []
   unfolding tree_rows
-  both = sym (flat_map-append (λ (s : StepData). f s.item) (flat_map (λ b. steps_at t (length t) 0 (Bucket b)) (root_numbers t)) (flat_map (λ d. step_at t 0 (Device d)) (unplaced_numbers t))) ∙ none
+  both = sym (flat_map-append (λ (s : WalkStepData). f s.item) (flat_map (λ b. steps_at t (length t) 0 (Bucket b)) (root_numbers t)) (flat_map (λ d. step_at t 0 (Device d)) (unplaced_numbers t))) ∙ none
 
-  of_root : (b : ℕ) (r : Row) → row_of t (Bucket b) ≡ Some r → r.parent ≡ None → flat_map (λ (s : StepData). f s.item) (steps_at t (length t) 0 (Bucket b)) ≡ []
+  of_root : (b : ℕ) (r : Row) → row_of t (Bucket b) ≡ Some r → r.parent ≡ None → flat_map (λ (s : WalkStepData). f s.item) (steps_at t (length t) 0 (Bucket b)) ≡ []
   unfolding root_numbers
   of_root b r found root =
-      let g : ℕ → List ℕ = λ c. flat_map (λ (s : StepData). f s.item) (steps_at t (length t) 0 (Bucket c)) in
-      let all = unsorted g (flat_map root_number t) (sym (flat_twice (λ (s : StepData). f s.item) (λ c. steps_at t (length t) 0 (Bucket c)) (root_numbers t)) ∙ nil_left _ _ both) in
+      let g : ℕ → List ℕ = λ c. flat_map (λ (s : WalkStepData). f s.item) (steps_at t (length t) 0 (Bucket c)) in
+      let all = unsorted g (flat_map root_number t) (sym (flat_twice (λ (s : WalkStepData). f s.item) (λ c. steps_at t (length t) 0 (Bucket c)) (root_numbers t)) ∙ nil_left _ _ both) in
       let own : root_number r ≡ b ∷ [] = (λ k. if is_some (root k) then [] else bucket_ids (row_id (Bucket b) t r found k)) in
       nil_left (g b) [] (sym (ap (flat_map g) own) ∙ of_row (λ (x : Row). flat_map g (root_number x)) t (Bucket b) r found (sym (flat_twice g root_number t) ∙ all))
 
-  of_unplaced : (d : ℕ) (r : Row) → row_of t (Device d) ≡ Some r → r.parent ≡ None → flat_map (λ (s : StepData). f s.item) (step_at t 0 (Device d)) ≡ []
+  of_unplaced : (d : ℕ) (r : Row) → row_of t (Device d) ≡ Some r → r.parent ≡ None → flat_map (λ (s : WalkStepData). f s.item) (step_at t 0 (Device d)) ≡ []
   unfolding unplaced_numbers
   of_unplaced d r found root =
-      let g : ℕ → List ℕ = λ c. flat_map (λ (s : StepData). f s.item) (step_at t 0 (Device c)) in
-      let all = unsorted g (flat_map unplaced_number t) (sym (flat_twice (λ (s : StepData). f s.item) (λ c. step_at t 0 (Device c)) (unplaced_numbers t)) ∙ nil_right _ _ both) in
+      let g : ℕ → List ℕ = λ c. flat_map (λ (s : WalkStepData). f s.item) (step_at t 0 (Device c)) in
+      let all = unsorted g (flat_map unplaced_number t) (sym (flat_twice (λ (s : WalkStepData). f s.item) (λ c. step_at t 0 (Device c)) (unplaced_numbers t)) ∙ nil_right _ _ both) in
       let own : unplaced_number r ≡ d ∷ [] = (λ k. if is_some (root k) then [] else device_number (row_id (Device d) t r found k)) in
       nil_left (g d) [] (sym (ap (flat_map g) own) ∙ of_row (λ (x : Row). flat_map g (unplaced_number x)) t (Device d) r found (sym (flat_twice g unplaced_number t) ∙ all))
 
   -- its step alone, and those of its items
-  own_step : (n depth b : ℕ) → flat_map (λ (s : StepData). f s.item) (steps_at t (suc n) depth (Bucket b)) ≡ [] → flat_map (λ (s : StepData). f s.item) (step_at t depth (Bucket b)) ≡ []
+  own_step : (n depth b : ℕ) → flat_map (λ (s : WalkStepData). f s.item) (steps_at t (suc n) depth (Bucket b)) ≡ [] → flat_map (λ (s : WalkStepData). f s.item) (step_at t depth (Bucket b)) ≡ []
   unfolding steps_at
-  own_step n depth b e = nil_left _ (flat_map (λ (s : StepData). f s.item) (flat_map (steps_at t n (depth + 1)) (kids t b))) (sym (flat_map-append (λ (s : StepData). f s.item) (step_at t depth (Bucket b)) (flat_map (steps_at t n (depth + 1)) (kids t b))) ∙ e)
+  own_step n depth b e = nil_left _ (flat_map (λ (s : WalkStepData). f s.item) (flat_map (steps_at t n (depth + 1)) (kids t b))) (sym (flat_map-append (λ (s : WalkStepData). f s.item) (step_at t depth (Bucket b)) (flat_map (steps_at t n (depth + 1)) (kids t b))) ∙ e)
 
-  kid_step : (n depth b : ℕ) (i : ItemId) (r : Row) → row_of t i ≡ Some r → is_parent b r.parent ≡ true → flat_map (λ (s : StepData). f s.item) (steps_at t (suc n) depth (Bucket b)) ≡ [] → flat_map (λ (s : StepData). f s.item) (steps_at t n (depth + 1) i) ≡ []
+  kid_step : (n depth b : ℕ) (i : ItemId) (r : Row) → row_of t i ≡ Some r → is_parent b r.parent ≡ true → flat_map (λ (s : WalkStepData). f s.item) (steps_at t (suc n) depth (Bucket b)) ≡ [] → flat_map (λ (s : WalkStepData). f s.item) (steps_at t n (depth + 1) i) ≡ []
   unfolding steps_at
   kid_step n depth b i r found own e =
-      of_kid (λ j. flat_map (λ (s : StepData). f s.item) (steps_at t n (depth + 1) j)) t b i r found own
-      (sym (flat_twice (λ (s : StepData). f s.item) (steps_at t n (depth + 1)) (kids t b))
-      ∙ nil_right (flat_map (λ (s : StepData). f s.item) (step_at t depth (Bucket b))) _ (sym (flat_map-append (λ (s : StepData). f s.item) (step_at t depth (Bucket b)) (flat_map (steps_at t n (depth + 1)) (kids t b))) ∙ e))
+      of_kid (λ j. flat_map (λ (s : WalkStepData). f s.item) (steps_at t n (depth + 1) j)) t b i r found own
+      (sym (flat_twice (λ (s : WalkStepData). f s.item) (steps_at t n (depth + 1)) (kids t b))
+      ∙ nil_right (flat_map (λ (s : WalkStepData). f s.item) (step_at t depth (Bucket b))) _ (sym (flat_map-append (λ (s : WalkStepData). f s.item) (step_at t depth (Bucket b)) (flat_map (steps_at t n (depth + 1)) (kids t b))) ∙ e))
 
   of_parent : (p : ℕ) (o : Option ℕ) → o ≡ Some p → is_parent p o ≡ true
   of_parent p o e = ap (is_parent p) e ∙ eq-eqb p p refl
@@ -178,12 +178,12 @@ module _ (t : List Row) (l : Lawful t) (f : ViewData → List ℕ) (none : flat_
     by_number zero sum h = absurd (omega (arith, sum, less))
     by_number (suc n) sum h = (n, h)
 
-  row_none : (depth : ℕ) (i : ItemId) (r : Row) → row_of t i ≡ Some r → flat_map (λ (s : StepData). f s.item) (step_at t depth i) ≡ [] → f (row_view t r) ≡ []
+  row_none : (depth : ℕ) (i : ItemId) (r : Row) → row_of t i ≡ Some r → flat_map (λ (s : WalkStepData). f s.item) (step_at t depth i) ≡ [] → f (row_view t r) ≡ []
   unfolding step_at
   row_none depth i r found e =
-      nil_left (f (row_view t r)) [] (sym (ap (λ o. flat_map (λ (s : StepData). f s.item) (option_map_or (λ (v : ViewData). record { depth = depth; item = v } ∷ []) (option_map (row_view t) o) [])) found) ∙ e)
+      nil_left (f (row_view t r)) [] (sym (ap (λ o. flat_map (λ (s : WalkStepData). f s.item) (option_map_or (λ (v : ViewData). record { depth = depth; item = v } ∷ []) (option_map (row_view t) o) [])) found) ∙ e)
 
-  device_none : (n depth d : ℕ) (r : Row) → row_of t (Device d) ≡ Some r → flat_map (λ (s : StepData). f s.item) (steps_at t n depth (Device d)) ≡ [] → f (row_view t r) ≡ []
+  device_none : (n depth d : ℕ) (r : Row) → row_of t (Device d) ≡ Some r → flat_map (λ (s : WalkStepData). f s.item) (steps_at t n depth (Device d)) ≡ [] → f (row_view t r) ≡ []
   unfolding steps_at
   device_none n depth d r found e = row_none depth (Device d) r found e
 

@@ -6,7 +6,7 @@ use Rattle.crush_units.specs.Id.{same_id}
 use Rattle.crush_model.specs.Table.{Row}
 use Rattle.crush_since.specs.ItemData.{ItemData, own_class_ids}
 use Rattle.crush_since.specs.ItemParts.{same_class_id}
-use Rattle.crush_print.specs.Tree.{StepData, tree_rows}
+use Rattle.crush_print.specs.Tree.{WalkStepData, tree_rows}
 use Rattle.crush_names.specs.declared.aside.Counts.{Counts}
 use Rattle.crush_names.specs.declared.named.Devices.TheVariants.{ById}
 use Rattle.crush_names.specs.Named.{counterpart}
@@ -21,14 +21,14 @@ abbrev pub has_other_class_ids : List Row → List Row → Option ItemData → I
 has_other_class_ids t u None y = false
 has_other_class_ids t u (Some x) y = not (pointwise same_class_id (own_class_ids t x.view.id) (own_class_ids u y.view.id))
 
-abbrev pub other_id : List Row → List Row → StepData → Bool
+abbrev pub other_id : List Row → List Row → WalkStepData → Bool
 other_id t u step = has_other_id (counterpart ById t (step_item u step)) (step_item u step)
 
-abbrev pub other_class_ids : List Row → List Row → StepData → Bool
+abbrev pub other_class_ids : List Row → List Row → WalkStepData → Bool
 other_class_ids t u step = has_other_class_ids t u (counterpart ById t (step_item u step)) (step_item u step)
 
 -- how many buckets of the wanted table meet them, of those that stand in the part in either
-abbrev pub is_aside : (List Row → List Row → StepData → Bool) → Option (List ℕ) → List Row → List Row → StepData → Bool
+abbrev pub is_aside : (List Row → List Row → WalkStepData → Bool) → Option (List ℕ) → List Row → List Row → WalkStepData → Bool
 is_aside test under t u step = test t u step && is_of_part ById under t u (step_item u step)
 
 pub record CountsAsideOf (under : Option (List ℕ)) (t u : List Row) (counts : Counts) : Type 0 where

@@ -6,7 +6,7 @@ use Rattle.crush_model.specs.Table.{Row}
 use Rattle.crush_since.specs.ItemData.{ItemData}
 use Rattle.crush_since.specs.Tallies.{in_both, is_made, is_reweighed, is_reclassed}
 use Rattle.crush_since.specs.declared.since.tally.Tally.{Tally}
-use Rattle.crush_print.specs.Tree.{StepData, tree_rows}
+use Rattle.crush_print.specs.Tree.{WalkStepData, tree_rows}
 use Rattle.crush_names.specs.declared.named.Devices.TheVariants.{ByName}
 use Rattle.crush_names.specs.Named.{counterpart}
 use Rattle.crush_names.specs.Pairs.{step_item}
@@ -16,15 +16,15 @@ use Rattle.crush_names.specs.Stays.{same_place}
 abbrev pub is_moved_by_name : Option ItemData → Option ItemData → Bool
 is_moved_by_name before after = in_both (λ x y. not (same_place x y)) before after
 
-abbrev pub is_gone_by_name : List Row → List Row → StepData → Bool
+abbrev pub is_gone_by_name : List Row → List Row → WalkStepData → Bool
 is_gone_by_name t u step = not (is_some (counterpart ByName u (step_item t step)))
 
 -- and a test of both of a step of the new map's tree
-abbrev pub both_meet : (Option ItemData → Option ItemData → Bool) → List Row → List Row → StepData → Bool
+abbrev pub both_meet : (Option ItemData → Option ItemData → Bool) → List Row → List Row → WalkStepData → Bool
 both_meet test t u step = test (counterpart ByName t (step_item u step)) (Some (step_item u step))
 
 -- the counts of steps of the new map's tree, as they are seen: none has another name
-abbrev pub new_tally : {X : Type 0} → List Row → List Row → (X → StepData) → List X → Tally
+abbrev pub new_tally : {X : Type 0} → List Row → List Row → (X → WalkStepData) → List X → Tally
 new_tally t u see steps = record {
   made = count_by (λ s. both_meet is_made t u (see s)) steps;
   removed = 0;

@@ -3,7 +3,7 @@ use Rattle.std.specs.Prelude.{ℕ, Bool, false, not, ◌&&◌, ◌||◌, List, [
 use Rattle.std.specs.Option.{option_map_or}
 use Rattle.crush_model.specs.Table.{Row}
 use Rattle.crush_since.specs.ItemData.{ItemData, with_holder}
-use Rattle.crush_print.specs.Tree.{StepData, tree_rows}
+use Rattle.crush_print.specs.Tree.{WalkStepData, tree_rows}
 use Rattle.crush_names.specs.declared.named.Devices.{Devices}
 use Rattle.crush_names.specs.Named.{counterpart, is_in}
 
@@ -13,7 +13,7 @@ pub record PairData : Type 0 where
   pub after : Option ItemData
 
 -- the item of a step of a table's tree
-abbrev pub step_item : List Row → StepData → ItemData
+abbrev pub step_item : List Row → WalkStepData → ItemData
 step_item t step = with_holder t step.item
 
 -- whether an item that may be there is of the part

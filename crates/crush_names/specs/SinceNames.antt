@@ -1,4 +1,4 @@
--- What has changed from one map to another whose items are told apart by their names: docs/names.md has the same in words.
+-- What has changed from one map to another whose items are told apart by their names: docs/dev/names.md has the same in words.
 use Rattle.std.specs.Prelude.{ℕ, ◌==◌, Bool, List, [], ◌∷◌, ◌++◌, Option, None, Some, Result, Ok, Err, flat_map, codes}
 use Rattle.std.specs.Io.KnownBytes.{Appends}
 use Rattle.crush_units.specs.Weight.{weight_text}

@@ -1,4 +1,4 @@
--- What differs between a map and the one that is wanted, told by names: docs/names.md has the same in words.
+-- What differs between a map and the one that is wanted, told by names: docs/dev/names.md has the same in words.
 use Rattle.std.specs.Prelude.{ℕ, ◌+◌, nat_lt, Bool, true, not, ◌||◌, List, [], ◌∷◌, ◌++◌, Option, None, Some, flat_map, codes, bytes_eq, unwrap_or}
 use Rattle.crush_units.specs.declared.id.ItemId.{ItemId}
 use Rattle.crush_units.specs.declared.id.ItemId.TheVariants.{Device, Bucket}

@@ -5,7 +5,7 @@ ghost use Rattle.std.specs.List.{count_by};
 ghost use Rattle.crush_model.specs.Count.{one_if};
 ghost use Rattle.crush_model.specs.Stands.{Stands};
 ghost use Rattle.crush_model.specs.Table.{Row};
-ghost use Rattle.crush_print.specs.SeenStep.{step_data};
+ghost use Rattle.crush_print.specs.WalkStep.{walk_step_data};
 ghost use Rattle.crush_since.specs.SeenItem.{seen_data};
 ghost use Rattle.crush_names.specs.Aside.{CountsAsideOf, aside_line, aside_text, has_other_class_ids, has_other_id, is_aside, other_class_ids, other_id};
 ghost use Rattle.crush_names.specs.Named.{counterpart};
@@ -18,7 +18,7 @@ use crate::named::{Devices, counterpart};
 use crate::pairs::{Comparison, Telling, is_of_part};
 use crate::sides::Side;
 use crush_map::CrushMap;
-use crush_print::{Step, walk};
+use crush_print::{WalkStep, walk};
 use crush_since::{Seen, same_class_ids};
 use crush_tree::Node;
 use crush_units::put_all;
@@ -69,11 +69,11 @@ fn more(count: usize, test: bool) -> usize
 
 fn count_ids<A: Allocator, B: Allocator>(
     maps: &Comparison<'_, A, B>,
-    steps: &[Step<'_, B>],
+    steps: &[WalkStep<'_, B>],
 ) -> usize
     ensures { (n : Option (List ℕ)) (t u : List Row) → IsSide n t maps.now.old
         → IsSide n u maps.now.new → result
-        ≡ count_by (λ s. is_aside other_id n t u (step_data s)) steps.now }
+        ≡ count_by (λ s. is_aside other_id n t u (walk_step_data s)) steps.now }
 {
     let mut count: usize = 0;
     for step in steps {
@@ -84,11 +84,11 @@ fn count_ids<A: Allocator, B: Allocator>(
 
 fn count_class_ids<A: Allocator, B: Allocator>(
     maps: &Comparison<'_, A, B>,
-    steps: &[Step<'_, B>],
+    steps: &[WalkStep<'_, B>],
 ) -> usize
     ensures { (n : Option (List ℕ)) (t u : List Row) → IsSide n t maps.now.old
         → IsSide n u maps.now.new → result
-        ≡ count_by (λ s. is_aside other_class_ids n t u (step_data s)) steps.now }
+        ≡ count_by (λ s. is_aside other_class_ids n t u (walk_step_data s)) steps.now }
 {
     let mut count: usize = 0;
     for step in steps {
@@ -97,32 +97,35 @@ fn count_class_ids<A: Allocator, B: Allocator>(
     count
 }
 
-fn has_aside_id<A: Allocator, B: Allocator>(maps: &Comparison<'_, A, B>, step: &Step<'_, B>) -> bool
+fn has_aside_id<A: Allocator, B: Allocator>(
+    maps: &Comparison<'_, A, B>,
+    step: &WalkStep<'_, B>,
+) -> bool
     ensures { (n : Option (List ℕ)) (t u : List Row) → IsSide n t maps.now.old
         → IsSide n u maps.now.new → result
-        ≡ is_aside other_id n t u (step_data step.now) }
+        ≡ is_aside other_id n t u (walk_step_data step.now) }
 {
     has_other_id(maps, step) && stands_in_part(maps, step)
 }
 
 fn has_aside_class_ids<A: Allocator, B: Allocator>(
     maps: &Comparison<'_, A, B>,
-    step: &Step<'_, B>,
+    step: &WalkStep<'_, B>,
 ) -> bool
     ensures { (n : Option (List ℕ)) (t u : List Row) → IsSide n t maps.now.old
         → IsSide n u maps.now.new → result
-        ≡ is_aside other_class_ids n t u (step_data step.now) }
+        ≡ is_aside other_class_ids n t u (walk_step_data step.now) }
 {
     has_other_class_ids(maps, step) && stands_in_part(maps, step)
 }
 
 fn stands_in_part<A: Allocator, B: Allocator>(
     maps: &Comparison<'_, A, B>,
-    step: &Step<'_, B>,
+    step: &WalkStep<'_, B>,
 ) -> bool
     ensures { (n : Option (List ℕ)) (t u : List Row) → IsSide n t maps.now.old
         → IsSide n u maps.now.new → result
-        ≡ is_of_part ById n t u (step_item u (step_data step.now)) }
+        ≡ is_of_part ById n t u (step_item u (walk_step_data step.now)) }
 {
     let there = maps.new.step_seen(step);
     let here = counterpart(Devices::ById, &maps.old, &there);
@@ -130,9 +133,12 @@ fn stands_in_part<A: Allocator, B: Allocator>(
 }
 
 /// Never of devices, which are one by their ids.
-fn has_other_id<A: Allocator, B: Allocator>(maps: &Comparison<'_, A, B>, step: &Step<'_, B>) -> bool
+fn has_other_id<A: Allocator, B: Allocator>(
+    maps: &Comparison<'_, A, B>,
+    step: &WalkStep<'_, B>,
+) -> bool
     ensures { (n : Option (List ℕ)) (t u : List Row) → IsSide n t maps.now.old
-        → IsSide n u maps.now.new → result ≡ other_id t u (step_data step.now) }
+        → IsSide n u maps.now.new → result ≡ other_id t u (walk_step_data step.now) }
 {
     match step.node {
         Node::Device(_) => false,
@@ -153,10 +159,10 @@ fn has_another_id<A: Allocator>(side: &Side<'_, A>, there: &Seen<'_>) -> bool
 /// No device has class ids.
 fn has_other_class_ids<A: Allocator, B: Allocator>(
     maps: &Comparison<'_, A, B>,
-    step: &Step<'_, B>,
+    step: &WalkStep<'_, B>,
 ) -> bool
     ensures { (n : Option (List ℕ)) (t u : List Row) → IsSide n t maps.now.old
-        → IsSide n u maps.now.new → result ≡ other_class_ids t u (step_data step.now) }
+        → IsSide n u maps.now.new → result ≡ other_class_ids t u (walk_step_data step.now) }
 {
     match step.node {
         Node::Device(_) => false,

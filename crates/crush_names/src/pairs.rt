@@ -4,7 +4,7 @@ ghost use Rattle.std.specs.Prelude.{◌≡◌, ◌||◌, [], ◌++◌, ℕ, List
 ghost use Rattle.std.specs.Option.{option_map};
 ghost use Rattle.crush_model.specs.Table.{Row};
 ghost use Rattle.crush_since.specs.SeenItem.{seen_data};
-ghost use Rattle.crush_print.specs.SeenStep.{step_data};
+ghost use Rattle.crush_print.specs.WalkStep.{walk_step_data};
 ghost use Rattle.crush_names.specs.Named.{is_in};
 ghost use Rattle.crush_names.specs.PairLines.{pair_line};
 ghost use Rattle.crush_names.specs.Pairs.{is_found_in, is_gone, new_pair, new_pairs, old_pair, old_pairs, pairs, step_item};
@@ -16,7 +16,7 @@ use crate::sides::Side;
 use crate::since::parts::push_changed_pair;
 use crate::staying::push_stay_pair;
 use crush_map::Setting;
-use crush_print::{Step, walk};
+use crush_print::{WalkStep, walk};
 use crush_since::Seen;
 use std::alloc::{AllocError, Allocator, Global};
 
@@ -71,14 +71,14 @@ fn push_new<A: Allocator, B: Allocator>(
 fn push_each_new<'a, A: Allocator, B: Allocator>(
     alloc: Global,
     maps: &Comparison<'a, A, B>,
-    steps: &[Step<'a, B>],
+    steps: &[WalkStep<'a, B>],
     lines: &mut Vec<u8>,
 ) -> Result<(), AllocError>
     ensures { (n : Option (List ℕ)) (t u : List Row) → IsSide n t maps.now.old
         → IsSide n u maps.now.new → OnOk result (lines.new.items ≡ lines.old.items
         ++ flat_map (λ s. flat_map
         (pair_line maps.now.telling maps.now.old.map.now.setting maps.now.new.map.now.setting)
-        (new_pair maps.now.devices n t u (step_item u (step_data s)))) steps.now) }
+        (new_pair maps.now.devices n t u (step_item u (walk_step_data s)))) steps.now) }
 {
     for step in steps {
         let after = maps.new.step_seen(step);
@@ -131,14 +131,14 @@ fn push_old<A: Allocator, B: Allocator>(
 fn push_each_old<'a, A: Allocator, B: Allocator>(
     alloc: Global,
     maps: &Comparison<'a, A, B>,
-    steps: &[Step<'a, A>],
+    steps: &[WalkStep<'a, A>],
     lines: &mut Vec<u8>,
 ) -> Result<(), AllocError>
     ensures { (n : Option (List ℕ)) (t u : List Row) → IsSide n t maps.now.old
         → IsSide n u maps.now.new → OnOk result (lines.new.items ≡ lines.old.items
         ++ flat_map (λ s. flat_map
         (pair_line maps.now.telling maps.now.old.map.now.setting maps.now.new.map.now.setting)
-        (old_pair maps.now.devices n t u (step_item t (step_data s)))) steps.now) }
+        (old_pair maps.now.devices n t u (step_item t (walk_step_data s)))) steps.now) }
 {
     for step in steps {
         let before = maps.old.step_seen(step);

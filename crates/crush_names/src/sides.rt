@@ -9,12 +9,12 @@ ghost use Rattle.crush_units.specs.declared.id.ItemId.TheVariants.{Bucket};
 ghost use Rattle.crush_since.specs.Below.{AreBelow};
 ghost use Rattle.crush_since.specs.ItemData.{item_of, own_class_ids, with_holder};
 ghost use Rattle.crush_since.specs.SeenItem.{seen_data};
-ghost use Rattle.crush_print.specs.SeenStep.{step_data};
+ghost use Rattle.crush_print.specs.WalkStep.{walk_step_data};
 ghost use Rattle.crush_names.specs.Named.{is_at, is_in};
 ghost use Rattle.crush_names.specs.Sides.{IsPart, IsPartAt, IsSide};
 
 use crush_map::CrushMap;
-use crush_print::Step;
+use crush_print::WalkStep;
 use crush_since::{Listing, Seen, all_below, is_among, listing_of};
 use crush_tree::ShadowId;
 use crush_units::{BucketId, DeviceId, ItemId};
@@ -144,9 +144,9 @@ impl<'a, A: Allocator> Side<'a, A> {
         self.items.class_ids_of(id)
     }
 
-    pub(crate) fn step_seen(&self, step: &Step<'a, A>) -> Seen<'a>
+    pub(crate) fn step_seen(&self, step: &WalkStep<'a, A>) -> Seen<'a>
         ensures { (n : Option (List ℕ)) (t : List Row) → IsSide n t self.now
-            → seen_data result ≡ with_holder t (step_data step.now).item }
+            → seen_data result ≡ with_holder t (walk_step_data step.now).item }
     {
         self.items.step_seen(step)
     }

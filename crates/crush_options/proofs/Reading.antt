@@ -3,11 +3,11 @@ use Rattle.std.proofs.Common.{◌≡◌, Bool, [], List, Option, Some, None, ap,
 use Rattle.std.specs.Borrow.{Bor}
 use Rattle.std.specs.Prelude.{option_map}
 use Rattle.clap.specs.Words.{Row, Text, fault_of, matches_of}
-use Rattle.crush_options.specs.declared.asked.Printed.{Printed}
-use Rattle.crush_options.specs.declared.asked.OptionsFault.{OptionsFault}
-use Rattle.crush_options.specs.declared.asked.OptionsFault.TheVariants.{Help, Refused, Memory}
-use Rattle.crush_options.specs.Options.{AsksTooMuch, IsFaultIn, IsRefusedFor, IsRefusedIf, IsTooMuch, program}
-use Rattle.crush_options.specs.Printed.{AreSaid, IsPrinted, SaidData, complaint, said_by}
+use Rattle.crush_options.specs.declared.parsed_options.OutputSpec.{OutputSpec}
+use Rattle.crush_options.specs.declared.parsed_options.OptionsFault.{OptionsFault}
+use Rattle.crush_options.specs.declared.parsed_options.OptionsFault.TheVariants.{Help, Refused, Memory}
+use Rattle.crush_options.specs.Options.{IsConflictFault, IsFaultIn, IsRefusedFor, IsRefusedIf, IsConflict, program}
+use Rattle.crush_options.specs.OutputFlags.{AreOutputFlags, IsOutputSpec, OutputFlagsData, complaint, flags_by}
 
 -- if the program reads no value, the parsed words have none
 pub none_read : (r : Option (Bor Text)) (x y : Option Text) → r ≡ None → option_map (λ s. s.now) r ≡ x → x ≡ y → y ≡ None
@@ -18,24 +18,24 @@ pub some_read : (r : Option (Bor Text)) (s : Bor Text) (x y : Option Text) (copy
 some_read r s x y copy is same e f = sym f ∙ sym e ∙ ap (option_map (λ (z : Bor Text). z.now)) is ∙ ap Some (sym same)
 
 -- the fault for words that can't be given together is a fault of the command line
-pub much_is_fault : (words : List Text) (rows : List Row) (fault : OptionsFault) → fault_of program words ≡ [] → rows ≡ matches_of program words → AsksTooMuch rows fault → IsFaultIn words fault
+pub much_is_fault : (words : List Text) (rows : List Row) (fault : OptionsFault) → fault_of program words ≡ [] → rows ≡ matches_of program words → IsConflictFault rows fault → IsFaultIn words fault
 much_is_fault words rows (Help text) right is much = absurd much
-much_is_fault words rows (Refused text) right is much = inr (record { right = right; much = subst (λ z. IsTooMuch z text.bytes.items) is much })
+much_is_fault words rows (Refused text) right is much = inr (record { right = right; much = subst (λ z. IsConflict z text.bytes.items) is much })
 much_is_fault words rows Memory right is much = tt
 
 -- a refusal with a reason for which words can't be given together is a fault for such words
-pub refused_much : (rows : List Row) (why : Text) (fault : OptionsFault) → IsTooMuch rows why → IsRefusedFor why fault → AsksTooMuch rows fault
+pub refused_much : (rows : List Row) (why : Text) (fault : OptionsFault) → IsConflict rows why → IsRefusedFor why fault → IsConflictFault rows fault
 refused_much rows why (Help text) much told = told
-refused_much rows why (Refused text) much told = subst (IsTooMuch rows) (sym told) much
+refused_much rows why (Refused text) much told = subst (IsConflict rows) (sym told) much
 refused_much rows why Memory much told = tt
 
 -- so is a refusal with the error line of words that can't be given together
-pub apart_much : (rows : List Row) (said : SaidData) (why : Option Text) (fault : OptionsFault) → AreSaid rows said → why ≡ complaint said → IsRefusedIf why fault → AsksTooMuch rows fault
-apart_much rows said (Some text) fault are is told = refused_much rows text fault (inl (record { said = said; are = are; apart = sym is })) told
-apart_much rows said None fault are is told = subst (AsksTooMuch rows) (sym told) tt
+pub apart_much : (rows : List Row) (flags : OutputFlagsData) (why : Option Text) (fault : OptionsFault) → AreOutputFlags rows flags → why ≡ complaint flags → IsRefusedIf why fault → IsConflictFault rows fault
+apart_much rows flags (Some text) fault are is told = refused_much rows text fault (inl (record { flags = flags; are = are; apart = sym is })) told
+apart_much rows flags None fault are is told = subst (IsConflictFault rows) (sym told) tt
 
 -- words that can be given together, and that ask for this output, have it as what is printed
-pub printed_is : (rows : List Row) (said : SaidData) (json : Bool) (printed : Printed) → AreSaid rows said → json ≡ said.json → said_by said.json printed ≡ said → complaint said ≡ None → IsPrinted rows json printed
-printed_is rows said json printed are same is fits =
-    let by : said_by json printed ≡ said = ap (λ j. said_by j printed) same ∙ is in
-    record { said = subst (AreSaid rows) (sym by) are; together = ap complaint by ∙ fits }
+pub printed_is : (rows : List Row) (flags : OutputFlagsData) (json : Bool) (output_spec : OutputSpec) → AreOutputFlags rows flags → json ≡ flags.json → flags_by flags.json output_spec ≡ flags → complaint flags ≡ None → IsOutputSpec rows json output_spec
+printed_is rows flags json output_spec are same is fits =
+    let by : flags_by json output_spec ≡ flags = ap (λ j. flags_by j output_spec) same ∙ is in
+    record { flags = subst (AreOutputFlags rows) (sym by) are; together = ap complaint by ∙ fits }

@@ -1,2 +1,2 @@
 pub mod Options
-pub mod Printed
+pub mod OutputFlags

@@ -4,12 +4,12 @@ use Rattle.clap.specs.declared.builder.action.ArgAction.TheVariants.{Set, SetTru
 use Rattle.clap.specs.declared.error.kind.ErrorKind.{ErrorKind}
 use Rattle.clap.specs.declared.error.kind.ErrorKind.TheVariants.{DisplayHelp, DisplayVersion, OutOfMemory}
 use Rattle.clap.specs.Words.{App, IsAmong, Kinds, Row, Rule, Text, all_of, fault_of, first_of, matches_of, new_app, new_rule, one_of, with_rule}
-use Rattle.crush_options.specs.declared.asked.Mode.{Mode}
-use Rattle.crush_options.specs.declared.asked.Options.{Options}
-use Rattle.crush_options.specs.declared.asked.OptionsFault.{OptionsFault}
-use Rattle.crush_options.specs.declared.asked.OptionsFault.TheVariants.{Help, Refused, Memory}
+use Rattle.crush_options.specs.declared.parsed_options.Mode.{Mode}
+use Rattle.crush_options.specs.declared.parsed_options.Options.{Options}
+use Rattle.crush_options.specs.declared.parsed_options.OptionsFault.{OptionsFault}
+use Rattle.crush_options.specs.declared.parsed_options.OptionsFault.TheVariants.{Help, Refused, Memory}
 use Rattle.crush_options.specs.declared.command_line.TheConstants.{MOST_SCRIPTS}
-use Rattle.crush_options.specs.Printed.{AreApart, IsFlag, IsPrinted, name_text}
+use Rattle.crush_options.specs.OutputFlags.{AreApart, IsFlag, IsOutputSpec, name_text}
 
 -- a flag `--NAME`
 abbrev pub flag : Text → Rule
@@ -36,12 +36,12 @@ abbrev pub with_modes : App
 with_modes = with_rule (with_rule (with_rule (with_rule named (flag (codes "in-turn"))) (flag (codes "no-history"))) (flag (codes "strict"))) (flag (codes "no-make"))
 
 -- then with the flags and options that say what is printed
-abbrev pub with_printed : App
-with_printed = with_rule (with_rule (with_rule (with_rule with_modes (flag (codes "tree"))) (option (codes "since"))) (flag (codes "as-ceph"))) (option (codes "to"))
+abbrev pub with_output_flags : App
+with_output_flags = with_rule (with_rule (with_rule (with_rule with_modes (flag (codes "tree"))) (option (codes "since"))) (flag (codes "as-ceph"))) (option (codes "to"))
 
 -- then with the flags and options that say how it is printed, and of which items
 abbrev pub with_parts : App
-with_parts = with_rule (with_rule (with_rule (with_rule with_printed (flag (codes "by-name"))) (flag (codes "json"))) (option (codes "under"))) (option (codes "down-to"))
+with_parts = with_rule (with_rule (with_rule (with_rule with_output_flags (flag (codes "by-name"))) (flag (codes "json"))) (option (codes "under"))) (option (codes "down-to"))
 
 -- THE COMMAND LINE: `[--in-turn] [--no-history] [--strict] [--no-make] [--tree] [--since MAP] [--as-ceph] [--to MAP] [--by-name] [--json]
 -- [--under NAME] [--down-to TYPE] [--exit-code] [--explain] [-s SCRIPT].. [FILE]`
@@ -57,8 +57,8 @@ abbrev pub all_named : Text → List Row → List Text
 all_named id rows = unwrap_or (all_of id rows) []
 
 -- why words are refused of which each is right: some of them can't be given together, as the line `why` says, or there are more than MOST_SCRIPTS scripts
-abbrev pub IsTooMuch : List Row → Text → Type 0
-IsTooMuch rows why = AreApart rows why ⊎ ((MOST_SCRIPTS < length (all_named (codes "script") rows)) × (why ≡ codes "error: at most 16 times --script\n"))
+abbrev pub IsConflict : List Row → Text → Type 0
+IsConflict rows why = AreApart rows why ⊎ ((MOST_SCRIPTS < length (all_named (codes "script") rows)) × (why ≡ codes "error: at most 16 times --script\n"))
 
 -- the mode is as the parsed words say: each field says whether its flag is given, and `history` says that `--no-history` isn't
 pub record IsModeOf (rows : List Row) (mode : Mode) : Type 0 where
@@ -73,21 +73,21 @@ pub record IsModeOf (rows : List Row) (mode : Mode) : Type 0 where
 -- the options are those of the parsed words: how the job is run, what is printed, the files of scripts, of which there are at most MOST_SCRIPTS, and the job's file
 pub record AreRead (rows : List Row) (options : Options) : Type 0 where
   pub mode : IsModeOf rows options.mode
-  pub printed : IsPrinted rows options.mode.json options.printed
+  pub output_spec : IsOutputSpec rows options.mode.json options.output_spec
   pub scripts : names_text options.scripts.items ≡ all_named (codes "script") rows
   pub few : length options.scripts.items ≤ MOST_SCRIPTS
   pub file : name_text options.file ≡ first_of (codes "FILE") rows
 
 -- the words have no error, and the options are those that they ask for
-pub record IsAsked (words : List Text) (options : Options) : Type 0 where
+pub record AreOptionsOf (words : List Text) (options : Options) : Type 0 where
   pub right : fault_of program words ≡ []
   pub read : AreRead (matches_of program words) options
 
 -- the fault for words of which each is right: a refusal with one of the reasons above, or out of memory, but never the help
-abbrev pub AsksTooMuch : List Row → OptionsFault → Type 0
-AsksTooMuch rows (Help text) = ⊥
-AsksTooMuch rows (Refused text) = IsTooMuch rows text.bytes.items
-AsksTooMuch rows Memory = Unit {0}
+abbrev pub IsConflictFault : List Row → OptionsFault → Type 0
+IsConflictFault rows (Help text) = ⊥
+IsConflictFault rows (Refused text) = IsConflict rows text.bytes.items
+IsConflictFault rows Memory = Unit {0}
 
 -- the fault is a refusal with the text `why`, or out of memory
 abbrev pub IsRefusedFor : Text → OptionsFault → Type 0
@@ -113,12 +113,12 @@ pub record HasFault (kinds : Kinds) (fault : OptionsFault) : Type 0 where
   pub told : IsFaultOf kind fault
 
 -- the words have no error, but are refused for the reason `why`
-pub record AreTooMany (words : List Text) (why : Text) : Type 0 where
+pub record HaveConflict (words : List Text) (why : Text) : Type 0 where
   pub right : fault_of program words ≡ []
-  pub much : IsTooMuch (matches_of program words) why
+  pub much : IsConflict (matches_of program words) why
 
 -- the fault of a command line: the text of the help or the version that the words ask for, a refusal for an error or a reason above, or out of memory
 abbrev pub IsFaultIn : List Text → OptionsFault → Type 0
 IsFaultIn words (Help text) = HasFault (fault_of program words) (Help text)
-IsFaultIn words (Refused text) = HasFault (fault_of program words) (Refused text) ⊎ AreTooMany words text.bytes.items
+IsFaultIn words (Refused text) = HasFault (fault_of program words) (Refused text) ⊎ HaveConflict words text.bytes.items
 IsFaultIn words Memory = Unit {0}

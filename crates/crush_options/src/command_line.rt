@@ -2,10 +2,10 @@
 
 ghost use Rattle.std.specs.Prelude.{◌≡◌, ◌≤◌, IfErr, IfOk, None, Some, codes, false, length, map, option_map, true};
 ghost use Rattle.clap.specs.Words.{all_of, app_of, fault_of, first_of, found_of, kind_of, one_of, rows_of, rule_of, with_rule};
-ghost use Rattle.crush_options.specs.Options.{AreRead, AsksTooMuch, IsAsked, IsFaultIn, IsFaultOf, IsModeOf, IsRefusedFor, IsRefusedIf, all_named, file, flag, names_text, option, program, scripts, with_modes, with_parts, with_printed};
-ghost use Rattle.crush_options.specs.Printed.{AreSaid, IsFlag, ask_for_some_changes, ask_for_two, complaint, have_names_alone, have_part_alone, have_type_alone, name_text, said_by, said_data};
+ghost use Rattle.crush_options.specs.Options.{AreRead, IsConflictFault, AreOptionsOf, IsFaultIn, IsFaultOf, IsModeOf, IsRefusedFor, IsRefusedIf, all_named, file, flag, names_text, option, program, scripts, with_modes, with_parts, with_output_flags};
+ghost use Rattle.crush_options.specs.OutputFlags.{AreOutputFlags, IsFlag, ask_for_some_changes, ask_for_two, complaint, have_names_alone, have_part_alone, have_type_alone, name_text, flags_by, flags_data};
 
-use crate::asked::{Mode, Options, OptionsFault, Part, Printed, Since, Wanted};
+use crate::parsed_options::{Mode, Options, OptionsFault, OutputSpec, Since, Target, TreePartSpec};
 use clap::error::ErrorKind;
 use clap::{Arg, ArgAction, ArgMatches, Command, Error};
 use std::alloc::{AllocError, Global};
@@ -17,7 +17,7 @@ const ABOUT: &str =
 /// The program's version, with the toolchain that checked the proofs, as `rt version` prints it.
 const VERSION: &str = "0.2.0 (rattle-kit-13f logic dac8208d650f15bf)";
 
-/// The part of the help after the list of flags. `docs/manual.py` makes the manual page from the
+/// The part of the help after the list of flags. `tools/manual.py` makes the manual page from the
 /// help. Its lines have at most 80 columns, which leaves 55 columns for the text of a flag.
 const MORE: &str = "\
 A job is the text of a CRUSH map, as `crushtool -d` prints it, followed by the
@@ -212,8 +212,8 @@ fn with_modes<'a>(alloc: Global) -> Result<Command<'a>, AllocError>
         .arg(flag(alloc, "no-make", no_make))
 }
 
-fn with_printed<'a>(alloc: Global) -> Result<Command<'a>, AllocError>
-    ensures { IfOk result (λ command. app_of command ≡ with_printed) }
+fn with_output_flags<'a>(alloc: Global) -> Result<Command<'a>, AllocError>
+    ensures { IfOk result (λ command. app_of command ≡ with_output_flags) }
 {
     let tree = "Print the tree of the map, in place of its text";
     let since = "Print what has changed since the map in this file";
@@ -233,7 +233,7 @@ fn with_parts<'a>(alloc: Global) -> Result<Command<'a>, AllocError>
     let json = "Print one JSON document, for programs";
     let under = "Print only this item and what is below it";
     let down_to = "With --tree: print nothing below buckets of this type";
-    with_printed(alloc)?
+    with_output_flags(alloc)?
         .arg(flag(alloc, "by-name", by_name))?
         .arg(flag(alloc, "json", json))?
         .arg(option(alloc, "under", "NAME", under))?
@@ -269,7 +269,7 @@ fn refused(alloc: Global, text: &str) -> OptionsFault
 
 /// The words of a command line that decide what is printed.
 #[derive(Clone, Copy)]
-struct Said<'a> {
+struct OutputFlags<'a> {
     tree: bool,
     since: Option<&'a str>,
     as_ceph: bool,
@@ -280,10 +280,10 @@ struct Said<'a> {
     down_to: Option<&'a str>,
 }
 
-fn said_of<'a>(matches: &'a ArgMatches<'_>) -> Said<'a>
-    ensures { AreSaid (rows_of (found_of matches.now)) (said_data result) }
+fn output_flags_of<'a>(matches: &'a ArgMatches<'_>) -> OutputFlags<'a>
+    ensures { AreOutputFlags (rows_of (found_of matches.now)) (flags_data result) }
 {
-    Said {
+    OutputFlags {
         tree: is_set(matches, "tree"),
         since: matches.get_str("since"),
         as_ceph: is_set(matches, "as-ceph"),
@@ -295,55 +295,55 @@ fn said_of<'a>(matches: &'a ArgMatches<'_>) -> Said<'a>
     }
 }
 
-fn ask_for_two(said: Said<'_>) -> bool
-    ensures { result ≡ ask_for_two (said_data said.entry) }
+fn ask_for_two(flags: OutputFlags<'_>) -> bool
+    ensures { result ≡ ask_for_two (flags_data flags.entry) }
 {
-    (said.tree || said.since.is_some()) && (said.as_ceph || said.to.is_some())
+    (flags.tree || flags.since.is_some()) && (flags.as_ceph || flags.to.is_some())
 }
 
-fn ask_for_some_changes(said: Said<'_>) -> bool
-    ensures { result ≡ ask_for_some_changes (said_data said.entry) }
+fn ask_for_some_changes(flags: OutputFlags<'_>) -> bool
+    ensures { result ≡ ask_for_some_changes (flags_data flags.entry) }
 {
-    said.tree
-        && said.since.is_some()
-        && (said.by_name || said.under.is_some() || said.down_to.is_some())
+    flags.tree
+        && flags.since.is_some()
+        && (flags.by_name || flags.under.is_some() || flags.down_to.is_some())
 }
 
-fn have_names_alone(said: Said<'_>) -> bool
-    ensures { result ≡ have_names_alone (said_data said.entry) }
+fn have_names_alone(flags: OutputFlags<'_>) -> bool
+    ensures { result ≡ have_names_alone (flags_data flags.entry) }
 {
-    said.by_name && said.since.is_none() && said.to.is_none()
+    flags.by_name && flags.since.is_none() && flags.to.is_none()
 }
 
-fn have_part_alone(said: Said<'_>) -> bool
-    ensures { result ≡ have_part_alone (said_data said.entry) }
+fn have_part_alone(flags: OutputFlags<'_>) -> bool
+    ensures { result ≡ have_part_alone (flags_data flags.entry) }
 {
-    said.under.is_some() && !said.tree && said.since.is_none() && said.to.is_none()
+    flags.under.is_some() && !flags.tree && flags.since.is_none() && flags.to.is_none()
 }
 
-fn have_type_alone(said: Said<'_>) -> bool
-    ensures { result ≡ have_type_alone (said_data said.entry) }
+fn have_type_alone(flags: OutputFlags<'_>) -> bool
+    ensures { result ≡ have_type_alone (flags_data flags.entry) }
 {
-    said.down_to.is_some() && !said.tree
+    flags.down_to.is_some() && !flags.tree
 }
 
 /// Returns the error line of words that can't be given together, or `None` if they can.
-fn complaint(said: Said<'_>) -> Option<&'static str>
-    ensures { option_map (λ text. text.now) result ≡ complaint (said_data said.entry) }
+fn complaint(flags: OutputFlags<'_>) -> Option<&'static str>
+    ensures { option_map (λ text. text.now) result ≡ complaint (flags_data flags.entry) }
 {
-    if ask_for_two(said) {
+    if ask_for_two(flags) {
         Some(TWO_PRINTED)
-    } else if ask_for_some_changes(said) {
+    } else if ask_for_some_changes(flags) {
         Some(WHOLE_CHANGES)
-    } else if have_names_alone(said) {
+    } else if have_names_alone(flags) {
         Some(NAMES_ALONE)
-    } else if have_part_alone(said) {
+    } else if have_part_alone(flags) {
         Some(PART_ALONE)
-    } else if have_type_alone(said) {
+    } else if have_type_alone(flags) {
         Some(TYPE_ALONE)
-    } else if said.json && said.as_ceph {
+    } else if flags.json && flags.as_ceph {
         Some(JSON_LINES)
-    } else if said.json && said.since.is_some() && said.by_name {
+    } else if flags.json && flags.since.is_some() && flags.by_name {
         Some(JSON_NAMES)
     } else {
         None
@@ -359,67 +359,67 @@ fn copy_of(alloc: Global, name: Option<&str>) -> Result<Option<String>, AllocErr
     }
 }
 
-fn tree_by(alloc: Global, said: Said<'_>) -> Result<Printed, AllocError>
-    requires together { complaint (said_data said) ≡ None }
-    requires alone { (said.to ≡ None) × (said.since ≡ None) × (said.tree ≡ true) }
-    ensures { IfOk result (λ printed. said_by said.entry.json printed ≡ said_data said.entry) }
+fn tree_by(alloc: Global, flags: OutputFlags<'_>) -> Result<OutputSpec, AllocError>
+    requires together { complaint (flags_data flags) ≡ None }
+    requires alone { (flags.to ≡ None) × (flags.since ≡ None) × (flags.tree ≡ true) }
+    ensures { IfOk result (λ output_spec. flags_by flags.entry.json output_spec ≡ flags_data flags.entry) }
 {
-    let under = copy_of(alloc, said.under)?;
-    let down_to = copy_of(alloc, said.down_to)?;
-    Ok(Printed::Tree(Part { under, down_to }))
+    let under = copy_of(alloc, flags.under)?;
+    let down_to = copy_of(alloc, flags.down_to)?;
+    Ok(OutputSpec::Tree(TreePartSpec { under, down_to }))
 }
 
-fn since_by(alloc: Global, said: Said<'_>, name: &str) -> Result<Printed, AllocError>
-    requires together { complaint (said_data said) ≡ None }
-    requires alone { (said.to ≡ None) × (said.since ≡ Some name) × (said.tree ≡ false) }
-    ensures { IfOk result (λ printed. said_by said.entry.json printed ≡ said_data said.entry) }
+fn since_by(alloc: Global, flags: OutputFlags<'_>, name: &str) -> Result<OutputSpec, AllocError>
+    requires together { complaint (flags_data flags) ≡ None }
+    requires alone { (flags.to ≡ None) × (flags.since ≡ Some name) × (flags.tree ≡ false) }
+    ensures { IfOk result (λ output_spec. flags_by flags.entry.json output_spec ≡ flags_data flags.entry) }
 {
     let map = String::from_str(alloc, name)?;
-    let under = copy_of(alloc, said.under)?;
-    Ok(Printed::Since(Since {
+    let under = copy_of(alloc, flags.under)?;
+    Ok(OutputSpec::Since(Since {
         map,
-        by_name: said.by_name,
+        by_name: flags.by_name,
         under,
     }))
 }
 
-fn wanted_by(alloc: Global, said: Said<'_>, name: &str) -> Result<Printed, AllocError>
-    requires together { complaint (said_data said) ≡ None }
-    requires wanted { said.to ≡ Some name }
-    ensures { IfOk result (λ printed. said_by said.entry.json printed ≡ said_data said.entry) }
+fn target_by(alloc: Global, flags: OutputFlags<'_>, name: &str) -> Result<OutputSpec, AllocError>
+    requires together { complaint (flags_data flags) ≡ None }
+    requires target { flags.to ≡ Some name }
+    ensures { IfOk result (λ output_spec. flags_by flags.entry.json output_spec ≡ flags_data flags.entry) }
 {
     let map = String::from_str(alloc, name)?;
-    let under = copy_of(alloc, said.under)?;
-    Ok(Printed::To(Wanted {
+    let under = copy_of(alloc, flags.under)?;
+    Ok(OutputSpec::To(Target {
         map,
-        as_ceph: said.as_ceph,
-        by_name: said.by_name,
+        as_ceph: flags.as_ceph,
+        by_name: flags.by_name,
         under,
     }))
 }
 
-fn printed_by(alloc: Global, said: Said<'_>) -> Result<Printed, AllocError>
-    requires { complaint (said_data said) ≡ None }
-    ensures { IfOk result (λ printed. said_by said.entry.json printed ≡ said_data said.entry) }
+fn output_spec_by(alloc: Global, flags: OutputFlags<'_>) -> Result<OutputSpec, AllocError>
+    requires { complaint (flags_data flags) ≡ None }
+    ensures { IfOk result (λ output_spec. flags_by flags.entry.json output_spec ≡ flags_data flags.entry) }
 {
-    match (said.to, said.since) {
-        (Some(name), _) => wanted_by(alloc, said, name),
-        (None, Some(name)) if said.tree => Ok(Printed::Changes(String::from_str(alloc, name)?)),
-        (None, Some(name)) => since_by(alloc, said, name),
-        (None, None) if said.tree => tree_by(alloc, said),
-        (None, None) if said.as_ceph => Ok(Printed::AsCeph),
-        (None, None) => Ok(Printed::Map),
+    match (flags.to, flags.since) {
+        (Some(name), _) => target_by(alloc, flags, name),
+        (None, Some(name)) if flags.tree => Ok(OutputSpec::Changes(String::from_str(alloc, name)?)),
+        (None, Some(name)) => since_by(alloc, flags, name),
+        (None, None) if flags.tree => tree_by(alloc, flags),
+        (None, None) if flags.as_ceph => Ok(OutputSpec::AsCeph),
+        (None, None) => Ok(OutputSpec::Map),
     }
 }
 
-fn printed_of(alloc: Global, said: Said<'_>) -> Result<Printed, OptionsFault>
-    ensures asked { IfOk result (λ printed. said_by said.entry.json printed ≡ said_data said.entry) }
-    ensures together { IfOk result (λ _. complaint (said_data said.entry) ≡ None) }
-    ensures fault { IfErr result (IsRefusedIf (complaint (said_data said.entry))) }
+fn checked_output_spec(alloc: Global, flags: OutputFlags<'_>) -> Result<OutputSpec, OptionsFault>
+    ensures parsed { IfOk result (λ output_spec. flags_by flags.entry.json output_spec ≡ flags_data flags.entry) }
+    ensures together { IfOk result (λ _. complaint (flags_data flags.entry) ≡ None) }
+    ensures fault { IfErr result (IsRefusedIf (complaint (flags_data flags.entry))) }
 {
-    match complaint(said) {
+    match complaint(flags) {
         Some(text) => Err(refused(alloc, text)),
-        None => Ok(printed_by(alloc, said)?),
+        None => Ok(output_spec_by(alloc, flags)?),
     }
 }
 
@@ -435,10 +435,10 @@ fn copies(alloc: Global, names: &[&str]) -> Result<Vec<String>, AllocError>
 }
 
 fn scripts_of(alloc: Global, matches: &ArgMatches<'_>) -> Result<Vec<String>, OptionsFault>
-    ensures asked { IfOk result (λ scripts. names_text scripts.items
+    ensures parsed { IfOk result (λ scripts. names_text scripts.items
         ≡ all_named (codes "script") (rows_of (found_of matches.now))) }
     ensures few { IfOk result (λ scripts. length scripts.items ≤ MOST_SCRIPTS) }
-    ensures fault { IfErr result (AsksTooMuch (rows_of (found_of matches.now))) }
+    ensures fault { IfErr result (IsConflictFault (rows_of (found_of matches.now))) }
 {
     match matches.get_strs("script") {
         None => Ok(Vec::new(alloc)),
@@ -472,16 +472,16 @@ fn mode_of(matches: &ArgMatches<'_>, json: bool) -> Mode
 
 fn options_of(alloc: Global, matches: &ArgMatches<'_>) -> Result<Options, OptionsFault>
     ensures read { IfOk result (AreRead (rows_of (found_of matches.now))) }
-    ensures fault { IfErr result (AsksTooMuch (rows_of (found_of matches.now))) }
+    ensures fault { IfErr result (IsConflictFault (rows_of (found_of matches.now))) }
 {
-    let said = said_of(matches);
-    let mode = mode_of(matches, said.json);
-    let printed = printed_of(alloc, said)?;
+    let flags = output_flags_of(matches);
+    let mode = mode_of(matches, flags.json);
+    let output_spec = checked_output_spec(alloc, flags)?;
     let scripts = scripts_of(alloc, matches)?;
     let file = file_of(alloc, matches)?;
     Ok(Options {
         mode,
-        printed,
+        output_spec,
         scripts,
         file,
     })
@@ -508,7 +508,7 @@ fn fault_of(alloc: Global, error: &Error) -> OptionsFault
 /// [`OptionsFault::Refused`] if a word is wrong or words can't be given together, and with
 /// [`OptionsFault::Memory`] if memory runs out.
 pub fn options<S: AsStr>(alloc: Global, words: &[S]) -> Result<Options, OptionsFault>
-    ensures asked { IfOk result (IsAsked (map S.text words.now)) }
+    ensures parsed { IfOk result (AreOptionsOf (map S.text words.now)) }
     ensures fault { IfErr result (IsFaultIn (map S.text words.now)) }
 {
     let command = command(alloc)?;

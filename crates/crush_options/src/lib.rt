@@ -4,8 +4,8 @@
 //! an [`OptionsFault`], which `crush_input` prints.
 #![tactic(auto)]
 
-mod asked;
 mod command_line;
+mod parsed_options;
 
-pub use asked::{Mode, Options, OptionsFault, Part, Printed, Since, Wanted};
 pub use command_line::options;
+pub use parsed_options::{Mode, Options, OptionsFault, OutputSpec, Since, Target, TreePartSpec};

@@ -1,7 +1,7 @@
 //! The items of a map, looked up by name and by id.
 
 use crush_map::{CrushMap, Setting};
-use crush_print::{Step, walk};
+use crush_print::{WalkStep, walk};
 use crush_tree::View;
 use crush_units::{BucketId, ItemId};
 use std::alloc::{AllocError, Allocator, Global};
@@ -47,7 +47,7 @@ struct Key {
 pub(crate) struct Walked<'a, A: Allocator> {
     map: &'a CrushMap<A>,
     /// In the order of the map's tree.
-    pub steps: Vec<Step<'a, A>>,
+    pub steps: Vec<WalkStep<'a, A>>,
     /// Rising.
     keys: Vec<Key>,
 }
@@ -70,7 +70,10 @@ impl<'a, A: Allocator> Walked<'a, A> {
     }
 }
 
-fn push_keys<A: Allocator>(steps: &[Step<'_, A>], keys: &mut Vec<Key>) -> Result<(), AllocError> {
+fn push_keys<A: Allocator>(
+    steps: &[WalkStep<'_, A>],
+    keys: &mut Vec<Key>,
+) -> Result<(), AllocError> {
     for (at, step) in steps.iter().enumerate() {
         keys.push(Key {
             key: key_of(step.node.id()),

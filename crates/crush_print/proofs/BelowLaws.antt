@@ -19,7 +19,7 @@ use Rattle.crush_tree.proofs.ReadLemmas.Items.{map-node_id}
 use Rattle.crush_print.proofs.Told.{Told, stands_told, size_le_rows}
 use Rattle.crush_print.proofs.WalkLaws.{node_steps, steps_told}
 use Rattle.crush_print.specs.SeenPart.{HasSteps}
-use Rattle.crush_print.specs.Tree.{StepData, steps_at, steps_of}
+use Rattle.crush_print.specs.Tree.{WalkStepData, steps_at, steps_of}
 
 -- what a table says of items, it says of the items of a bucket among them
 pub told_kids : (t : List Row) (p : Option ℕ) (n k : Items) (b : ℕ) → Told t p n → kids_in b n ≡ Some k → Told t (Some b) k
@@ -85,5 +85,5 @@ steps_below f t b ns stands e ids =
 pub nothing_below : (f : ForestData) (t : List Row) (b : ℕ) → Stands f t → false ≡ is_there t (Bucket b) → [] ≡ flat_map (steps_at t (length t) 0) (kids t b)
 nothing_below f t b stands absent = sym (ap (flat_map (steps_at t (length t) 0)) (no_kids t t b stands.lawful.parents (sym absent)))
 
-pub below_walked : (start one below all : List StepData) → start ≡ [] → one ≡ start ++ below → below ≡ all → one ≡ all
-below_walked start one below all begun after are = after ∙ ap (λ (l : List StepData). l ++ below) begun ∙ are
+pub below_walked : (start one below all : List WalkStepData) → start ≡ [] → one ≡ start ++ below → below ≡ all → one ≡ all
+below_walked start one below all begun after are = after ∙ ap (λ (l : List WalkStepData). l ++ below) begun ∙ are

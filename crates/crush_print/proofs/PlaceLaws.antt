@@ -18,7 +18,7 @@ use Rattle.crush_nodes.specs.Views.{ViewData, row_view}
 use Rattle.crush_nodes.specs.declared.node.Node.{Node}
 use Rattle.crush_tree.specs.Tops.{root_ids, unplaced_ids}
 use Rattle.crush_print.specs.SeenPart.{HasSteps}
-use Rattle.crush_print.specs.Tree.{StepData, step_at, steps_at, steps_of}
+use Rattle.crush_print.specs.Tree.{WalkStepData, step_at, steps_at, steps_of}
 use Rattle.crush_print.proofs.BelowLaws.{no_kids}
 
 some_is : {X : Type 0} (x y : X) → Some x ≡ Some y → x ≡ y
@@ -99,7 +99,7 @@ no_steps t (suc n) depth (BucketItem b) parents absent =
     (λ k. no_step t depth (BucketItem b) absent k ++ flat_map (steps_at t n (depth + 1)) (no_kids t t b parents (ap is_some absent) k))
 
 -- ITS STEPS are those of the node that has its id
-pub item_walked : {A : _} (t : List Row) (i : ItemId) (p q : Option ℕ) (x y : Node A) (start one : List StepData) → start ≡ [] → one ≡ start ++ steps_of 0 p (items_of (x ∷ [])) → p ≡ q → x ≡ y → HasSteps t q y → node_id y ≡ i
+pub item_walked : {A : _} (t : List Row) (i : ItemId) (p q : Option ℕ) (x y : Node A) (start one : List WalkStepData) → start ≡ [] → one ≡ start ++ steps_of 0 p (items_of (x ∷ [])) → p ≡ q → x ≡ y → HasSteps t q y → node_id y ≡ i
     → one ≡ steps_at t (length t) 0 i
 item_walked t i p q x y start one begun after above is has same = after ∙ (λ k. begun k ++ steps_of 0 (above k) (items_of (is k ∷ []))) ∙ sym has ∙ ap (steps_at t (length t) 0) same
 

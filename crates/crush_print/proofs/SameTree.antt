@@ -13,10 +13,10 @@ use Rattle.crush_model.proofs.Same.{item_weight-same}
 use Rattle.crush_nodes.specs.Views.{ViewData, row_view}
 use Rattle.crush_print.specs.MapText.{root_number, root_numbers}
 use Rattle.crush_print.proofs.Sorting.{ascending-reordered}
-use Rattle.crush_print.specs.Tree.{StepData, step_at, steps_at, unplaced_number, unplaced_numbers, tree_rows}
+use Rattle.crush_print.specs.Tree.{WalkStepData, step_at, steps_at, unplaced_number, unplaced_numbers, tree_rows}
 use Rattle.crush_print.specs.TreeText.{steps_text, tree_text, SameTablesHaveOneTree}
 
-abbrev step : ℕ → ViewData → List StepData
+abbrev step : ℕ → ViewData → List WalkStepData
 step depth v = record { depth = depth; item = v } ∷ []
 
 module _ (t u : List Row) (l : Lawful t) (same : Same t u) where

@@ -3,7 +3,7 @@ pub mod Lines
 pub mod MapText
 pub mod RuleLines
 pub mod SeenPart
-pub mod SeenStep
+pub mod WalkStep
 pub mod Tree
 pub mod TreePart
 pub mod TreeText

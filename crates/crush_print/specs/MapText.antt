@@ -1,4 +1,4 @@
--- The text of a map, computed from its setting and its table. docs/FORMATS.md has the same in words.
+-- The text of a map, computed from its setting and its table. docs/user/FORMATS.md has the same in words.
 use Rattle.std.specs.Prelude.{◌≡◌, ℕ, zero, suc, List, [], ◌∷◌, ◌++◌, if◌then◌else◌, Some, is_some, nat_le, length, All, map, flat_map, unwrap_or, codes}
 use Rattle.std.specs.Option.{option_map_or}
 use Rattle.crush_units.specs.declared.id.ItemId.{ItemId}

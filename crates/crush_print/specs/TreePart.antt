@@ -3,44 +3,44 @@ use Rattle.std.specs.Prelude.{◌≡◌, ℕ, Bool, false, List, [], ◌∷◌, 
 use Rattle.crush_units.specs.declared.id.ItemId.{ItemId}
 use Rattle.crush_model.specs.Table.{Row}
 use Rattle.crush_edits.specs.Setting.{SettingData}
-use Rattle.crush_print.specs.Tree.{StepData, steps_at, tree_rows}
+use Rattle.crush_print.specs.Tree.{WalkStepData, steps_at, tree_rows}
 use Rattle.crush_print.specs.TreeText.{steps_text}
-use Rattle.crush_print.specs.declared.part.Part.{Part}
+use Rattle.crush_print.specs.declared.part.TreePart.{TreePart}
 
 -- the part that is the whole tree: no top item, and no type
-abbrev pub whole_tree : Part
+abbrev pub whole_tree : TreePart
 whole_tree = record { under = None; down_to = None }
 
 -- UNDER an item: its own step, with the depth 0, and those of all items below it; without an item, the steps of the whole tree
-abbrev pub steps_under : Option ItemId → List Row → List StepData
+abbrev pub steps_under : Option ItemId → List Row → List WalkStepData
 steps_under None t = tree_rows t
 steps_under (Some i) t = steps_at t (length t) 0 i
 
 -- DOWN TO a type: whether a step is deeper than `closed`, so that it is below the bucket of that depth; false without a depth
-abbrev pub is_closed : Option ℕ → StepData → Bool
+abbrev pub is_closed : Option ℕ → WalkStepData → Bool
 is_closed None s = false
 is_closed (Some depth) s = nat_lt depth s.depth
 
 -- the depth of the step if its item has this type: the deeper steps that follow it without a gap are below it
-abbrev pub closed_by : ℕ → StepData → Option ℕ
+abbrev pub closed_by : ℕ → WalkStepData → Option ℕ
 closed_by kind s = if s.item.kind == kind then Some s.depth else None
 
 -- the steps without those that are below an item of this type. `closed` is the depth of the last step that was kept, if its item has the type
-abbrev pub down_to : ℕ → Option ℕ → List StepData → List StepData
+abbrev pub down_to : ℕ → Option ℕ → List WalkStepData → List WalkStepData
 down_to kind closed [] = []
 down_to kind closed (s ∷ rest) = if is_closed closed s then down_to kind closed rest else s ∷ down_to kind (closed_by kind s) rest
 
 -- the same if there is a type, otherwise all steps
-abbrev pub cut : Option ℕ → List StepData → List StepData
+abbrev pub cut : Option ℕ → List WalkStepData → List WalkStepData
 cut None steps = steps
 cut (Some kind) steps = down_to kind None steps
 
 -- PART STEPS: the steps under the part's item, down to the part's type
-unfoldable pub part_steps : Part → List Row → List StepData
+unfoldable pub part_steps : TreePart → List Row → List WalkStepData
 part_steps p t = cut p.down_to (steps_under p.under t)
 
 -- the text of the part's steps
-unfoldable pub tree_part_text : SettingData → Part → List Row → List ℕ
+unfoldable pub tree_part_text : SettingData → TreePart → List Row → List ℕ
 tree_part_text s p t = steps_text s (part_steps p t)
 
 -- the law: the part without a top item and without a type has the steps of the whole tree

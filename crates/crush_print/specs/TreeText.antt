@@ -1,4 +1,4 @@
--- The text of the tree of a map. docs/FORMATS.md has the same in words.
+-- The text of the tree of a map. docs/user/FORMATS.md has the same in words.
 use Rattle.std.specs.Prelude.{◌≡◌, ℕ, ◌*◌, ◌-◌, List, [], ◌∷◌, ◌++◌, length, min, max, replicate, codes, flat_map, unwrap_or}
 use Rattle.crush_units.specs.declared.id.ItemId.{ItemId}
 use Rattle.crush_units.specs.declared.id.ItemId.TheVariants.{Device, Bucket}
@@ -9,7 +9,7 @@ use Rattle.crush_model.specs.Table.{Row}
 use Rattle.crush_edits.specs.Setting.{SettingData}
 use Rattle.crush_print.specs.Lines.{id_text}
 use Rattle.crush_print.specs.MapText.{kind_text}
-use Rattle.crush_print.specs.Tree.{StepData, tree_rows}
+use Rattle.crush_print.specs.Tree.{WalkStepData, tree_rows}
 use Rattle.crush_print.specs.declared.tree.Widths.{Widths}
 
 -- n spaces
@@ -25,15 +25,15 @@ unfoldable pub at_left : ℕ → List ℕ → List ℕ
 at_left width word = word ++ spaces (width - length word)
 
 -- the word of the first column: the item's id
-abbrev pub id_word : StepData → List ℕ
+abbrev pub id_word : WalkStepData → List ℕ
 id_word s = id_text s.item.id
 
 -- the word of the second column: the item's class; empty if it has none
-abbrev pub class_word : StepData → List ℕ
+abbrev pub class_word : WalkStepData → List ℕ
 class_word s = unwrap_or s.item.class []
 
 -- the word of the third column: the item's weight
-abbrev pub weight_word : StepData → List ℕ
+abbrev pub weight_word : WalkStepData → List ℕ
 weight_word s = weight_text s.item.weight
 
 -- the greatest of the width `least` and the lengths of all words
@@ -42,7 +42,7 @@ widest word least [] = least
 widest word least (x ∷ xs) = widest word (max least (length (word x))) xs
 
 -- the widths of the first three columns: the least in which the headings and all words fit
-abbrev pub widths_of : List StepData → Widths
+abbrev pub widths_of : List WalkStepData → Widths
 widths_of steps = record { id = widest id_word 2 steps; class = widest class_word 5 steps; weight = widest weight_word 6 steps }
 
 -- a line of these four words, with two spaces between them
@@ -59,7 +59,7 @@ kind_prefix s (Device d) kind = []
 kind_prefix s (Bucket b) kind = kind_text s kind ++ codes " "
 
 -- the line of an item
-unfoldable pub step_line : SettingData → Widths → StepData → List ℕ
+unfoldable pub step_line : SettingData → Widths → WalkStepData → List ℕ
 step_line s w x =
     row_text (at_right w.id (id_word x)) (at_right w.class (class_word x)) (at_right w.weight (weight_word x))
     (indent x.depth ++ kind_prefix s x.item.id x.item.kind ++ x.item.name)
@@ -69,7 +69,7 @@ unfoldable pub heading : Widths → List ℕ
 heading w = row_text (at_left w.id (codes "ID")) (at_left w.class (codes "CLASS")) (at_left w.weight (codes "WEIGHT")) (codes "TYPE NAME")
 
 -- the heading and a line for each step, in columns that are wide enough for all of them
-unfoldable pub steps_text : SettingData → List StepData → List ℕ
+unfoldable pub steps_text : SettingData → List WalkStepData → List ℕ
 steps_text s steps = heading (widths_of steps) ++ flat_map (step_line s (widths_of steps)) steps
 
 -- TREE TEXT: the tree of a map with this setting and this table

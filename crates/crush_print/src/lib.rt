@@ -18,10 +18,10 @@ pub mod words;
 
 pub use crush_units::WriteFault;
 pub use order::{buckets, devices, nodes_in_order};
-pub use part::{Part, walk_part};
+pub use part::{TreePart, walk_part};
 pub use printer::{same_tables_print_alike, taken_buckets_are_named, write_map};
 pub use sorted::{sorted_buckets, sorted_devices};
-pub use steps::{Step, walk, walk_below};
+pub use steps::{WalkStep, walk, walk_below};
 pub use tree::{
     id_column, same_tables_have_one_tree, whole_tree_is_a_part, wider, wider_id, write_tree,
     write_tree_part,

@@ -6,12 +6,12 @@ ghost use Rattle.crush_model.specs.Items.{size_of};
 ghost use Rattle.crush_model.specs.Stands.{Stands};
 ghost use Rattle.crush_model.specs.Table.{Row, kids, parent_of, row_of};
 ghost use Rattle.crush_units.specs.Id.{same_id};
-ghost use Rattle.crush_print.specs.SeenStep.{step_data};
+ghost use Rattle.crush_print.specs.WalkStep.{walk_step_data};
 ghost use Rattle.crush_print.specs.SeenPart.{HasSteps};
-ghost use Rattle.crush_print.specs.Tree.{StepData, steps_at};
+ghost use Rattle.crush_print.specs.Tree.{WalkStepData, steps_at};
 ghost use Rattle.crush_print.specs.TreePart.{closed_by, cut, down_to, is_closed, part_steps, steps_under, whole_tree};
 
-use crate::steps::{Step, push_steps, walk};
+use crate::steps::{WalkStep, push_steps, walk};
 use crush_map::CrushMap;
 use crush_tree::Node;
 use crush_units::{BucketId, ItemId, TypeId};
@@ -19,7 +19,7 @@ use std::alloc::{AllocError, Allocator, Global};
 
 /// Which part of a map's tree is selected.
 #[derive(Clone, Copy, Debug)]
-pub struct Part {
+pub struct TreePart {
     /// The item at the top of the part; `None` for the whole tree.
     pub under: Option<ItemId>,
     /// A type: the part doesn't have the items below buckets of this type. `None` if it has all
@@ -27,12 +27,12 @@ pub struct Part {
     pub down_to: Option<TypeId>,
 }
 
-impl Part {
+impl TreePart {
     /// Returns the part that is the whole tree.
-    pub fn whole() -> Part
+    pub fn whole() -> TreePart
         ensures { result ≡ whole_tree }
     {
-        Part {
+        TreePart {
             under: None,
             down_to: None,
         }
@@ -49,10 +49,10 @@ impl Part {
 pub fn walk_part<A: Allocator>(
     alloc: Global,
     map: &CrushMap<A>,
-    part: Part,
-) -> Result<Vec<Step<'_, A>>, AllocError>
+    part: TreePart,
+) -> Result<Vec<WalkStep<'_, A>>, AllocError>
     ensures { IfOk result (λ steps. (t : List Row) → Stands map.now.forest t
-        → each step_data steps.items ≡ part_steps part t) }
+        → each walk_step_data steps.items ≡ part_steps part t) }
 {
     let steps = walk_under(alloc, map, part.under)?;
     cut(alloc, steps, part.down_to)
@@ -63,9 +63,9 @@ fn walk_under<A: Allocator>(
     alloc: Global,
     map: &CrushMap<A>,
     under: Option<ItemId>,
-) -> Result<Vec<Step<'_, A>>, AllocError>
+) -> Result<Vec<WalkStep<'_, A>>, AllocError>
     ensures { IfOk result (λ steps. (t : List Row) → Stands map.now.forest t
-        → each step_data steps.items ≡ steps_under under t) }
+        → each walk_step_data steps.items ≡ steps_under under t) }
 {
     match under {
         Some(id) => walk_item(alloc, map, &id),
@@ -78,9 +78,9 @@ fn walk_item<'a, A: Allocator>(
     alloc: Global,
     map: &'a CrushMap<A>,
     id: &ItemId,
-) -> Result<Vec<Step<'a, A>>, AllocError>
+) -> Result<Vec<WalkStep<'a, A>>, AllocError>
     ensures { IfOk result (λ steps. (t : List Row) → Stands map.now.forest t
-        → each step_data steps.items ≡ steps_at t (length t) 0 id.now) }
+        → each walk_step_data steps.items ≡ steps_at t (length t) 0 id.now) }
 {
     let mut steps = Vec::new(alloc);
     let nodes = beside(map, id);
@@ -159,10 +159,10 @@ fn place_of<A: Allocator>(nodes: &[Node<A>], id: &ItemId) -> Option<usize>
 /// Returns the steps without those below a bucket of the type `kind`.
 fn cut<A: Allocator>(
     alloc: Global,
-    steps: Vec<Step<'_, A>>,
+    steps: Vec<WalkStep<'_, A>>,
     kind: Option<TypeId>,
-) -> Result<Vec<Step<'_, A>>, AllocError>
-    ensures { IfOk result (λ kept. each step_data kept.items ≡ cut kind (each step_data steps.entry.items)) }
+) -> Result<Vec<WalkStep<'_, A>>, AllocError>
+    ensures { IfOk result (λ kept. each walk_step_data kept.items ≡ cut kind (each walk_step_data steps.entry.items)) }
 {
     match kind {
         Some(kind) => steps_down_to(alloc, steps.as_slice(), kind),
@@ -172,11 +172,11 @@ fn cut<A: Allocator>(
 
 fn steps_down_to<'a, A: Allocator>(
     alloc: Global,
-    steps: &[Step<'a, A>],
+    steps: &[WalkStep<'a, A>],
     kind: TypeId,
-) -> Result<Vec<Step<'a, A>>, AllocError>
-    ensures { IfOk result (λ kept. each step_data kept.items
-        ≡ down_to kind None (each step_data steps.now)) }
+) -> Result<Vec<WalkStep<'a, A>>, AllocError>
+    ensures { IfOk result (λ kept. each walk_step_data kept.items
+        ≡ down_to kind None (each walk_step_data steps.now)) }
 {
     let mut kept = Vec::new(alloc);
     let mut closed = None;
@@ -189,14 +189,14 @@ fn steps_down_to<'a, A: Allocator>(
 /// Appends the step to `kept`, unless it is below the bucket whose depth is `closed`. Returns the
 /// depth of the bucket below which the steps after this one are left out, if there is one.
 fn keep_step<'a, A: Allocator>(
-    step: &Step<'a, A>,
+    step: &WalkStep<'a, A>,
     kind: TypeId,
     closed: Option<u32>,
-    kept: &mut Vec<Step<'a, A>>,
+    kept: &mut Vec<WalkStep<'a, A>>,
 ) -> Result<Option<u32>, AllocError>
-    ensures { IfOk result (λ now. (rest : List StepData)
-        → each step_data kept.old.items ++ down_to kind closed (step_data step.now ∷ rest)
-        ≡ each step_data kept.new.items ++ down_to kind now rest) }
+    ensures { IfOk result (λ now. (rest : List WalkStepData)
+        → each walk_step_data kept.old.items ++ down_to kind closed (walk_step_data step.now ∷ rest)
+        ≡ each walk_step_data kept.new.items ++ down_to kind now rest) }
 {
     if is_closed(closed, step) {
         return Ok(closed);
@@ -207,10 +207,10 @@ fn keep_step<'a, A: Allocator>(
     Ok(closed_by(kind, step))
 }
 
-fn copy_of<'a, A: Allocator>(step: &Step<'a, A>) -> Step<'a, A>
-    ensures { step_data result ≡ step_data step.now }
+fn copy_of<'a, A: Allocator>(step: &WalkStep<'a, A>) -> WalkStep<'a, A>
+    ensures { walk_step_data result ≡ walk_step_data step.now }
 {
-    Step {
+    WalkStep {
         depth: step.depth,
         parent: step.parent,
         node: step.node,
@@ -218,8 +218,8 @@ fn copy_of<'a, A: Allocator>(step: &Step<'a, A>) -> Step<'a, A>
 }
 
 /// Whether the step is deeper than `closed`, so that it is below the bucket of that depth.
-fn is_closed<A: Allocator>(closed: Option<u32>, step: &Step<'_, A>) -> bool
-    ensures { result ≡ is_closed closed (step_data step.now) }
+fn is_closed<A: Allocator>(closed: Option<u32>, step: &WalkStep<'_, A>) -> bool
+    ensures { result ≡ is_closed closed (walk_step_data step.now) }
 {
     match closed {
         Some(depth) => depth < step.depth,
@@ -228,8 +228,8 @@ fn is_closed<A: Allocator>(closed: Option<u32>, step: &Step<'_, A>) -> bool
 }
 
 /// Returns the step's depth if its item has the type `kind`.
-fn closed_by<A: Allocator>(kind: TypeId, step: &Step<'_, A>) -> Option<u32>
-    ensures { result ≡ closed_by kind (step_data step.now) }
+fn closed_by<A: Allocator>(kind: TypeId, step: &WalkStep<'_, A>) -> Option<u32>
+    ensures { result ≡ closed_by kind (walk_step_data step.now) }
 {
     if step.view().kind.number() == kind.number() {
         Some(step.depth)

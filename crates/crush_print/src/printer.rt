@@ -24,7 +24,7 @@ use std::io::Write;
 use tunables::push_tunables;
 
 /// Writes the map's text, in Ceph's form: its tunables, devices, types, buckets and rules, and
-/// fixed lines between them. docs/FORMATS.md has the exact form.
+/// fixed lines between them. docs/user/FORMATS.md has the exact form.
 ///
 /// A rule's step that takes a bucket has the name that the bucket has now. The whole text is put
 /// together in memory of `alloc` before anything is written. After `OutOfMemory` nothing is

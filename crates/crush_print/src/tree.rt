@@ -9,13 +9,13 @@ ghost use Rattle.crush_print.specs.Lines.{id_text};
 ghost use Rattle.crush_model.specs.Stands.{Stands};
 ghost use Rattle.crush_model.specs.Table.{Row};
 ghost use Rattle.crush_units.specs.Weight.{weight_text};
-ghost use Rattle.crush_print.specs.SeenStep.{step_data};
+ghost use Rattle.crush_print.specs.WalkStep.{walk_step_data};
 ghost use Rattle.crush_print.specs.TreePart.{WholeTreeIsAPart, tree_part_text};
 ghost use Rattle.crush_print.specs.TreeText.{SameTablesHaveOneTree, at_right, heading, indent, kind_prefix, step_line, steps_text, tree_text, widths_of};
 
 use crate::columns::{push_left, push_right};
-use crate::part::{Part, walk_part};
-use crate::steps::{Step, walk};
+use crate::part::{TreePart, walk_part};
+use crate::steps::{WalkStep, walk};
 use crate::words::{bytes_of, push_id, push_indent, push_kind, push_row, push_weight};
 use crush_map::{CrushMap, Setting};
 use crush_tree::View;
@@ -57,7 +57,7 @@ pub fn write_tree<A: Allocator, W: Write>(
 pub fn write_tree_part<A: Allocator, W: Write>(
     alloc: Global,
     map: &CrushMap<A>,
-    part: Part,
+    part: TreePart,
     out: &mut W,
 ) -> Result<(), WriteFault>
     ensures writes { (t : List Row) → Stands map.now.forest t → Writes result
@@ -72,7 +72,7 @@ pub fn write_tree_part<A: Allocator, W: Write>(
     put(out, text.as_slice())
 }
 
-/// The law that [`Part::whole`] is the whole tree.
+/// The law that [`TreePart::whole`] is the whole tree.
 pub fn whole_tree_is_a_part()
     ensures { WholeTreeIsAPart }
 {}
@@ -100,7 +100,7 @@ fn push_tree<A: Allocator>(
 fn push_part<A: Allocator>(
     alloc: Global,
     map: &CrushMap<A>,
-    part: Part,
+    part: TreePart,
     out: &mut Vec<u8>,
 ) -> Result<(), AllocError>
     ensures { (t : List Row) → Stands map.now.forest t
@@ -114,11 +114,11 @@ fn push_part<A: Allocator>(
 fn push_text<A: Allocator>(
     alloc: Global,
     setting: &Setting,
-    steps: &[Step<'_, A>],
+    steps: &[WalkStep<'_, A>],
     out: &mut Vec<u8>,
 ) -> Result<(), AllocError>
     ensures { OnOk result (out.new.items ≡ out.old.items
-        ++ steps_text setting.now (each step_data steps.now)) }
+        ++ steps_text setting.now (each walk_step_data steps.now)) }
 {
     let widths = widths_of(alloc, steps)?;
     push_heading(alloc, &widths, out)?;
@@ -129,11 +129,11 @@ fn push_lines<A: Allocator>(
     alloc: Global,
     setting: &Setting,
     widths: &Widths,
-    steps: &[Step<'_, A>],
+    steps: &[WalkStep<'_, A>],
     out: &mut Vec<u8>,
 ) -> Result<(), AllocError>
     ensures { OnOk result (out.new.items ≡ out.old.items
-        ++ flat_map (λ s. step_line setting.now widths.now (step_data s)) steps.now) }
+        ++ flat_map (λ s. step_line setting.now widths.now (walk_step_data s)) steps.now) }
 {
     for step in steps {
         push_line(alloc, setting, widths, step, out)?;
@@ -146,11 +146,11 @@ fn push_line<A: Allocator>(
     alloc: Global,
     setting: &Setting,
     widths: &Widths,
-    step: &Step<'_, A>,
+    step: &WalkStep<'_, A>,
     out: &mut Vec<u8>,
 ) -> Result<(), AllocError>
     ensures { OnOk result (out.new.items ≡ out.old.items
-        ++ step_line setting.now widths.now (step_data step.now)) }
+        ++ step_line setting.now widths.now (walk_step_data step.now)) }
 {
     let view = step.view();
     let id = id_column(alloc, widths.id, view.id)?;
@@ -260,8 +260,8 @@ fn wider_weight(alloc: Global, width: usize, weight: Weight) -> Result<usize, Al
 }
 
 /// Returns the least widths in which the headings and the words of all steps fit.
-fn widths_of<A: Allocator>(alloc: Global, steps: &[Step<'_, A>]) -> Result<Widths, AllocError>
-    ensures { IfOk result (λ widths. widths ≡ widths_of (each step_data steps.now)) }
+fn widths_of<A: Allocator>(alloc: Global, steps: &[WalkStep<'_, A>]) -> Result<Widths, AllocError>
+    ensures { IfOk result (λ widths. widths ≡ widths_of (each walk_step_data steps.now)) }
 {
     let mut id = 2;
     let mut class = 5;

@@ -3,7 +3,7 @@ use Rattle.std.specs.Prelude.{ℕ, ◌+◌, ◌==◌, ◌||◌, List, [], ◌∷
 use Rattle.std.specs.Option.{option_map}
 use Rattle.std.specs.Str.{str_eq_ignore_ascii_case}
 use Rattle.crush_model.specs.Table.{Row}
-use Rattle.crush_print.specs.Tree.{StepData, tree_rows}
+use Rattle.crush_print.specs.Tree.{WalkStepData, tree_rows}
 
 -- whether two names begin with the same letter
 abbrev pub same_heads : List ℕ → List ℕ → Bool
@@ -28,8 +28,8 @@ abbrev pub is_near : List ℕ → List ℕ → Bool
 is_near a b = is_one_off a b || str_eq_ignore_ascii_case a b
 
 -- the first of several items whose name is near, and that name
-abbrev pub first_near : List ℕ → List StepData → Option (List ℕ)
-first_near n steps = option_map (λ (s : StepData). s.item.name) (find (λ (s : StepData). is_near n s.item.name) steps)
+abbrev pub first_near : List ℕ → List WalkStepData → Option (List ℕ)
+first_near n steps = option_map (λ (s : WalkStepData). s.item.name) (find (λ (s : WalkStepData). is_near n s.item.name) steps)
 
 -- of a table, in the order of its tree
 abbrev pub near_name : List Row → List ℕ → Option (List ℕ)

@@ -5,12 +5,12 @@ ghost use Rattle.std.specs.Option.{option_map};
 ghost use Rattle.std.specs.Str.{str_eq_ignore_ascii_case};
 ghost use Rattle.crush_model.specs.Stands.{Stands};
 ghost use Rattle.crush_model.specs.Table.{Row};
-ghost use Rattle.crush_print.specs.SeenStep.{step_data};
+ghost use Rattle.crush_print.specs.WalkStep.{walk_step_data};
 ghost use Rattle.crush_reasons.specs.Near.{first_near, is_near, is_one_off, near_if, near_name, same_heads, shared};
 
 use crate::words::from_place;
 use crush_map::CrushMap;
-use crush_print::{Step, walk};
+use crush_print::{WalkStep, walk};
 use std::alloc::{AllocError, Global};
 
 /// The first refused entries for which near names are looked for: each look is at all names, and up
@@ -57,15 +57,15 @@ fn is_near(a: &str, b: &str) -> bool
     is_one_off(a.as_bytes(), b.as_bytes()) || is_other_case(a, b)
 }
 
-fn name_of<'a>(step: &Step<'a, Global>) -> &'a str
-    ensures { result.now ≡ (step_data step.now).item.name }
+fn name_of<'a>(step: &WalkStep<'a, Global>) -> &'a str
+    ensures { result.now ≡ (walk_step_data step.now).item.name }
 {
     step.view().name
 }
 
-fn first_near<'a>(steps: &[Step<'a, Global>], name: &str) -> Option<&'a str>
+fn first_near<'a>(steps: &[WalkStep<'a, Global>], name: &str) -> Option<&'a str>
     ensures { option_map (λ near. near.now) result
-        ≡ first_near name.now (each step_data steps.now) }
+        ≡ first_near name.now (each walk_step_data steps.now) }
 {
     for step in steps {
         let near = name_of(step);

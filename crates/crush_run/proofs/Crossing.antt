@@ -20,14 +20,14 @@ use Rattle.crush_editor.specs.contracts.locked.Seat as Seat
 use Rattle.crush_editor.specs.contracts.editor.Editor as Editor
 use Rattle.crush_editor.proofs.locked.Seat.TheSendSync.{the_send as seat_send}
 use Rattle.crush_editor.specs.contracts.opening.WithoutSnapshot as WithoutSnapshot
-use Rattle.crush_editor.specs.declared.opening.Opening as Opening
+use Rattle.crush_editor.specs.declared.opening.KeptOpening as KeptOpening
 use Rattle.crush_editor.proofs.Sharing.{unkept_editor_sync}
 
 -- the allocator may be sent to another thread
 alloc_sent : IsSend Global.the_row
 alloc_sent = search (sendable, crosses) depth 20
 
-module _ (R G N : RattleType) (g : Desk.Ghosts N.Denot) (l : Ledger.Ghosts N.Denot) (o : Opening.Ghosts WithoutSnapshot.the_row.Denot) (a b c : NamedLft) where
+module _ (R G N : RattleType) (g : Desk.Ghosts N.Denot) (l : Ledger.Ghosts N.Denot) (o : KeptOpening.Ghosts WithoutSnapshot.the_row.Denot) (a b c : NamedLft) where
   -- what a worker's closure owns: references to the runtime, the editor and the gate, and the allocator, the seat and the calls
   abbrev pub owned : List RattleType
   owned = (shr_ref_field a (param 2 R) tt).row ∷ Global.the_row ∷ (shr_ref_field b (Editor.the_row (param 0 N) WithoutSnapshot.the_row g l o) tt).row

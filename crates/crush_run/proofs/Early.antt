@@ -3,11 +3,11 @@ use Rattle.std.proofs.Common.{◌≡◌, ℕ, Bool, List, [], Option, Result, Er
 use Rattle.crush_model.specs.Table.{Row}
 use Rattle.crush_edits.specs.Setting.{SettingData}
 use Rattle.crush_history.specs.History.{EntryData}
-use Rattle.crush_options.specs.declared.asked.Mode.{Mode}
+use Rattle.crush_options.specs.declared.parsed_options.Mode.{Mode}
 use Rattle.crush_input.specs.declared.output.Output.{Output}
 use Rattle.crush_input.specs.declared.fault.RunFault.{RunFault}
 use Rattle.crush_input.specs.declared.fault.RunFault.TheVariants as run
-use Rattle.crush_input.specs.Notes.{HistoryNoted, IsFaultNoted, IsNoMake, IsNoted, IsStrict, TextData}
+use Rattle.crush_input.specs.Notes.{AreNotesOfHistory, AreNotesOfFault, IsNoMake, AreNotesOfResult, IsStrict, TextData}
 use Rattle.crush_reasons.specs.Place.{OriginData}
 use Rattle.crush_run.specs.Found.{IsFound}
 use Rattle.crush_run.specs.Planned.{IsWhole}
@@ -26,7 +26,7 @@ strict_of_early X strict h (run.Made n) early = absurd early
 strict_of_early X strict h (run.Differs n) early = absurd early
 strict_of_early X strict h run.NoItem early = absurd early
 strict_of_early X strict h run.NoType early = absurd early
-strict_of_early X strict h (run.Other w s) early = tt
+strict_of_early X strict h (run.SecondMap w s) early = tt
 
 pub early_strict : {X : Type 0} (strict : Bool) (h : List EntryData) (r : Result X RunFault) (f : RunFault) → r ≡ Err f → IsEarlyFault f → IsStrict strict h r
 early_strict {X = X} strict h r f is early = rw is (strict_of_early X strict h f early)
@@ -43,7 +43,7 @@ make_of_early X no_make h (run.Made n) early = absurd early
 make_of_early X no_make h (run.Differs n) early = absurd early
 make_of_early X no_make h run.NoItem early = absurd early
 make_of_early X no_make h run.NoType early = absurd early
-make_of_early X no_make h (run.Other w s) early = tt
+make_of_early X no_make h (run.SecondMap w s) early = tt
 
 pub early_make : {X : Type 0} (no_make : Bool) (h : List EntryData) (r : Result X RunFault) (f : RunFault) → r ≡ Err f → IsEarlyFault f → IsNoMake no_make h r
 early_make {X = X} no_make h r f is early = rw is (make_of_early X no_make h f early)
@@ -60,7 +60,7 @@ found_of_early X what s t (run.Made n) early = absurd early
 found_of_early X what s t (run.Differs n) early = absurd early
 found_of_early X what s t run.NoItem early = absurd early
 found_of_early X what s t run.NoType early = absurd early
-found_of_early X what s t (run.Other w o) early = tt
+found_of_early X what s t (run.SecondMap w o) early = tt
 
 pub early_found : {X : Type 0} (what : Output) (s : SettingData) (t : List Row) (r : Result X RunFault) (f : RunFault) → r ≡ Err f → IsEarlyFault f → IsFound what s t r
 early_found {X = X} what s t r f is early = rw is (found_of_early X what s t f early)
@@ -77,13 +77,13 @@ whole_of_early X strict rest (run.Made n) early = absurd early
 whole_of_early X strict rest (run.Differs n) early = absurd early
 whole_of_early X strict rest run.NoItem early = absurd early
 whole_of_early X strict rest run.NoType early = absurd early
-whole_of_early X strict rest (run.Other w s) early = tt
+whole_of_early X strict rest (run.SecondMap w s) early = tt
 
 pub early_whole : {X : Type 0} (strict : Bool) (rest : List ℕ) (r : Result X RunFault) (f : RunFault) → r ≡ Err f → IsEarlyFault f → IsWhole strict rest r
 early_whole {X = X} strict rest r f is early = rw is (whole_of_early X strict rest f early)
 
 -- nor of the notes of a history
-told_of_early : (X : Type 0) (mode : Mode) (text : TextData) (s : SettingData) (t : List Row) (names : List (List ℕ)) (h : List EntryData) (rest : List ℕ) (f : RunFault) (notes : List ℕ) → IsEarlyFault f → HistoryNoted {X = X} mode text s t names h rest (Err f) notes
+told_of_early : (X : Type 0) (mode : Mode) (text : TextData) (s : SettingData) (t : List Row) (names : List (List ℕ)) (h : List EntryData) (rest : List ℕ) (f : RunFault) (notes : List ℕ) → IsEarlyFault f → AreNotesOfHistory {X = X} mode text s t names h rest (Err f) notes
 told_of_early X mode text s t names h rest (run.Job j) notes early = tt
 told_of_early X mode text s t names h rest run.Read notes early = tt
 told_of_early X mode text s t names h rest run.Write notes early = absurd early
@@ -94,13 +94,13 @@ told_of_early X mode text s t names h rest (run.Made n) notes early = absurd ear
 told_of_early X mode text s t names h rest (run.Differs n) notes early = absurd early
 told_of_early X mode text s t names h rest run.NoItem notes early = absurd early
 told_of_early X mode text s t names h rest run.NoType notes early = absurd early
-told_of_early X mode text s t names h rest (run.Other w o) notes early = tt
+told_of_early X mode text s t names h rest (run.SecondMap w o) notes early = tt
 
-pub early_told : {X : Type 0} (mode : Mode) (text : TextData) (s : SettingData) (t : List Row) (names : List (List ℕ)) (h : List EntryData) (rest : List ℕ) (r : Result X RunFault) (f : RunFault) (notes : List ℕ) → r ≡ Err f → IsEarlyFault f → HistoryNoted mode text s t names h rest r notes
+pub early_told : {X : Type 0} (mode : Mode) (text : TextData) (s : SettingData) (t : List Row) (names : List (List ℕ)) (h : List EntryData) (rest : List ℕ) (r : Result X RunFault) (f : RunFault) (notes : List ℕ) → r ≡ Err f → IsEarlyFault f → AreNotesOfHistory mode text s t names h rest r notes
 early_told {X = X} mode text s t names h rest r f notes is early = rw is (told_of_early X mode text s t names h rest f notes early)
 
 -- a fault of the reader or of the scripts has no notes
-noted_of_input : (explain : Bool) (origin : ℕ → OriginData) (all : Option (List ℕ)) (f : RunFault) (notes : List ℕ) → IsInputFault f → notes ≡ [] → IsFaultNoted explain origin all f notes
+noted_of_input : (explain : Bool) (origin : ℕ → OriginData) (all : Option (List ℕ)) (f : RunFault) (notes : List ℕ) → IsInputFault f → notes ≡ [] → AreNotesOfFault explain origin all f notes
 noted_of_input explain origin all (run.Job j) notes h none = absurd h
 noted_of_input explain origin all run.Read notes h none = none
 noted_of_input explain origin all run.Write notes h none = absurd h
@@ -111,12 +111,12 @@ noted_of_input explain origin all (run.Made n) notes h none = absurd h
 noted_of_input explain origin all (run.Differs n) notes h none = absurd h
 noted_of_input explain origin all run.NoItem notes h none = absurd h
 noted_of_input explain origin all run.NoType notes h none = absurd h
-noted_of_input explain origin all (run.Other w s) notes h none = absurd h
+noted_of_input explain origin all (run.SecondMap w s) notes h none = absurd h
 
-pub input_noted : {X : Type 0} (explain : Bool) (origin : ℕ → OriginData) (all : Option (List ℕ)) (r : Result X RunFault) (f : RunFault) (notes : List ℕ) → r ≡ Err f → IsInputFault f → notes ≡ [] → IsNoted explain origin all r notes
+pub input_noted : {X : Type 0} (explain : Bool) (origin : ℕ → OriginData) (all : Option (List ℕ)) (r : Result X RunFault) (f : RunFault) (notes : List ℕ) → r ≡ Err f → IsInputFault f → notes ≡ [] → AreNotesOfResult explain origin all r notes
 input_noted explain origin all r f notes is h none = rw is (noted_of_input explain origin all f notes h none)
 
-noted_of_scripts : (explain in_turn : Bool) (origin : ℕ → OriginData) (all : Option (List ℕ)) (f : RunFault) (notes : List ℕ) → IsScriptsFault in_turn f → notes ≡ [] → IsFaultNoted explain origin all f notes
+noted_of_scripts : (explain in_turn : Bool) (origin : ℕ → OriginData) (all : Option (List ℕ)) (f : RunFault) (notes : List ℕ) → IsScriptsFault in_turn f → notes ≡ [] → AreNotesOfFault explain origin all f notes
 noted_of_scripts explain in_turn origin all (run.Job j) notes h none = absurd h
 noted_of_scripts explain in_turn origin all run.Read notes h none = absurd h
 noted_of_scripts explain in_turn origin all run.Write notes h none = absurd h
@@ -127,9 +127,9 @@ noted_of_scripts explain in_turn origin all (run.Made n) notes h none = absurd h
 noted_of_scripts explain in_turn origin all (run.Differs n) notes h none = absurd h
 noted_of_scripts explain in_turn origin all run.NoItem notes h none = absurd h
 noted_of_scripts explain in_turn origin all run.NoType notes h none = absurd h
-noted_of_scripts explain in_turn origin all (run.Other w s) notes h none = absurd h
+noted_of_scripts explain in_turn origin all (run.SecondMap w s) notes h none = absurd h
 
-pub scripts_noted : {X : Type 0} (explain in_turn : Bool) (origin : ℕ → OriginData) (all : Option (List ℕ)) (r : Result X RunFault) (f : RunFault) (notes : List ℕ) → r ≡ Err f → IsScriptsFault in_turn f → notes ≡ [] → IsNoted explain origin all r notes
+pub scripts_noted : {X : Type 0} (explain in_turn : Bool) (origin : ℕ → OriginData) (all : Option (List ℕ)) (r : Result X RunFault) (f : RunFault) (notes : List ℕ) → r ≡ Err f → IsScriptsFault in_turn f → notes ≡ [] → AreNotesOfResult explain origin all r notes
 scripts_noted explain in_turn origin all r f notes is h none = rw is (noted_of_scripts explain in_turn origin all f notes h none)
 
 -- faults that come before there is a history
@@ -144,7 +144,7 @@ early_of_input (run.Made n) h = absurd h
 early_of_input (run.Differs n) h = absurd h
 early_of_input run.NoItem h = absurd h
 early_of_input run.NoType h = absurd h
-early_of_input (run.Other w s) h = absurd h
+early_of_input (run.SecondMap w s) h = absurd h
 
 pub early_of_scripts : (in_turn : Bool) (f : RunFault) → IsScriptsFault in_turn f → IsEarlyFault f
 early_of_scripts in_turn (run.Job j) h = absurd h
@@ -157,7 +157,7 @@ early_of_scripts in_turn (run.Made n) h = absurd h
 early_of_scripts in_turn (run.Differs n) h = absurd h
 early_of_scripts in_turn run.NoItem h = absurd h
 early_of_scripts in_turn run.NoType h = absurd h
-early_of_scripts in_turn (run.Other w s) h = absurd h
+early_of_scripts in_turn (run.SecondMap w s) h = absurd h
 
 pub early_of_no_job : (all : Option (List ℕ)) (f : RunFault) → IsNoJob all f → IsEarlyFault f
 early_of_no_job all (run.Job j) h = tt
@@ -170,7 +170,7 @@ early_of_no_job all (run.Made n) h = absurd h
 early_of_no_job all (run.Differs n) h = absurd h
 early_of_no_job all run.NoItem h = absurd h
 early_of_no_job all run.NoType h = absurd h
-early_of_no_job all (run.Other w s) h = absurd h
+early_of_no_job all (run.SecondMap w s) h = absurd h
 
 pub early_of_read : (all : Option (List ℕ)) (f : RunFault) → IsReadFault all f → IsEarlyFault f
 early_of_read all (run.Job j) h = tt
@@ -183,4 +183,4 @@ early_of_read all (run.Made n) h = absurd h
 early_of_read all (run.Differs n) h = absurd h
 early_of_read all run.NoItem h = absurd h
 early_of_read all run.NoType h = absurd h
-early_of_read all (run.Other w s) h = absurd h
+early_of_read all (run.SecondMap w s) h = absurd h

@@ -9,25 +9,25 @@ use Rattle.crush_history.specs.HistoryText.{entry_text}
 use Rattle.crush_history.specs.Refused.{is_refused, refusals, refused_text}
 use Rattle.crush_reasons.specs.Explained.{explained_job}
 use Rattle.crush_reasons.specs.Place.{OriginData}
-use Rattle.crush_options.specs.declared.asked.Mode.{Mode}
+use Rattle.crush_options.specs.declared.parsed_options.Mode.{Mode}
 use Rattle.crush_input.specs.declared.output.Output.{Output}
 use Rattle.crush_input.specs.declared.output.Output.TheVariants as output
 use Rattle.crush_input.specs.declared.fault.RunFault.{RunFault}
 use Rattle.crush_input.specs.declared.fault.RunFault.TheVariants as run
 use Rattle.crush_input.specs.declared.summary.Summary.{Summary}
 use Rattle.crush_input.specs.Input.{IsInput}
-use Rattle.crush_input.specs.Notes.{HistoryNoted, IsNoMake, IsNoted, TextData, history_notes, refused_notes, IsStrict}
-use Rattle.crush_run.specs.declared.outcome.Noted.{Noted}
+use Rattle.crush_input.specs.Notes.{AreNotesOfHistory, IsNoMake, AreNotesOfResult, TextData, history_notes, refused_notes, IsStrict}
+use Rattle.crush_run.specs.declared.outcome.EndNotes.{EndNotes}
 use Rattle.crush_run.specs.Run.{IsRunFault}
 use Rattle.crush_plan.specs.Plan.{PlanData}
 use Rattle.crush_run.specs.Planned.{IsWhole}
-use Rattle.crush_run.specs.Stages.{AreNoted, EndsLeft, IsWritingFault, needs_opening, told_of}
+use Rattle.crush_run.specs.Stages.{AreEndNotes, CompletedRunEnds, IsWritingFault, needs_opening, notes_after}
 use Rattle.crush_input.proofs.Noted.{from_same, place_of_all}
 use Rattle.crush_run.proofs.Written.{keeps_same}
 
 -- the notes of a run of the bytes that were read are those of a run of all bytes
 pub ending_of_all : (mode : Mode) (o : ℕ → OriginData) (all : Option (List ℕ)) (bytes : List ℕ) (r : Result Summary RunFault) (notes : List ℕ) → IfSome all (IsInput bytes) → IfErr r (IsRunFault mode (Some bytes))
-    → IsNoted mode.explain o (Some bytes) r notes → IsNoted mode.explain o all r notes
+    → AreNotesOfResult mode.explain o (Some bytes) r notes → AreNotesOfResult mode.explain o all r notes
 ending_of_all mode o all bytes (Ok s) notes input h told = told
 ending_of_all mode o all bytes (Err (run.Job f)) notes input h told = (told.0, place_of_all mode.explain o o all bytes f notes (from_same o all bytes input) h.1 told.1)
 ending_of_all mode o all bytes (Err run.Read) notes input h told = told
@@ -39,7 +39,7 @@ ending_of_all mode o all bytes (Err (run.Made n)) notes input h told = told
 ending_of_all mode o all bytes (Err (run.Differs n)) notes input h told = told
 ending_of_all mode o all bytes (Err run.NoItem) notes input h told = told
 ending_of_all mode o all bytes (Err run.NoType) notes input h told = told
-ending_of_all mode o all bytes (Err (run.Other w s)) notes input h told = absurd h
+ending_of_all mode o all bytes (Err (run.SecondMap w s)) notes input h told = absurd h
 
 -- if no entry was refused, then there are no lines of refused entries
 none_refused : (names : List (List ℕ)) (n : ℕ) (h : List EntryData) → refusals h ≡ 0 → refused_text names n h ≡ []
@@ -67,7 +67,7 @@ quiet_notes mode text s t names h notes plain none is quiet = is quiet ∙ (λ i
 
 -- a run that was out of memory before anything was written
 pub memory_ends : (mode : Mode) (what : Output) (plan : PlanData) (adjusted : ℕ) (kept : Option MapData) (m : MapData) (text : TextData) (names : List (List ℕ)) (h : List EntryData) (r : Result Summary RunFault) (old : Option (List ℕ)) (notes : List ℕ) → r ≡ Err run.Memory → notes ≡ []
-    → EndsLeft mode what plan adjusted kept m text names h r old old notes
+    → CompletedRunEnds mode what plan adjusted kept m text names h r old old notes
 memory_ends mode what plan adjusted kept m text names h r old notes is none = record {
   writes = λ o t opening stands. rw is (keeps_same old);
   summary = rw is tt;
@@ -91,8 +91,8 @@ explained_needs mode output.AsCeph on = refl
 explained_needs mode (output.To w) on = on
 
 -- the notes that are chosen for a result are those of the history and this result
-pub told_of_end : (mode : Mode) (text : TextData) (s : SettingData) (t : List Row) (names : List (List ℕ)) (h : List EntryData) (rest : List ℕ) (r : Result Summary RunFault) (noted : Noted) (notes : List ℕ) → AreNoted mode text s t names h rest noted
-    → IsNoMake mode.no_make h r → IsWhole mode.strict rest r → notes ≡ told_of r noted → HistoryNoted mode text s t names h rest r notes
+pub told_of_end : (mode : Mode) (text : TextData) (s : SettingData) (t : List Row) (names : List (List ℕ)) (h : List EntryData) (rest : List ℕ) (r : Result Summary RunFault) (noted : EndNotes) (notes : List ℕ) → AreEndNotes mode text s t names h rest noted
+    → IsNoMake mode.no_make h r → IsWhole mode.strict rest r → notes ≡ notes_after r noted → AreNotesOfHistory mode text s t names h rest r notes
 told_of_end mode text s t names h rest (Ok x) noted notes are made whole is = is ∙ are.calls
 told_of_end mode text s t names h rest (Err (run.Job j)) noted notes are made whole is = tt
 told_of_end mode text s t names h rest (Err run.Read) noted notes are made whole is = tt
@@ -104,11 +104,11 @@ told_of_end mode text s t names h rest (Err (run.Made n)) noted notes are made w
 told_of_end mode text s t names h rest (Err (run.Differs n)) noted notes are made whole is = is ∙ are.whole whole.0
 told_of_end mode text s t names h rest (Err run.NoItem) noted notes are made whole is = is ∙ are.calls
 told_of_end mode text s t names h rest (Err run.NoType) noted notes are made whole is = is ∙ are.calls
-told_of_end mode text s t names h rest (Err (run.Other w o)) noted notes are made whole is = tt
+told_of_end mode text s t names h rest (Err (run.SecondMap w o)) noted notes are made whole is = tt
 
 -- and without `explain` there are none, except those of what ended the run
-pub noted_of_end : (mode : Mode) (text : TextData) (s : SettingData) (t : List Row) (names : List (List ℕ)) (h : List EntryData) (rest : List ℕ) (r : Result Summary RunFault) (noted : Noted) (notes : List ℕ) (origin : ℕ → OriginData) (all : Option (List ℕ))
-    → (mode.explain ≡ false → AreNoted mode text s t names h rest noted) → IfErr r (IsWritingFault mode) → IsStrict mode.strict h r → (mode.explain ≡ false → text.weights ≡ []) → notes ≡ told_of r noted → IsNoted mode.explain origin all r notes
+pub noted_of_end : (mode : Mode) (text : TextData) (s : SettingData) (t : List Row) (names : List (List ℕ)) (h : List EntryData) (rest : List ℕ) (r : Result Summary RunFault) (noted : EndNotes) (notes : List ℕ) (origin : ℕ → OriginData) (all : Option (List ℕ))
+    → (mode.explain ≡ false → AreEndNotes mode text s t names h rest noted) → IfErr r (IsWritingFault mode) → IsStrict mode.strict h r → (mode.explain ≡ false → text.weights ≡ []) → notes ≡ notes_after r noted → AreNotesOfResult mode.explain origin all r notes
 noted_of_end mode text s t names h rest (Ok x) noted notes origin all are may strict plain is = quiet_notes mode text s t names h notes plain strict (λ quiet. is ∙ (are quiet).calls)
 noted_of_end mode text s t names h rest (Err (run.Job j)) noted notes origin all are may strict plain is = absurd may
 noted_of_end mode text s t names h rest (Err run.Read) noted notes origin all are may strict plain is = absurd may
@@ -120,4 +120,4 @@ noted_of_end mode text s t names h rest (Err (run.Made n)) noted notes origin al
 noted_of_end mode text s t names h rest (Err (run.Differs n)) noted notes origin all are may strict plain is = tt
 noted_of_end mode text s t names h rest (Err run.NoItem) noted notes origin all are may strict plain is = quiet_notes mode text s t names h notes plain strict (λ quiet. is ∙ (are quiet).calls)
 noted_of_end mode text s t names h rest (Err run.NoType) noted notes origin all are may strict plain is = quiet_notes mode text s t names h notes plain strict (λ quiet. is ∙ (are quiet).calls)
-noted_of_end mode text s t names h rest (Err (run.Other w o)) noted notes origin all are may strict plain is = absurd may
+noted_of_end mode text s t names h rest (Err (run.SecondMap w o)) noted notes origin all are may strict plain is = absurd may

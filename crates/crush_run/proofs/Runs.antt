@@ -8,7 +8,7 @@ use Rattle.crush_model.specs.Stands.{Stands}
 use Rattle.crush_model.specs.Table.{Row}
 use Rattle.crush_edits.specs.Setting.{SettingData}
 use Rattle.crush_map.specs.MapData.{MapData, MapStands}
-use Rattle.crush_options.specs.declared.asked.Mode.{Mode}
+use Rattle.crush_options.specs.declared.parsed_options.Mode.{Mode}
 use Rattle.crush_history.specs.declared.script.Script.{Script}
 use Rattle.crush_history.specs.Entries.{AreOf}
 use Rattle.crush_history.specs.Script.{ScriptData, script_data, scripts_data}
@@ -26,9 +26,9 @@ use Rattle.crush_run.specs.Found.{IsFound}
 use Rattle.crush_run.specs.Output.{IsWritten, written_text}
 use Rattle.crush_run.specs.Planned.{IsPlanned}
 use Rattle.crush_run.specs.Run.{Ends, IsRunOf, differs_of, output_of, summed}
-use Rattle.crush_input.specs.Notes.{HistoryNoted, TextData, text_of}
+use Rattle.crush_input.specs.Notes.{AreNotesOfHistory, TextData, text_of}
 use Rattle.crush_reasons.specs.Place.{OriginData}
-use Rattle.crush_run.specs.Stages.{EndsLeft, HaveRun, IsEarlyFault, IsOpening, RunsScripts, needs_opening}
+use Rattle.crush_run.specs.Stages.{CompletedRunEnds, HaveRun, IsEarlyFault, IsOpening, RunsScripts, needs_opening}
 use Rattle.crush_run.proofs.Early.{early_found, early_make, early_strict, early_told, early_whole}
 use Rattle.crush_run.proofs.Plans.{some_plan, some_plan_is}
 use Rattle.crush_run.proofs.Written.{nothing_written}
@@ -130,11 +130,11 @@ ended_early mode output job text r f old notes is early =
 
 -- a run that has a map, a history and a plan ends as Ends says
 pub left_ends : (mode : Mode) (what : Output) (plan : PlanData) (job : JobData) (adjusted : ℕ) (kept : Option MapData) (m : MapData) (text : TextData) (names : List (List ℕ)) (h es : List EntryData) (r : Result Summary RunFault) (old new : Option (List ℕ)) (notes : List ℕ)
-    → EndsLeft mode what plan adjusted kept m text names es r old new notes → ((t : List Row) → Stands m.forest t → IsPlanned what m.setting t plan) → IsOpening mode what kept job.setting job.table → HaveRun mode.in_turn job m h → names ≡ names_of job.scripts → es ≡ h → adjusted ≡ job.adjusted → Ends mode what job text r old new notes
+    → CompletedRunEnds mode what plan adjusted kept m text names es r old new notes → ((t : List Row) → Stands m.forest t → IsPlanned what m.setting t plan) → IsOpening mode what kept job.setting job.table → HaveRun mode.in_turn job m h → names ≡ names_of job.scripts → es ≡ h → adjusted ≡ job.adjusted → Ends mode what job text r old new notes
 left_ends mode what plan job adjusted kept m text names h es r old new notes left planned opening ran same entries replaced =
-    let own = subst (λ (e : List EntryData). EndsLeft mode what plan adjusted kept m text names e r old new notes) entries left in
-    let named = subst (λ (n : List (List ℕ)). EndsLeft mode what plan adjusted kept m text n h r old new notes) same own in
-    let ends = subst (λ (a : ℕ). EndsLeft mode what plan a kept m text (names_of job.scripts) h r old new notes) replaced named in
+    let own = subst (λ (e : List EntryData). CompletedRunEnds mode what plan adjusted kept m text names e r old new notes) entries left in
+    let named = subst (λ (n : List (List ℕ)). CompletedRunEnds mode what plan adjusted kept m text n h r old new notes) same own in
+    let ends = subst (λ (a : ℕ). CompletedRunEnds mode what plan a kept m text (names_of job.scripts) h r old new notes) replaced named in
     let before = subst (λ (s : SettingData). IsOpening mode what kept s job.table) (sym ran.stands.setting) opening in
     record {
       history = h;
@@ -149,7 +149,7 @@ left_ends mode what plan job adjusted kept m text names h es r old new notes lef
       no_make = ends.no_make;
       found = subst (λ (s : SettingData). IsFound what s (table_after job.setting job.table h) r) ran.stands.setting (ends.found _ ran.stands.forest);
       whole = ends.whole;
-      noted = subst (λ (s : SettingData). HistoryNoted mode text s job.table (names_of job.scripts) h plan.rest r notes) ran.stands.setting (ends.told _ before);
+      noted = subst (λ (s : SettingData). AreNotesOfHistory mode text s job.table (names_of job.scripts) h plan.rest r notes) ran.stands.setting (ends.told _ before);
     }
 
 -- if a copy of the map as it was read is kept whenever a run needs it, then IsOpening holds

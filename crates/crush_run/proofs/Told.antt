@@ -2,7 +2,7 @@
 use Rattle.std.proofs.Common.{◌≡◌, ℕ, List, Option, Some, Result, Ok, Err}
 use Rattle.std.specs.Prelude.{IfOk, IfErr, IfSome}
 use Rattle.crush_script.specs.Job.{HasJob}
-use Rattle.crush_options.specs.declared.asked.Mode.{Mode}
+use Rattle.crush_options.specs.declared.parsed_options.Mode.{Mode}
 use Rattle.crush_input.specs.declared.fault.RunFault.TheVariants as run
 use Rattle.crush_input.specs.declared.fault.RunFault.{RunFault}
 use Rattle.crush_input.specs.declared.summary.Summary.{Summary}
@@ -25,7 +25,7 @@ run_fault_of_all mode (Err (run.Made n)) all bytes input h = (h.0, has_job all b
 run_fault_of_all mode (Err (run.Differs n)) all bytes input h = (h.0, has_job all bytes input h.1)
 run_fault_of_all mode (Err run.NoItem) all bytes input h = has_job all bytes input h
 run_fault_of_all mode (Err run.NoType) all bytes input h = has_job all bytes input h
-run_fault_of_all mode (Err (run.Other w s)) all bytes input h = absurd h
+run_fault_of_all mode (Err (run.SecondMap w s)) all bytes input h = absurd h
 
 -- if a job was read, then the bytes are a job
 pub is_job : (r : Result Summary RunFault) (bytes : List ℕ) → HasJob bytes → IfOk r (λ _. HasJob bytes)
@@ -45,7 +45,7 @@ run_fault_of_job mode (Err (run.Made n)) all has h = (h, has)
 run_fault_of_job mode (Err (run.Differs n)) all has h = (h, has)
 run_fault_of_job mode (Err run.NoItem) all has h = has
 run_fault_of_job mode (Err run.NoType) all has h = has
-run_fault_of_job mode (Err (run.Other w s)) all has h = absurd h
+run_fault_of_job mode (Err (run.SecondMap w s)) all has h = absurd h
 
 -- a fault of the scripts is one of the outcome
 pub outcome_fault_of_scripts : (mode : Mode) (f : RunFault) → IsScriptsFault mode.in_turn f → IsOutcomeFault mode f
@@ -59,7 +59,7 @@ outcome_fault_of_scripts mode (run.Made n) h = absurd h
 outcome_fault_of_scripts mode (run.Differs n) h = absurd h
 outcome_fault_of_scripts mode run.NoItem h = absurd h
 outcome_fault_of_scripts mode run.NoType h = absurd h
-outcome_fault_of_scripts mode (run.Other w s) h = h
+outcome_fault_of_scripts mode (run.SecondMap w s) h = h
 
 -- and so is a fault of the write
 pub outcome_fault_of_writing : (mode : Mode) (r : Result Summary RunFault) → IfErr r (IsWritingFault mode) → IfErr r (IsOutcomeFault mode)
@@ -74,7 +74,7 @@ outcome_fault_of_writing mode (Err (run.Made n)) h = h
 outcome_fault_of_writing mode (Err (run.Differs n)) h = h
 outcome_fault_of_writing mode (Err run.NoItem) h = h
 outcome_fault_of_writing mode (Err run.NoType) h = h
-outcome_fault_of_writing mode (Err (run.Other w s)) h = h
+outcome_fault_of_writing mode (Err (run.SecondMap w s)) h = h
 
 -- a fault of reading may come with any bytes
 pub run_fault_of_input : (mode : Mode) (f : RunFault) (all : Option (List ℕ)) → IsInputFault f → IsRunFault mode all f
@@ -88,7 +88,7 @@ run_fault_of_input mode (run.Made n) all h = absurd h
 run_fault_of_input mode (run.Differs n) all h = absurd h
 run_fault_of_input mode run.NoItem all h = absurd h
 run_fault_of_input mode run.NoType all h = absurd h
-run_fault_of_input mode (run.Other w s) all h = absurd h
+run_fault_of_input mode (run.SecondMap w s) all h = absurd h
 
 -- bytes that are no job have a fault of the run
 pub run_fault_of_no_job : (mode : Mode) (f : RunFault) (all : Option (List ℕ)) → IsNoJob all f → IsRunFault mode all f
@@ -102,4 +102,4 @@ run_fault_of_no_job mode (run.Made n) all h = absurd h
 run_fault_of_no_job mode (run.Differs n) all h = absurd h
 run_fault_of_no_job mode run.NoItem all h = absurd h
 run_fault_of_no_job mode run.NoType all h = absurd h
-run_fault_of_no_job mode (run.Other w s) all h = absurd h
+run_fault_of_no_job mode (run.SecondMap w s) all h = absurd h

@@ -3,8 +3,8 @@ use Rattle.std.specs.Prelude.{◌≡◌, List, Bool, true, false, ℕ, Option, N
 use Rattle.crush_units.specs.declared.id.ItemId.{ItemId}
 use Rattle.crush_model.specs.Table.{Row, id_named, is_named}
 use Rattle.crush_edits.specs.Setting.{SettingData, kind_number}
-use Rattle.crush_print.specs.declared.part.Part.{Part as TreePart}
-use Rattle.crush_options.specs.declared.asked.Part.{Part}
+use Rattle.crush_print.specs.declared.part.TreePart.{TreePart}
+use Rattle.crush_options.specs.declared.parsed_options.TreePartSpec.{TreePartSpec}
 use Rattle.crush_input.specs.declared.output.Output.{Output}
 use Rattle.crush_input.specs.declared.output.Output.TheVariants as output
 use Rattle.crush_input.specs.declared.fault.RunFault.{RunFault}
@@ -15,7 +15,7 @@ use Rattle.crush_input.specs.Options.{name_text}
 abbrev pub under_of : Output → Option (List ℕ)
 under_of (output.Tree part) = name_text part.under
 under_of (output.Since old) = name_text old.under
-under_of (output.To wanted) = name_text wanted.under
+under_of (output.To target) = name_text target.under
 under_of what = None
 
 -- the name of the type of the buckets below which a tree isn't printed, if there is one
@@ -34,7 +34,7 @@ named_kind s None = None
 named_kind s (Some name) = kind_number s name
 
 -- THE PART OF THE TREE that the words select, with the item's id and the type's number for their names
-abbrev pub part_of : Part → SettingData → List Row → TreePart
+abbrev pub part_of : TreePartSpec → SettingData → List Row → TreePart
 part_of words s t = record { under = named_item t (name_text words.under); down_to = named_kind s (name_text words.down_to) }
 
 -- whether the table has an item of the name, if a name is given; true without a name

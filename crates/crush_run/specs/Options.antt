@@ -1,7 +1,7 @@
 -- How a run ends that a command line selects.
 use Rattle.std.specs.Prelude.{ℕ, List, Option, Result, Ok, Err, IfSome}
 use Rattle.crush_script.specs.Job.{HasJob, JobData}
-use Rattle.crush_options.specs.declared.asked.Options.{Options}
+use Rattle.crush_options.specs.declared.parsed_options.Options.{Options}
 use Rattle.crush_input.specs.declared.output.Output.{Output}
 use Rattle.crush_input.specs.declared.fault.RunFault.{RunFault}
 use Rattle.crush_input.specs.declared.fault.RunFault.TheVariants as run
@@ -13,23 +13,23 @@ use Rattle.crush_input.specs.Options.{IsOutputFault, IsOutputOf}
 
 -- when a run may end with this fault. A fault of another map is possible only if the bytes are a job, and must be a fault of that map's file. Each other fault is possible as in any run of a job.
 abbrev pub IsOptionsFault : (List ℕ → Option (List ℕ)) → Options → Option (List ℕ) → RunFault → Type 0
-IsOptionsFault content options all (run.Other which fault) = IfSome all HasJob × IsOutputFault content options.printed (run.Other which fault)
+IsOptionsFault content options all (run.SecondMap which fault) = IfSome all HasJob × IsOutputFault content options.output_spec (run.SecondMap which fault)
 IsOptionsFault content options all fault = IsRunFault options.mode all fault
 
 -- there is an output as the words select it, and the run of the job ends as Ends says for this output. Its notes refer to the text of these bytes; `origin` says from which file each line comes.
-pub record EndsOutput (content : List ℕ → Option (List ℕ)) (options : Options) (origin : ℕ → OriginData) (bytes : List ℕ) (job : JobData) (result : Result Summary RunFault) (old new : Option (List ℕ)) (notes : List ℕ) : Type 0 where
+pub record EndsWithOutput (content : List ℕ → Option (List ℕ)) (options : Options) (origin : ℕ → OriginData) (bytes : List ℕ) (job : JobData) (result : Result Summary RunFault) (old new : Option (List ℕ)) (notes : List ℕ) : Type 0 where
   pub what : Output
-  pub output : IsOutputOf content options.printed what
+  pub output : IsOutputOf content options.output_spec what
   pub ends : Ends options.mode what job (text_of options.mode.explain origin bytes job.table) result old new notes
 
 -- ENDS AS SELECTED: the run ends as EndsOutput says, if it succeeded, failed to write, was strict and met refusals or differences, was to
 -- make no buckets and made some, or has a map without the item or the type that the words name. Nothing is said of any other end.
-abbrev pub EndsAsWanted : (List ℕ → Option (List ℕ)) → Options → (ℕ → OriginData) → List ℕ → JobData → Result Summary RunFault → Option (List ℕ) → Option (List ℕ) → List ℕ → Type 0
-EndsAsWanted content options origin bytes job (Ok s) old new notes = EndsOutput content options origin bytes job (Ok s) old new notes
-EndsAsWanted content options origin bytes job (Err run.Write) old new notes = EndsOutput content options origin bytes job (Err run.Write) old new notes
-EndsAsWanted content options origin bytes job (Err (run.Refused n)) old new notes = EndsOutput content options origin bytes job (Err (run.Refused n)) old new notes
-EndsAsWanted content options origin bytes job (Err (run.Made n)) old new notes = EndsOutput content options origin bytes job (Err (run.Made n)) old new notes
-EndsAsWanted content options origin bytes job (Err (run.Differs n)) old new notes = EndsOutput content options origin bytes job (Err (run.Differs n)) old new notes
-EndsAsWanted content options origin bytes job (Err run.NoItem) old new notes = EndsOutput content options origin bytes job (Err run.NoItem) old new notes
-EndsAsWanted content options origin bytes job (Err run.NoType) old new notes = EndsOutput content options origin bytes job (Err run.NoType) old new notes
-EndsAsWanted content options origin bytes job (Err fault) old new notes = Unit {0}
+abbrev pub EndsAsOptionsSay : (List ℕ → Option (List ℕ)) → Options → (ℕ → OriginData) → List ℕ → JobData → Result Summary RunFault → Option (List ℕ) → Option (List ℕ) → List ℕ → Type 0
+EndsAsOptionsSay content options origin bytes job (Ok s) old new notes = EndsWithOutput content options origin bytes job (Ok s) old new notes
+EndsAsOptionsSay content options origin bytes job (Err run.Write) old new notes = EndsWithOutput content options origin bytes job (Err run.Write) old new notes
+EndsAsOptionsSay content options origin bytes job (Err (run.Refused n)) old new notes = EndsWithOutput content options origin bytes job (Err (run.Refused n)) old new notes
+EndsAsOptionsSay content options origin bytes job (Err (run.Made n)) old new notes = EndsWithOutput content options origin bytes job (Err (run.Made n)) old new notes
+EndsAsOptionsSay content options origin bytes job (Err (run.Differs n)) old new notes = EndsWithOutput content options origin bytes job (Err (run.Differs n)) old new notes
+EndsAsOptionsSay content options origin bytes job (Err run.NoItem) old new notes = EndsWithOutput content options origin bytes job (Err run.NoItem) old new notes
+EndsAsOptionsSay content options origin bytes job (Err run.NoType) old new notes = EndsWithOutput content options origin bytes job (Err run.NoType) old new notes
+EndsAsOptionsSay content options origin bytes job (Err fault) old new notes = Unit {0}

@@ -26,7 +26,7 @@ use Rattle.crush_json.specs.MapDocument.{map_document}
 use Rattle.crush_json.specs.PlanDocument.{plan_document, plan_document_text}
 use Rattle.crush_json.specs.SinceDocument.{document_of_since, since_document}
 use Rattle.crush_json.specs.TreeDocument.{tree_document}
-use Rattle.crush_options.specs.declared.asked.Mode.{Mode}
+use Rattle.crush_options.specs.declared.parsed_options.Mode.{Mode}
 use Rattle.crush_input.specs.declared.output.Output.{Output}
 use Rattle.crush_input.specs.declared.output.Output.TheVariants as output
 use Rattle.crush_input.specs.declared.fault.RunFault.{RunFault}
@@ -36,8 +36,8 @@ use Rattle.crush_run.specs.Found.{named_item, part_of}
 use Rattle.crush_run.specs.Planned.{plan_words}
 
 -- the lines of a history, one for each entry, if they are selected; otherwise nothing
-abbrev pub wanted_lines : Bool → List (List ℕ) → List EntryData → List ℕ
-wanted_lines history names h = if history then entries_text names 1 h else []
+abbrev pub lines_if_requested : Bool → List (List ℕ) → List EntryData → List ℕ
+lines_if_requested history names h = if history then entries_text names 1 h else []
 
 -- the text of what has changed between two maps, with items matched by id: of all items, or of the part below one item
 abbrev pub changed_by_id : Option ItemId → PlainMap → PlainMap → List ℕ
@@ -62,15 +62,15 @@ main_text (output.Tree words) plan s o t h = tree_part_text s (part_of words s t
 main_text (output.Since old) plan s o t h = changed_text old.by_name (name_text old.under) (plain_map old.map.setting (rows_of old.map.forest)) (plain_map s t)
 main_text (output.Changes m) plan s o t h = changes_text (plain_map m.setting (rows_of m.forest)) (plain_map s t)
 main_text output.AsCeph plan s o t h = ceph_text s o h
-main_text (output.To wanted) plan s o t h = plan_text (plan_words wanted.as_ceph) plan
+main_text (output.To target) plan s o t h = plan_text (plan_words target.as_ceph) plan
 
 -- FOR A PERSON: the selected output, followed by the lines of the history if they are selected
 abbrev pub person_text : Bool → Output → PlanData → SettingData → List Row → List Row → List (List ℕ) → List EntryData → List ℕ
-person_text history what plan s o t names h = main_text what plan s o t h ++ wanted_lines history names h
+person_text history what plan s o t names h = main_text what plan s o t h ++ lines_if_requested history names h
 
 -- the history as a JSON value, if it is selected
-abbrev pub wanted_history : Bool → List (List ℕ) → List EntryData → Option Data
-wanted_history history names h = if history then Some (history_document names h) else None
+abbrev pub history_if_requested : Bool → List (List ℕ) → List EntryData → Option Data
+history_if_requested history names h = if history then Some (history_document names h) else None
 
 -- the document of what has changed between two maps: of all items, or of the part below one item. Items are matched by id, even if the text for a person matches them by name.
 abbrev pub since_program_text : Option Data → Option ItemId → PlainMap → PlainMap → List ℕ
@@ -79,11 +79,11 @@ since_program_text history under old new = document_text (document_of_since hist
 -- FOR A PROGRAM: one document, which contains the history if it is selected. A tree of changes has the same document as a list of changes.
 -- Ceph's own commands have no document, and are written as for a person.
 abbrev pub program_text : Bool → Output → PlanData → SettingData → List Row → List Row → List (List ℕ) → List EntryData → List ℕ
-program_text history output.Map plan s o t names h = document_text (document (wanted_history history names h) (map_document s t))
-program_text history (output.Tree words) plan s o t names h = document_text (document_of_tree (wanted_history history names h) (tree_document s t (part_steps (part_of words s t) t)))
-program_text history (output.Since old) plan s o t names h = since_program_text (wanted_history history names h) (named_item t (name_text old.under)) (plain_map old.map.setting (rows_of old.map.forest)) (plain_map s t)
-program_text history (output.Changes m) plan s o t names h = since_program_text (wanted_history history names h) None (plain_map m.setting (rows_of m.forest)) (plain_map s t)
-program_text history (output.To wanted) plan s o t names h = plan_document_text (plan_document (wanted_history history names h) plan.edits plan.rest)
+program_text history output.Map plan s o t names h = document_text (document (history_if_requested history names h) (map_document s t))
+program_text history (output.Tree words) plan s o t names h = document_text (document_of_tree (history_if_requested history names h) (tree_document s t (part_steps (part_of words s t) t)))
+program_text history (output.Since old) plan s o t names h = since_program_text (history_if_requested history names h) (named_item t (name_text old.under)) (plain_map old.map.setting (rows_of old.map.forest)) (plain_map s t)
+program_text history (output.Changes m) plan s o t names h = since_program_text (history_if_requested history names h) None (plain_map m.setting (rows_of m.forest)) (plain_map s t)
+program_text history (output.To target) plan s o t names h = plan_document_text (plan_document (history_if_requested history names h) plan.edits plan.rest)
 program_text history output.AsCeph plan s o t names h = person_text history output.AsCeph plan s o t names h
 
 -- OUTPUT: all that a successful run writes

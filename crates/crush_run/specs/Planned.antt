@@ -20,7 +20,7 @@ plan_words as_ceph = if as_ceph then Ceph else Script
 -- PLANNED: if a plan is selected, then it is a plan from the map with this setting and this table to the wanted map. Otherwise it leaves
 -- no differences.
 abbrev pub IsPlanned : Output → SettingData → List Row → PlanData → Type 0
-IsPlanned (output.To wanted) s t plan = IsPlan (name_text wanted.under) (plain_map s t) (plain_map wanted.map.setting (rows_of wanted.map.forest)) plan
+IsPlanned (output.To target) s t plan = IsPlan (name_text target.under) (plain_map s t) (plain_map target.map.setting (rows_of target.map.forest)) plan
 IsPlanned what s t plan = plan.rest ≡ []
 
 -- WHOLE: the result of a run agrees with the lines of the differences that remain after its plan. If a strict run succeeds or fails to write, then there are none. If a run ends with Differs n, then it is strict, there are some, and n is their number. Nothing is said of any other end.

@@ -12,13 +12,13 @@ use Rattle.crush_history.specs.History.{EntryData, IsLegal, of_operator, table_a
 use Rattle.crush_history.specs.Turns.{calls_at, calls_of}
 use Rattle.crush_history.specs.HistoryText.{names_of}
 use Rattle.crush_script.specs.Job.{JobData, HasJob}
-use Rattle.crush_options.specs.declared.asked.Mode.{Mode}
+use Rattle.crush_options.specs.declared.parsed_options.Mode.{Mode}
 use Rattle.crush_input.specs.declared.output.Output.{Output}
 use Rattle.crush_input.specs.declared.output.Output.TheVariants as output
 use Rattle.crush_input.specs.declared.fault.RunFault.{RunFault}
 use Rattle.crush_input.specs.declared.fault.RunFault.TheVariants as run
 use Rattle.crush_input.specs.declared.summary.Summary.{Summary}
-use Rattle.crush_input.specs.Notes.{HistoryNoted, IsNoMake, IsStrict, TextData}
+use Rattle.crush_input.specs.Notes.{AreNotesOfHistory, IsNoMake, IsStrict, TextData}
 use Rattle.crush_input.specs.Faults.{IsRefusal}
 use Rattle.crush_input.specs.Options.{name_text}
 use Rattle.crush_run.specs.Found.{IsFound, named_item}
@@ -55,7 +55,7 @@ has_changed true under old new = is_changed_by_name under old new
 abbrev pub differs_of : Output → PlanData → SettingData → List Row → List EntryData → Bool
 differs_of (output.Since old) plan s t h = has_changed old.by_name (name_text old.under) (plain_map old.map.setting (rows_of old.map.forest)) (plain_map s t)
 differs_of (output.Changes m) plan s t h = is_changed (plain_map m.setting (rows_of m.forest)) (plain_map s t)
-differs_of (output.To wanted) plan s t h = not (length plan.edits == 0) || not (length plan.rest == 0)
+differs_of (output.To target) plan s t h = not (length plan.edits == 0) || not (length plan.rest == 0)
 differs_of what plan s t h = nat_lt 0 (changes h)
 
 -- SUMMARY: the number of written weights that were replaced, the number of calls, the number of calls that changed the map, and whether the
@@ -85,7 +85,7 @@ pub record Ends (mode : Mode) (what : Output) (job : JobData) (text : TextData) 
   pub no_make : IsNoMake mode.no_make history result
   pub found : IsFound what job.setting (table_after job.setting job.table history) result
   pub whole : IsWhole mode.strict plan.rest result
-  pub noted : HistoryNoted mode text job.setting job.table (names_of job.scripts) history plan.rest result notes
+  pub noted : AreNotesOfHistory mode text job.setting job.table (names_of job.scripts) history plan.rest result notes
 
 -- when a run may end with this fault; `all` has the bytes, if they are known. Job: the bytes have this fault, which isn't out of memory. Write,
 -- Thread, Refused, Made, Differs, NoItem, NoType: the bytes are a job. Thread: the run isn't in turn. Refused and Differs: the run is
@@ -102,4 +102,4 @@ IsRunFault mode all (run.Made n) = (mode.no_make ≡ true) × IfSome all HasJob
 IsRunFault mode all (run.Differs n) = (mode.strict ≡ true) × IfSome all HasJob
 IsRunFault mode all run.NoItem = IfSome all HasJob
 IsRunFault mode all run.NoType = IfSome all HasJob
-IsRunFault mode all (run.Other which fault) = ⊥
+IsRunFault mode all (run.SecondMap which fault) = ⊥

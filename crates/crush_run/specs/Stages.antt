@@ -9,7 +9,7 @@ use Rattle.crush_history.specs.History.{EntryData, table_after}
 use Rattle.crush_history.specs.Script.{ScriptData}
 use Rattle.crush_plan.specs.Plan.{PlanData}
 use Rattle.crush_script.specs.Job.{JobData}
-use Rattle.crush_options.specs.declared.asked.Mode.{Mode}
+use Rattle.crush_options.specs.declared.parsed_options.Mode.{Mode}
 use Rattle.crush_input.specs.declared.fault.RunFault.{RunFault}
 use Rattle.crush_input.specs.declared.fault.RunFault.TheVariants as run
 use Rattle.crush_input.specs.declared.output.Output.{Output}
@@ -17,8 +17,8 @@ use Rattle.crush_input.specs.declared.output.Output.TheVariants as output
 use Rattle.crush_input.specs.declared.summary.Summary.{Summary}
 use Rattle.crush_reasons.specs.Place.{OriginData}
 use Rattle.crush_input.specs.Made.{made_text}
-use Rattle.crush_input.specs.Notes.{HistoryNoted, IsKept, IsNoMake, IsNoted, IsStrict, TextData, history_notes}
-use Rattle.crush_run.specs.declared.outcome.Noted.{Noted}
+use Rattle.crush_input.specs.Notes.{AreNotesOfHistory, IsKept, IsNoMake, AreNotesOfResult, IsStrict, TextData, history_notes}
+use Rattle.crush_run.specs.declared.outcome.EndNotes.{EndNotes}
 use Rattle.crush_run.specs.Found.{IsFound}
 use Rattle.crush_run.specs.Output.{IsWritten, written_text}
 use Rattle.crush_run.specs.Planned.{IsWhole}
@@ -99,32 +99,32 @@ IsOpening mode what kept s t = needs_opening mode what ≡ true → IsKept kept 
 -- the notes that are prepared for the possible ends of a run, whose map had this setting and this table before the first call: `calls` are
 -- the notes of its history; `made`, if the run is to make no buckets, are the lines of the calls that made more buckets than they ask for,
 -- followed by these; `whole`, if the run is strict, are these, followed by the lines of the differences that remain after its plan
-pub record AreNoted (mode : Mode) (text : TextData) (s : SettingData) (t : List Row) (names : List (List ℕ)) (h : List EntryData) (rest : List ℕ) (noted : Noted) : Type 0 where
-  pub calls : noted.calls.items ≡ history_notes mode text s t names h
-  pub made : mode.no_make ≡ true → noted.made.items ≡ made_text names 1 h ++ history_notes mode text s t names h
-  pub whole : mode.strict ≡ true → noted.whole.items ≡ history_notes mode text s t names h ++ rest
+pub record AreEndNotes (mode : Mode) (text : TextData) (s : SettingData) (t : List Row) (names : List (List ℕ)) (h : List EntryData) (rest : List ℕ) (end_notes : EndNotes) : Type 0 where
+  pub calls : end_notes.calls.items ≡ history_notes mode text s t names h
+  pub made : mode.no_make ≡ true → end_notes.made.items ≡ made_text names 1 h ++ history_notes mode text s t names h
+  pub whole : mode.strict ≡ true → end_notes.whole.items ≡ history_notes mode text s t names h ++ rest
 
 -- which of these notes are printed after this fault; none if the fault isn't listed
-abbrev pub told_by : RunFault → Noted → List ℕ
-told_by run.Write noted = noted.calls.items
-told_by (run.Refused n) noted = noted.calls.items
-told_by (run.Made n) noted = noted.made.items
-told_by (run.Differs n) noted = noted.whole.items
-told_by run.NoItem noted = noted.calls.items
-told_by run.NoType noted = noted.calls.items
-told_by fault noted = []
+abbrev pub notes_after_fault : RunFault → EndNotes → List ℕ
+notes_after_fault run.Write end_notes = end_notes.calls.items
+notes_after_fault (run.Refused n) end_notes = end_notes.calls.items
+notes_after_fault (run.Made n) end_notes = end_notes.made.items
+notes_after_fault (run.Differs n) end_notes = end_notes.whole.items
+notes_after_fault run.NoItem end_notes = end_notes.calls.items
+notes_after_fault run.NoType end_notes = end_notes.calls.items
+notes_after_fault fault end_notes = []
 
 -- which of these notes are printed after this result
-abbrev pub told_of : Result Summary RunFault → Noted → List ℕ
-told_of (Ok s) noted = noted.calls.items
-told_of (Err fault) noted = told_by fault noted
+abbrev pub notes_after : Result Summary RunFault → EndNotes → List ℕ
+notes_after (Ok s) end_notes = end_notes.calls.items
+notes_after (Err fault) end_notes = notes_after_fault fault end_notes
 
 -- how a run ends that has a map m, a history h and a plan. `writes`: the output is written, or a part of it, as IsWritten says. `summary`:
 -- after success the summary is that of the history. `nothing`: nothing is written unless the run succeeds or fails to write. `fault`: which
 -- faults are possible. `strict`, `no_make`, `found`, `whole`: the result agrees with the refused entries, the entries that made more buckets
 -- than they ask for, the names that the map has, and the differences that remain. `told`: the notes are those of this history and result.
 -- `noted`: the notes are allowed for this result, wherever the lines come from.
-pub record EndsLeft (mode : Mode) (what : Output) (plan : PlanData) (adjusted : ℕ) (kept : Option MapData) (m : MapData) (text : TextData) (names : List (List ℕ)) (h : List EntryData) (result : Result Summary RunFault) (old new : Option (List ℕ)) (notes : List ℕ) : Type 0 where
+pub record CompletedRunEnds (mode : Mode) (what : Output) (plan : PlanData) (adjusted : ℕ) (kept : Option MapData) (m : MapData) (text : TextData) (names : List (List ℕ)) (h : List EntryData) (result : Result Summary RunFault) (old new : Option (List ℕ)) (notes : List ℕ) : Type 0 where
   pub writes : (o t : List Row) → IsOpening mode what kept m.setting o → Stands m.forest t → IsWritten result old new (written_text mode what plan m.setting o t names h)
   pub summary : IfOk result (λ (s : Summary). (t : List Row) → Stands m.forest t → s ≡ summed adjusted (mode.exit_code && differs_of what plan m.setting t h) h)
   pub nothing : IfErr result (λ fault. fault ≢ run.Write → Keeps old new)
@@ -133,5 +133,5 @@ pub record EndsLeft (mode : Mode) (what : Output) (plan : PlanData) (adjusted : 
   pub no_make : IsNoMake mode.no_make h result
   pub found : (t : List Row) → Stands m.forest t → IsFound what m.setting t result
   pub whole : IsWhole mode.strict plan.rest result
-  pub told : (o : List Row) → IsOpening mode what kept m.setting o → HistoryNoted mode text m.setting o names h plan.rest result notes
-  pub noted : (origin : ℕ → OriginData) (all : Option (List ℕ)) → IsNoted mode.explain origin all result notes
+  pub told : (o : List Row) → IsOpening mode what kept m.setting o → AreNotesOfHistory mode text m.setting o names h plan.rest result notes
+  pub noted : (origin : ℕ → OriginData) (all : Option (List ℕ)) → AreNotesOfResult mode.explain origin all result notes

@@ -10,8 +10,8 @@ ghost use Rattle.crush_plan.specs.Plan.{plan_data};
 ghost use Rattle.crush_run.specs.Run.{differs_of, has_changed, is_changed_by_id};
 ghost use Rattle.crush_units.specs.declared.limits.TheConstants.{MOST_ENTRIES};
 
+use crate::completed_run::CompletedRun;
 use crate::finding::{name_of, named_item};
-use crate::left::Left;
 use crush_history::count_changes;
 use crush_input::{OldMap, Output, Request};
 use crush_map::CrushMap;
@@ -60,36 +60,39 @@ fn has_changed(alloc: Global, old: &OldMap, map: &CrushMap<Global>) -> Result<bo
 
 /// Whether there is something to report: for changes since another map, a change; for a plan, a
 /// command or a difference that remains; for any other output, a call that changed the map.
-fn differs(alloc: Global, output: &Output, left: &Left<'_>) -> Result<bool, AllocError>
-    requires { length left.now.entries.now ≤ MOST_ENTRIES }
-    ensures { IfOk result (λ differs. (t : List Row) → Stands left.now.map.now.forest t
-        → differs ≡ differs_of output.now (plan_data left.now.plan.now) left.now.map.now.setting t
-        left.now.entries.now) }
+fn differs(alloc: Global, output: &Output, completed: &CompletedRun<'_>) -> Result<bool, AllocError>
+    requires { length completed.now.entries.now ≤ MOST_ENTRIES }
+    ensures { IfOk result (λ differs. (t : List Row) → Stands completed.now.map.now.forest t
+        → differs ≡ differs_of output.now (plan_data completed.now.plan.now) completed.now.map.now.setting t
+        completed.now.entries.now) }
 {
     match output {
-        Output::Since(old) => has_changed(alloc, old, left.map),
-        Output::Changes(old) => is_changed_by_id(alloc, None, old, left.map),
+        Output::Since(old) => has_changed(alloc, old, completed.map),
+        Output::Changes(old) => is_changed_by_id(alloc, None, old, completed.map),
         Output::To(_) => {
-            let (edits, rest) = (left.plan.edits.as_slice(), left.plan.rest.as_slice());
+            let (edits, rest) = (
+                completed.plan.edits.as_slice(),
+                completed.plan.rest.as_slice(),
+            );
             Ok(!edits.is_empty() || !rest.is_empty())
         }
-        Output::Map | Output::Tree(_) | Output::AsCeph => Ok(count_changes(left.entries) > 0),
+        Output::Map | Output::Tree(_) | Output::AsCeph => Ok(count_changes(completed.entries) > 0),
     }
 }
 
 /// The same, or `false` if the request doesn't select this status.
-pub(crate) fn wanted_differs(
+pub(crate) fn differs_if_requested(
     alloc: Global,
     request: &Request,
-    left: &Left<'_>,
+    completed: &CompletedRun<'_>,
 ) -> Result<bool, AllocError>
-    requires { length left.now.entries.now ≤ MOST_ENTRIES }
-    ensures { IfOk result (λ differs. (t : List Row) → Stands left.now.map.now.forest t
+    requires { length completed.now.entries.now ≤ MOST_ENTRIES }
+    ensures { IfOk result (λ differs. (t : List Row) → Stands completed.now.map.now.forest t
         → differs ≡ (request.now.mode.exit_code && differs_of request.now.output
-        (plan_data left.now.plan.now) left.now.map.now.setting t left.now.entries.now)) }
+        (plan_data completed.now.plan.now) completed.now.map.now.setting t completed.now.entries.now)) }
 {
     if request.mode.exit_code {
-        return differs(alloc, &request.output, left);
+        return differs(alloc, &request.output, completed);
     }
     Ok(false)
 }

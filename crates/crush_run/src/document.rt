@@ -12,12 +12,12 @@ ghost use Rattle.crush_history.specs.HistoryText.{names_of};
 ghost use Rattle.crush_history.specs.Script.{scripts_data};
 ghost use Rattle.crush_json.specs.Seen.{IsHistory, history_data};
 ghost use Rattle.crush_plan.specs.Plan.{plan_data};
-ghost use Rattle.crush_run.specs.Output.{IsPut, wanted_history, program_text, since_program_text};
+ghost use Rattle.crush_run.specs.Output.{IsPut, history_if_requested, program_text, since_program_text};
 ghost use Rattle.crush_run.specs.Stages.{IsOpening, needs_opening};
 ghost use Rattle.crush_units.specs.declared.limits.TheConstants.{MOST_ENTRIES};
 
+use crate::completed_run::CompletedRun;
 use crate::finding::{name_of, named_item, part_of};
-use crate::left::Left;
 use crate::text::write_text;
 use crush_input::{Output, Request};
 use crush_json::{
@@ -28,17 +28,17 @@ use crush_units::{ItemId, WriteFault};
 use std::alloc::Global;
 use std::io::Write;
 
-fn wanted_history<'a>(history: bool, left: &Left<'a>) -> Option<History<'a>>
-    requires few { length left.now.entries.now ≤ MOST_ENTRIES }
-    requires operators { AreOf (length left.now.scripts.now) left.now.entries.now }
+fn history_if_requested<'a>(history: bool, completed: &CompletedRun<'a>) -> Option<History<'a>>
+    requires few { length completed.now.entries.now ≤ MOST_ENTRIES }
+    requires operators { AreOf (length completed.now.scripts.now) completed.now.entries.now }
     ensures is { IfSome result IsHistory }
     ensures told { option_map history_data result
-        ≡ wanted_history history (names_of (scripts_data left.now.scripts.now)) left.now.entries.now }
+        ≡ history_if_requested history (names_of (scripts_data completed.now.scripts.now)) completed.now.entries.now }
 {
     if history {
         return Some(History {
-            scripts: left.scripts,
-            entries: left.entries,
+            scripts: completed.scripts,
+            entries: completed.entries,
         });
     }
     None
@@ -70,38 +70,41 @@ fn write_changed<W: Write>(
 pub(crate) fn write_document<W: Write>(
     alloc: Global,
     request: &Request,
-    left: &Left<'_>,
+    completed: &CompletedRun<'_>,
     writer: &mut W,
 ) -> Result<(), WriteFault>
-    requires few { length left.now.entries.now ≤ MOST_ENTRIES }
-    requires operators { AreOf (length left.now.scripts.now) left.now.entries.now }
+    requires few { length completed.now.entries.now ≤ MOST_ENTRIES }
+    requires operators { AreOf (length completed.now.scripts.now) completed.now.entries.now }
     requires kept { needs_opening request.now.mode request.now.output ≡ true
-        → is_some left.now.opening.now ≡ true }
+        → is_some completed.now.opening.now ≡ true }
     ensures writes { (o t : List Row) → IsOpening request.now.mode request.now.output
-        left.now.opening.now left.now.map.now.setting o → Stands left.now.map.now.forest t
+        completed.now.opening.now completed.now.map.now.setting o → Stands completed.now.map.now.forest t
         → IsPut result (W.contents writer.old) (W.contents writer.new)
-        (program_text request.now.mode.history request.now.output (plan_data left.now.plan.now)
-        left.now.map.now.setting o t (names_of (scripts_data left.now.scripts.now))
-        left.now.entries.now) }
+        (program_text request.now.mode.history request.now.output (plan_data completed.now.plan.now)
+        completed.now.map.now.setting o t (names_of (scripts_data completed.now.scripts.now))
+        completed.now.entries.now) }
     ensures none { result ≡ Err WriteFault.OutOfMemory
         → Keeps (W.contents writer.old) (W.contents writer.new) }
 {
-    let history = wanted_history(request.mode.history, left);
+    let history = history_if_requested(request.mode.history, completed);
     match &request.output {
-        Output::Map => write_map_document(alloc, left.map, history, writer),
+        Output::Map => write_map_document(alloc, completed.map, history, writer),
         Output::Tree(words) => {
-            let part = part_of(words, left.map);
-            write_tree_document(alloc, left.map, part, history, writer)
+            let part = part_of(words, completed.map);
+            write_tree_document(alloc, completed.map, part, history, writer)
         }
         Output::Since(old) => {
-            let under = named_item(name_of(&old.under), left.map);
-            write_changed(alloc, under, &old.map, left.map, history, writer)
+            let under = named_item(name_of(&old.under), completed.map);
+            write_changed(alloc, under, &old.map, completed.map, history, writer)
         }
-        Output::Changes(old) => write_changed(alloc, None, old, left.map, history, writer),
+        Output::Changes(old) => write_changed(alloc, None, old, completed.map, history, writer),
         Output::To(_) => {
-            let (edits, rest) = (left.plan.edits.as_slice(), left.plan.rest.as_slice());
+            let (edits, rest) = (
+                completed.plan.edits.as_slice(),
+                completed.plan.rest.as_slice(),
+            );
             write_plan_document(alloc, edits, rest, history, writer)
         }
-        Output::AsCeph => write_text(alloc, request, left, writer),
+        Output::AsCeph => write_text(alloc, request, completed, writer),
     }
 }

@@ -18,7 +18,7 @@ pub struct Ending {
 
 impl Ending {
     /// The ending with this fault, without notes.
-    pub(crate) fn quietly(alloc: Global, fault: RunFault) -> Ending
+    pub(crate) fn without_notes(alloc: Global, fault: RunFault) -> Ending
         ensures outcome { result.outcome ≡ Err fault }
         ensures quiet { result.notes.items ≡ [] }
     {

@@ -9,8 +9,8 @@ ghost use Rattle.crush_run.specs.Found.{IsFindFault, IsFound, down_to_of, has_it
 
 use crush_input::{Output, RunFault};
 use crush_map::CrushMap;
-use crush_options::Part;
-use crush_print::Part as TreePart;
+use crush_options::TreePartSpec;
+use crush_print::TreePart;
 use crush_units::{ItemId, TypeId};
 use std::alloc::Global;
 
@@ -29,7 +29,7 @@ fn under_of(output: &Output) -> Option<&str>
     match output {
         Output::Tree(part) => name_of(&part.under),
         Output::Since(old) => name_of(&old.under),
-        Output::To(wanted) => name_of(&wanted.under),
+        Output::To(target) => name_of(&target.under),
         Output::Map | Output::Changes(_) | Output::AsCeph => None,
     }
 }
@@ -64,7 +64,7 @@ fn named_kind(name: Option<&str>, map: &CrushMap<Global>) -> Option<TypeId>
 }
 
 /// The part of the tree that is printed. A name that the map doesn't have counts as not given.
-pub(crate) fn part_of(words: &Part, map: &CrushMap<Global>) -> TreePart
+pub(crate) fn part_of(words: &TreePartSpec, map: &CrushMap<Global>) -> TreePart
     ensures { (t : List Row) → Stands map.now.forest t
         → result ≡ part_of words.now map.now.setting t }
 {

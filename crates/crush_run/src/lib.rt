@@ -8,13 +8,13 @@
 #![tactic(auto)]
 
 mod at_once;
+mod completed_run;
 mod differing;
 mod document;
 mod ending;
 mod finding;
 mod gate;
 mod in_turn;
-mod left;
 mod options;
 mod outcome;
 mod planned;
@@ -24,7 +24,8 @@ mod worker;
 mod workers;
 
 pub use crush_input::{
-    OldMap, Opens, OtherFault, OtherMap, Output, Request, RunFault, Summary, SystemFiles, WantedMap,
+    OldMap, Opens, Output, Request, RunFault, SecondMap, SecondMapFault, Summary, SystemFiles,
+    TargetMap,
 };
 pub use ending::Ending;
 pub use gate::{Gate, NoGate};

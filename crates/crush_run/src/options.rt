@@ -4,13 +4,13 @@ ghost use Rattle.std.specs.Prelude.{◌≡◌, ◌≢◌, ℕ, List, None, Some,
 ghost use Rattle.std.specs.Io.KnownBytes.{Keeps};
 ghost use Rattle.crush_script.specs.Job.{HasJob, IsJob, JobData};
 ghost use Rattle.crush_input.specs.Input.{TakesFew, job_bytes};
-ghost use Rattle.crush_input.specs.Options.{IsNotedAsWanted};
+ghost use Rattle.crush_input.specs.Options.{AreNotesForOptions};
 ghost use Rattle.crush_input.specs.Origins.{job_origin};
-ghost use Rattle.crush_run.specs.Options.{EndsAsWanted, IsOptionsFault};
+ghost use Rattle.crush_run.specs.Options.{EndsAsOptionsSay, IsOptionsFault};
 
 use crate::ending::Ending;
 use crate::gate::NoGate;
-use crate::run::run_read;
+use crate::run::run_parsed_job;
 use crush_input::{Opens, Request, RunFault, output_of, read_whole};
 use crush_options::Options;
 use std::io::{Read, Write};
@@ -24,7 +24,7 @@ use std::thread::Threads;
 /// is [`RunFault::Read`].
 ///
 /// The map of `--since` or `--to` is read after the job. Its file may be as long as a job. If the
-/// map can't be read, then the fault is [`RunFault::Other`].
+/// map can't be read, then the fault is [`RunFault::SecondMap`].
 ///
 /// Before a script is appended, a line feed is added if the job so far doesn't end in one. The line
 /// `%operator NAME` is added too, unless the first line of the script that has a word begins a
@@ -49,7 +49,7 @@ where
     ensures output { (bytes : List ℕ) (job : JobData)
         → job_bytes (F.content files.now) options.now (R.remaining input.old) ≡ Some bytes
         → IsJob bytes job
-        → EndsAsWanted (F.content files.now) options.now
+        → EndsAsOptionsSay (F.content files.now) options.now
         (job_origin (F.content files.now) options.now (R.remaining input.old)) bytes job result.outcome
         (W.contents writer.old) (W.contents writer.new) result.notes.items }
     ensures fault { IfErr result.outcome (IsOptionsFault (F.content files.now) options.now
@@ -58,7 +58,7 @@ where
     ensures taken { TakesFew (R.remaining input.old) (R.remaining input.new) }
     ensures nothing { IfErr result.outcome (λ fault. fault ≢ RunFault.Write
         → Keeps (W.contents writer.old) (W.contents writer.new)) }
-    ensures noted { IsNotedAsWanted (F.content files.now) options.now (R.remaining input.old)
+    ensures noted { AreNotesForOptions (F.content files.now) options.now (R.remaining input.old)
         result.outcome result.notes.items }
 {
     let job = match read_whole(rt, files, options, input) {
@@ -66,9 +66,9 @@ where
         Err(aborted) => return Ending::of_aborted(aborted),
     };
     let mode = options.mode;
-    let output = match output_of(rt, files, mode.explain, &options.printed) {
+    let output = match output_of(rt, files, mode.explain, &options.output_spec) {
         Ok(output) => output,
         Err(aborted) => return Ending::of_aborted(aborted),
     };
-    run_read(rt, &NoGate, &Request { mode, output }, job, writer)
+    run_parsed_job(rt, &NoGate, &Request { mode, output }, job, writer)
 }

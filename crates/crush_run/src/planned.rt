@@ -10,7 +10,7 @@ ghost use Rattle.crush_run.specs.Output.{IsPut};
 ghost use Rattle.crush_run.specs.Planned.{IsDiffersFault, IsPlanned, IsWhole, plan_words};
 
 use crate::finding::name_of;
-use crush_input::{Output, RunFault, WantedMap};
+use crush_input::{Output, RunFault, TargetMap};
 use crush_map::CrushMap;
 use crush_names::Counts;
 use crush_plan::{Identity, Plan, PlanWords, find_plan, plan_text};
@@ -18,8 +18,8 @@ use crush_units::{WriteFault, put};
 use std::alloc::{AllocError, Global};
 use std::io::Write;
 
-fn identity_of(wanted: &WantedMap) -> Identity {
-    if wanted.by_name {
+fn identity_of(target: &TargetMap) -> Identity {
+    if target.by_name {
         Identity::Names
     } else {
         Identity::Ids
@@ -51,7 +51,7 @@ fn no_plan(alloc: Global) -> Plan
 
 /// Returns the plan that leads from the map to the wanted map, or an empty plan if no map is
 /// wanted.
-pub(crate) fn wanted_plan(
+pub(crate) fn plan_if_requested(
     alloc: Global,
     output: &Output,
     map: &CrushMap<Global>,
@@ -60,10 +60,10 @@ pub(crate) fn wanted_plan(
         → IsPlanned output.now map.now.setting t (plan_data plan)) }
 {
     match output {
-        Output::To(wanted) => {
-            wanted.map.forest().recall_invariant();
-            let under = name_of(&wanted.under);
-            find_plan(alloc, identity_of(wanted), under, map, &wanted.map)
+        Output::To(target) => {
+            target.map.forest().recall_invariant();
+            let under = name_of(&target.under);
+            find_plan(alloc, identity_of(target), under, map, &target.map)
         }
         _ => Ok(no_plan(alloc)),
     }

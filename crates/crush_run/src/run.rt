@@ -12,19 +12,19 @@ ghost use Rattle.crush_script.specs.Job.{HasJob, IsJob, JobData, JobStands};
 ghost use Rattle.crush_history.specs.Script.{scripts_data};
 ghost use Rattle.crush_reasons.specs.Place.{OriginData};
 ghost use Rattle.crush_input.specs.Input.{TakesFew};
-ghost use Rattle.crush_input.specs.Notes.{IsNoted, text_data, text_of};
+ghost use Rattle.crush_input.specs.Notes.{AreNotesOfResult, text_data, text_of};
 ghost use Rattle.crush_input.specs.Origins.{no_origin};
 ghost use Rattle.crush_run.specs.Run.{Ends, IsRunFault};
 ghost use Rattle.crush_run.specs.Stages.{IsOutcomeFault, IsScriptsFault, RunsScripts, needs_opening};
 ghost use Rattle.crush_units.specs.declared.limits.TheConstants.{LONGEST_JOB, MOST_ENTRIES, MOST_OPERATORS};
 
 use crate::at_once::run_at_once;
+use crate::completed_run::CompletedRun;
 use crate::ending::Ending;
 use crate::gate::Gate;
 use crate::in_turn::run_in_turn;
-use crate::left::Left;
 use crate::outcome::end_run;
-use crate::planned::wanted_plan;
+use crate::planned::plan_if_requested;
 use crush_editor::{Closed, WithoutSnapshot};
 use crush_history::Script;
 use crush_input::{Origins, Output, ParsedJob, Request, RunFault, job_of, read_bytes};
@@ -38,20 +38,20 @@ use std::thread::Threads;
 
 /// Returns scripts with the same names and without calls. A run moves the calls into its history,
 /// and needs the names for its output.
-fn headings(alloc: Global, scripts: &[Script]) -> Result<Vec<Script>, AllocError>
-    ensures count { IfOk result (λ left. length left.items ≡ length scripts.now) }
-    ensures names { IfOk result (λ left. names_of (scripts_data left.items)
+fn scripts_without_calls(alloc: Global, scripts: &[Script]) -> Result<Vec<Script>, AllocError>
+    ensures count { IfOk result (λ copies. length copies.items ≡ length scripts.now) }
+    ensures names { IfOk result (λ copies. names_of (scripts_data copies.items)
         ≡ names_of (scripts_data scripts.now)) }
 {
-    let mut left = Vec::new(alloc);
+    let mut copies = Vec::new(alloc);
     for script in scripts {
         let name = script.name.try_copy(alloc)?;
-        left.push(Script {
+        copies.push(Script {
             name,
             calls: Vec::new(alloc),
         })?;
     }
-    Ok(left)
+    Ok(copies)
 }
 
 fn copy_of(map: &CrushMap<Global>) -> Result<CrushMap<Global>, AllocError>
@@ -63,7 +63,7 @@ fn copy_of(map: &CrushMap<Global>) -> Result<CrushMap<Global>, AllocError>
 
 /// Returns a copy of the map as it was read, if the run needs it after its scripts: to explain
 /// refusals, or to print Ceph's own commands.
-fn wanted_opening(
+fn opening_if_needed(
     request: &Request,
     map: &CrushMap<Global>,
 ) -> Result<Option<CrushMap<Global>>, AllocError>
@@ -101,53 +101,53 @@ fn run_scripts<H: AllocGlobal + Threads + Wait + Sync, G: Gate + Sync>(
 }
 
 /// Runs the scripts of a parsed job, and writes what the request selects.
-pub(crate) fn run_read<H: AllocGlobal + Threads + Wait + Sync, G: Gate + Sync, W: Write>(
+pub(crate) fn run_parsed_job<H: AllocGlobal + Threads + Wait + Sync, G: Gate + Sync, W: Write>(
     rt: &H,
     gate: &G,
     request: &Request,
-    weighed: ParsedJob<'_>,
+    parsed: ParsedJob<'_>,
     writer: &mut W,
 ) -> Ending
-    requires few { length weighed.job.scripts.items ≤ MOST_OPERATORS }
-    requires plain { request.now.mode.explain ≡ false → weighed.text.weights.items ≡ [] }
-    requires short { length weighed.text.bytes.items ≤ LONGEST_JOB }
-    ensures ends { (read : JobData) → JobStands weighed.entry.job read
-        → Ends request.now.mode request.now.output read (text_data weighed.entry.text)
+    requires few { length parsed.job.scripts.items ≤ MOST_OPERATORS }
+    requires plain { request.now.mode.explain ≡ false → parsed.text.weights.items ≡ [] }
+    requires short { length parsed.text.bytes.items ≤ LONGEST_JOB }
+    ensures ends { (read : JobData) → JobStands parsed.entry.job read
+        → Ends request.now.mode request.now.output read (text_data parsed.entry.text)
         result.outcome
         (W.contents writer.old) (W.contents writer.new) result.notes.items }
     ensures nothing { IfErr result.outcome (λ fault. fault ≢ RunFault.Write
         → Keeps (W.contents writer.old) (W.contents writer.new)) }
     ensures fault { IfErr result.outcome (IsOutcomeFault request.now.mode) }
     ensures noted { (origin : ℕ → OriginData) (all : Option (List ℕ))
-        → IsNoted request.now.mode.explain origin all result.outcome result.notes.items }
+        → AreNotesOfResult request.now.mode.explain origin all result.outcome result.notes.items }
 {
     let alloc = rt.alloc();
-    let ParsedJob { job, text } = weighed;
+    let ParsedJob { job, text } = parsed;
     let Job {
         map,
         adjusted,
         scripts,
     } = job;
-    let Ok(named) = headings(alloc, scripts.as_slice()) else {
-        return Ending::quietly(alloc, RunFault::Memory);
+    let Ok(named) = scripts_without_calls(alloc, scripts.as_slice()) else {
+        return Ending::without_notes(alloc, RunFault::Memory);
     };
-    let Ok(opening) = wanted_opening(request, &map) else {
-        return Ending::quietly(alloc, RunFault::Memory);
+    let Ok(opening) = opening_if_needed(request, &map) else {
+        return Ending::without_notes(alloc, RunFault::Memory);
     };
     let closed = match run_scripts(rt, gate, request.mode.in_turn, map, scripts) {
         Ok(closed) => closed,
-        Err(fault) => return Ending::quietly(alloc, fault),
+        Err(fault) => return Ending::without_notes(alloc, fault),
     };
     let Closed {
         opening: WithoutSnapshot,
         map,
         history,
     } = closed;
-    let Ok(plan) = wanted_plan(alloc, &request.output, &map) else {
-        return Ending::quietly(alloc, RunFault::Memory);
+    let Ok(plan) = plan_if_requested(alloc, &request.output, &map) else {
+        return Ending::without_notes(alloc, RunFault::Memory);
     };
     let entries = history.as_slice();
-    let left = Left {
+    let completed = CompletedRun {
         adjusted,
         opening: &opening,
         map: &map,
@@ -156,7 +156,7 @@ pub(crate) fn run_read<H: AllocGlobal + Threads + Wait + Sync, G: Gate + Sync, W
         entries,
         text: &text,
     };
-    end_run(alloc, request, &left, writer)
+    end_run(alloc, request, &completed, writer)
 }
 
 /// Parses the bytes of a job, and runs it.
@@ -170,14 +170,14 @@ where
         → Ends request.now.mode request.now.output job
         (text_of request.now.mode.explain no_origin bytes.items job.table) result.outcome
         (W.contents writer.old) (W.contents writer.new) result.notes.items }
-    ensures noted { IsNoted request.now.mode.explain no_origin (Some bytes.items)
+    ensures noted { AreNotesOfResult request.now.mode.explain no_origin (Some bytes.items)
         result.outcome result.notes.items }
     ensures nothing { IfErr result.outcome (λ fault. fault ≢ RunFault.Write
         → Keeps (W.contents writer.old) (W.contents writer.new)) }
     ensures fault { IfErr result.outcome (IsRunFault request.now.mode (Some bytes.items)) }
 {
     match job_of(rt, request.mode.explain, Origins::none(rt.alloc()), bytes) {
-        Ok(job) => run_read(rt, gate, request, job, writer),
+        Ok(job) => run_parsed_job(rt, gate, request, job, writer),
         Err(aborted) => Ending::of_aborted(aborted),
     }
 }
@@ -226,7 +226,7 @@ where
         → Ends request.now.mode request.now.output job
         (text_of request.now.mode.explain no_origin bytes job.table) result.outcome
         (W.contents writer.old) (W.contents writer.new) result.notes.items }
-    ensures noted { IsNoted request.now.mode.explain no_origin (R.remaining reader.old)
+    ensures noted { AreNotesOfResult request.now.mode.explain no_origin (R.remaining reader.old)
         result.outcome result.notes.items }
     ensures nothing { IfErr result.outcome (λ fault. fault ≢ RunFault.Write
         → Keeps (W.contents writer.old) (W.contents writer.new)) }
@@ -235,6 +235,6 @@ where
 {
     match read_bytes(rt.alloc(), reader) {
         Ok(bytes) => run_bytes(rt, gate, request, bytes, writer),
-        Err(fault) => Ending::quietly(rt.alloc(), fault),
+        Err(fault) => Ending::without_notes(rt.alloc(), fault),
     }
 }

@@ -15,12 +15,12 @@ ghost use Rattle.crush_edits.specs.Setting.{SettingData};
 ghost use Rattle.crush_input.specs.Notes.{IsKept};
 ghost use Rattle.crush_reasons.specs.Ceph.{ceph_text};
 ghost use Rattle.crush_plan.specs.Plan.{plan_data};
-ghost use Rattle.crush_run.specs.Output.{IsPut, changed_by_id, changed_by_name, changed_text, wanted_lines, main_text, person_text};
+ghost use Rattle.crush_run.specs.Output.{IsPut, changed_by_id, changed_by_name, changed_text, lines_if_requested, main_text, person_text};
 ghost use Rattle.crush_run.specs.Stages.{IsOpening, needs_opening};
 ghost use Rattle.crush_units.specs.declared.limits.TheConstants.{MOST_ENTRIES};
 
+use crate::completed_run::CompletedRun;
 use crate::finding::{name_of, named_item, part_of};
-use crate::left::Left;
 use crate::planned::write_plan;
 use crush_history::{Entry, Script, history_text};
 use crush_input::{OldMap, Output, Request};
@@ -33,7 +33,7 @@ use crush_units::{ItemId, WriteFault, put};
 use std::alloc::{AllocError, Global};
 use std::io::Write;
 
-fn wanted_lines(
+fn lines_if_requested(
     alloc: Global,
     history: bool,
     scripts: &[Script],
@@ -42,7 +42,7 @@ fn wanted_lines(
     requires few { length entries.now ≤ MOST_ENTRIES }
     requires operators { AreOf (length scripts.now) entries.now }
     ensures { IfOk result (λ lines. lines.items
-        ≡ wanted_lines history (names_of (scripts_data scripts.now)) entries.now) }
+        ≡ lines_if_requested history (names_of (scripts_data scripts.now)) entries.now) }
 {
     if history {
         return history_text(alloc, scripts, entries);
@@ -63,19 +63,23 @@ fn ceph_lines(
     ceph_text(alloc, opening, entries)
 }
 
-fn write_ceph<W: Write>(alloc: Global, left: &Left<'_>, writer: &mut W) -> Result<(), WriteFault>
-    requires few { length left.now.entries.now ≤ MOST_ENTRIES }
-    requires kept { is_some left.now.opening.now ≡ true }
-    ensures writes { (s : SettingData) (o : List Row) → IsKept left.now.opening.now s o
+fn write_ceph<W: Write>(
+    alloc: Global,
+    completed: &CompletedRun<'_>,
+    writer: &mut W,
+) -> Result<(), WriteFault>
+    requires few { length completed.now.entries.now ≤ MOST_ENTRIES }
+    requires kept { is_some completed.now.opening.now ≡ true }
+    ensures writes { (s : SettingData) (o : List Row) → IsKept completed.now.opening.now s o
         → IsPut result (W.contents writer.old) (W.contents writer.new)
-        (ceph_text s o left.now.entries.now) }
+        (ceph_text s o completed.now.entries.now) }
     ensures none { result ≡ Err WriteFault.OutOfMemory
         → Keeps (W.contents writer.old) (W.contents writer.new) }
 {
-    let Some(opening) = left.opening else {
+    let Some(opening) = completed.opening else {
         unreachable!()
     };
-    let Ok(text) = ceph_lines(alloc, opening, left.entries) else {
+    let Ok(text) = ceph_lines(alloc, opening, completed.entries) else {
         return Err(WriteFault::OutOfMemory);
     };
     put(writer, text.as_slice())
@@ -163,30 +167,35 @@ fn write_changed<W: Write>(
 fn write_output<W: Write>(
     alloc: Global,
     request: &Request,
-    left: &Left<'_>,
+    completed: &CompletedRun<'_>,
     writer: &mut W,
 ) -> Result<(), WriteFault>
-    requires few { length left.now.entries.now ≤ MOST_ENTRIES }
+    requires few { length completed.now.entries.now ≤ MOST_ENTRIES }
     requires kept { needs_opening request.now.mode request.now.output ≡ true
-        → is_some left.now.opening.now ≡ true }
+        → is_some completed.now.opening.now ≡ true }
     ensures writes { (o t : List Row) → IsOpening request.now.mode request.now.output
-        left.now.opening.now left.now.map.now.setting o → Stands left.now.map.now.forest t
+        completed.now.opening.now completed.now.map.now.setting o → Stands completed.now.map.now.forest t
         → IsPut result (W.contents writer.old) (W.contents writer.new)
-        (main_text request.now.output (plan_data left.now.plan.now) left.now.map.now.setting o t
-        left.now.entries.now) }
+        (main_text request.now.output (plan_data completed.now.plan.now) completed.now.map.now.setting o t
+        completed.now.entries.now) }
     ensures none { result ≡ Err WriteFault.OutOfMemory
         → Keeps (W.contents writer.old) (W.contents writer.new) }
 {
     match &request.output {
-        Output::Map => write_map(alloc, left.map, writer),
-        Output::Tree(words) => write_tree_part(alloc, left.map, part_of(words, left.map), writer),
-        Output::Since(old) => write_changed(alloc, old, left.map, writer),
+        Output::Map => write_map(alloc, completed.map, writer),
+        Output::Tree(words) => write_tree_part(
+            alloc,
+            completed.map,
+            part_of(words, completed.map),
+            writer,
+        ),
+        Output::Since(old) => write_changed(alloc, old, completed.map, writer),
         Output::Changes(old) => {
             old.forest().recall_invariant();
-            write_changes(alloc, old, left.map, writer)
+            write_changes(alloc, old, completed.map, writer)
         }
-        Output::AsCeph => write_ceph(alloc, left, writer),
-        Output::To(wanted) => write_plan(alloc, wanted.as_ceph, left.plan, writer),
+        Output::AsCeph => write_ceph(alloc, completed, writer),
+        Output::To(target) => write_plan(alloc, target.as_ceph, completed.plan, writer),
     }
 }
 
@@ -195,26 +204,31 @@ fn write_output<W: Write>(
 pub(crate) fn write_text<W: Write>(
     alloc: Global,
     request: &Request,
-    left: &Left<'_>,
+    completed: &CompletedRun<'_>,
     writer: &mut W,
 ) -> Result<(), WriteFault>
-    requires few { length left.now.entries.now ≤ MOST_ENTRIES }
-    requires operators { AreOf (length left.now.scripts.now) left.now.entries.now }
+    requires few { length completed.now.entries.now ≤ MOST_ENTRIES }
+    requires operators { AreOf (length completed.now.scripts.now) completed.now.entries.now }
     requires kept { needs_opening request.now.mode request.now.output ≡ true
-        → is_some left.now.opening.now ≡ true }
+        → is_some completed.now.opening.now ≡ true }
     ensures writes { (o t : List Row) → IsOpening request.now.mode request.now.output
-        left.now.opening.now left.now.map.now.setting o → Stands left.now.map.now.forest t
+        completed.now.opening.now completed.now.map.now.setting o → Stands completed.now.map.now.forest t
         → IsPut result (W.contents writer.old) (W.contents writer.new)
-        (person_text request.now.mode.history request.now.output (plan_data left.now.plan.now)
-        left.now.map.now.setting o t (names_of (scripts_data left.now.scripts.now))
-        left.now.entries.now) }
+        (person_text request.now.mode.history request.now.output (plan_data completed.now.plan.now)
+        completed.now.map.now.setting o t (names_of (scripts_data completed.now.scripts.now))
+        completed.now.entries.now) }
     ensures none { result ≡ Err WriteFault.OutOfMemory
         → Keeps (W.contents writer.old) (W.contents writer.new) }
 {
-    let lines = wanted_lines(alloc, request.mode.history, left.scripts, left.entries);
+    let lines = lines_if_requested(
+        alloc,
+        request.mode.history,
+        completed.scripts,
+        completed.entries,
+    );
     let Ok(lines) = lines else {
         return Err(WriteFault::OutOfMemory);
     };
-    write_output(alloc, request, left, writer)?;
+    write_output(alloc, request, completed, writer)?;
     put(writer, lines.as_slice())
 }

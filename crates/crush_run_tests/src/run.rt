@@ -1,5 +1,5 @@
 //! Tests of `crush_options`, `crush_input` and `crush_run`: a call of each public function, and what
-//! the sessions of `bench/runs/` can't show, such as streams that fail, gates, and files that no file
+//! the sessions of `tests/runs/` can't show, such as streams that fail, gates, and files that no file
 //! system has.
 
 use crate::maps::PLAIN;

@@ -9,7 +9,7 @@ use Rattle.crush_script.specs.declared.command.LineFault.TheVariants as line
 use Rattle.crush_script.specs.declared.fault.JobFault.TheVariants as job
 use Rattle.crush_script.specs.Lines.{lines, words_between_blanks, line_words, map_part}
 use Rattle.crush_history.specs.Said.{device_named}
-use Rattle.crush_script.specs.Command.{name_at, weight_at, end_at, with_pair, with_pairs, location_at, placing_at, located_at, one_name_at, two_names_at, weighed_at, keyword_of, edit_at, count_at, begin_at, command, operator}
+use Rattle.crush_script.specs.Command.{name_at, weight_at, end_at, with_pair, with_pairs, location_at, placing_at, located_at, one_name_at, two_names_at, name_and_weight_at, keyword_of, edit_at, count_at, begin_at, command, operator}
 use Rattle.crush_script.specs.Sections.{with_line, with_lines, sections_of}
 
 -- a comment inside a word, blanks of both kinds, a carriage return
@@ -43,106 +43,106 @@ no_digits = refl
 
 -- each command
 one_weight : command (codes "reweight" ∷ (codes "osd.2" ∷ (codes "1.0" ∷ []))) ≡ Ok (Edit (Reweight (codes "osd.2") UNITS_OF_ONE))
-unfolding name_at weight_at end_at with_pair with_pairs location_at placing_at located_at one_name_at two_names_at weighed_at keyword_of edit_at count_at begin_at command
+unfolding name_at weight_at end_at with_pair with_pairs location_at placing_at located_at one_name_at two_names_at name_and_weight_at keyword_of edit_at count_at begin_at command
 one_weight = refl
 
 one_device : command (codes "add" ∷ (codes "osd.3" ∷ (codes "0.333" ∷ (codes "host=h3" ∷ (codes "rack=r1" ∷ []))))) ≡ Ok (Edit (Insert 3 (codes "osd.3") 21823 ((record { kind = codes "host"; name = codes "h3" }) ∷ ((record { kind = codes "rack"; name = codes "r1" }) ∷ []))))
-unfolding name_at weight_at end_at with_pair with_pairs location_at placing_at located_at one_name_at two_names_at weighed_at keyword_of edit_at count_at begin_at command
+unfolding name_at weight_at end_at with_pair with_pairs location_at placing_at located_at one_name_at two_names_at name_and_weight_at keyword_of edit_at count_at begin_at command
 one_device = refl
 
 one_update : command (codes "set" ∷ (codes "osd.1" ∷ (codes "3" ∷ (codes "host=h1" ∷ [])))) ≡ Ok (Edit (Update 1 (codes "osd.1") 196608 ((record { kind = codes "host"; name = codes "h1" }) ∷ [])))
-unfolding name_at weight_at end_at with_pair with_pairs location_at placing_at located_at one_name_at two_names_at weighed_at keyword_of edit_at count_at begin_at command
+unfolding name_at weight_at end_at with_pair with_pairs location_at placing_at located_at one_name_at two_names_at name_and_weight_at keyword_of edit_at count_at begin_at command
 one_update = refl
 
 one_choice : command (codes "create-or-move" ∷ (codes "osd.0" ∷ (codes "5.0" ∷ (codes "host=h2" ∷ [])))) ≡ Ok (Edit (CreateOrMove 0 (codes "osd.0") 327680 ((record { kind = codes "host"; name = codes "h2" }) ∷ [])))
-unfolding name_at weight_at end_at with_pair with_pairs location_at placing_at located_at one_name_at two_names_at weighed_at keyword_of edit_at count_at begin_at command
+unfolding name_at weight_at end_at with_pair with_pairs location_at placing_at located_at one_name_at two_names_at name_and_weight_at keyword_of edit_at count_at begin_at command
 one_choice = refl
 
 -- an empty location is read, and refused as an edit
 no_location : command (codes "add" ∷ (codes "osd.3" ∷ (codes "1" ∷ []))) ≡ Ok (Edit (Insert 3 (codes "osd.3") UNITS_OF_ONE []))
-unfolding name_at weight_at end_at with_pair with_pairs location_at placing_at located_at one_name_at two_names_at weighed_at keyword_of edit_at count_at begin_at command
+unfolding name_at weight_at end_at with_pair with_pairs location_at placing_at located_at one_name_at two_names_at name_and_weight_at keyword_of edit_at count_at begin_at command
 no_location = refl
 
 one_move : command (codes "move" ∷ (codes "h1" ∷ (codes "root=default" ∷ []))) ≡ Ok (Edit (Move (codes "h1") ((record { kind = codes "root"; name = codes "default" }) ∷ [])))
-unfolding name_at weight_at end_at with_pair with_pairs location_at placing_at located_at one_name_at two_names_at weighed_at keyword_of edit_at count_at begin_at command
+unfolding name_at weight_at end_at with_pair with_pairs location_at placing_at located_at one_name_at two_names_at name_and_weight_at keyword_of edit_at count_at begin_at command
 one_move = refl
 
 one_swap : command (codes "swap-bucket" ∷ (codes "h1" ∷ (codes "h2" ∷ []))) ≡ Ok (Edit (Swap (codes "h1") (codes "h2")))
-unfolding name_at weight_at end_at with_pair with_pairs location_at placing_at located_at one_name_at two_names_at weighed_at keyword_of edit_at count_at begin_at command
+unfolding name_at weight_at end_at with_pair with_pairs location_at placing_at located_at one_name_at two_names_at name_and_weight_at keyword_of edit_at count_at begin_at command
 one_swap = refl
 
 one_subtree : command (codes "reweight-subtree" ∷ (codes "h1" ∷ (codes "0.25" ∷ []))) ≡ Ok (Edit (ReweightSubtree (codes "h1") 16384))
-unfolding name_at weight_at end_at with_pair with_pairs location_at placing_at located_at one_name_at two_names_at weighed_at keyword_of edit_at count_at begin_at command
+unfolding name_at weight_at end_at with_pair with_pairs location_at placing_at located_at one_name_at two_names_at name_and_weight_at keyword_of edit_at count_at begin_at command
 one_subtree = refl
 
 one_rm : command (codes "rm" ∷ (codes "osd.0" ∷ [])) ≡ Ok (Edit (Remove (codes "osd.0")))
-unfolding name_at weight_at end_at with_pair with_pairs location_at placing_at located_at one_name_at two_names_at weighed_at keyword_of edit_at count_at begin_at command
+unfolding name_at weight_at end_at with_pair with_pairs location_at placing_at located_at one_name_at two_names_at name_and_weight_at keyword_of edit_at count_at begin_at command
 one_rm = refl
 
 one_remove : command (codes "remove" ∷ (codes "osd.0" ∷ [])) ≡ Ok (Edit (Remove (codes "osd.0")))
-unfolding name_at weight_at end_at with_pair with_pairs location_at placing_at located_at one_name_at two_names_at weighed_at keyword_of edit_at count_at begin_at command
+unfolding name_at weight_at end_at with_pair with_pairs location_at placing_at located_at one_name_at two_names_at name_and_weight_at keyword_of edit_at count_at begin_at command
 one_remove = refl
 
 one_bucket : command (codes "add-bucket" ∷ (codes "h9" ∷ (codes "host" ∷ []))) ≡ Ok (Edit (AddBucket (codes "h9") (codes "host")))
-unfolding name_at weight_at end_at with_pair with_pairs location_at placing_at located_at one_name_at two_names_at weighed_at keyword_of edit_at count_at begin_at command
+unfolding name_at weight_at end_at with_pair with_pairs location_at placing_at located_at one_name_at two_names_at name_and_weight_at keyword_of edit_at count_at begin_at command
 one_bucket = refl
 
 one_name : command (codes "rename-bucket" ∷ (codes "h1" ∷ (codes "hq" ∷ []))) ≡ Ok (Edit (Rename (codes "h1") (codes "hq")))
-unfolding name_at weight_at end_at with_pair with_pairs location_at placing_at located_at one_name_at two_names_at weighed_at keyword_of edit_at count_at begin_at command
+unfolding name_at weight_at end_at with_pair with_pairs location_at placing_at located_at one_name_at two_names_at name_and_weight_at keyword_of edit_at count_at begin_at command
 one_name = refl
 
 one_class : command (codes "set-device-class" ∷ (codes "ssd" ∷ (codes "osd.0" ∷ []))) ≡ Ok (Edit (SetClass (codes "osd.0") (codes "ssd")))
-unfolding name_at weight_at end_at with_pair with_pairs location_at placing_at located_at one_name_at two_names_at weighed_at keyword_of edit_at count_at begin_at command
+unfolding name_at weight_at end_at with_pair with_pairs location_at placing_at located_at one_name_at two_names_at name_and_weight_at keyword_of edit_at count_at begin_at command
 one_class = refl
 
 no_class : command (codes "rm-device-class" ∷ (codes "osd.0" ∷ [])) ≡ Ok (Edit (RemoveClass (codes "osd.0")))
-unfolding name_at weight_at end_at with_pair with_pairs location_at placing_at located_at one_name_at two_names_at weighed_at keyword_of edit_at count_at begin_at command
+unfolding name_at weight_at end_at with_pair with_pairs location_at placing_at located_at one_name_at two_names_at name_and_weight_at keyword_of edit_at count_at begin_at command
 no_class = refl
 
 a_begin : command (codes "begin" ∷ []) ≡ Ok (Begin None)
-unfolding name_at weight_at end_at with_pair with_pairs location_at placing_at located_at one_name_at two_names_at weighed_at keyword_of edit_at count_at begin_at command
+unfolding name_at weight_at end_at with_pair with_pairs location_at placing_at located_at one_name_at two_names_at name_and_weight_at keyword_of edit_at count_at begin_at command
 a_begin = refl
 
 a_commit : command (codes "commit" ∷ []) ≡ Ok Commit
-unfolding name_at weight_at end_at with_pair with_pairs location_at placing_at located_at one_name_at two_names_at weighed_at keyword_of edit_at count_at begin_at command
+unfolding name_at weight_at end_at with_pair with_pairs location_at placing_at located_at one_name_at two_names_at name_and_weight_at keyword_of edit_at count_at begin_at command
 a_commit = refl
 
 -- lines that aren't of their form
 begin_with_more : command (codes "begin" ∷ (codes "x" ∷ [])) ≡ Err line.BadLine
-unfolding name_at weight_at end_at with_pair with_pairs location_at placing_at located_at one_name_at two_names_at weighed_at keyword_of edit_at count_at begin_at command
+unfolding name_at weight_at end_at with_pair with_pairs location_at placing_at located_at one_name_at two_names_at name_and_weight_at keyword_of edit_at count_at begin_at command
 begin_with_more = refl
 
 no_device : command (codes "add" ∷ (codes "h1" ∷ (codes "1" ∷ (codes "host=h1" ∷ [])))) ≡ Err line.BadLine
-unfolding name_at weight_at end_at with_pair with_pairs location_at placing_at located_at one_name_at two_names_at weighed_at keyword_of edit_at count_at begin_at command
+unfolding name_at weight_at end_at with_pair with_pairs location_at placing_at located_at one_name_at two_names_at name_and_weight_at keyword_of edit_at count_at begin_at command
 no_device = refl
 
 two_equals : command (codes "move" ∷ (codes "h1" ∷ (codes "a=b=c" ∷ []))) ≡ Err line.BadLine
-unfolding name_at weight_at end_at with_pair with_pairs location_at placing_at located_at one_name_at two_names_at weighed_at keyword_of edit_at count_at begin_at command
+unfolding name_at weight_at end_at with_pair with_pairs location_at placing_at located_at one_name_at two_names_at name_and_weight_at keyword_of edit_at count_at begin_at command
 two_equals = refl
 
 no_type : command (codes "move" ∷ (codes "h1" ∷ (codes "=b" ∷ []))) ≡ Err line.BadLine
-unfolding name_at weight_at end_at with_pair with_pairs location_at placing_at located_at one_name_at two_names_at weighed_at keyword_of edit_at count_at begin_at command
+unfolding name_at weight_at end_at with_pair with_pairs location_at placing_at located_at one_name_at two_names_at name_and_weight_at keyword_of edit_at count_at begin_at command
 no_type = refl
 
 no_bucket : command (codes "move" ∷ (codes "h1" ∷ (codes "a=" ∷ []))) ≡ Err line.BadLine
-unfolding name_at weight_at end_at with_pair with_pairs location_at placing_at located_at one_name_at two_names_at weighed_at keyword_of edit_at count_at begin_at command
+unfolding name_at weight_at end_at with_pair with_pairs location_at placing_at located_at one_name_at two_names_at name_and_weight_at keyword_of edit_at count_at begin_at command
 no_bucket = refl
 
 no_pair : command (codes "move" ∷ (codes "h1" ∷ (codes "host" ∷ []))) ≡ Err line.BadLine
-unfolding name_at weight_at end_at with_pair with_pairs location_at placing_at located_at one_name_at two_names_at weighed_at keyword_of edit_at count_at begin_at command
+unfolding name_at weight_at end_at with_pair with_pairs location_at placing_at located_at one_name_at two_names_at name_and_weight_at keyword_of edit_at count_at begin_at command
 no_pair = refl
 
 third_name : command (codes "swap-bucket" ∷ (codes "a" ∷ (codes "b" ∷ (codes "c" ∷ [])))) ≡ Err line.BadLine
-unfolding name_at weight_at end_at with_pair with_pairs location_at placing_at located_at one_name_at two_names_at weighed_at keyword_of edit_at count_at begin_at command
+unfolding name_at weight_at end_at with_pair with_pairs location_at placing_at located_at one_name_at two_names_at name_and_weight_at keyword_of edit_at count_at begin_at command
 third_name = refl
 
 -- 19 digits behind the point are no weight
 nineteen_digits : command (codes "reweight" ∷ (codes "osd.0" ∷ (codes "0.0000000000000000001" ∷ []))) ≡ Err line.BadLine
-unfolding name_at weight_at end_at with_pair with_pairs location_at placing_at located_at one_name_at two_names_at weighed_at keyword_of edit_at count_at begin_at command
+unfolding name_at weight_at end_at with_pair with_pairs location_at placing_at located_at one_name_at two_names_at name_and_weight_at keyword_of edit_at count_at begin_at command
 nineteen_digits = refl
 
 no_command : command (codes "fly" ∷ (codes "x" ∷ [])) ≡ Err line.NoSuchCommand
-unfolding name_at weight_at end_at with_pair with_pairs location_at placing_at located_at one_name_at two_names_at weighed_at keyword_of edit_at count_at begin_at command
+unfolding name_at weight_at end_at with_pair with_pairs location_at placing_at located_at one_name_at two_names_at name_and_weight_at keyword_of edit_at count_at begin_at command
 no_command = refl
 
 no_words : command [] ≡ Ok Nothing
@@ -166,42 +166,42 @@ flying_map : map_part flying ≡ codes "type 1 host\n"
 flying_map = refl
 
 flying_fault : sections_of (flying) ≡ Err (job.NoSuchCommand 3)
-unfolding lines words_between_blanks name_at weight_at end_at with_pair with_pairs location_at placing_at located_at one_name_at two_names_at weighed_at keyword_of edit_at count_at begin_at command operator with_line with_lines
+unfolding lines words_between_blanks name_at weight_at end_at with_pair with_pairs location_at placing_at located_at one_name_at two_names_at name_and_weight_at keyword_of edit_at count_at begin_at command operator with_line with_lines
 flying_fault = refl
 
 -- sections of one name, and a batch that is open where a section begins, at the end, and at a faulty line
 same_operator : sections_of (codes "%operator a\n\n%operator a") ≡ Err (job.DuplicateOperator 3)
-unfolding lines words_between_blanks name_at weight_at end_at with_pair with_pairs location_at placing_at located_at one_name_at two_names_at weighed_at keyword_of edit_at count_at begin_at command operator with_line with_lines
+unfolding lines words_between_blanks name_at weight_at end_at with_pair with_pairs location_at placing_at located_at one_name_at two_names_at name_and_weight_at keyword_of edit_at count_at begin_at command operator with_line with_lines
 same_operator = refl
 
 open_at_section : sections_of (codes "%operator a\nbegin\nrm x\n%x") ≡ Err (job.OpenBatch 2)
-unfolding lines words_between_blanks name_at weight_at end_at with_pair with_pairs location_at placing_at located_at one_name_at two_names_at weighed_at keyword_of edit_at count_at begin_at command operator with_line with_lines
+unfolding lines words_between_blanks name_at weight_at end_at with_pair with_pairs location_at placing_at located_at one_name_at two_names_at name_and_weight_at keyword_of edit_at count_at begin_at command operator with_line with_lines
 open_at_section = refl
 
 open_at_end : sections_of (codes "%operator a\nrm x\nbegin") ≡ Err (job.OpenBatch 3)
-unfolding lines words_between_blanks name_at weight_at end_at with_pair with_pairs location_at placing_at located_at one_name_at two_names_at weighed_at keyword_of edit_at count_at begin_at command operator with_line with_lines
+unfolding lines words_between_blanks name_at weight_at end_at with_pair with_pairs location_at placing_at located_at one_name_at two_names_at name_and_weight_at keyword_of edit_at count_at begin_at command operator with_line with_lines
 open_at_end = refl
 
 fault_in_batch : sections_of (codes "%operator a\nbegin\nrm\n") ≡ Err (job.BadLine 3)
-unfolding lines words_between_blanks name_at weight_at end_at with_pair with_pairs location_at placing_at located_at one_name_at two_names_at weighed_at keyword_of edit_at count_at begin_at command operator with_line with_lines
+unfolding lines words_between_blanks name_at weight_at end_at with_pair with_pairs location_at placing_at located_at one_name_at two_names_at name_and_weight_at keyword_of edit_at count_at begin_at command operator with_line with_lines
 fault_in_batch = refl
 
 begin_in_batch : sections_of (codes "%operator a\nbegin\nbegin\n") ≡ Err (job.BadLine 3)
-unfolding lines words_between_blanks name_at weight_at end_at with_pair with_pairs location_at placing_at located_at one_name_at two_names_at weighed_at keyword_of edit_at count_at begin_at command operator with_line with_lines
+unfolding lines words_between_blanks name_at weight_at end_at with_pair with_pairs location_at placing_at located_at one_name_at two_names_at name_and_weight_at keyword_of edit_at count_at begin_at command operator with_line with_lines
 begin_in_batch = refl
 
 commit_outside : sections_of (codes "%operator a\ncommit\n") ≡ Err (job.BadLine 2)
-unfolding lines words_between_blanks name_at weight_at end_at with_pair with_pairs location_at placing_at located_at one_name_at two_names_at weighed_at keyword_of edit_at count_at begin_at command operator with_line with_lines
+unfolding lines words_between_blanks name_at weight_at end_at with_pair with_pairs location_at placing_at located_at one_name_at two_names_at name_and_weight_at keyword_of edit_at count_at begin_at command operator with_line with_lines
 commit_outside = refl
 
 one_call : sections_of (codes "%operator a # x\r\nreweight osd.0 0.015625") ≡ Ok (record { scripts = (record { name = codes "a"; calls = One (Reweight (codes "osd.0") 1024) ∷ [] }) ∷ []; calls = 1; begun = None })
-unfolding lines words_between_blanks name_at weight_at end_at with_pair with_pairs location_at placing_at located_at one_name_at two_names_at weighed_at keyword_of edit_at count_at begin_at command operator with_line with_lines
+unfolding lines words_between_blanks name_at weight_at end_at with_pair with_pairs location_at placing_at located_at one_name_at two_names_at name_and_weight_at keyword_of edit_at count_at begin_at command operator with_line with_lines
 one_call = refl
 
 -- two operators, a batch and a call
 two_scripts : sections_of (codes "%operator a\nbegin\nrm x\n\nrm y\ncommit\nrm z\n%operator b\nbegin\ncommit")
     ≡ Ok (record { scripts = (record { name = codes "a"; calls = Batch (Remove (codes "x") ∷ (Remove (codes "y") ∷ [])) ∷ (One (Remove (codes "z")) ∷ []) }) ∷ ((record { name = codes "b"; calls = Batch [] ∷ [] }) ∷ []); calls = 3; begun = None })
-unfolding lines words_between_blanks name_at weight_at end_at with_pair with_pairs location_at placing_at located_at one_name_at two_names_at weighed_at keyword_of edit_at count_at begin_at command operator with_line with_lines
+unfolding lines words_between_blanks name_at weight_at end_at with_pair with_pairs location_at placing_at located_at one_name_at two_names_at name_and_weight_at keyword_of edit_at count_at begin_at command operator with_line with_lines
 two_scripts = refl
 
 -- a batch that names a number of changes: digits, however many, up to MOST_ENTRIES, and nothing else
@@ -235,5 +235,5 @@ more_guard = refl
 
 guarded_script : sections_of (codes "%operator a\nbegin at 0\nrm x\ncommit\n")
     ≡ Ok (record { scripts = (record { name = codes "a"; calls = Guarded 0 (Remove (codes "x") ∷ []) ∷ [] }) ∷ []; calls = 1; begun = None })
-unfolding lines words_between_blanks name_at weight_at end_at with_pair with_pairs location_at placing_at located_at one_name_at two_names_at weighed_at keyword_of edit_at count_at begin_at command operator with_line with_lines
+unfolding lines words_between_blanks name_at weight_at end_at with_pair with_pairs location_at placing_at located_at one_name_at two_names_at name_and_weight_at keyword_of edit_at count_at begin_at command operator with_line with_lines
 guarded_script = refl

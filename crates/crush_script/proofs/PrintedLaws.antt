@@ -22,7 +22,7 @@ use Rattle.crush_script.specs.declared.command.Command.TheVariants as says
 use Rattle.crush_script.specs.Lines.{line_words}
 use Rattle.crush_history.specs.Said.{device_named, IsSaid}
 use Rattle.crush_script.specs.Words.{equals_at, pair_of}
-use Rattle.crush_script.specs.Command.{name_at, weight_at, end_at, with_pair, with_pairs, location_at, placing_at, located_at, one_name_at, two_names_at, weighed_at, keyword_of, edit_at, command}
+use Rattle.crush_script.specs.Command.{name_at, weight_at, end_at, with_pair, with_pairs, location_at, placing_at, located_at, one_name_at, two_names_at, name_and_weight_at, keyword_of, edit_at, command}
 use Rattle.crush_history.specs.HistoryText.{edit_text, pairs_text, one_name}
 use Rattle.crush_script.specs.Printed.{PrintedIsRead}
 use Rattle.crush_script.proofs.Pairs.{pair_added}
@@ -169,8 +169,8 @@ two_names_read : (a b : List ℕ) → IsName a → IsName b → two_names_at (a 
 unfolding two_names_at name_at end_at
 two_names_read a b first second = let x = is_name_true a first in let y = is_name_true b second in rw (x, y) refl
 
-weighed_read : (n v : List ℕ) (w : ℕ) → IsName n → weight_of_text v ≡ Ok w → weighed_at (n ∷ (v ∷ [])) ≡ Ok (n, w)
-unfolding weighed_at name_at weight_at end_at
+weighed_read : (n v : List ℕ) (w : ℕ) → IsName n → weight_of_text v ≡ Ok w → name_and_weight_at (n ∷ (v ∷ [])) ≡ Ok (n, w)
+unfolding name_and_weight_at name_at weight_at end_at
 weighed_read n v w name weight = let x = is_name_true n name in rw (x, weight) refl
 
 -- what is printed of an edit, as words that say it

@@ -22,7 +22,7 @@ use Rattle.crush_script.specs.declared.command.Placement.TheVariants as place
 use Rattle.crush_script.specs.declared.command.Placing.{Placing}
 use Rattle.crush_history.specs.Said.{device_named, IsSaidPlacing, IsSaid}
 use Rattle.crush_script.specs.Words.{pair_of, can_add, is_count, count_of}
-use Rattle.crush_script.specs.Command.{name_at, read_weight, weight_at, end_at, with_pair, with_pairs, location_at, the_device, placing_at, located_at, one_name_at, two_names_at, weighed_at, keyword_of, edit_to_place, edit_of, edit_by, edit_at, read_count, count_at, begin_at, command, operator}
+use Rattle.crush_script.specs.Command.{name_at, read_weight, weight_at, end_at, with_pair, with_pairs, location_at, the_device, placing_at, located_at, one_name_at, two_names_at, name_and_weight_at, keyword_of, edit_to_place, edit_of, edit_by, edit_at, read_count, count_at, begin_at, command, operator}
 use Rattle.crush_script.specs.Printed.{ReadIsSaid}
 use Rattle.crush_script.proofs.Oks.{bind-if_ok_at, if_ok-either, if_ok-then, if_ok-passed, if_ok-at}
 
@@ -111,9 +111,9 @@ two_names_said words =
     bind-if_ok_at (name_at first.rest) _ _ (λ r. IsName r.value) (name_said first.rest) (λ second is_second.
     end_said (first.value, second.value) second.rest (λ p. IsName p.0 × IsName p.1) (is_first, is_second)))
 
-weighed_said : (words : List (List ℕ)) → IfOk (weighed_at words) (λ p. IsName p.0 × (p.1 < 2 ^ 32))
-unfolding weighed_at
-weighed_said words =
+name_and_weight_said : (words : List (List ℕ)) → IfOk (name_and_weight_at words) (λ p. IsName p.0 × (p.1 < 2 ^ 32))
+unfolding name_and_weight_at
+name_and_weight_said words =
     bind-if_ok_at (name_at words) _ _ (λ r. IsName r.value) (name_said words) (λ name is_name.
     bind-if_ok_at (weight_at name.rest) _ _ (λ r. r.value < 2 ^ 32) (weight_said name.rest) (λ weight is_weight.
     end_said (name.value, weight.value) weight.rest (λ p. IsName p.0 × (p.1 < 2 ^ 32)) (is_name, is_weight)))
@@ -128,8 +128,8 @@ edit_of_said : (keyword : Keyword) (rest : List (List ℕ)) → IfOk (edit_of ke
 edit_of_said (word.Place how) rest = bind-if_ok_at (placing_at rest) _ IsSaid _ (placing_said rest) (edit_to_place_said how)
 edit_of_said word.Move rest = bind-if_ok_at (located_at rest) _ IsSaid _ (located_said rest) (λ p is. is)
 edit_of_said word.SwapBucket rest = bind-if_ok_at (two_names_at rest) _ IsSaid _ (two_names_said rest) (λ p is. is)
-edit_of_said word.Reweight rest = bind-if_ok_at (weighed_at rest) _ IsSaid _ (weighed_said rest) (λ p is. is)
-edit_of_said word.ReweightSubtree rest = bind-if_ok_at (weighed_at rest) _ IsSaid _ (weighed_said rest) (λ p is. is)
+edit_of_said word.Reweight rest = bind-if_ok_at (name_and_weight_at rest) _ IsSaid _ (name_and_weight_said rest) (λ p is. is)
+edit_of_said word.ReweightSubtree rest = bind-if_ok_at (name_and_weight_at rest) _ IsSaid _ (name_and_weight_said rest) (λ p is. is)
 edit_of_said word.Rm rest = bind-if_ok_at (one_name_at rest) _ IsSaid _ (one_name_said rest) (λ name is. is)
 edit_of_said word.AddBucket rest = bind-if_ok_at (two_names_at rest) _ IsSaid _ (two_names_said rest) (λ p is. is)
 edit_of_said word.RenameBucket rest = bind-if_ok_at (two_names_at rest) _ IsSaid _ (two_names_said rest) (λ p is. is)

@@ -92,8 +92,8 @@ two_names_at words = do
   end_at (first.value, second.value) second.rest
 
 -- `NAME W`: the name of a device or a bucket, a weight, and no further word
-unfoldable pub weighed_at : List (List ℕ) → Result (List ℕ × ℕ) LineFault
-weighed_at words = do
+unfoldable pub name_and_weight_at : List (List ℕ) → Result (List ℕ × ℕ) LineFault
+name_and_weight_at words = do
   name ← name_at words
   weight ← weight_at name.rest
   end_at (name.value, weight.value) weight.rest
@@ -126,8 +126,8 @@ abbrev pub edit_of : Keyword → List (List ℕ) → Result Edit LineFault
 edit_of (word.Place how) rest = placing_at rest >>= λ p. Ok (edit_to_place how p)
 edit_of word.Move rest = located_at rest >>= λ p. Ok (Move p.0 p.1)
 edit_of word.SwapBucket rest = two_names_at rest >>= λ p. Ok (Swap p.0 p.1)
-edit_of word.Reweight rest = weighed_at rest >>= λ p. Ok (Reweight p.0 p.1)
-edit_of word.ReweightSubtree rest = weighed_at rest >>= λ p. Ok (ReweightSubtree p.0 p.1)
+edit_of word.Reweight rest = name_and_weight_at rest >>= λ p. Ok (Reweight p.0 p.1)
+edit_of word.ReweightSubtree rest = name_and_weight_at rest >>= λ p. Ok (ReweightSubtree p.0 p.1)
 edit_of word.Rm rest = one_name_at rest >>= λ name. Ok (Remove name)
 edit_of word.AddBucket rest = two_names_at rest >>= λ p. Ok (AddBucket p.0 p.1)
 edit_of word.RenameBucket rest = two_names_at rest >>= λ p. Ok (Rename p.0 p.1)

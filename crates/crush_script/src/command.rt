@@ -2,7 +2,7 @@
 
 ghost use Rattle.std.specs.Prelude.{◌≡◌};
 ghost use Rattle.crush_script.specs.ReadsAs.{ReadsAs, ReadsAndLeaves};
-ghost use Rattle.crush_script.specs.Command.{command, operator, name_at, weight_at, end_at, with_pair, location_at, placing_at, located_at, one_name_at, two_names_at, weighed_at, keyword_of, edit_to_place, edit_of, edit_at, begin_at, count_at};
+ghost use Rattle.crush_script.specs.Command.{command, operator, name_at, weight_at, end_at, with_pair, location_at, placing_at, located_at, one_name_at, two_names_at, name_and_weight_at, keyword_of, edit_to_place, edit_of, edit_at, begin_at, count_at};
 
 use crate::line::{LineWords, place_of};
 use crate::word::count_of;
@@ -235,9 +235,9 @@ impl LineWords<'_> {
         self.end((first, second))
     }
 
-    #[tactic(auto, unfolding(crate::specs::Command::weighed_at))]
-    fn weighed(&mut self, alloc: Global) -> Result<(Name<Global>, Weight), LineFault>
-        ensures { ReadsAs result (weighed_at self.old) }
+    #[tactic(auto, unfolding(crate::specs::Command::name_and_weight_at))]
+    fn name_and_weight(&mut self, alloc: Global) -> Result<(Name<Global>, Weight), LineFault>
+        ensures { ReadsAs result (name_and_weight_at self.old) }
     {
         let name = self.name(alloc)?;
         let weight = self.weight()?;
@@ -261,11 +261,11 @@ impl LineWords<'_> {
                 Ok(Edit::Swap { a, b })
             }
             Keyword::Reweight => {
-                let (name, weight) = self.weighed(alloc)?;
+                let (name, weight) = self.name_and_weight(alloc)?;
                 Ok(Edit::Reweight { name, weight })
             }
             Keyword::ReweightSubtree => {
-                let (name, weight) = self.weighed(alloc)?;
+                let (name, weight) = self.name_and_weight(alloc)?;
                 Ok(Edit::ReweightSubtree { name, weight })
             }
             Keyword::Rm => {

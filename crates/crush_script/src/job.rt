@@ -29,8 +29,8 @@ pub struct Job {
 
 /// Reads a job: the text of a map, followed by the sections with the operators' scripts.
 ///
-/// `docs/FORMATS.md` defines the form. `hashing` is how the map's indexes hash names and ids: use
-/// random keys if the bytes come from an untrusted source.
+/// `docs/user/FORMATS.md` defines the form. `hashing` is how the map's indexes hash names and ids:
+/// use random keys if the bytes come from an untrusted source.
 ///
 /// Fails with the first fault, in this order: there are more than 16,777,216 bytes; the map's text
 /// has a fault; a line of the sections is the first faulty one. If memory for the scripts runs out,

@@ -170,7 +170,7 @@ impl Sections {
         self.add_call(batch_call(batch.seen, batch.edits))
     }
 
-    fn obey(&mut self, alloc: Global, number: usize, command: Command) -> Result<(), JobFault>
+    fn execute(&mut self, alloc: Global, number: usize, command: Command) -> Result<(), JobFault>
         requires begun { 0 < length self.old.scripts.items }
         ensures steps { Steps result (sections_data self.new)
             (with_command number (sections_data self.old) command) }
@@ -198,7 +198,7 @@ impl Sections {
             return self.begin(alloc, number, name);
         }
         let command = words.command(alloc).map_err(|fault| fault.at(number))?;
-        self.obey(alloc, number, command)
+        self.execute(alloc, number, command)
     }
 }
 

@@ -1,4 +1,4 @@
-//! JSON documents. Expected values are worked by hand from docs/FORMATS.md, and from what
+//! JSON documents. Expected values are worked by hand from docs/user/FORMATS.md, and from what
 //! `crushtool --dump` of Ceph 18 prints.
 
 mod maps;

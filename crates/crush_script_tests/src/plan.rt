@@ -1,5 +1,5 @@
 //! Plans from the example map to others, and back. Expected values are worked by hand from the
-//! steps of a plan in docs/plan.md.
+//! steps of a plan in docs/dev/plan.md.
 
 mod maps;
 mod names_part;

@@ -1,5 +1,5 @@
 //! The reasons that are given for the faults and the refused calls of jobs. Expected values follow
-//! the forms in docs/FORMATS.md and the sentences in docs/RULES.md.
+//! the forms in docs/user/FORMATS.md and the sentences in docs/user/RULES.md.
 
 ghost use Rattle.std.specs.Prelude.{◌<◌, length};
 ghost use Rattle.crush_history.specs.Entries.{AreOf};

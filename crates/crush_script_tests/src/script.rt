@@ -1,5 +1,5 @@
 //! Maps and jobs that are read from texts, and what is written of them. Expected values follow the
-//! forms in docs/FORMATS.md. Cases that a short file can show are among the data of
+//! forms in docs/user/FORMATS.md. Cases that a short file can show are among the data of
 //! `crush_examples` instead.
 
 mod heaps;

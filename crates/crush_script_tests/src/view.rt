@@ -1,5 +1,5 @@
 //! Trees, and what has changed between two maps, as text. Expected values follow the forms in
-//! docs/FORMATS.md.
+//! docs/user/FORMATS.md.
 
 mod change_trees;
 mod changed_parts;

@@ -30,7 +30,7 @@ use Rattle.crush_print.proofs.Told.{Told, stands_told}
 use Rattle.crush_since.specs.Entries.{EntryData, row_entry, entry_of, device_entry, bucket_entry, entries_of, id_key}
 use Rattle.crush_since.specs.ItemData.{ItemData, row_item, item_of, own_class_ids}
 use Rattle.crush_since.specs.Listing.{Lists, entry_data, listed_id, node_class_ids}
-use Rattle.crush_print.specs.SeenStep.{node_view}
+use Rattle.crush_print.specs.WalkStep.{node_view}
 use Rattle.crush_since.specs.declared.since.listing.Listed.{Listed}
 use Rattle.crush_print.proofs.WalkLaws.{All-unmap}
 

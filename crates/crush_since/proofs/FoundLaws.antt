@@ -11,7 +11,7 @@ use Rattle.crush_since.specs.Entries.{EntryData, row_entry, entry_of}
 use Rattle.crush_since.specs.Equal.{same_option}
 use Rattle.crush_since.specs.ItemData.{ItemData}
 use Rattle.crush_since.specs.Listing.{entry_data}
-use Rattle.crush_print.specs.SeenStep.{node_view}
+use Rattle.crush_print.specs.WalkStep.{node_view}
 use Rattle.crush_since.specs.declared.since.listing.Listed.{Listed}
 use Rattle.crush_since.proofs.EntryLaws.{entry_item}
 

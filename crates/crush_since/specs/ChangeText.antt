@@ -1,4 +1,4 @@
--- The text of the tree of what has changed from one map to another: docs/FORMATS.md has the same in words.
+-- The text of the tree of what has changed from one map to another: docs/user/FORMATS.md has the same in words.
 use Rattle.std.specs.Prelude.{ℕ, Bool, true, false, List, [], ◌∷◌, ◌++◌, Option, None, Some, if◌then◌else◌, flat_map, codes, unwrap_or}
 use Rattle.std.specs.Option.{option_map}
 use Rattle.crush_units.specs.declared.id.ItemId.{ItemId}

@@ -1,4 +1,4 @@
--- Rules that find nothing: docs/FORMATS.md has the same in words.
+-- Rules that find nothing: docs/user/FORMATS.md has the same in words.
 use Rattle.std.specs.Prelude.{ℕ, ◌==◌, Bool, not, ◌&&◌, List, [], ◌++◌, Option, None, Some, if◌then◌else◌, flat_map, codes, unwrap_or}
 use Rattle.crush_units.specs.declared.id.ItemId.{ItemId}
 use Rattle.crush_units.specs.declared.id.ItemId.TheVariants.{Bucket}

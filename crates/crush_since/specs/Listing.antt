@@ -10,7 +10,7 @@ use Rattle.crush_nodes.specs.Seen.{node_id}
 use Rattle.crush_nodes.specs.declared.node.Node.{Node}
 use Rattle.crush_nodes.specs.declared.node.Node.TheVariants.{Device, Bucket}
 use Rattle.crush_since.specs.Entries.{EntryData, entry_of, id_key}
-use Rattle.crush_print.specs.SeenStep.{node_view}
+use Rattle.crush_print.specs.WalkStep.{node_view}
 use Rattle.crush_since.specs.declared.since.listing.Listed.{Listed}
 
 abbrev pub node_class_ids : {A : _} → Node A → List ShadowData

@@ -1,4 +1,4 @@
--- What has changed from one map to another, told item by item: docs/FORMATS.md has the same in words.
+-- What has changed from one map to another, told item by item: docs/user/FORMATS.md has the same in words.
 use Rattle.std.specs.Prelude.{ℕ, Bool, List, [], ◌∷◌, ◌++◌, Option, None, Some, if◌then◌else◌, map, flat_map, codes}
 use Rattle.std.specs.Cmp.Lexicographic.{pointwise}
 use Rattle.crush_units.specs.declared.id.ItemId.{ItemId}

@@ -4,7 +4,7 @@ use Rattle.crush_units.specs.declared.id.ItemId.{ItemId}
 use Rattle.crush_units.specs.declared.id.ItemId.TheVariants.{Device, Bucket}
 use Rattle.crush_model.specs.Table.{Row, bucket_ids}
 use Rattle.crush_print.specs.MapText.{ascending, device_number}
-use Rattle.crush_print.specs.Tree.{StepData, steps_at}
+use Rattle.crush_print.specs.Tree.{WalkStepData, steps_at}
 use Rattle.crush_since.specs.Changes.{has_some, is_listed}
 use Rattle.crush_since.specs.Settings.{setting_lines}
 use Rattle.crush_since.specs.Since.{PlainMap, all_ids, id_line, item_lines, once}
@@ -14,8 +14,8 @@ unfoldable pub each_once : List ItemId → List ItemId
 each_once is = map Bucket (once (ascending (flat_map bucket_ids is))) ++ map Device (once (ascending (flat_map device_number is)))
 
 -- the ids of an item and of all that is below it
-abbrev pub step_ids : List StepData → List ItemId
-step_ids steps = map (λ (s : StepData). s.item.id) steps
+abbrev pub step_ids : List WalkStepData → List ItemId
+step_ids steps = map (λ (s : WalkStepData). s.item.id) steps
 
 abbrev pub ids_below : List Row → ItemId → List ItemId
 ids_below t i = step_ids (steps_at t (length t) 0 i)

@@ -5,7 +5,7 @@ use Rattle.crush_builder.specs.Building.{BuilderData}
 use Rattle.crush_units.specs.Words.{Text, first as first_word, stopped, ended, bad}
 use Rattle.crush_text.specs.declared.fault.TextFaultKind.TheVariants.{BadWord}
 use Rattle.crush_text.specs.declared.fault.TextFault.{TextFault}
-use Rattle.crush_text.specs.declared.opening.Opening.{Opening}
+use Rattle.crush_text.specs.declared.statement_kind.StatementKind.{StatementKind}
 use Rattle.crush_text.specs.Role.{opening}
 use Rattle.crush_text.specs.Form.{at}
 use Rattle.crush_text.specs.Grammar.{statement, line_forms}
@@ -33,12 +33,12 @@ first_goes d late t rest place text is = ap (outcome (between (at (behind late) 
     by_mode false = refl
 
 -- the result of the text from a word that begins a statement
-pub opening_ok : (d : Draft) (late : Bool) (t rest : Text) (place : ℕ) (text : List ℕ) (o : Opening) → t ≡ first_word place text rest → Ok o ≡ placed place (word_for d (opening late) text)
+pub opening_ok : (d : Draft) (late : Bool) (t rest : Text) (place : ℕ) (text : List ℕ) (o : StatementKind) → t ≡ first_word place text rest → Ok o ≡ placed place (word_for d (opening late) text)
     → outcome (between (at (behind late) d)) t ≡ then_on (line_at d (statement d o) rest)
 opening_ok d late t rest place text o is e = first_goes d late t rest place text is ∙ ap (λ q. then_on ((q >>= and_rest rest) >>= λ x. line_at d (statement d x.0) x.1)) (sym e)
 
 -- such a word leads to the rest of the statement
-pub opening_leads : (d : Draft) (late : Bool) (t rest : Text) (place : ℕ) (text : List ℕ) (o : Opening) → t ≡ first_word place text rest → Ok o ≡ placed place (word_for d (opening late) text)
+pub opening_leads : (d : Draft) (late : Bool) (t rest : Text) (place : ℕ) (text : List ℕ) (o : StatementKind) → t ≡ first_word place text rest → Ok o ≡ placed place (word_for d (opening late) text)
     → LeadsOn (between (at (behind late) d)) t (arrive d rest.words (statement d o)) rest
 unfolding outcome step
 opening_leads d late t rest place text o is e = record {

@@ -6,7 +6,7 @@ use Rattle.crush_units.specs.Words.{Text, first as first_word, stopped, ended, b
 use Rattle.crush_text.specs.declared.fault.TextFaultKind.{TextFaultKind}
 use Rattle.crush_text.specs.declared.fault.TextFaultKind.TheVariants.{BadWord, Unexpected, UnknownType, LeftOut, TooMany, OutOfMemory}
 use Rattle.crush_text.specs.declared.fault.TextFault.{TextFault}
-use Rattle.crush_text.specs.declared.opening.Opening.{Opening}
+use Rattle.crush_text.specs.declared.statement_kind.StatementKind.{StatementKind}
 use Rattle.crush_text.specs.Role.{opening, opened}
 use Rattle.crush_text.specs.Grammar.{statement}
 use Rattle.crush_text.specs.Tests.{◌when◌, unless, word_for, is_out_of_place}
@@ -16,11 +16,11 @@ use Rattle.crush_text.specs.ReadsStatements.{FailsText, FailsFirst, opens_alone}
 use Rattle.crush_text.proofs.FirstWords.{opening_err, opening_bad}
 
 -- what a first word is, by whether it is out of place, what isn't read, or opens a statement
-abbrev verdict : Bool → Bool → Bool → Opening → Result Opening TextFaultKind
+abbrev verdict : Bool → Bool → Bool → StatementKind → Result StatementKind TextFaultKind
 verdict o k s v = if o then Err Unexpected else (if k then Err LeftOut else (if s then Ok v else Err UnknownType))
 
 -- the tests of a first word where there is no type and room for all
-judged : (o a b c r k : Bool) (v : Opening)
+judged : (o a b c r k : Bool) (v : StatementKind)
     → unless ((Unexpected when o) ∷ (UnknownType when not ((a || (b || c)) || ((r || k) || false))) ∷ (LeftOut when k) ∷ (TooMany when (if a then false else (if b then false else (if c then false else (if r then false else false))))) ∷ []) v ≡ verdict o k ((a || (b || c)) || r) v
 judged true a b c r k v = refl
 judged false true b c r k v = refl

@@ -5,8 +5,8 @@ use Rattle.crush_units.specs.declared.id.ItemId.{ItemId}
 use Rattle.crush_edits.specs.Setting.{StepData, take, choose, set, emit, RuleData}
 use Rattle.crush_builder.specs.Built.{Draft, with_tunable, with_kind, with_device, begun_bucket, with_id, with_class_id, with_alg, with_next_item, with_end, add_rule}
 use Rattle.crush_units.specs.declared.limits.TheConstants.{LARGEST_RULE_NUMBER, LARGEST_TUNABLE}
-use Rattle.crush_text.specs.declared.opening.Opening.{Opening}
-use Rattle.crush_text.specs.declared.opening.Opening.TheVariants as openings
+use Rattle.crush_text.specs.declared.statement_kind.StatementKind.{StatementKind}
+use Rattle.crush_text.specs.declared.statement_kind.StatementKind.TheVariants as statement_kinds
 use Rattle.crush_text.specs.Role.{key, any_word, number, opening, tunable_name, type_number, type_name, device_id, new_name, bucket_id, id_or_alg, id_class, algorithm, item_or_end, item, lone_item, weight, rule_name, rule_id_key, rule_id, step_or_end, step_word, StepWord, takes, chooses, sets, emits, taken_bucket, step_order, step_count, step_type}
 use Rattle.crush_text.specs.Form.{Mode, first, second, begun, numbered, filling, ruled, Progress, at, Form, done, optional, ahead, ◌>>=◌, ◌>>◌}
 
@@ -183,12 +183,12 @@ abbrev pub step_or_brace : Draft → RuleData → Bool → Form
 step_or_brace d r more = if more then step_word >>= step_behind d r else done (at second (add_rule d r))
 
 -- the rest of the statement, or of its first line, after its first word
-abbrev pub statement : Draft → Opening → Form
-statement d openings.Tunable = tunable_line d
-statement d openings.Type = type_line d
-statement d openings.Device = device_line d
-statement d (openings.Bucket k) = bucket_line d k
-statement d openings.Rule = rule_line d
+abbrev pub statement : Draft → StatementKind → Form
+statement d statement_kinds.Tunable = tunable_line d
+statement d statement_kinds.Type = type_line d
+statement d statement_kinds.Device = device_line d
+statement d (statement_kinds.Bucket k) = bucket_line d k
+statement d statement_kinds.Rule = rule_line d
 
 -- the lines that may come next in this mode
 abbrev pub line_forms : Draft → Mode → Form

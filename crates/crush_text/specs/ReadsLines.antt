@@ -8,9 +8,9 @@ use Rattle.crush_builder.specs.Building.{BuilderData, IsDraft, is_begun, is_numb
 use Rattle.crush_text.specs.declared.fault.TextFaultKind.{TextFaultKind}
 use Rattle.crush_text.specs.declared.fault.TextFault.{TextFault}
 use Rattle.crush_units.specs.Words.{Text}
-use Rattle.crush_text.specs.declared.opening.Opening.{Opening}
+use Rattle.crush_text.specs.declared.statement_kind.StatementKind.{StatementKind}
 use Rattle.crush_text.specs.declared.reader.MapReader.{MapReader}
-use Rattle.crush_text.specs.declared.opening.Opening.TheVariants as openings
+use Rattle.crush_text.specs.declared.statement_kind.StatementKind.TheVariants as statement_kinds
 use Rattle.crush_text.specs.Form.{Mode, second, begun, numbered, filling, at, Form}
 use Rattle.crush_text.specs.Flow.{State, placed, between}
 use Rattle.crush_text.specs.Flaw.{IsOutOfMemory}
@@ -80,14 +80,14 @@ pub record PutsItem (i : ItemId) (w : Option ℕ) (place : ℕ) (before after : 
   pub adds : (d : Draft) → IsDraft before d → Adds x after (with_next_item d i w) place (unless_heavy (with_next_item d i w))
 
 -- the builder is between two statements, and has room for one more statement of this kind
-pub record HasRoomFor (o : Opening) (b : BuilderData) : Type 0 where
+pub record HasRoomFor (o : StatementKind) (b : BuilderData) : Type 0 where
   pub idle : IsIdle b
   pub room : (d : Draft) → IsDraft b d → HasRoom d o
 
 -- the builder is between two statements, and has room for one more bucket of the type with this name
 pub record HasRoomForBucket (kind : List ℕ) (b : BuilderData) : Type 0 where
   pub idle : IsIdle b
-  pub known : (d : Draft) → IsDraft b d → (k : ℕ) × (kind_number d.setting kind ≡ Some k) × HasRoom d (openings.Bucket k)
+  pub known : (d : Draft) → IsDraft b d → (k : ℕ) × (kind_number d.setting kind ≡ Some k) × HasRoom d (statement_kinds.Bucket k)
 
 -- the builder is before the algorithm of a bucket, and has room for one more class id
 pub record HasRoomForId (b : BuilderData) : Type 0 where

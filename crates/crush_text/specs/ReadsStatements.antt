@@ -7,8 +7,8 @@ use Rattle.crush_text.specs.declared.fault.TextFault.{TextFault}
 use Rattle.crush_units.specs.Words.{Text, stopped, ended}
 use Rattle.crush_text.specs.declared.reader.MapReader.{MapReader}
 use Rattle.crush_text.specs.declared.reader.word.PlacedWord.{PlacedWord}
-use Rattle.crush_text.specs.declared.opening.Opening.{Opening}
-use Rattle.crush_text.specs.declared.opening.Opening.TheVariants as openings
+use Rattle.crush_text.specs.declared.statement_kind.StatementKind.{StatementKind}
+use Rattle.crush_text.specs.declared.statement_kind.StatementKind.TheVariants as statement_kinds
 use Rattle.crush_text.specs.Role.{opening}
 use Rattle.crush_text.specs.Form.{Mode, first, second, at}
 use Rattle.crush_text.specs.Tests.{word_for, comes_first}
@@ -46,18 +46,18 @@ pub record ReadsAll {A : _} (old new : MapReader A) (x : Result (Unit {0}) TextF
   pub reads : (d : Draft) → IsDraft old.builder d → AllGo x new.builder (between (at first d)) old.text
 
 -- if the word w begins a bucket, w is the name of the bucket's type k
-abbrev pub IsKnown : Draft → Opening → List ℕ → Type 0
-IsKnown d (openings.Bucket k) w = kind_number d.setting w ≡ Some k
+abbrev pub IsKnown : Draft → StatementKind → List ℕ → Type 0
+IsKnown d (statement_kinds.Bucket k) w = kind_number d.setting w ≡ Some k
 IsKnown d o w = Unit {0}
 
 -- the builder is between two statements, the word w begins a statement of the kind o, and there is room for one more of this kind
-pub record CanOpen (o : Opening) (w : List ℕ) (b : BuilderData) : Type 0 where
+pub record CanOpen (o : StatementKind) (w : List ℕ) (b : BuilderData) : Type 0 where
   pub idle : IsIdle b
   pub known : (d : Draft) → IsDraft b d → IsKnown d o w
   pub room : (d : Draft) → IsDraft b d → HasRoom d o
 
 -- the result x says which kind of statement the word w begins, or which fault it has: whatever draft the builder has, this is what reading gives. After success there is room for one more of this kind
-pub record Opens (w : PlacedWord) (late : Bool) (b : BuilderData) (x : Result Opening TextFault) : Type 0 where
+pub record Opens (w : PlacedWord) (late : Bool) (b : BuilderData) (x : Result StatementKind TextFault) : Type 0 where
   pub opens : (d : Draft) → IsDraft b d → x ≡ placed w.place (word_for d (opening late) w.text.now)
   pub known : (d : Draft) → IsDraft b d → IfOk x (λ o. IsKnown d o w.text.now)
   pub room : IfOk x (λ o. (d : Draft) → IsDraft b d → HasRoom d o)
@@ -68,7 +68,7 @@ opens_alone w = comes_first w || bytes_eq w (codes "rule")
 
 -- f is the fault of the word w as the first word of a text; or w has no fault, and f is out of memory at w's place
 abbrev pub FailsFirst : TextFault → ℕ → List ℕ → Type 0
-FailsFirst f place w = (IsOutOfMemory f × (f.place ≡ place) × ((o : Opening) × (word_for empty_draft (opening false) w ≡ Ok o))) ⊎ (placed place (word_for empty_draft (opening false) w) ≡ Err f)
+FailsFirst f place w = (IsOutOfMemory f × (f.place ≡ place) × ((o : StatementKind) × (word_for empty_draft (opening false) w ≡ Ok o))) ⊎ (placed place (word_for empty_draft (opening false) w) ≡ Err f)
 
 -- f is the fault of reading the text t; or it is out of memory, at a word that has no fault and no faulty word before it, or at the end of a text without words
 abbrev pub FailsText : TextFault → Text → Type 0

@@ -12,8 +12,8 @@ use Rattle.crush_edits.specs.Setting.{kind_number}
 use Rattle.crush_builder.specs.Built.{Draft}
 use Rattle.crush_builder.specs.Building.{item_named}
 use Rattle.crush_builder.specs.Rules.{complete_bucket_named}
-use Rattle.crush_text.specs.declared.opening.Opening.{Opening}
-use Rattle.crush_text.specs.declared.opening.Opening.TheVariants as openings
+use Rattle.crush_text.specs.declared.statement_kind.StatementKind.{StatementKind}
+use Rattle.crush_text.specs.declared.statement_kind.StatementKind.TheVariants as statement_kinds
 use Rattle.crush_units.specs.Numbers.{signed_value}
 
 -- what a word is for. The Bool of `opening` says that a bucket or a rule was read before; the Bool of `item_or_end` says that an item of the bucket was read before. The number of `number` is the greatest that is allowed,
@@ -59,7 +59,7 @@ abbrev pub El : Role → Type 0
 El (key k) = Unit {0}
 El any_word = List ℕ
 El (number most) = ℕ
-El (opening late) = Opening
+El (opening late) = StatementKind
 El tunable_name = List ℕ
 El type_number = ℕ
 El (type_name n) = List ℕ
@@ -105,13 +105,13 @@ abbrev pub units : List ℕ → ℕ
 units w = units_or_none (weight_of_text w)
 
 -- which kind of statement the word begins
-abbrev pub opened : Draft → List ℕ → Opening
+abbrev pub opened : Draft → List ℕ → StatementKind
 opened d w =
-    if bytes_eq w (codes "tunable") then openings.Tunable
-    else (if bytes_eq w (codes "device") then openings.Device
-    else (if bytes_eq w (codes "type") then openings.Type
-    else (if bytes_eq w (codes "rule") then openings.Rule
-    else openings.Bucket (kind_of_word d w))))
+    if bytes_eq w (codes "tunable") then statement_kinds.Tunable
+    else (if bytes_eq w (codes "device") then statement_kinds.Device
+    else (if bytes_eq w (codes "type") then statement_kinds.Type
+    else (if bytes_eq w (codes "rule") then statement_kinds.Rule
+    else statement_kinds.Bucket (kind_of_word d w))))
 
 -- what a step's first word says
 abbrev pub step_said : List ℕ → StepWord

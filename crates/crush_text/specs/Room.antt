@@ -11,17 +11,17 @@ use Rattle.crush_builder.specs.Building.{has_tunable, has_kind_number, has_kind_
 use Rattle.crush_builder.specs.Faults.{is_closed}
 use Rattle.crush_builder.specs.Rules.{complete_bucket_named, is_full_of_rules, has_rule_name, has_rule_id, steps_fault}
 use Rattle.crush_edits.specs.declared.rule.Rule.{Rule}
-use Rattle.crush_text.specs.declared.opening.Opening.{Opening}
-use Rattle.crush_text.specs.declared.opening.Opening.TheVariants as openings
+use Rattle.crush_text.specs.declared.statement_kind.StatementKind.{StatementKind}
+use Rattle.crush_text.specs.declared.statement_kind.StatementKind.TheVariants as statement_kinds
 use Rattle.crush_text.specs.Role.{Role, El, number, tunable_name, type_number, type_name, device_id, new_name, bucket_id, id_or_alg, id_class, rule_name, rule_id, taken_bucket, step_type}
 
 -- the draft has room for one more statement of this kind; for a bucket, its type isn't type 0
-abbrev pub HasRoom : Draft → Opening → Type 0
-HasRoom d openings.Tunable = is_full_of_tunables d ≡ false
-HasRoom d openings.Device = is_full_of_devices d ≡ false
-HasRoom d openings.Type = is_full_of_kinds d ≡ false
-HasRoom d (openings.Bucket k) = (nat_lt 0 k ≡ true) × (is_full_of_buckets d ≡ false)
-HasRoom d openings.Rule = is_full_of_rules d ≡ false
+abbrev pub HasRoom : Draft → StatementKind → Type 0
+HasRoom d statement_kinds.Tunable = is_full_of_tunables d ≡ false
+HasRoom d statement_kinds.Device = is_full_of_devices d ≡ false
+HasRoom d statement_kinds.Type = is_full_of_kinds d ≡ false
+HasRoom d (statement_kinds.Bucket k) = (nat_lt 0 k ≡ true) × (is_full_of_buckets d ≡ false)
+HasRoom d statement_kinds.Rule = is_full_of_rules d ≡ false
 
 -- the name w may be used in this role: it is free if the role declares it, and it exists if the role refers to it
 abbrev pub IsFreeWord : Draft → Role → List ℕ → Type 0

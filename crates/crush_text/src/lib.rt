@@ -6,9 +6,9 @@
 #![tactic(auto)]
 
 mod fault;
-mod opening;
 mod reader;
+mod statement_kind;
 
 pub use fault::{TextFault, TextFaultKind};
-pub use opening::Opening;
 pub use reader::{read_map, read_map_in};
+pub use statement_kind::StatementKind;

@@ -46,8 +46,8 @@ struct MapReader<'a, A: Allocator> {
 /// If the text isn't a map, it fails with the text's first fault; if memory runs out before one is
 /// found, it fails with `OutOfMemory`. Three parts of Ceph's grammar are not supported, and fail
 /// with [`TextFaultKind::LeftOut`]: weight sets (`choose_args`), the steps of MSR rules
-/// (`choosemsr`) and the positions of items (`pos`). docs/FORMATS.md has the grammar, and
-/// docs/RULES.md has each fault with its place.
+/// (`choosemsr`) and the positions of items (`pos`). docs/user/FORMATS.md has the grammar, and
+/// docs/user/RULES.md has each fault with its place.
 pub fn read_map(alloc: Global, text: &[u8]) -> Result<(CrushMap<Global>, u32), TextFault>
     ensures map { IfOk result (λ m. (t : List Row)
         × IsMapText text.now m.0.setting t m.1 × Stands m.0.forest t) }

@@ -14,7 +14,7 @@ use Rattle.std.specs.contracts.impls.GlobalAllocator.TheImpl as GlobalImpl
 use Rattle.std.specs.declared.sync.ledger.Ledger as Ledger
 use Rattle.crush_map.specs.contracts.map.CrushMap as CrushMap
 use Rattle.crush_editor.specs.declared.locked.Desk as Desk
-use Rattle.crush_editor.specs.declared.opening.Opening as Opening
+use Rattle.crush_editor.specs.declared.opening.KeptOpening as KeptOpening
 use Rattle.crush_editor.specs.contracts.locked.Seat as Seat
 use Rattle.crush_editor.specs.contracts.editor.Editor as Editor
 use Rattle.crush_editor.proofs.locked.Seat.TheSendSync.{the_send as seat_send}
@@ -24,7 +24,7 @@ use Rattle.crush_editor.proofs.Sharing.{editor_sync}
 alloc_sent : IsSend Global.the_row
 alloc_sent = search (sendable, crosses) depth 20
 
-module _ (N R W : RattleType) (g : Desk.Ghosts N.Denot) (l : Ledger.Ghosts N.Denot) (o : Opening.Ghosts (CrushMap.the_row Global.the_row GlobalImpl.ghosts).Denot) (a b c : NamedLft) where
+module _ (N R W : RattleType) (g : Desk.Ghosts N.Denot) (l : Ledger.Ghosts N.Denot) (o : KeptOpening.Ghosts (CrushMap.the_row Global.the_row GlobalImpl.ghosts).Denot) (a b c : NamedLft) where
   -- what a thread's closure owns: a reference to the runtime, the allocator, a reference to the editor, the seat, and a reference to the list
   abbrev pub owned : List RattleType
   owned = (shr_ref_field a (param 1 R) tt).row ∷ Global.the_row ∷ (shr_ref_field b (Editor.the_row (param 0 N) (CrushMap.the_row Global.the_row GlobalImpl.ghosts) g l o) tt).row

@@ -6,7 +6,7 @@ ghost use Rattle.std.specs.Option.{option_map};
 ghost use Rattle.crush_units.specs.Writes.{Writes};
 ghost use Rattle.crush_model.specs.Stands.{Stands};
 ghost use Rattle.crush_model.specs.Table.{Row};
-ghost use Rattle.crush_print.specs.SeenStep.{step_data};
+ghost use Rattle.crush_print.specs.WalkStep.{walk_step_data};
 ghost use Rattle.crush_print.specs.TreePart.{part_steps};
 ghost use Rattle.crush_json.specs.Document.{document_of_tree, document_text};
 ghost use Rattle.crush_json.specs.Seen.{IsHistory, history_data};
@@ -18,7 +18,7 @@ use crate::history::History;
 use crate::tree::push_tree;
 use crate::write::{bounded, line_of, open};
 use crush_map::CrushMap;
-use crush_print::{Part, Step, walk_part};
+use crush_print::{TreePart, WalkStep, walk_part};
 use crush_units::{WriteFault, put};
 use std::alloc::{AllocError, Allocator, Global};
 use std::io::Write;
@@ -33,7 +33,7 @@ const USUAL_NODE: usize = 96;
 pub fn write_tree_document<A: Allocator, W: Write>(
     alloc: Global,
     map: &CrushMap<A>,
-    part: Part,
+    part: TreePart,
     history: Option<History<'_>>,
     out: &mut W,
 ) -> Result<(), WriteFault>
@@ -54,7 +54,7 @@ pub fn write_tree_document<A: Allocator, W: Write>(
 fn tree_text<A: Allocator>(
     alloc: Global,
     map: &CrushMap<A>,
-    part: Part,
+    part: TreePart,
     history: Option<History<'_>>,
 ) -> Result<Vec<u8>, AllocError>
     requires { IfSome history IsHistory }
@@ -69,13 +69,13 @@ fn tree_text<A: Allocator>(
 fn steps_text<A: Allocator>(
     alloc: Global,
     map: &CrushMap<A>,
-    steps: &[Step<'_, A>],
+    steps: &[WalkStep<'_, A>],
     history: Option<History<'_>>,
 ) -> Result<Vec<u8>, AllocError>
     requires { IfSome history IsHistory }
     ensures { IfOk result (λ text. (t : List Row) → Stands map.now.forest t → text.items
         ≡ document_text (document_of_tree (option_map history_data history.entry)
-        (tree_document map.now.setting t (each step_data steps.now)))) }
+        (tree_document map.now.setting t (each walk_step_data steps.now)))) }
 {
     let mut document = Document::new(alloc, bounded(steps.len()) * USUAL_NODE)?;
     push_document(alloc, map, steps, history, &mut document)?;
@@ -85,14 +85,14 @@ fn steps_text<A: Allocator>(
 fn push_document<A: Allocator>(
     alloc: Global,
     map: &CrushMap<A>,
-    steps: &[Step<'_, A>],
+    steps: &[WalkStep<'_, A>],
     history: Option<History<'_>>,
     out: &mut Document,
 ) -> Result<(), AllocError>
     requires { IfSome history IsHistory }
     ensures { (t : List Row) → Stands map.now.forest t → OnOk result (out.new ≡ out.old
         ++ tokens_of (document_of_tree (option_map history_data history.entry)
-        (tree_document map.now.setting t (each step_data steps.now)))) }
+        (tree_document map.now.setting t (each walk_step_data steps.now)))) }
 {
     open(alloc, history, "tree", out)?;
     push_tree(map, steps, out)?;

@@ -132,7 +132,12 @@ fn are_numbered(items: &[Node<Global>], numbers: &[i32]) -> bool {
             .all(|(item, number)| item.id().number() == *number)
 }
 
-fn holds(rt: &impl Abort, hierarchy: &Hierarchy<Global>, distance: u32, numbers: &[i32]) -> bool {
+fn bucket_holds(
+    rt: &impl Abort,
+    hierarchy: &Hierarchy<Global>,
+    distance: u32,
+    numbers: &[i32],
+) -> bool {
     let items = hierarchy.items(bucket(rt, distance)).expect(rt, "a bucket");
     are_numbered(items, numbers)
 }
@@ -148,9 +153,9 @@ fn frees_two_ids(rt: &impl Abort, hierarchy: &Hierarchy<Global>) -> bool {
 
 fn holds_all(rt: &impl Abort, hierarchy: &Hierarchy<Global>) -> bool {
     are_numbered(hierarchy.forest().roots(), &[-1])
-        && holds(rt, hierarchy, 1, &[-2, -3])
-        && holds(rt, hierarchy, 2, &[0, 1])
-        && holds(rt, hierarchy, 3, &[2])
+        && bucket_holds(rt, hierarchy, 1, &[-2, -3])
+        && bucket_holds(rt, hierarchy, 2, &[0, 1])
+        && bucket_holds(rt, hierarchy, 3, &[2])
         && are_numbered(hierarchy.forest().unplaced(), &[3])
 }
 
@@ -165,7 +170,7 @@ fn is_copied(rt: &impl Abort, hierarchy: &Hierarchy<Global>) -> bool {
     is_copied
 }
 
-fn tells_all(rt: &impl Abort, hierarchy: &Hierarchy<Global>) -> bool {
+fn answers_every_query(rt: &impl Abort, hierarchy: &Hierarchy<Global>) -> bool {
     sums_up(hierarchy, 4, 3, 163840)
         && is_osd_2_in_h2(rt, hierarchy)
         && tells_of_h2(rt, hierarchy)
@@ -177,9 +182,9 @@ fn tells_all(rt: &impl Abort, hierarchy: &Hierarchy<Global>) -> bool {
 }
 
 #[test]
-fn what_is_told(rt: HostRuntime) {
+fn the_example_answers_every_query(rt: HostRuntime) {
     let hierarchy = example(&rt);
-    let is_told = tells_all(&rt, &hierarchy);
+    let is_told = answers_every_query(&rt, &hierarchy);
     drop(hierarchy);
     assert!(rt; is_told);
 }
@@ -278,7 +283,7 @@ fn memory_and_back(rt: HostRuntime) {
     assert!(rt; is_back);
 }
 
-fn goes_out(rt: &impl Abort, hierarchy: &mut Hierarchy<Global>) -> bool {
+fn detaches_h2(rt: &impl Abort, hierarchy: &mut Hierarchy<Global>) -> bool {
     let h2 = hierarchy.detach(bucket_item(rt, 3)).expect(rt, "h2");
     let weight = h2.weight();
     drop(h2);
@@ -288,22 +293,22 @@ fn goes_out(rt: &impl Abort, hierarchy: &mut Hierarchy<Global>) -> bool {
         && hierarchy.id_of("osd.2").is_none()
 }
 
-fn comes_in(rt: &impl Abort, hierarchy: &mut Hierarchy<Global>) -> bool {
+fn puts_a_device_into_h1(rt: &impl Abort, hierarchy: &mut Hierarchy<Global>) -> bool {
     let h1 = bucket(rt, 2);
     let has_room = make_room(hierarchy, h1);
     let is_put = put_device(hierarchy, device(rt, 3), h1, Weight::from_units(131072));
     has_room
         && is_put
         && hierarchy.parent(device_item(rt, 3)) == Some(h1)
-        && holds(rt, hierarchy, 2, &[0, 1, 3])
+        && bucket_holds(rt, hierarchy, 2, &[0, 1, 3])
         && weighs(rt, hierarchy, 1, 262144)
 }
 
 #[test]
 fn items_come_and_go(rt: HostRuntime) {
     let mut hierarchy = example(&rt);
-    let is_out = goes_out(&rt, &mut hierarchy);
-    let is_in = comes_in(&rt, &mut hierarchy);
+    let is_out = detaches_h2(&rt, &mut hierarchy);
+    let is_in = puts_a_device_into_h1(&rt, &mut hierarchy);
     add_unplaced(&rt, &mut hierarchy, 2, "osd.2");
     let is_there = sums_up(&hierarchy, 4, 2, 262144);
     drop(hierarchy);
@@ -395,7 +400,7 @@ fn are_exchanged(rt: &impl Abort, hierarchy: &mut Hierarchy<Global>) -> bool {
     exchange(hierarchy, b"h9", b"h2")
         && hierarchy.id_of("h9") == Some(bucket_item(rt, 3))
         && hierarchy.parent(device_item(rt, 0)) == Some(bucket(rt, 3))
-        && holds(rt, hierarchy, 3, &[0, 1])
+        && bucket_holds(rt, hierarchy, 3, &[0, 1])
         && weighs(rt, hierarchy, 3, 2)
         && sums_up(hierarchy, 4, 3, 3)
 }

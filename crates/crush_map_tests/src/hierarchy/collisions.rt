@@ -16,7 +16,7 @@ fn add_each(index: &mut Index, alloc: Global, texts: &[&str]) -> bool {
     true
 }
 
-fn tell_each(index: &Index, texts: &[&str], gone: Option<u32>) -> bool {
+fn finds_each_name(index: &Index, texts: &[&str], gone: Option<u32>) -> bool {
     for (number, text) in (0u32..32).zip(texts) {
         let id = if gone == Some(number) {
             None
@@ -46,11 +46,11 @@ fn names_that_collide_are_told_apart(rt: HostRuntime) {
         "ftlnew", "gmmf65", "gnmch3", "g2iytj", "hixqgc",
     ];
     let mut index = Index::new(rt.alloc(), Hashing::plain());
-    assert!(rt; add_each(&mut index, rt.alloc(), &texts) && tell_each(&index, &texts, None));
+    assert!(rt; add_each(&mut index, rt.alloc(), &texts) && finds_each_name(&index, &texts, None));
     assert!(rt; rename(&mut index, rt.alloc(), "csstpo", "h6rr65"));
-    assert!(rt; index.id_of(b"h6rr65") == device(9) && tell_each(&index, &texts, Some(9)));
+    assert!(rt; index.id_of(b"h6rr65") == device(9) && finds_each_name(&index, &texts, Some(9)));
     assert!(rt; rename(&mut index, rt.alloc(), "h6rr65", "csstpo"));
     index.forget_name(b"d9k551");
-    assert!(rt; index.id_of(b"h6rr65").is_none() && tell_each(&index, &texts, Some(20)));
+    assert!(rt; index.id_of(b"h6rr65").is_none() && finds_each_name(&index, &texts, Some(20)));
     drop(index);
 }

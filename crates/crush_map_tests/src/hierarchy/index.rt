@@ -57,7 +57,12 @@ fn leaf(rt: &impl Abort, alloc: Global) -> Node<Global> {
     )
 }
 
-fn tells(index: &Index, rt: &impl Abort, host: Option<Position>, leaf: Option<Position>) -> bool {
+fn answers_for(
+    index: &Index,
+    rt: &impl Abort,
+    host: Option<Position>,
+    leaf: Option<Position>,
+) -> bool {
     let id = bucket(rt, 2);
     let is_there = host.is_some();
     index.id_of(b"h1").is_some() == is_there
@@ -82,18 +87,18 @@ fn items_come_and_go(rt: HostRuntime) {
         place: Place::Bucket(bucket(&rt, 2)),
         hint: 0,
     });
-    assert!(rt; tells(&index, &rt, None, None));
+    assert!(rt; answers_for(&index, &rt, None, None));
     index
         .insert_node(Place::Root, 0, &first)
         .expect(&rt, "memory");
     index
         .insert_node(Place::Bucket(bucket(&rt, 2)), 0, &second)
         .expect(&rt, "memory");
-    assert!(rt; tells(&index, &rt, root, below));
+    assert!(rt; answers_for(&index, &rt, root, below));
     index.remove_node(&second);
-    assert!(rt; tells(&index, &rt, root, None) && index.id_of(b"osd.0").is_none());
+    assert!(rt; answers_for(&index, &rt, root, None) && index.id_of(b"osd.0").is_none());
     index.remove_node(&first);
-    assert!(rt; tells(&index, &rt, None, None));
+    assert!(rt; answers_for(&index, &rt, None, None));
     drop(second);
     drop(first);
     drop(index);
@@ -119,11 +124,11 @@ fn a_copy_goes_its_own_way(rt: HostRuntime) {
         .insert_node(Place::Bucket(bucket(&rt, 2)), 0, &second)
         .expect(&rt, "memory");
     let mut copy = index.try_copy().expect(&rt, "memory");
-    assert!(rt; tells(&copy, &rt, root, below));
+    assert!(rt; answers_for(&copy, &rt, root, below));
     assert!(rt; copy.id_of(b"osd.0") == Some(device(&rt, 0)));
     copy.remove_node(&second);
-    assert!(rt; tells(&copy, &rt, root, None) && copy.id_of(b"osd.0").is_none());
-    assert!(rt; tells(&index, &rt, root, below));
+    assert!(rt; answers_for(&copy, &rt, root, None) && copy.id_of(b"osd.0").is_none());
+    assert!(rt; answers_for(&index, &rt, root, below));
     assert!(rt; index.id_of(b"osd.0") == Some(device(&rt, 0)));
     drop(copy);
     drop(second);
@@ -144,7 +149,7 @@ fn a_hint_leaves_the_place(rt: HostRuntime) {
         place: Place::Root,
         hint: 3,
     });
-    assert!(rt; tells(&index, &rt, root, None));
+    assert!(rt; answers_for(&index, &rt, root, None));
     drop(first);
     drop(index);
 }
@@ -166,7 +171,7 @@ fn a_name_is_another(rt: HostRuntime) {
     drop(index);
 }
 
-fn other(rt: &impl Abort, alloc: Global) -> Node<Global> {
+fn bucket_named_h2(rt: &impl Abort, alloc: Global) -> Node<Global> {
     let header = Header {
         id: bucket(rt, 1),
         kind: TypeId::new(1),
@@ -201,7 +206,9 @@ fn buckets_are_exchanged(rt: HostRuntime) {
     let mut index = Index::new(rt.alloc(), Hashing::plain());
     let mut roots = Vec::new(rt.alloc());
     roots.push(host(&rt, rt.alloc())).expect(&rt, "memory");
-    roots.push(other(&rt, rt.alloc())).expect(&rt, "memory");
+    roots
+        .push(bucket_named_h2(&rt, rt.alloc()))
+        .expect(&rt, "memory");
     let mut items = Vec::new(rt.alloc());
     items.push(leaf(&rt, rt.alloc())).expect(&rt, "memory");
     let h1 = bucket(&rt, 2);

@@ -32,7 +32,7 @@ fn add_three(index: &mut Index, alloc: Global) -> bool {
         && add(index, alloc, b"osd.0", device(0))
 }
 
-fn tell(index: &Index, h1: Option<ItemId>, h2: Option<ItemId>, osd: Option<ItemId>) -> bool {
+fn finds_names(index: &Index, h1: Option<ItemId>, h2: Option<ItemId>, osd: Option<ItemId>) -> bool {
     index.id_of(b"h1") == h1
         && index.id_of(b"h2") == h2
         && index.id_of(b"osd.0") == osd
@@ -42,12 +42,12 @@ fn tell(index: &Index, h1: Option<ItemId>, h2: Option<ItemId>, osd: Option<ItemI
 #[test]
 fn names_come_and_go(rt: HostRuntime) {
     let mut index = Index::new(rt.alloc(), Hashing::plain());
-    assert!(rt; tell(&index, None, None, None));
+    assert!(rt; finds_names(&index, None, None, None));
     assert!(rt; add_three(&mut index, rt.alloc()));
-    assert!(rt; tell(&index, bucket(2), bucket(3), device(0)));
+    assert!(rt; finds_names(&index, bucket(2), bucket(3), device(0)));
     index.forget_name(b"h2");
     index.forget_name(b"x");
-    assert!(rt; tell(&index, bucket(2), None, device(0)));
+    assert!(rt; finds_names(&index, bucket(2), None, device(0)));
     drop(index);
 }
 
@@ -56,7 +56,7 @@ fn names_hash_with_keys_as_without(rt: HostRuntime) {
     let keys = RandomState::new(&rt).expect(&rt, "the machine has random bytes");
     let mut index = Index::new(rt.alloc(), Hashing::keyed(keys));
     assert!(rt; add_three(&mut index, rt.alloc()));
-    assert!(rt; tell(&index, bucket(2), bucket(3), device(0)));
+    assert!(rt; finds_names(&index, bucket(2), bucket(3), device(0)));
     drop(index);
 }
 
@@ -65,6 +65,6 @@ fn two_names_are_exchanged(rt: HostRuntime) {
     let mut index = Index::new(rt.alloc(), Hashing::plain());
     assert!(rt; add_three(&mut index, rt.alloc()));
     exchange_hosts(&mut index);
-    assert!(rt; tell(&index, bucket(3), bucket(2), device(0)));
+    assert!(rt; finds_names(&index, bucket(3), bucket(2), device(0)));
     drop(index);
 }

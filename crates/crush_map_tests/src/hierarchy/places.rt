@@ -28,19 +28,19 @@ fn add_four(rt: &(impl Abort + AllocGlobal), index: &mut Index) {
     add(rt, index, inside(rt, 2), 1, leaf(rt, 2, "osd.2", 1));
 }
 
-fn stands(index: &Index, id: ItemId, position: Option<Position>) -> bool {
+fn has_position(index: &Index, id: ItemId, position: Option<Position>) -> bool {
     index.places().position(id) == position
 }
 
 #[test]
 fn places_come_and_go(rt: HostRuntime) {
     let mut index = Index::new(rt.alloc(), Hashing::plain());
-    let was_absent = stands(&index, device_item(&rt, 2), None);
+    let was_absent = has_position(&index, device_item(&rt, 2), None);
     add_four(&rt, &mut index);
-    let are_there = stands(&index, bucket_item(&rt, 2), below(&rt, 1, 0))
-        && stands(&index, device_item(&rt, 2), below(&rt, 2, 1));
+    let are_there = has_position(&index, bucket_item(&rt, 2), below(&rt, 1, 0))
+        && has_position(&index, device_item(&rt, 2), below(&rt, 2, 1));
     // A device and a bucket of the same number are two items.
-    let is_absent = stands(&index, device_item(&rt, 1), None);
+    let is_absent = has_position(&index, device_item(&rt, 1), None);
     drop(index);
     assert!(rt; was_absent && are_there && is_absent);
 }
@@ -49,7 +49,12 @@ fn finds(index: &Index, id: &ItemId, slot: u32, found: &Found) -> bool {
     index.places().position_from(*id, slot) == *found
 }
 
-fn leads(index: &Index, id: ItemId, position: Option<Position>, slot: u32) -> bool {
+fn is_found_from_every_slot(
+    index: &Index,
+    id: ItemId,
+    position: Option<Position>,
+    slot: u32,
+) -> bool {
     let id = &id;
     let found = Found { position, slot };
     finds(index, id, 0, &found)
@@ -63,9 +68,9 @@ fn a_slot_is_never_trusted(rt: HostRuntime) {
     let mut index = Index::new(rt.alloc(), Hashing::plain());
     add_four(&rt, &mut index);
     // A bucket's slot is its own id, without the sign, until the bucket is exchanged.
-    let leads_there = leads(&index, device_item(&rt, 2), below(&rt, 2, 1), 2)
-        && leads(&index, bucket_item(&rt, 2), below(&rt, 1, 0), 1)
-        && leads(&index, bucket_item(&rt, 3), None, 0);
+    let leads_there = is_found_from_every_slot(&index, device_item(&rt, 2), below(&rt, 2, 1), 2)
+        && is_found_from_every_slot(&index, bucket_item(&rt, 2), below(&rt, 1, 0), 1)
+        && is_found_from_every_slot(&index, bucket_item(&rt, 3), None, 0);
     drop(index);
     assert!(rt; leads_there);
 }
@@ -87,7 +92,7 @@ fn put(index: &mut Index, id: &ItemId, bucket: &BucketId, hint: u32) -> bool {
     true
 }
 
-fn change(rt: &(impl Abort + AllocGlobal), index: &mut Index) -> bool {
+fn remove_and_move(rt: &(impl Abort + AllocGlobal), index: &mut Index) -> bool {
     let gone = leaf(rt, 0, "osd.0", 1);
     index.remove_node(&gone);
     drop(gone);
@@ -98,10 +103,10 @@ fn change(rt: &(impl Abort + AllocGlobal), index: &mut Index) -> bool {
 fn items_go_and_move(rt: HostRuntime) {
     let mut index = Index::new(rt.alloc(), Hashing::plain());
     add_four(&rt, &mut index);
-    let is_changed = change(&rt, &mut index);
-    let are_told = stands(&index, device_item(&rt, 0), None)
-        && stands(&index, device_item(&rt, 2), below(&rt, 1, 1))
-        && stands(&index, bucket_item(&rt, 2), below(&rt, 1, 0));
+    let is_changed = remove_and_move(&rt, &mut index);
+    let are_told = has_position(&index, device_item(&rt, 0), None)
+        && has_position(&index, device_item(&rt, 2), below(&rt, 1, 1))
+        && has_position(&index, bucket_item(&rt, 2), below(&rt, 1, 0));
     drop(index);
     assert!(rt; is_changed && are_told);
 }

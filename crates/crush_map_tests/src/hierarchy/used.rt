@@ -15,7 +15,7 @@ fn class_id(rt: &(impl Abort + AllocGlobal), distance: u32) -> ShadowId<Global> 
     }
 }
 
-fn user(
+fn bucket_with_class_ids(
     rt: &(impl Abort + AllocGlobal),
     distance: u32,
     text: &str,
@@ -32,7 +32,7 @@ fn user(
 }
 
 /// A bucket that uses the ids -1, -2, -4 to -64, -66, and the one farthest below 0.
-fn user_of_most(rt: &(impl Abort + AllocGlobal)) -> Node<Global> {
+fn bucket_with_most_class_ids(rt: &(impl Abort + AllocGlobal)) -> Node<Global> {
     let mut class_ids = Vec::new(rt.alloc());
     class_ids.push(class_id(rt, 2)).expect(rt, "memory");
     for distance in 4..65 {
@@ -42,29 +42,29 @@ fn user_of_most(rt: &(impl Abort + AllocGlobal)) -> Node<Global> {
     class_ids
         .push(class_id(rt, 2_147_483_648))
         .expect(rt, "memory");
-    user(rt, 1, "h1", class_ids)
+    bucket_with_class_ids(rt, 1, "h1", class_ids)
 }
 
 /// A bucket that uses the id -3, and the first id for which the index has no bit.
-fn user_of_two(rt: &(impl Abort + AllocGlobal)) -> Node<Global> {
+fn bucket_with_one_class_id(rt: &(impl Abort + AllocGlobal)) -> Node<Global> {
     let mut class_ids = Vec::new(rt.alloc());
     class_ids.push(class_id(rt, 69_696)).expect(rt, "memory");
-    user(rt, 3, "h2", class_ids)
+    bucket_with_class_ids(rt, 3, "h2", class_ids)
 }
 
-fn has(rt: &impl Abort, index: &Index, distance: u32) -> bool {
+fn has_used_id(rt: &impl Abort, index: &Index, distance: u32) -> bool {
     index.is_used(bucket(rt, distance))
 }
 
 fn tells_ends(rt: &impl Abort, index: &Index) -> bool {
-    has(rt, index, 1)
-        && has(rt, index, 64)
-        && !has(rt, index, 65)
-        && has(rt, index, 66)
-        && !has(rt, index, 69_695)
-        && has(rt, index, 69_696)
-        && !has(rt, index, 69_697)
-        && has(rt, index, 2_147_483_648)
+    has_used_id(rt, index, 1)
+        && has_used_id(rt, index, 64)
+        && !has_used_id(rt, index, 65)
+        && has_used_id(rt, index, 66)
+        && !has_used_id(rt, index, 69_695)
+        && has_used_id(rt, index, 69_696)
+        && !has_used_id(rt, index, 69_697)
+        && has_used_id(rt, index, 2_147_483_648)
 }
 
 fn tells_free(index: &Index) -> bool {
@@ -77,8 +77,11 @@ fn tells_free(index: &Index) -> bool {
 #[test]
 fn ids_are_in_use(rt: HostRuntime) {
     let mut index = Index::new(rt.alloc(), Hashing::plain());
-    let (first, second) = (user_of_most(&rt), user_of_two(&rt));
-    let is_free = !has(&rt, &index, 1) && index.first_free(1) == Some(1);
+    let (first, second) = (
+        bucket_with_most_class_ids(&rt),
+        bucket_with_one_class_id(&rt),
+    );
+    let is_free = !has_used_id(&rt, &index, 1) && index.first_free(1) == Some(1);
     let is_free_further_on = index.first_free(500) == Some(500);
     index
         .insert_node(Place::Root, 0, &first)
@@ -96,15 +99,18 @@ fn ids_are_in_use(rt: HostRuntime) {
 fn tells_what_is_free_again(rt: &impl Abort, index: &Index) -> bool {
     index.first_free(1) == Some(3)
         && index.first_free(4) == Some(65)
-        && has(rt, index, 2)
-        && has(rt, index, 4)
-        && !has(rt, index, 69_696)
+        && has_used_id(rt, index, 2)
+        && has_used_id(rt, index, 4)
+        && !has_used_id(rt, index, 69_696)
 }
 
 #[test]
 fn ids_are_free_again(rt: HostRuntime) {
     let mut index = Index::new(rt.alloc(), Hashing::plain());
-    let (first, second) = (user_of_most(&rt), user_of_two(&rt));
+    let (first, second) = (
+        bucket_with_most_class_ids(&rt),
+        bucket_with_one_class_id(&rt),
+    );
     index
         .insert_node(Place::Root, 0, &first)
         .expect(&rt, "memory");

@@ -144,7 +144,7 @@ fn are_named<A: Allocator>(nodes: &[Node<A>], names: &[&str]) -> bool {
             .all(|(node, name)| name_of(node) == *name)
 }
 
-fn holds<A: Allocator>(map: &CrushMap<A>, bucket: &str, items: &[&str]) -> bool {
+fn bucket_holds<A: Allocator>(map: &CrushMap<A>, bucket: &str, items: &[&str]) -> bool {
     let Some(id) = map.locate(bucket) else {
         return false;
     };
@@ -190,7 +190,7 @@ fn counts<A: Allocator>(map: &CrushMap<A>, devices: u32, buckets: u32) -> bool {
 fn is_true_of<A: Allocator>(map: &CrushMap<A>, fact: Fact) -> bool {
     match fact {
         Fact::Holds(bucket, items, units) => {
-            holds(map, bucket, items) && weighs(map, bucket, units)
+            bucket_holds(map, bucket, items) && weighs(map, bucket, units)
         }
         Fact::HasId(item, number) => has_id(map, item, number),
         Fact::IsRoot(bucket) => is_root(map, bucket),

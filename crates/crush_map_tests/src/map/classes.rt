@@ -34,7 +34,7 @@ fn is_changed(told: Result<Done, EditFault>) -> bool {
     }
 }
 
-fn give(
+fn give_class(
     rt: &impl Abort,
     alloc: Global,
     map: &mut CrushMap<Global>,
@@ -60,8 +60,8 @@ fn change_it(rt: &impl Abort, alloc: Global, map: &mut CrushMap<Global>, all: &[
 #[test]
 fn classes_are_weighed(rt: HostRuntime) {
     let mut map = whole_example_map(&rt, rt.alloc());
-    give(&rt, rt.alloc(), &mut map, "osd.0", "ssd");
-    give(&rt, rt.alloc(), &mut map, "osd.2", "ssd");
+    give_class(&rt, rt.alloc(), &mut map, "osd.0", "ssd");
+    give_class(&rt, rt.alloc(), &mut map, "osd.2", "ssd");
     let are_weighed = ROWS.iter().all(|row| is_weighed(&map, row));
     drop(map);
     assert!(rt; are_weighed);
@@ -77,7 +77,7 @@ const NEW: &[Asked] = &[
 #[test]
 fn a_class_is_exchanged_in_a_batch(rt: HostRuntime) {
     let mut map = whole_example_map(&rt, rt.alloc());
-    give(&rt, rt.alloc(), &mut map, "osd.0", "hdd");
+    give_class(&rt, rt.alloc(), &mut map, "osd.0", "hdd");
     let is_exchanged = change_it(&rt, rt.alloc(), &mut map, ANOTHER)
         && has_class(&map, "osd.0", "ssd");
     drop(map);
@@ -97,7 +97,7 @@ fn an_unplaced_device_gets_a_class(rt: HostRuntime) {
     let mut builder = map_in_the_making(&rt, rt.alloc());
     make_all(&rt, &mut builder, &[Statement::Device(3, "osd.3")]).expect(&rt, "a device");
     let mut map = finish(&rt, builder);
-    give(&rt, rt.alloc(), &mut map, "osd.3", "ssd");
+    give_class(&rt, rt.alloc(), &mut map, "osd.3", "ssd");
     let is_classed = has_class(&map, "osd.3", "ssd");
     drop(map);
     assert!(rt; is_classed);

@@ -63,19 +63,19 @@ fn is_there(builder: &MapBuilder<&LocalHeap>, taken: usize, item: &Item) -> bool
     }
 }
 
-fn are_there(builder: &MapBuilder<&LocalHeap>, taken: usize) -> bool {
+fn are_items_found(builder: &MapBuilder<&LocalHeap>, taken: usize) -> bool {
     ITEMS.iter().all(|item| is_there(builder, taken, item))
 }
 
 fn make_and_look(rt: &impl Abort, builder: &mut MapBuilder<&LocalHeap>) {
     for (taken, statement) in BEFORE_RULE.iter().enumerate() {
-        assert!(rt; are_there(builder, taken), "statement {taken}");
+        assert!(rt; are_items_found(builder, taken), "statement {taken}");
         if make(rt, builder, *statement).is_err() {
-            assert!(rt; are_there(builder, taken), "statement {taken}");
+            assert!(rt; are_items_found(builder, taken), "statement {taken}");
             return;
         }
     }
-    assert!(rt; are_there(builder, BEFORE_RULE.len()));
+    assert!(rt; are_items_found(builder, BEFORE_RULE.len()));
 }
 
 fn look_at_what_is_made(rt: &impl Abort, alloc: Global, heap: &LocalHeap) {

@@ -32,7 +32,7 @@ fn items(kids: &Kids) -> &'static [Item] {
     }
 }
 
-fn holder(kids: &Kids) -> Option<&'static str> {
+fn parent_name(kids: &Kids) -> Option<&'static str> {
     match kids {
         Kids::Roots(_) => None,
         Kids::Of(bucket, _) => Some(bucket),
@@ -46,7 +46,7 @@ fn name_of(map: &CrushMap<Global>, bucket: Option<BucketId>) -> Option<&str> {
     }
 }
 
-fn is_row(map: &CrushMap<Global>, item: &Item, holder: Option<&str>) -> bool {
+fn is_row(map: &CrushMap<Global>, item: &Item, parent_name: Option<&str>) -> bool {
     let (name, number, units) = *item;
     let Some(id) = map.locate(name) else {
         return false;
@@ -54,13 +54,13 @@ fn is_row(map: &CrushMap<Global>, item: &Item, holder: Option<&str>) -> bool {
     let id = &id;
     id.number() == number
         && map.weight_of(name) == Some(Weight::from_units(units))
-        && name_of(map, map.parent(*id)) == holder
+        && name_of(map, map.parent(*id)) == parent_name
 }
 
 fn are_rows(map: &CrushMap<Global>, kids: &Kids) -> bool {
     items(kids)
         .iter()
-        .all(|item| is_row(map, item, holder(kids)))
+        .all(|item| is_row(map, item, parent_name(kids)))
 }
 
 fn has_name(table: &[Kids], name: &str) -> bool {
@@ -73,7 +73,7 @@ fn is_no_other(map: &CrushMap<Global>, table: &[Kids], name: &str) -> bool {
     has_name(table, name) || (map.locate(name).is_none() && map.weight_of(name).is_none())
 }
 
-fn is_told(map: &CrushMap<Global>, table: &[Kids]) -> bool {
+fn has_all_rows(map: &CrushMap<Global>, table: &[Kids]) -> bool {
     table.iter().all(|kids| are_rows(map, kids))
         && NAMES.iter().all(|name| is_no_other(map, table, name))
 }
@@ -89,7 +89,7 @@ fn make_and_look(
     let told = answer(rt, map, edits.as_slice());
     drop(edits);
     assert!(rt; told == line.told, "line {place}");
-    assert!(rt; is_told(map, line.then), "line {place}");
+    assert!(rt; has_all_rows(map, line.then), "line {place}");
     assert!(rt; are_looked_up(map), "line {place}");
 }
 

@@ -181,7 +181,7 @@ fn are_numbered(items: &[Node<Global>], numbers: &[i32]) -> bool {
             .all(|(item, number)| item.id().number() == *number)
 }
 
-fn holds(rt: &impl Abort, forest: &Forest<Global>, distance: u32, numbers: &[i32]) -> bool {
+fn bucket_holds(rt: &impl Abort, forest: &Forest<Global>, distance: u32, numbers: &[i32]) -> bool {
     let items = forest.items(bucket(rt, distance)).expect(rt, "a bucket");
     are_numbered(items, numbers)
 }
@@ -189,8 +189,8 @@ fn holds(rt: &impl Abort, forest: &Forest<Global>, distance: u32, numbers: &[i32
 fn is_in_order(rt: &impl Abort, forest: &Forest<Global>) -> bool {
     are_numbered(forest.roots(), &[-1])
         && are_numbered(forest.unplaced(), &[3])
-        && holds(rt, forest, 1, &[-2, -3])
-        && holds(rt, forest, 2, &[0, 1])
+        && bucket_holds(rt, forest, 1, &[-2, -3])
+        && bucket_holds(rt, forest, 2, &[0, 1])
         && forest.items(bucket(rt, 4)).is_none()
 }
 
@@ -201,7 +201,7 @@ fn has_memory_for_a_name(rt: &impl Abort, forest: &Forest<Global>) -> bool {
     is_read
 }
 
-fn tells_all(rt: &impl Abort, forest: &Forest<Global>) -> bool {
+fn answers_every_query(rt: &impl Abort, forest: &Forest<Global>) -> bool {
     sums_up(rt, forest)
         && is_osd_2_in_h2(rt, forest)
         && is_copied(rt, forest)
@@ -213,11 +213,11 @@ fn tells_all(rt: &impl Abort, forest: &Forest<Global>) -> bool {
 }
 
 #[test]
-fn what_is_told(rt: HostRuntime) {
+fn the_example_answers_every_query(rt: HostRuntime) {
     let mut forest = example(&rt);
     let idle = Item::DeviceOfClass(3, "osd.3", 0);
     add(&rt, &mut forest, Place::Unplaced, idle);
-    let is_told = tells_all(&rt, &forest);
+    let is_told = answers_every_query(&rt, &forest);
     drop(forest);
     assert!(rt; is_told);
 }
@@ -274,10 +274,10 @@ fn take_h2_out(rt: &impl Abort, forest: &mut Forest<Global>) -> Weight {
 fn is_without_h2(rt: &impl Abort, forest: &Forest<Global>) -> bool {
     forest.total() == 131072
         && !has_item(forest, &device_item(rt, 2))
-        && holds(rt, forest, 1, &[-2])
+        && bucket_holds(rt, forest, 1, &[-2])
 }
 
-fn comes_again(rt: &(impl Abort + AllocGlobal), forest: &mut Forest<Global>) -> bool {
+fn is_detached_and_put_back(rt: &(impl Abort + AllocGlobal), forest: &mut Forest<Global>) -> bool {
     let whole = copy_of(rt, forest);
     let weight = take_h2_out(rt, forest);
     let is_out = is_without_h2(rt, forest);
@@ -297,7 +297,7 @@ fn is_h1_at_h2(rt: &impl Abort, forest: &mut Forest<Global>) -> bool {
 #[test]
 fn items_move(rt: HostRuntime) {
     let mut forest = example(&rt);
-    let is_moved = comes_again(&rt, &mut forest) && is_h1_at_h2(&rt, &mut forest);
+    let is_moved = is_detached_and_put_back(&rt, &mut forest) && is_h1_at_h2(&rt, &mut forest);
     drop(forest);
     assert!(rt; is_moved);
 }
@@ -383,7 +383,7 @@ fn memory_to_spare(rt: HostRuntime) {
 fn grows_twice_and_back(rt: &impl Abort, forest: &mut Forest<Global>) -> bool {
     let h1 = bucket(rt, 2);
     grows_and_back(forest, h1, 2, 4)
-        && holds(rt, forest, 2, &[0, 1])
+        && bucket_holds(rt, forest, 2, &[0, 1])
         && grows_and_back(forest, h1, 2, 4)
         && is_in_order(rt, forest)
 }

@@ -8,7 +8,7 @@ ghost use Rattle.crush_model.specs.Stands.{Stands};
 ghost use Rattle.crush_model.specs.Table.{Row};
 ghost use Rattle.crush_since.specs.SeenItem.{seen_data};
 ghost use Rattle.crush_since.specs.Tallies.{HasRoom, is_made, is_reclassed, is_reweighed};
-ghost use Rattle.crush_print.specs.SeenStep.{step_data};
+ghost use Rattle.crush_print.specs.WalkStep.{walk_step_data};
 ghost use Rattle.crush_names.specs.Counted.{is_gone_by_name, is_moved_by_name, new_tally, tally_by_name, tally_plus};
 ghost use Rattle.crush_names.specs.Sides.{IsSide};
 
@@ -16,7 +16,7 @@ use crate::named::{Devices, counterpart, has_counterpart};
 use crate::sides::Side;
 use crate::staying::columns::same_place;
 use crush_map::CrushMap;
-use crush_print::{Step, walk};
+use crush_print::{WalkStep, walk};
 use crush_since::{Seen, Tally, is_made, is_reclassed, is_reweighed};
 use std::alloc::{AllocError, Allocator, Global};
 
@@ -38,9 +38,9 @@ pub(crate) fn tally_of<A: Allocator, B: Allocator>(
     Ok(Tally { removed, ..tally })
 }
 
-fn count_gone<A: Allocator, B: Allocator>(new: &Side<'_, B>, steps: &[Step<'_, A>]) -> usize
+fn count_gone<A: Allocator, B: Allocator>(new: &Side<'_, B>, steps: &[WalkStep<'_, A>]) -> usize
     ensures { (n : Option (List ℕ)) (t u : List Row) → IsSide n u new.now
-        → result ≡ count_by (λ s. is_gone_by_name t u (step_data s)) steps.now }
+        → result ≡ count_by (λ s. is_gone_by_name t u (walk_step_data s)) steps.now }
 {
     let mut count: usize = 0;
     for step in steps {
@@ -49,9 +49,9 @@ fn count_gone<A: Allocator, B: Allocator>(new: &Side<'_, B>, steps: &[Step<'_, A
     count
 }
 
-fn is_gone<A: Allocator, B: Allocator>(new: &Side<'_, B>, step: &Step<'_, A>) -> bool
+fn is_gone<A: Allocator, B: Allocator>(new: &Side<'_, B>, step: &WalkStep<'_, A>) -> bool
     ensures { (n : Option (List ℕ)) (t u : List Row) → IsSide n u new.now
-        → result ≡ is_gone_by_name t u (step_data step.now) }
+        → result ≡ is_gone_by_name t u (walk_step_data step.now) }
 {
     let view = step.view();
     !has_counterpart(Devices::ByName, new, &view)
@@ -60,10 +60,10 @@ fn is_gone<A: Allocator, B: Allocator>(new: &Side<'_, B>, step: &Step<'_, A>) ->
 fn count_new<'a, A: Allocator, B: Allocator>(
     old: &Side<'a, A>,
     new: &Side<'a, B>,
-    steps: &[Step<'a, B>],
+    steps: &[WalkStep<'a, B>],
 ) -> Tally
     ensures { (n : Option (List ℕ)) (t u : List Row) → IsSide n t old.now
-        → IsSide n u new.now → result ≡ new_tally t u step_data steps.now }
+        → IsSide n u new.now → result ≡ new_tally t u walk_step_data steps.now }
 {
     let mut tally = Tally {
         made: 0,

@@ -1,4 +1,4 @@
-//! Calls that take no memory, made once and often: `bench/refused_memory.py` compares the requests
+//! Calls that take no memory, made once and often: `tests/refused_memory.py` compares the requests
 //! for memory of each pair of tests.
 
 ghost use Rattle.std.specs.Prelude.{◌≡◌};

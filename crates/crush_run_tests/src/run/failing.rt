@@ -23,7 +23,7 @@ const WAYS: [Failing; 2] = [
         is_for_good: false,
     },
     Failing {
-        kind: ErrorKind::Other,
+        kind: ErrorKind::SecondMap,
         is_for_good: true,
     },
 ];

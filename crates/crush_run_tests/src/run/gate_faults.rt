@@ -1,5 +1,5 @@
 //! A gate is called behind each call before which it was called, also where the call fails.
-//! `bench/refused_memory.py` refuses the requests for memory of these tests one by one: they make
+//! `tests/refused_memory.py` refuses the requests for memory of these tests one by one: they make
 //! none outside a run.
 
 use super::{AT_ONCE, MODE, run_map};

@@ -85,7 +85,7 @@ struct Closed;
 
 impl Write for Closed {
     fn write(&mut self, _bytes: &[u8]) -> io::Result<usize> {
-        Err(ErrorKind::Other.into())
+        Err(ErrorKind::SecondMap.into())
     }
 
     fn flush(&mut self) -> io::Result<()> {

@@ -51,9 +51,9 @@ fn ends_so(
     let mut input: &[u8] = b"";
     let ending = run_options(rt, &Shelf { files }, &options, &mut input, &mut out);
     drop(options);
-    let came = ending.outcome == outcome && ending.notes.is_empty();
+    let has_ended_so = ending.outcome == outcome && ending.notes.is_empty();
     drop(ending);
-    came && out.as_slice() == output
+    has_ended_so && out.as_slice() == output
 }
 
 const ALICE: &[u8] = b"reweight osd.2 1.0";
@@ -136,9 +136,9 @@ fn the_files_of_a_job_are_read_up_to_one_limit(rt: HostRuntime) {
         &mut input,
         &mut out,
     );
-    let came = ending.outcome == Err(RunFault::Job(JobFault::TooLong));
+    let has_ended_so = ending.outcome == Err(RunFault::Job(JobFault::TooLong));
     drop(options);
     drop(ending);
     let count = taken.load(Ordering::SeqCst);
-    assert!(rt; came && out.is_empty() && count == 16_777_217);
+    assert!(rt; has_ended_so && out.is_empty() && count == 16_777_217);
 }

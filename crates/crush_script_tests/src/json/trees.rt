@@ -3,7 +3,7 @@
 use super::maps::STRAY_MAP;
 use crate::maps::EXAMPLE_MAP;
 use crush_json::write_tree_document;
-use crush_print::Part;
+use crush_print::TreePart;
 use crush_text::read_map;
 use crush_units::{BucketId, ItemId, TypeId};
 use std::process::Abort;
@@ -30,7 +30,7 @@ const STRAY_TREE: &[u8] = b"\
     \"stray\":[\
     {\"depth\":0,\"id\":3,\"name\":\"osd.3\",\"type\":\"osd\",\"type_id\":0,\"weight\":0}]}}\n";
 
-fn is_tree(rt: &(impl Abort + AllocGlobal), text: &[u8], part: Part, document: &[u8]) -> bool {
+fn is_tree(rt: &(impl Abort + AllocGlobal), text: &[u8], part: TreePart, document: &[u8]) -> bool {
     let (map, _) = read_map(rt.alloc(), text).expect(rt, "no map");
     let mut told = Vec::new(rt.alloc());
     write_tree_document(rt.alloc(), &map, part, None, &mut told).expect(rt, "not written");
@@ -40,12 +40,12 @@ fn is_tree(rt: &(impl Abort + AllocGlobal), text: &[u8], part: Part, document: &
 
 #[test]
 fn the_tree_of_the_example_map_is_told(rt: HostRuntime) {
-    assert!(rt; is_tree(&rt, EXAMPLE_MAP, Part::whole(), EXAMPLE_TREE));
+    assert!(rt; is_tree(&rt, EXAMPLE_MAP, TreePart::whole(), EXAMPLE_TREE));
 }
 
 #[test]
 fn a_device_that_no_bucket_holds_is_stray(rt: HostRuntime) {
-    assert!(rt; is_tree(&rt, STRAY_MAP, Part::whole(), STRAY_TREE));
+    assert!(rt; is_tree(&rt, STRAY_MAP, TreePart::whole(), STRAY_TREE));
 }
 
 const HOSTS: &[u8] = b"\
@@ -60,7 +60,7 @@ const HOSTS: &[u8] = b"\
 
 #[test]
 fn a_part_of_the_tree_is_told(rt: HostRuntime) {
-    let part = Part {
+    let part = TreePart {
         under: BucketId::below_zero(1).map(|bucket| ItemId::Bucket(bucket)),
         down_to: Some(TypeId::new(1)),
     };

@@ -1,5 +1,5 @@
 //! Which differences remain between a part of two maps. Expected values are worked by hand from the
-//! table of docs/names.md.
+//! table of docs/dev/names.md.
 
 use crate::maps::{EXAMPLE_MAP, map_of};
 use crate::plan::maps::*;

@@ -1,5 +1,5 @@
 //! What has changed between two maps whose items are matched by name. Expected values are worked by
-//! hand from the table of docs/names.md.
+//! hand from the table of docs/dev/names.md.
 
 use crate::maps::{EXAMPLE_MAP, map_of};
 use crate::plan::maps::*;

@@ -3,12 +3,12 @@
 use super::EXAMPLE_MAP;
 use crate::maps::map_of;
 use crush_map::CrushMap;
-use crush_print::{Part, walk_part, write_tree_part};
+use crush_print::{TreePart, walk_part, write_tree_part};
 use std::alloc::Global;
 use std::process::Abort;
 
-fn part_of(map: &CrushMap<Global>, under: Option<&str>, down_to: Option<&str>) -> Part {
-    Part {
+fn part_of(map: &CrushMap<Global>, under: Option<&str>, down_to: Option<&str>) -> TreePart {
+    TreePart {
         under: match under {
             Some(name) => map.locate(name),
             None => None,
@@ -101,7 +101,7 @@ fn a_rack_is_told_down_to_its_hosts(rt: HostRuntime) {
 #[test]
 fn the_whole_tree_is_a_part(rt: HostRuntime) {
     let map = map_of(&rt, EXAMPLE_MAP);
-    let steps = walk_part(rt.alloc(), &map, Part::whole()).expect(&rt, "no walk");
+    let steps = walk_part(rt.alloc(), &map, TreePart::whole()).expect(&rt, "no walk");
     assert!(rt; steps.len() == 6);
     drop(steps);
     drop(map);

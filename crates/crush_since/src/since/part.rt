@@ -3,7 +3,7 @@
 ghost use Rattle.std.specs.Prelude.{◌≡◌, List, IfOk, None, Some, map as each};
 ghost use Rattle.crush_model.specs.Stands.{Stands};
 ghost use Rattle.crush_model.specs.Table.{Row};
-ghost use Rattle.crush_print.specs.SeenStep.{step_data};
+ghost use Rattle.crush_print.specs.WalkStep.{walk_step_data};
 ghost use Rattle.crush_since.specs.Since.{plain_map};
 ghost use Rattle.crush_since.specs.SincePart.{ids_below, part_ids, since_part_text, step_ids};
 
@@ -11,7 +11,7 @@ use crate::since::ids::each_once;
 use crate::since::listing::listing_of;
 use crate::since::push_items;
 use crush_map::CrushMap;
-use crush_print::{Part, Step, walk_part};
+use crush_print::{TreePart, WalkStep, walk_part};
 use crush_units::ItemId;
 use std::alloc::{AllocError, Allocator, Global};
 
@@ -67,18 +67,21 @@ fn ids_below<A: Allocator>(
     step_ids(alloc, steps.as_slice())
 }
 
-fn part_below(under: ItemId) -> Part
+fn part_below(under: ItemId) -> TreePart
     ensures under { result.under ≡ Some under }
     ensures down_to { result.down_to ≡ None }
 {
-    Part {
+    TreePart {
         under: Some(under),
         down_to: None,
     }
 }
 
-fn step_ids<A: Allocator>(alloc: Global, steps: &[Step<'_, A>]) -> Result<Vec<ItemId>, AllocError>
-    ensures { IfOk result (λ ids. ids.items ≡ step_ids (each step_data steps.now)) }
+fn step_ids<A: Allocator>(
+    alloc: Global,
+    steps: &[WalkStep<'_, A>],
+) -> Result<Vec<ItemId>, AllocError>
+    ensures { IfOk result (λ ids. ids.items ≡ step_ids (each walk_step_data steps.now)) }
 {
     let mut ids = Vec::new(alloc);
     for step in steps {

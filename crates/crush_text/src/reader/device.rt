@@ -7,10 +7,10 @@ ghost use Rattle.crush_text.specs.ReadsWords.{FindsValue};
 ghost use Rattle.crush_text.specs.ReadsLines.{ReadsLine, HasRoomFor};
 
 use crate::fault::{TextFault, TextFaultKind};
-use crate::opening::Opening;
 use crate::reader::MapReader;
 use crate::reader::roles::read_word;
 use crate::reader::word::memory_at;
+use crate::statement_kind::StatementKind;
 use crush_units::DeviceId;
 use crush_units::limits::LAST_DEVICE_ID;
 use crush_units::number::number_up_to;
@@ -20,7 +20,7 @@ impl<'a, A: Allocator + Clone> MapReader<'a, A> {
     /// Reads `N NAME [class CLASS]`, after `device`.
     #[tactic(auto, unfolding(crate::specs::Reads::line_at))]
     pub(crate) fn device(&mut self) -> Result<(), TextFault>
-        requires { HasRoomFor Opening.Device self.old.builder }
+        requires { HasRoomFor StatementKind.Device self.old.builder }
         ensures { ReadsLine device_line (λ _. first) self.old self.new result }
     {
         let id = self.device_id()?;

@@ -18,10 +18,10 @@ ghost use Rattle.crush_text.specs.ReadsLines.{ReadsOn, HasRoomFor};
 ghost use Rattle.crush_text.specs.ReadsRules.{ReadsSteps, IsRightSoFar, ReadsStepLine, ReadsHead, ReadsSize};
 
 use crate::fault::{TextFault, TextFaultKind};
-use crate::opening::Opening;
 use crate::reader::MapReader;
 use crate::reader::roles::{read_key, read_number, read_word};
 use crate::reader::word::{PlacedWord, next_word, out_of_memory_at};
+use crate::statement_kind::StatementKind;
 use crush_map::{Rule, Step};
 use crush_units::Reader;
 use crush_units::limits::{LARGEST_RULE_NUMBER, MOST_STEPS};
@@ -32,7 +32,7 @@ impl<'a, A: Allocator> MapReader<'a, A> {
     /// Reads a rule to its closing brace, after `rule`. Until the rule is complete, it is kept in
     /// the machine's memory and the map doesn't have it.
     pub(crate) fn rule(&mut self) -> Result<(), TextFault>
-        requires { HasRoomFor Opening.Rule self.old.builder }
+        requires { HasRoomFor StatementKind.Rule self.old.builder }
         ensures { ReadsOn (λ d. arrive d self.old.text.words (rule_line d)) (λ _. second)
             self.old self.new result }
     {

@@ -10,9 +10,9 @@ ghost use Rattle.crush_text.specs.ReadsLines.{IsIdle, ReadsOn};
 ghost use Rattle.crush_text.specs.ReadsStatements.{behind, ReadsNext, ReadsAll, Opens, CanOpen};
 
 use crate::fault::{TextFault, TextFaultKind};
-use crate::opening::Opening;
 use crate::reader::MapReader;
 use crate::reader::word::PlacedWord;
+use crate::statement_kind::StatementKind;
 use crush_units::Token;
 use std::alloc::Allocator;
 
@@ -51,29 +51,29 @@ impl<'a, A: Allocator + Clone> MapReader<'a, A> {
 
     /// Reads the statement after its first word, and returns whether only buckets and rules may
     /// follow it.
-    fn statement(&mut self, opening: Opening, word: &[u8]) -> Result<bool, TextFault>
+    fn statement(&mut self, opening: StatementKind, word: &[u8]) -> Result<bool, TextFault>
         requires { CanOpen opening word.now self.old.builder }
         ensures { ReadsOn (λ d. arrive d self.old.text.words (statement d opening)) behind
             self.old self.new result }
     {
         match opening {
-            Opening::Tunable => {
+            StatementKind::Tunable => {
                 self.tunable()?;
                 Ok(false)
             }
-            Opening::Device => {
+            StatementKind::Device => {
                 self.device()?;
                 Ok(false)
             }
-            Opening::Type => {
+            StatementKind::Type => {
                 self.kind()?;
                 Ok(false)
             }
-            Opening::Bucket(_) => {
+            StatementKind::Bucket(_) => {
                 self.bucket(word)?;
                 Ok(true)
             }
-            Opening::Rule => {
+            StatementKind::Rule => {
                 self.rule()?;
                 Ok(true)
             }
@@ -82,23 +82,31 @@ impl<'a, A: Allocator + Clone> MapReader<'a, A> {
 
     /// Returns which kind of statement the word begins, if the map has room for one more of this
     /// kind. `late` says that a bucket or a rule was read before.
-    fn opening_of(&self, word: PlacedWord<'_>, late: bool) -> Result<Opening, TextFault>
+    fn opening_of(&self, word: PlacedWord<'_>, late: bool) -> Result<StatementKind, TextFault>
         ensures { Opens word.entry late self.now.builder result }
     {
         if is_out_of_place(word, late) {
             return Err(word.fault(TextFaultKind::Unexpected));
         }
         if word.is(b"tunable") {
-            return with_room(word, Opening::Tunable, self.builder.is_full_of_tunables());
+            return with_room(
+                word,
+                StatementKind::Tunable,
+                self.builder.is_full_of_tunables(),
+            );
         }
         if word.is(b"device") {
-            return with_room(word, Opening::Device, self.builder.is_full_of_devices());
+            return with_room(
+                word,
+                StatementKind::Device,
+                self.builder.is_full_of_devices(),
+            );
         }
         if word.is(b"type") {
-            return with_room(word, Opening::Type, self.builder.is_full_of_kinds());
+            return with_room(word, StatementKind::Type, self.builder.is_full_of_kinds());
         }
         if word.is(b"rule") {
-            return with_room(word, Opening::Rule, self.builder.is_full_of_rules());
+            return with_room(word, StatementKind::Rule, self.builder.is_full_of_rules());
         }
         if word.is(b"choose_args") {
             return Err(word.fault(TextFaultKind::LeftOut));
@@ -107,7 +115,7 @@ impl<'a, A: Allocator + Clone> MapReader<'a, A> {
             Some(kind) if self.builder.is_bucket_kind(kind) => {
                 with_room(
                     word,
-                    Opening::Bucket(kind),
+                    StatementKind::Bucket(kind),
                     self.builder.is_full_of_buckets(),
                 )
             }
@@ -132,7 +140,11 @@ pub(crate) fn comes_first(word: PlacedWord<'_>) -> bool
 }
 
 /// Returns `opening`, or `TooMany` at the word if the map is full of this kind of statement.
-fn with_room(word: PlacedWord<'_>, opening: Opening, full: bool) -> Result<Opening, TextFault>
+fn with_room(
+    word: PlacedWord<'_>,
+    opening: StatementKind,
+    full: bool,
+) -> Result<StatementKind, TextFault>
     ensures opens { result ≡ placed word.entry.place (if full then Err TooMany else Ok opening) }
     ensures room { IfOk result (λ o. (o ≡ opening) × (full ≡ false)) }
 {

@@ -7,10 +7,10 @@ ghost use Rattle.crush_text.specs.ReadsWords.{FindsWord};
 ghost use Rattle.crush_text.specs.ReadsLines.{ReadsLine, HasRoomFor};
 
 use crate::fault::{TextFault, TextFaultKind};
-use crate::opening::Opening;
 use crate::reader::MapReader;
 use crate::reader::roles::{read_number, read_word};
 use crate::reader::word::{PlacedWord, out_of_memory_at};
+use crate::statement_kind::StatementKind;
 use crush_units::limits::LARGEST_TUNABLE;
 use std::alloc::Allocator;
 
@@ -18,7 +18,7 @@ impl<'a, A: Allocator> MapReader<'a, A> {
     /// Reads `NAME N`, after `tunable`.
     #[tactic(auto, unfolding(crate::specs::Reads::line_at))]
     pub(crate) fn tunable(&mut self) -> Result<(), TextFault>
-        requires { HasRoomFor Opening.Tunable self.old.builder }
+        requires { HasRoomFor StatementKind.Tunable self.old.builder }
         ensures { ReadsLine tunable_line (λ _. first) self.old self.new result }
     {
         let name = self.tunable_name()?;

@@ -7,10 +7,10 @@ ghost use Rattle.crush_text.specs.ReadsWords.{FindsWord, FindsValue};
 ghost use Rattle.crush_text.specs.ReadsLines.{ReadsLine, HasRoomFor};
 
 use crate::fault::{TextFault, TextFaultKind};
-use crate::opening::Opening;
 use crate::reader::MapReader;
 use crate::reader::roles::read_word;
 use crate::reader::word::{PlacedWord, next_word, out_of_memory_at};
+use crate::statement_kind::StatementKind;
 use crush_map::is_reserved;
 use crush_units::TypeId;
 use crush_units::limits::LAST_TYPE;
@@ -21,7 +21,7 @@ impl<'a, A: Allocator> MapReader<'a, A> {
     /// Reads `N NAME`, after `type`.
     #[tactic(auto, unfolding(crate::specs::Reads::line_at))]
     pub(crate) fn kind(&mut self) -> Result<(), TextFault>
-        requires { HasRoomFor Opening.Type self.old.builder }
+        requires { HasRoomFor StatementKind.Type self.old.builder }
         ensures { ReadsLine type_line (λ _. first) self.old self.new result }
     {
         let number = self.type_number()?;

@@ -8,7 +8,7 @@ use Rattle.crush_history.proofs.making.make_batch.Goals as goal
 pub returns-in-Err-Refused-clause-made : goal.returns-in-Err-Refused-clause-made
 returns-in-Err-Refused-clause-made g c n s t st =
     let arm = c.in-Err-Refused in
-    let es = c.args.asked.now in
+    let es = c.args.edits.now in
     let told = arm.ensures.refused arm.index arm.refusal (ap Err arm.field-0-is) t st.forest in
     let is : batch s t es ≡ batch_refused arm.index arm.refusal = subst (λ z. batch z t es ≡ batch_refused arm.index arm.refusal) st.setting told in (
       sym (ap (λ (a : BatchAnswer). (batch_outcome t a).reply) is),

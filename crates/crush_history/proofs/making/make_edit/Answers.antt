@@ -9,7 +9,7 @@ use Rattle.crush_history.proofs.making.make_edit.Goals as goal
 pub returns-in-Err-Refused-clause-made : goal.returns-in-Err-Refused-clause-made
 returns-in-Err-Refused-clause-made g c n s t st =
     let arm = c.in-Err-Refused in
-    let e = c.args.asked.now in
+    let e = c.args.edit.now in
     let told = arm.ensures.refused arm.refusal (ap Err arm.field-0-is) t st.forest in
     let is : edit s t e ≡ refused arm.refusal = subst (λ z. edit z t e ≡ refused arm.refusal) st.setting told in (
       sym (ap (λ (a : Answer). (edit_outcome t a).reply) is),

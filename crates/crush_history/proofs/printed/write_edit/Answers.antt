@@ -7,7 +7,7 @@ pub returns-in-Swap-clause-writes : goal.returns-in-Swap-clause-writes
 returns-in-Swap-clause-writes g c = rw c.in-Swap.is c.write_two_names.ensures.writes
 
 pub returns-in-ReweightSubtree-clause-writes : goal.returns-in-ReweightSubtree-clause-writes
-returns-in-ReweightSubtree-clause-writes g c = rw c.in-ReweightSubtree.is c.write_weighed-in-ReweightSubtree.ensures.writes
+returns-in-ReweightSubtree-clause-writes g c = rw c.in-ReweightSubtree.is c.write_name_and_weight-in-ReweightSubtree.ensures.writes
 
 pub returns-in-AddBucket-clause-writes : goal.returns-in-AddBucket-clause-writes
 returns-in-AddBucket-clause-writes g c = rw c.in-AddBucket.is c.write_two_names-in-AddBucket.ensures.writes

@@ -3,10 +3,10 @@ use Rattle.crush_units.proofs.Appending.{less_of_both}
 use Rattle.crush_history.proofs.Writing.{then_writes}
 use Rattle.crush_history.proofs.printed.write_placing.Goals as goal
 
-pub returns-in_err-write_weighed-clause-writes : goal.returns-in_err-write_weighed-clause-writes
-returns-in_err-write_weighed-clause-writes g c =
+pub returns-in_err-write_name_and_weight-clause-writes : goal.returns-in_err-write_name_and_weight-clause-writes
+returns-in_err-write_name_and_weight-clause-writes g c =
     let p = err_from_is_err_and c.from_residual.result c.from_residual.ensures.1 in
-    rw p.1 (less_of_both _ _ _ _ c.in_err-write_weighed.ensures.writes)
+    rw p.1 (less_of_both _ _ _ _ c.in_err-write_name_and_weight.ensures.writes)
 
 pub returns-clause-writes : goal.returns-clause-writes
-returns-clause-writes g c = rw (← c.pairs.ensures.value) (then_writes _ _ _ _ _ _ c.in_ok-write_weighed.ensures.writes c.write_pairs.ensures.writes)
+returns-clause-writes g c = rw (← c.pairs.ensures.value) (then_writes _ _ _ _ _ _ c.in_ok-write_name_and_weight.ensures.writes c.write_pairs.ensures.writes)

@@ -17,4 +17,4 @@ returns-in_err-write_report g c =
     rw p.1 (less_of_both _ _ _ _ c.in_err-write_report.ensures)
 
 pub returns : goal.returns
-returns g c = rw (← c.wanted_reason.ensures) (then_writes c.put.result _ _ _ _ _ c.in_ok-write_report.ensures c.put.ensures.writes)
+returns g c = rw (← c.reason_if_requested.ensures) (then_writes c.put.result _ _ _ _ _ c.in_ok-write_report.ensures c.put.ensures.writes)

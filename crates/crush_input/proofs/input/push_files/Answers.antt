@@ -1,22 +1,22 @@
 use Rattle.std.proofs.Common.{ℕ, List, ◌++◌, inr, refl, sym, ◌∙◌, subst}
 use Rattle.std.proofs.lemmas.Result.{err_from_is_err_and}
 use Rattle.std.specs.Prelude.{IfSome}
-use Rattle.crush_input.specs.Input.{IsJoined, IsReadBehind}
-use Rattle.crush_input.specs.Joined.{parts_of, with_scripts}
+use Rattle.crush_input.specs.Input.{IsJoined, IsReadAndAppended}
+use Rattle.crush_input.specs.Joined.{script_spans_of, with_scripts}
 use Rattle.crush_input.specs.Options.{IsScript}
 use Rattle.crush_input.proofs.Joins.{next_part, next_script, no_part, no_script, one_script_more}
 use Rattle.crush_input.proofs.Reading.{part_noted}
 use Rattle.crush_input.proofs.input.push_files.Goals as goal
 
 pub loop-name-init : goal.loop-name-init
-loop-name-init g c = λ known parts before. (known, parts, refl, refl, before)
+loop-name-init g c = λ known spans before. (known, spans, refl, refl, before)
 
 pub loop-name-preserved : goal.loop-name-preserved
-loop-name-preserved g c = λ known parts before.
-    let so_far = c.loop-name.invariant known parts before in
+loop-name-preserved g c = λ known spans before.
+    let so_far = c.loop-name.invariant known spans before in
     let name = c.name-item.result in
     let content = g.F.Opens.content c.args.files.now in
-    let behind = subst (λ (n : List ℕ). IsReadBehind c.loop-name.job c.push_file.new.job n (content n)) c.as_str.ensures.value c.in_ok-push_file.ensures.read in (
+    let behind = subst (λ (n : List ℕ). IsReadAndAppended c.loop-name.job c.push_file.new.job n (content n)) c.as_str.ensures.value c.in_ok-push_file.ensures.read in (
       _,
       _,
       so_far.2 ∙ next_script content so_far.0 c.as_slice-names.result.now c.loop-name.name-index name c.loop-name-test.true c.name-item.is,
@@ -27,13 +27,13 @@ loop-name-preserved g c = λ known parts before.
 -- after the last script all of them were read
 pub returns : goal.returns
 returns g c = record {
-  job = λ known parts before.
-      let all = c.loop-name.invariant known parts before in
+  job = λ known spans before.
+      let all = c.loop-name.invariant known spans before in
       let content = g.F.Opens.content c.args.files.now in
       let names = c.as_slice-names.ensures.value in
-      let own = subst (λ parts. IfSome all.0 (λ b. IsJoined c.loop-name.job b parts)) (sym (all.3 ∙ no_part content all.0 c.as_slice-names.result.now c.loop-name.name-index all.1 c.loop-name-test.false)) all.4 in
-      let there = subst (λ now. IfSome now (λ b. IsJoined c.loop-name.job b (parts ++ parts_of content known c.as_slice-names.result.now))) (sym (all.2 ∙ no_script content all.0 c.as_slice-names.result.now c.loop-name.name-index c.loop-name-test.false)) own in
-      subst (λ ns. IfSome (with_scripts content known ns) (λ b. IsJoined c.loop-name.job b (parts ++ parts_of content known ns))) names there;
+      let own = subst (λ spans. IfSome all.0 (λ b. IsJoined c.loop-name.job b spans)) (sym (all.3 ∙ no_part content all.0 c.as_slice-names.result.now c.loop-name.name-index all.1 c.loop-name-test.false)) all.4 in
+      let there = subst (λ now. IfSome now (λ b. IsJoined c.loop-name.job b (spans ++ script_spans_of content known c.as_slice-names.result.now))) (sym (all.2 ∙ no_script content all.0 c.as_slice-names.result.now c.loop-name.name-index c.loop-name-test.false)) own in
+      subst (λ ns. IfSome (with_scripts content known ns) (λ b. IsJoined c.loop-name.job b (spans ++ script_spans_of content known ns))) names there;
   fault = tt;
   noted = tt;
 }

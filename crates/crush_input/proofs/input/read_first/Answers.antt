@@ -7,11 +7,11 @@ use Rattle.crush_input.proofs.Told.{known_of_take}
 use Rattle.crush_input.proofs.input.read_first.Goals as goal
 
 pub returns-in-None-clause-bytes : goal.returns-in-None-clause-bytes
-returns-in-None-clause-bytes g c = rw c.in-None.is (when_ok _ _ c.read_quietly.result (λ read taken. known_of_take _ read.items taken) c.read_quietly.ensures.bytes)
+returns-in-None-clause-bytes g c = rw c.in-None.is (when_ok _ _ c.read_without_notes.result (λ read taken. known_of_take _ read.items taken) c.read_without_notes.ensures.bytes)
 
 -- nothing is noted of standard input, and of a file what is noted of it
 pub returns-in-None-clause-noted : goal.returns-in-None-clause-noted
-returns-in-None-clause-noted g c = err_as _ _ c.read_quietly.result (λ s none. quiet_part c.args.options.now s.fault _ none) c.read_quietly.ensures.quiet
+returns-in-None-clause-noted g c = err_as _ _ c.read_without_notes.result (λ s none. quiet_part c.args.options.now s.fault _ none) c.read_without_notes.ensures.quiet
 
 pub returns-in-Some-clause-noted : goal.returns-in-Some-clause-noted
 returns-in-Some-clause-noted g c =

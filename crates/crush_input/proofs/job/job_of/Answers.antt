@@ -7,10 +7,10 @@ use Rattle.crush_units.specs.declared.limits.TheConstants.{LONGEST_JOB}
 use Rattle.crush_input.proofs.job.job_of.Goals as goal
 
 -- what was read is the job, and what is kept of its text belongs to these bytes
-pub returns-in-Ok-weighed-clause-only : goal.returns-in-Ok-weighed-clause-only
-returns-in-Ok-weighed-clause-only g c = λ job is.
+pub returns-in-Ok-parsed_job-clause-only : goal.returns-in-Ok-parsed_job-clause-only
+returns-in-Ok-parsed_job-clause-only g c = λ job is.
     let same = c.as_slice-text.ensures.value in
-    let kept = c.in-Ok-weighed.ensures in
+    let kept = c.in-Ok-parsed_job.ensures in
     let stands = c.in-Ok.ensures.only job (subst (λ (z : List ℕ). IsJob z job) (sym same) is) in
     record {
       stands = subst (λ (j : Job). JobStands j job) (sym kept.job) stands;
@@ -18,7 +18,7 @@ returns-in-Ok-weighed-clause-only g c = λ job is.
     }
 
 -- the bytes of a job are no more than it may have
-pub returns-in-Ok-weighed-clause-short : goal.returns-in-Ok-weighed-clause-short
-returns-in-Ok-weighed-clause-short g c =
+pub returns-in-Ok-parsed_job-clause-short : goal.returns-in-Ok-parsed_job-clause-short
+returns-in-Ok-parsed_job-clause-short g c =
     let short = subst (λ (b : List ℕ). length b ≤ LONGEST_JOB) c.as_slice-text.ensures.value c.in-Ok.ensures.job.1.short in
-    subst (λ (b : List ℕ). length b ≤ LONGEST_JOB) (sym c.in-Ok-weighed.ensures.bytes) (kept_short c.args.explain c.args.bytes.items short)
+    subst (λ (b : List ℕ). length b ≤ LONGEST_JOB) (sym c.in-Ok-parsed_job.ensures.bytes) (kept_short c.args.explain c.args.bytes.items short)

@@ -1,5 +1,5 @@
 use Rattle.std.proofs.Common.{ap, sym, ◌∙◌}
-use Rattle.crush_print.specs.SeenStep.{node_view, step_data}
+use Rattle.crush_print.specs.WalkStep.{node_view, walk_step_data}
 use Rattle.crush_since.specs.ItemData.{ItemData}
 use Rattle.crush_names.specs.Aside.{has_other_class_ids}
 use Rattle.crush_names.specs.Named.{counterpart}
@@ -9,7 +9,7 @@ use Rattle.crush_names.proofs.NamedLaws.{no_other_class_ids}
 use Rattle.crush_names.proofs.aside.has_other_class_ids.Goals as goal
 
 pub returns-in-Device : goal.returns-in-Device
-returns-in-Device g c = λ n t u a b. sym (no_other_class_ids t _ u (step_item u (step_data c.args.step.now)) (ap (λ n. (node_view c.args.step.now.parent n).id) c.in-Device.is))
+returns-in-Device g c = λ n t u a b. sym (no_other_class_ids t _ u (step_item u (walk_step_data c.args.step.now)) (ap (λ n. (node_view c.args.step.now.parent n).id) c.in-Device.is))
 
 pub returns-in-Bucket : goal.returns-in-Bucket
 returns-in-Bucket g c = λ n t u a b. c.has_another_class_id.ensures n t u a b ∙ ap (λ (x : ItemData). has_other_class_ids t u (counterpart ById t x) x) (c.step_seen.ensures n u b)

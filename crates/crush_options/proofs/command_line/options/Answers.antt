@@ -5,8 +5,8 @@ use Rattle.clap.specs.declared.error.kind.ErrorKind.TheVariants.{OutOfMemory}
 use Rattle.clap.specs.Words.{App, IsAmong, Text, fault_of, found_of, is_simple, is_simple_and_free, kind_of, matches_of, rows_of}
 use Rattle.clap.proofs.OnLiterals.{clap_on_literals}
 use Rattle.std.specs.Prelude.{List}
-use Rattle.crush_options.specs.declared.asked.OptionsFault.{OptionsFault}
-use Rattle.crush_options.specs.declared.asked.OptionsFault.TheVariants.{Help, Refused, Memory}
+use Rattle.crush_options.specs.declared.parsed_options.OptionsFault.{OptionsFault}
+use Rattle.crush_options.specs.declared.parsed_options.OptionsFault.TheVariants.{Help, Refused, Memory}
 use Rattle.crush_options.specs.Options.{AreRead, IsFaultIn, IsFaultOf, program}
 use Rattle.crush_options.proofs.Reading.{much_is_fault}
 use Rattle.crush_options.proofs.command_line.options.Goals as goal
@@ -28,8 +28,8 @@ fault_in words kind (Refused text) (inl lacks) told = absurd (told.2 lacks)
 fault_in words kind (Refused text) (inr among) told = inl (record { kind = kind; among = among; told = told })
 fault_in words kind Memory h told = tt
 
-pub returns-in-Ok-clause-asked : goal.returns-in-Ok-clause-asked
-returns-in-Ok-clause-asked g c =
+pub returns-in-Ok-clause-parsed : goal.returns-in-Ok-clause-parsed
+returns-in-Ok-clause-parsed g c =
     let words = map g.S.AsStr.text c.args.words.now in
     let is = c.in_ok-command.ensures in
     let rows : rows_of (found_of c.in-Ok.matches) ≡ matches_of program words = (c.in-Ok.ensures.matches (ap is_simple is ∙ simple)).0 ∙ ap (λ (a : App). matches_of a words) is in

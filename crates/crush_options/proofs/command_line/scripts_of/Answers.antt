@@ -19,9 +19,9 @@ values : (r : Option (Bor (List (Bor Text)))) (s : Bor (List (Bor Text))) (x y :
 unfolding texts_at
 values r s x y is e f = ap (λ (o : Option (List Text)). unwrap_or o []) (sym f ∙ sym e ∙ ap texts_at is)
 
-pub returns-in-None-clause-asked : goal.returns-in-None-clause-asked
+pub returns-in-None-clause-parsed : goal.returns-in-None-clause-parsed
 unfolding texts_at
-returns-in-None-clause-asked c =
+returns-in-None-clause-parsed c =
     ap (λ names. map (λ name. name.bytes.items) names) c.new.ensures.items
     ∙ sym (no_values c.get_strs.result _ _ c.in-None.is c.get_strs.ensures (raw_values-rows (found_of c.args.matches.now) (codes "script")))
 
@@ -32,8 +32,8 @@ returns-in-Some-clause-fault c =
     let long = ap length (values c.get_strs.result names _ _ c.in-Some.is c.get_strs.ensures (raw_values-rows (found_of c.args.matches.now) (codes "script"))) in
     refused_much _ _ c.refused.result (inr (omega (arith, long, length-map names.now (λ (v : Bor Text). v.now), c.if-names-gt-MOST_SCRIPTS.true), refl)) c.refused.ensures
 
-pub returns-in_ok-copies-in-Some-2-clause-asked : goal.returns-in_ok-copies-in-Some-2-clause-asked
+pub returns-in_ok-copies-in-Some-2-clause-parsed : goal.returns-in_ok-copies-in-Some-2-clause-parsed
 unfolding texts_at
-returns-in_ok-copies-in-Some-2-clause-asked c =
+returns-in_ok-copies-in-Some-2-clause-parsed c =
     c.in_ok-copies-in-Some-2.ensures
     ∙ sym (values c.get_strs.result c.in-Some.names _ _ c.in-Some.is c.get_strs.ensures (raw_values-rows (found_of c.args.matches.now) (codes "script")))

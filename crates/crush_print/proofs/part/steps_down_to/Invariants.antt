@@ -1,10 +1,10 @@
 use Rattle.std.proofs.Common.{◌≡◌, ◌++◌, List, map, take}
 use Rattle.std.specs.Prelude.{None}
-use Rattle.crush_print.specs.SeenStep.{step_data}
-use Rattle.crush_print.specs.Tree.{StepData}
+use Rattle.crush_print.specs.WalkStep.{walk_step_data}
+use Rattle.crush_print.specs.Tree.{WalkStepData}
 use Rattle.crush_print.specs.TreePart.{down_to}
 use Rattle.crush_print.proofs.part.steps_down_to.Given as goal
 
 -- the steps kept so far, whatever steps follow
 abbrev pub invariant-loop-step : goal.invariant-loop-step
-invariant-loop-step g l = (rest : List StepData) → down_to l.kind None (map step_data (take l.step-index l.steps) ++ rest) ≡ map step_data l.kept.items ++ down_to l.kind l.closed rest
+invariant-loop-step g l = (rest : List WalkStepData) → down_to l.kind None (map walk_step_data (take l.step-index l.steps) ++ rest) ≡ map walk_step_data l.kept.items ++ down_to l.kind l.closed rest

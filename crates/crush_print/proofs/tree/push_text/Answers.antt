@@ -1,7 +1,7 @@
 use Rattle.std.proofs.Common.{◌≡◌, ◌++◌, map, subst}
 use Rattle.std.specs.Prelude.{OnOk, flat_map}
 use Rattle.crush_print.proofs.InOrder.{section_pushed}
-use Rattle.crush_print.specs.SeenStep.{step_data}
+use Rattle.crush_print.specs.WalkStep.{walk_step_data}
 use Rattle.crush_print.specs.TreeText.{heading, step_line, steps_text}
 use Rattle.crush_print.proofs.WalkLaws.{flat-map}
 use Rattle.crush_print.proofs.tree.push_text.Goals as goal
@@ -12,6 +12,6 @@ returns g c =
     let steps = c.args.steps.now in
     let s = c.args.setting.now in
     let w = c.in_ok-widths.widths in
-    subst (λ x. OnOk c.push_lines.result (c.push_lines.new.out.items ≡ c.args.out.now.items ++ (heading x ++ flat_map (step_line s x) (map step_data steps)))) c.in_ok-widths.ensures
-    (section_pushed c.push_lines.result c.args.out.now.items c.push_heading.new.out.items c.push_lines.new.out.items (heading w) (flat_map (λ y. step_line s w (step_data y)) steps) (flat_map (step_line s w) (map step_data steps))
-    c.in_ok-push_heading.ensures c.push_lines.ensures (flat-map (step_line s w) step_data steps))
+    subst (λ x. OnOk c.push_lines.result (c.push_lines.new.out.items ≡ c.args.out.now.items ++ (heading x ++ flat_map (step_line s x) (map walk_step_data steps)))) c.in_ok-widths.ensures
+    (section_pushed c.push_lines.result c.args.out.now.items c.push_heading.new.out.items c.push_lines.new.out.items (heading w) (flat_map (λ y. step_line s w (walk_step_data y)) steps) (flat_map (step_line s w) (map walk_step_data steps))
+    c.in_ok-push_heading.ensures c.push_lines.ensures (flat-map (step_line s w) walk_step_data steps))

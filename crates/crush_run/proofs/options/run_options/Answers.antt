@@ -16,16 +16,16 @@ pub returns-in-Err-clause-fault : goal.returns-in-Err-clause-fault
 returns-in-Err-clause-fault g c = rw c.of_aborted.ensures.outcome (options_fault_of_read (g.F.Opens.content c.args.files.now) c.args.options.now (job_bytes (g.F.Opens.content c.args.files.now) c.args.options.now (g.R.Read.remaining c.args.input.now)) _ c.in-Err.ensures.fault)
 
 pub returns-clause-job : goal.returns-clause-job
-returns-clause-job g c = job_where_done c.run_read.result.outcome (job_bytes (g.F.Opens.content c.args.files.now) c.args.options.now (g.R.Read.remaining c.args.input.now)) c.in-Ok.ensures.job
+returns-clause-job g c = job_where_done c.run_parsed_job.result.outcome (job_bytes (g.F.Opens.content c.args.files.now) c.args.options.now (g.R.Read.remaining c.args.input.now)) c.in-Ok.ensures.job
 
 -- it is the run of the job that was read, with the selected output
 pub returns-clause-output : goal.returns-clause-output
 returns-clause-output g c = λ bytes job all is.
     let read = c.in-Ok.ensures.only bytes job all is in
-    ended_as_wanted (g.F.Opens.content c.args.files.now) c.args.options.now _ _ bytes job _ c.run_read.result.outcome _ _ _ c.in-Ok-output_of.ensures.output read.text (c.run_read.ensures.ends job read.stands)
+    ended_as_wanted (g.F.Opens.content c.args.files.now) c.args.options.now _ _ bytes job _ c.run_parsed_job.result.outcome _ _ _ c.in-Ok-output_of.ensures.output read.text (c.run_parsed_job.ensures.ends job read.stands)
 
 pub returns-clause-noted : goal.returns-clause-noted
-returns-clause-noted g c = ending_as_wanted (g.F.Opens.content c.args.files.now) c.args.options.now (g.R.Read.remaining c.args.input.now) _ _ c.run_read.ensures.fault (c.run_read.ensures.noted (job_origin (g.F.Opens.content c.args.files.now) c.args.options.now (g.R.Read.remaining c.args.input.now)) _)
+returns-clause-noted g c = ending_as_wanted (g.F.Opens.content c.args.files.now) c.args.options.now (g.R.Read.remaining c.args.input.now) _ _ c.run_parsed_job.ensures.fault (c.run_parsed_job.ensures.noted (job_origin (g.F.Opens.content c.args.files.now) c.args.options.now (g.R.Read.remaining c.args.input.now)) _)
 
 pub returns-clause-fault : goal.returns-clause-fault
-returns-clause-fault g c = options_fault_of_outcome (g.F.Opens.content c.args.files.now) c.args.options.now (job_bytes (g.F.Opens.content c.args.files.now) c.args.options.now (g.R.Read.remaining c.args.input.now)) c.run_read.result.outcome c.in-Ok.ensures.job c.run_read.ensures.fault
+returns-clause-fault g c = options_fault_of_outcome (g.F.Opens.content c.args.files.now) c.args.options.now (job_bytes (g.F.Opens.content c.args.files.now) c.args.options.now (g.R.Read.remaining c.args.input.now)) c.run_parsed_job.result.outcome c.in-Ok.ensures.job c.run_parsed_job.ensures.fault

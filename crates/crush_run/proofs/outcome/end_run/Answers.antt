@@ -3,7 +3,7 @@ use Rattle.crush_run.proofs.Noted.{explained_needs, memory_ends, noted_of_end, t
 use Rattle.crush_run.proofs.outcome.end_run.Goals as goal
 
 pub returns-in_default : goal.returns-in_default
-returns-in_default g c = memory_ends _ _ _ _ _ _ _ _ _ _ _ _ c.quietly.ensures.outcome c.quietly.ensures.quiet
+returns-in_default g c = memory_ends _ _ _ _ _ _ _ _ _ _ _ _ c.without_notes.ensures.outcome c.without_notes.ensures.quiet
 
 -- the run ends with the outcome of its write
 pub returns : goal.returns
@@ -20,5 +20,5 @@ returns g c =
       found = w.found;
       whole = w.whole;
       told = λ o opening. told_of_end _ _ _ _ _ _ _ _ _ _ (c.in-Ok.ensures _ o (λ on. opening (explained_needs c.args.request.now.mode c.args.request.now.output on))) w.no_make w.whole e.notes;
-      noted = λ origin all. noted_of_end _ _ _ [] _ _ _ _ _ _ origin all (λ quiet. c.in-Ok.ensures c.args.left.now.map.now.setting [] (λ on. absurd (let bad = sym quiet ∙ on in cc))) w.fault w.strict c.requires.plain e.notes;
+      end_notes = λ origin all. noted_of_end _ _ _ [] _ _ _ _ _ _ origin all (λ quiet. c.in-Ok.ensures c.args.completed.now.map.now.setting [] (λ on. absurd (let bad = sym quiet ∙ on in cc))) w.fault w.strict c.requires.plain e.notes;
     })

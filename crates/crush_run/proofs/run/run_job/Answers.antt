@@ -27,13 +27,13 @@ returns-in-Ok-clause-taken g c = (c.in-Ok.bytes.items, c.in-Ok.ensures.few, c.in
 -- a fault of the reader comes before there is a job
 pub returns-in-Err-clause-output : goal.returns-in-Err-clause-output
 returns-in-Err-clause-output g c = λ bytes job all is.
-    ended_early c.args.request.now.mode c.args.request.now.output job _ _ _ _ _ c.quietly.ensures.outcome (early_of_input _ c.in-Err.ensures.fault)
+    ended_early c.args.request.now.mode c.args.request.now.output job _ _ _ _ _ c.without_notes.ensures.outcome (early_of_input _ c.in-Err.ensures.fault)
 
 pub returns-in-Err-clause-noted : goal.returns-in-Err-clause-noted
-returns-in-Err-clause-noted g c = input_noted _ no_origin _ _ _ _ c.quietly.ensures.outcome c.in-Err.ensures.fault c.quietly.ensures.quiet
+returns-in-Err-clause-noted g c = input_noted _ no_origin _ _ _ _ c.without_notes.ensures.outcome c.in-Err.ensures.fault c.without_notes.ensures.quiet
 
 pub returns-in-Err-clause-fault : goal.returns-in-Err-clause-fault
-returns-in-Err-clause-fault g c = rw c.quietly.ensures.outcome (run_fault_of_input c.args.request.now.mode _ _ c.in-Err.ensures.fault)
+returns-in-Err-clause-fault g c = rw c.without_notes.ensures.outcome (run_fault_of_input c.args.request.now.mode _ _ c.in-Err.ensures.fault)
 
 pub returns-in-Err-clause-taken : goal.returns-in-Err-clause-taken
 returns-in-Err-clause-taken g c = c.in-Err.ensures.taken

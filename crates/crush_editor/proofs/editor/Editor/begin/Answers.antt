@@ -18,7 +18,7 @@ loop-reader-preserved g c =
     let a0 = i.0 in let a1 = i.1 in let a2 = i.2 in let a3 = i.3 in
     let s1 = s.1 in
     let cut = cut_length _ _ _ s.0 in
-    let q = c.split_off-share.ensures in let q1 = q.parts_left in let q2 = q.amount_left in
+    let q = c.split_off-ledger_share.ensures in let q1 = q.parts_left in let q2 = q.amount_left in
     let Is : Held MapData EntryData → Type 0 = λ r. r ≡ held g.N.Desk.gauge (reads g.N.Desk.opening []) in
     let fresh = All-head Is _ _ (All-same Is _ _ (sym s.0) i.5) in
     let made : seat_data c.len-operator.result c.new.result.items (seen_of c.in-Some.reader.view) ≡ seat_data n [] [] = λ j. seat_data (c.len-operator.ensures j) (c.new.ensures.items j) (seen_of (fresh j).view) in (

@@ -19,19 +19,19 @@ loop-seat-preserved g c =
     let s = c.seat.inside in
     let h = c.loop-seat.book.history in
     let x = c.in-Some.seat in
-    let begins : IsPrefix x.seen h = rw (← c.seat.view_is) (subst (λ (x : List EntryData). IsPrefix x h) (ap (λ x. seen_of x.view) c.into_note.ensures) c.absorb.ensures.begins) in
-    let stands : IsSubsequence x.slips (of_operator x.operator h) = rw (← c.seat.view_is) (stands_later s.operator s.slips.items _ h c.seat.invariant.4.stands (subst (λ (x : List EntryData). IsPrefix x h) (ap (λ x. seen_of x.view) c.into_note.ensures) c.absorb.ensures.begins)) in
+    let begins : IsPrefix x.seen h = rw (← c.seat.view_is) (subst (λ (x : List EntryData). IsPrefix x h) (ap (λ x. seen_of x.view) c.into_note.ensures) c.merge_note.ensures.begins) in
+    let stands : IsSubsequence x.slips (of_operator x.operator h) = rw (← c.seat.view_is) (stands_later s.operator s.slips.items _ h c.seat.invariant.4.stands (subst (λ (x : List EntryData). IsPrefix x h) (ap (λ x. seen_of x.view) c.into_note.ensures) c.merge_note.ensures.begins)) in
     let more : c.merge.new.self.amount ≡ c.loop-seat.all.amount + told x = c.merge.ensures.amount ∙ ap (λ (k : ℕ). c.loop-seat.all.amount + k) (c.seat.invariant.3 ∙ ap told c.seat.view_is) in
     let next : c.merge.new.self.parts ≡ c.loop-seat.all.parts + 1 = c.merge.ensures.parts ∙ ap (λ (k : ℕ). c.loop-seat.all.parts + k) c.seat.invariant.2 in (
-      c.absorb.ensures.book ∙ i.0,
-      rw c.absorb.ensures.book (took-more c.args.seats.items h _ _ _ _ _ _ _ _ x c.requires.order i.1 c.in-Some.ensures.steps.0 c.in-Some.ensures.steps.1 next more stands begins),
+      c.merge_note.ensures.book ∙ i.0,
+      rw c.merge_note.ensures.book (took-more c.args.seats.items h _ _ _ _ _ _ _ _ x c.requires.order i.1 c.in-Some.ensures.steps.0 c.in-Some.ensures.steps.1 next more stands begins),
     )
 
 pub returns-clause-opening : goal.returns-clause-opening
 returns-clause-opening g c =
     let b = c.loop-seat.book in
     let o : b.opening ≡ g.N.Desk.opening = ap (λ x. x.opening) c.loop-seat.invariant.0 ∙ c.book.invariant.1 in
-    subst (λ (x : MapData). IfSome (g.O.Opening.kept c.into_closed.result.opening) (λ (m : MapData). m ≡ x)) o c.into_closed.ensures.opening
+    subst (λ (x : MapData). IfSome (g.O.KeptOpening.kept c.into_closed.result.opening) (λ (m : MapData). m ≡ x)) o c.into_closed.ensures.opening
 
 pub returns-clause-history : goal.returns-clause-history
 returns-clause-history g c =

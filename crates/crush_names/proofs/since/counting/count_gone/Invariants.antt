@@ -2,13 +2,13 @@ use Rattle.std.proofs.Common.{◌≡◌, ℕ, ◌≤◌, List, take}
 use Rattle.std.specs.Prelude.{Option}
 use Rattle.std.specs.List.{count_by}
 use Rattle.crush_model.specs.Table.{Row}
-use Rattle.crush_print.specs.SeenStep.{step_data}
+use Rattle.crush_print.specs.WalkStep.{walk_step_data}
 use Rattle.crush_names.specs.Counted.{is_gone_by_name}
 use Rattle.crush_names.specs.Sides.{IsSide}
 use Rattle.crush_names.proofs.since.counting.count_gone.Given as goal
 
 abbrev pub invariant-loop-step : goal.invariant-loop-step
 invariant-loop-step g l = record {
-  count : (n : Option (List ℕ)) (t u : List Row) → IsSide n u l.new → l.count ≡ count_by (λ s. is_gone_by_name t u (step_data s)) (take l.step-index l.steps);
+  count : (n : Option (List ℕ)) (t u : List Row) → IsSide n u l.new → l.count ≡ count_by (λ s. is_gone_by_name t u (walk_step_data s)) (take l.step-index l.steps);
   few : l.count ≤ l.step-index;
 }

@@ -5,8 +5,8 @@ use Rattle.std.specs.Prelude.{unwrap_or}
 use Rattle.crush_builder.specs.Built.{Draft}
 use Rattle.crush_builder.specs.Building.{BuilderData}
 use Rattle.crush_text.specs.declared.reader.MapReader.{MapReader}
-use Rattle.crush_text.specs.declared.opening.Opening.{Opening}
-use Rattle.crush_text.specs.declared.opening.Opening.TheVariants as openings
+use Rattle.crush_text.specs.declared.statement_kind.StatementKind.{StatementKind}
+use Rattle.crush_text.specs.declared.statement_kind.StatementKind.TheVariants as statement_kinds
 use Rattle.crush_text.specs.declared.fault.TextFault.{TextFault}
 use Rattle.crush_units.specs.Words.{Text}
 use Rattle.crush_text.specs.Role.{kind_of_word}
@@ -22,7 +22,7 @@ use Rattle.crush_text.proofs.Refused.{no_lines}
 use Rattle.crush_text.proofs.reader.MapReader.statement.Goals as goal
 
 -- a statement of one line was read, after which all statements may follow
-one_line : {A : _} (o s : Opening) (old new : MapReader A) → o ≡ s → ReadsLine (λ d. statement d s) (λ (x : Unit {0}). first) old new (Ok tt) → ReadsOn (λ d. arrive d old.text.words (statement d o)) behind old new (Ok false)
+one_line : {A : _} (o s : StatementKind) (old new : MapReader A) → o ≡ s → ReadsLine (λ d. statement d s) (λ (x : Unit {0}). first) old new (Ok tt) → ReadsOn (λ d. arrive d old.text.words (statement d o)) behind old new (Ok false)
 one_line o s old new is h = rw is (record {
   reads = λ d at.
       let k = h.reads d at in
@@ -32,39 +32,39 @@ one_line o s old new is h = rw is (record {
 })
 
 -- or it has a fault
-no_one_line : {A : _} (o s : Opening) (old new : MapReader A) (f : TextFault) → o ≡ s → ReadsLine (λ d. statement d s) (λ (x : Unit {0}). first) old new (Err f) → ReadsOn (λ d. arrive d old.text.words (statement d o)) behind old new (Err f)
+no_one_line : {A : _} (o s : StatementKind) (old new : MapReader A) (f : TextFault) → o ≡ s → ReadsLine (λ d. statement d s) (λ (x : Unit {0}). first) old new (Err f) → ReadsOn (λ d. arrive d old.text.words (statement d o)) behind old new (Err f)
 no_one_line o s old new f is h = rw is (no_lines _ _ _ _ _ (λ d at. fails_line _ d (statement d s) _ (h.reads d at)))
 
 -- there is room for the statement that a first word begins
-room_for : {w : List ℕ} {b : BuilderData} (o s : Opening) → o ≡ s → CanOpen o w b → HasRoomFor s b
+room_for : {w : List ℕ} {b : BuilderData} (o s : StatementKind) → o ≡ s → CanOpen o w b → HasRoomFor s b
 room_for o s is h = record { idle = h.idle; room = λ d at. subst (HasRoom d) is (h.room d at) }
 
 pub returns-in_ok-tunable-in-Tunable : goal.returns-in_ok-tunable-in-Tunable
-returns-in_ok-tunable-in-Tunable g c = one_line _ openings.Tunable _ _ c.in-Tunable.is c.in_ok-tunable-in-Tunable.ensures
+returns-in_ok-tunable-in-Tunable g c = one_line _ statement_kinds.Tunable _ _ c.in-Tunable.is c.in_ok-tunable-in-Tunable.ensures
 
 pub returns-in_err-tunable-in-Tunable : goal.returns-in_err-tunable-in-Tunable
 returns-in_err-tunable-in-Tunable g c =
     let p = err_from_is_err_and c.from_residual.result c.from_residual.ensures.1 in
-    rw (p.1, p.2) (no_one_line _ openings.Tunable _ _ _ c.in-Tunable.is c.in_err-tunable-in-Tunable.ensures)
+    rw (p.1, p.2) (no_one_line _ statement_kinds.Tunable _ _ _ c.in-Tunable.is c.in_err-tunable-in-Tunable.ensures)
 
 pub returns-in_ok-device-in-Device : goal.returns-in_ok-device-in-Device
-returns-in_ok-device-in-Device g c = one_line _ openings.Device _ _ c.in-Device.is c.in_ok-device-in-Device.ensures
+returns-in_ok-device-in-Device g c = one_line _ statement_kinds.Device _ _ c.in-Device.is c.in_ok-device-in-Device.ensures
 
 pub returns-in_err-device-in-Device : goal.returns-in_err-device-in-Device
 returns-in_err-device-in-Device g c =
     let p = err_from_is_err_and c.from_residual-in_err-device-in-Device.result c.from_residual-in_err-device-in-Device.ensures.1 in
-    rw (p.1, p.2) (no_one_line _ openings.Device _ _ _ c.in-Device.is c.in_err-device-in-Device.ensures)
+    rw (p.1, p.2) (no_one_line _ statement_kinds.Device _ _ _ c.in-Device.is c.in_err-device-in-Device.ensures)
 
 pub returns-in_ok-kind-in-Type : goal.returns-in_ok-kind-in-Type
-returns-in_ok-kind-in-Type g c = one_line _ openings.Type _ _ c.in-Type.is c.in_ok-kind-in-Type.ensures
+returns-in_ok-kind-in-Type g c = one_line _ statement_kinds.Type _ _ c.in-Type.is c.in_ok-kind-in-Type.ensures
 
 pub returns-in_err-kind-in-Type : goal.returns-in_err-kind-in-Type
 returns-in_err-kind-in-Type g c =
     let p = err_from_is_err_and c.from_residual-in_err-kind-in-Type.result c.from_residual-in_err-kind-in-Type.ensures.1 in
-    rw (p.1, p.2) (no_one_line _ openings.Type _ _ _ c.in-Type.is c.in_err-kind-in-Type.ensures)
+    rw (p.1, p.2) (no_one_line _ statement_kinds.Type _ _ _ c.in-Type.is c.in_err-kind-in-Type.ensures)
 
 -- a bucket's type by its name
-by_name : (d : Draft) (w : List ℕ) (k : ℕ) → IsKnown d (openings.Bucket k) w → kind_of_word d w ≡ k
+by_name : (d : Draft) (w : List ℕ) (k : ℕ) → IsKnown d (statement_kinds.Bucket k) w → kind_of_word d w ≡ k
 by_name d w k known = ap (λ (o : Option ℕ). unwrap_or o 0) known
 
 -- and a fault of its first line
@@ -110,13 +110,13 @@ returns-in_err-rule-in-Rule g c =
     (c.in_err-rule-in-Rule.ensures.reads d h)))
 
 pub tunable-requires : goal.tunable-requires
-tunable-requires g c = room_for _ openings.Tunable c.in-Tunable.is c.requires
+tunable-requires g c = room_for _ statement_kinds.Tunable c.in-Tunable.is c.requires
 
 pub device-requires : goal.device-requires
-device-requires g c = room_for _ openings.Device c.in-Device.is c.requires
+device-requires g c = room_for _ statement_kinds.Device c.in-Device.is c.requires
 
 pub kind-requires : goal.kind-requires
-kind-requires g c = room_for _ openings.Type c.in-Type.is c.requires
+kind-requires g c = room_for _ statement_kinds.Type c.in-Type.is c.requires
 
 pub rule-requires : goal.rule-requires
-rule-requires g c = room_for _ openings.Rule c.in-Rule.is c.requires
+rule-requires g c = room_for _ statement_kinds.Rule c.in-Rule.is c.requires

@@ -1,7 +1,0 @@
-use Rattle.std.proofs.Common.{◌≡◌, ◌≤◌, take}
-use Rattle.std.specs.List.{count_by}
-use Rattle.crush_input.specs.Made.{wants_bucket}
-use Rattle.crush_input.proofs.made.count_wanted.Given as goal
-
-abbrev pub invariant-loop-edit : goal.invariant-loop-edit
-invariant-loop-edit l = record { few : l.count ≤ l.edit-index; count : l.count ≡ count_by wants_bucket (take l.edit-index l.edits) }

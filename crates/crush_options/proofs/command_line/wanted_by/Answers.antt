@@ -1,5 +1,0 @@
-use Rattle.std.proofs.Common.{rules}
-use Rattle.crush_options.proofs.command_line.wanted_by.Goals as goal
-
-pub returns : goal.returns
-returns c = search rules

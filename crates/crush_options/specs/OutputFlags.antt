@@ -1,0 +1,115 @@
+-- Which words of a command line say what is printed, and which of them can be given together.
+use Rattle.std.specs.Prelude.{◌≡◌, Bool, true, false, not, ◌&&◌, ◌||◌, Option, Some, None, String, codes, if◌then◌else◌, is_some, option_map}
+use Rattle.clap.specs.Words.{Row, Text, first_of, one_of}
+use Rattle.std.specs.Prelude.{List}
+use Rattle.crush_options.specs.declared.parsed_options.OutputSpec.{OutputSpec}
+use Rattle.crush_options.specs.declared.parsed_options.OutputSpec.TheVariants.{Map, Tree, Since, Changes, AsCeph, To}
+use Rattle.crush_options.specs.declared.command_line.OutputFlags.{OutputFlags}
+
+-- the value of a flag, by the text that the parser has for it: true for "true", and false for "false" or without a text
+pub record IsFlag (text : Option Text) (flag : Bool) : Type 0 where
+  pub given : text ≡ Some (codes "true") → flag ≡ true
+  pub absent : text ≡ Some (codes "false") → flag ≡ false
+  pub none : text ≡ None → flag ≡ false
+
+-- the words that decide what is printed: whether `--tree`, `--as-ceph`, `--by-name` and `--json` are given, and the values of `--since`, `--to`, `--under` and `--down-to` that are given
+pub record OutputFlagsData : Type 0 where
+  pub tree : Bool
+  pub since : Option Text
+  pub as_ceph : Bool
+  pub to : Option Text
+  pub by_name : Bool
+  pub json : Bool
+  pub under : Option Text
+  pub down_to : Option Text
+
+-- the parsed words have exactly these flags and values
+pub record AreOutputFlags (rows : List Row) (flags : OutputFlagsData) : Type 0 where
+  pub tree : IsFlag (one_of (codes "tree") rows) flags.tree
+  pub since : first_of (codes "since") rows ≡ flags.since
+  pub as_ceph : IsFlag (one_of (codes "as-ceph") rows) flags.as_ceph
+  pub to : first_of (codes "to") rows ≡ flags.to
+  pub by_name : IsFlag (one_of (codes "by-name") rows) flags.by_name
+  pub json : IsFlag (one_of (codes "json") rows) flags.json
+  pub under : first_of (codes "under") rows ≡ flags.under
+  pub down_to : first_of (codes "down-to") rows ≡ flags.down_to
+
+-- the bytes of a string, if there is one
+abbrev pub name_text : {Z : Type 0} → Option (String Z) → Option Text
+name_text name = option_map (λ n. n.bytes.items) name
+
+-- these words as the program holds them, as data
+abbrev pub flags_data : OutputFlags → OutputFlagsData
+flags_data s = record {
+  tree = s.tree;
+  since = option_map (λ name. name.now) s.since;
+  as_ceph = s.as_ceph;
+  to = option_map (λ name. name.now) s.to;
+  by_name = s.by_name;
+  json = s.json;
+  under = option_map (λ name. name.now) s.under;
+  down_to = option_map (λ name. name.now) s.down_to;
+}
+
+-- none of these words is given, except for `--json`, which may be
+abbrev pub no_output_flags : Bool → OutputFlagsData
+no_output_flags json = record { tree = false; since = None; as_ceph = false; to = None; by_name = false; json = json; under = None; down_to = None }
+
+-- exactly the words that ask for this to be printed, with or without `--json`
+abbrev pub flags_by : Bool → OutputSpec → OutputFlagsData
+flags_by json Map = no_output_flags json
+flags_by json (Tree part) = record (no_output_flags json) { tree = true; under = name_text part.under; down_to = name_text part.down_to }
+flags_by json (Since since) = record (no_output_flags json) { since = Some since.map.bytes.items; by_name = since.by_name; under = name_text since.under }
+flags_by json (Changes name) = record (no_output_flags json) { tree = true; since = Some name.bytes.items }
+flags_by json AsCeph = record (no_output_flags json) { as_ceph = true }
+flags_by json (To target) = record (no_output_flags json) { as_ceph = target.as_ceph; to = Some target.map.bytes.items; by_name = target.by_name; under = name_text target.under }
+
+-- whether the words ask for two things to be printed; `--tree` with `--since` asks for one thing, and so does `--as-ceph` with `--to`
+abbrev pub ask_for_two : OutputFlagsData → Bool
+ask_for_two flags = (flags.tree || is_some flags.since) && (flags.as_ceph || is_some flags.to)
+
+-- whether the words ask for a tree of changes that isn't whole or isn't by ids
+abbrev pub ask_for_some_changes : OutputFlagsData → Bool
+ask_for_some_changes flags = flags.tree && is_some flags.since && (flags.by_name || is_some flags.under || is_some flags.down_to)
+
+-- whether `--by-name` is given without another map, so without `--since` and `--to`
+abbrev pub have_names_alone : OutputFlagsData → Bool
+have_names_alone flags = flags.by_name && not (is_some flags.since) && not (is_some flags.to)
+
+-- whether `--under` is given, but nothing that can be printed in part: none of `--tree`, `--since` and `--to`
+abbrev pub have_part_alone : OutputFlagsData → Bool
+have_part_alone flags = is_some flags.under && not flags.tree && not (is_some flags.since) && not (is_some flags.to)
+
+-- whether `--down-to` is given without `--tree`
+abbrev pub have_type_alone : OutputFlagsData → Bool
+have_type_alone flags = is_some flags.down_to && not flags.tree
+
+-- whether the words ask for a JSON document of lines for a shell, which doesn't exist
+abbrev pub json_of_lines : OutputFlagsData → Bool
+json_of_lines flags = flags.json && flags.as_ceph
+
+-- whether the words ask for a JSON document of changes by names, which doesn't exist
+abbrev pub json_of_names : OutputFlagsData → Bool
+json_of_names flags = flags.json && is_some flags.since && flags.by_name
+
+-- WORDS THAT DON'T GO TOGETHER: the error line of the first of these conditions that holds of the words; nothing if none holds, so that the words can be given together
+abbrev pub complaint : OutputFlagsData → Option Text
+complaint flags =
+    if ask_for_two flags then Some (codes "error: at most one of --tree, --since, --as-ceph and --to, but --tree with --since and --to with --as-ceph\n") else (
+    if ask_for_some_changes flags then Some (codes "error: --tree with --since goes with none of --by-name, --under and --down-to\n") else (
+    if have_names_alone flags then Some (codes "error: --by-name goes with --since and --to\n") else (
+    if have_part_alone flags then Some (codes "error: --under goes with --tree, --since and --to\n") else (
+    if have_type_alone flags then Some (codes "error: --down-to goes with --tree\n") else (
+    if json_of_lines flags then Some (codes "error: --json doesn't go with --as-ceph\n") else (
+    if json_of_names flags then Some (codes "error: --json and --since don't go with --by-name\n") else None))))))
+
+-- WHAT IS PRINTED: the parsed words are exactly those that ask for this, and they can be given together
+pub record IsOutputSpec (rows : List Row) (json : Bool) (output_spec : OutputSpec) : Type 0 where
+  pub flags : AreOutputFlags rows (flags_by json output_spec)
+  pub together : complaint (flags_by json output_spec) ≡ None
+
+-- the parsed words can't be given together, as the line `why` says
+pub record AreApart (rows : List Row) (why : Text) : Type 0 where
+  pub flags : OutputFlagsData
+  pub are : AreOutputFlags rows flags
+  pub apart : complaint flags ≡ Some why

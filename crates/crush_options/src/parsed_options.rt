@@ -1,0 +1,117 @@
+//! The options that a command line selects.
+
+use std::alloc::AllocError;
+use thiserror::Error;
+
+/// How a job is run.
+#[derive(Clone, Copy, Debug, PartialEq, Eq)]
+pub struct Mode {
+    /// Whether the scripts run one after the other, in the order of their sections, rather than at
+    /// once (`--in-turn`).
+    pub in_turn: bool,
+    /// Whether the history is printed too; false with `--no-history`.
+    pub history: bool,
+    /// Whether a run prints nothing if a command or a batch was refused, or if a difference from
+    /// the wanted map remains (`--strict`).
+    pub strict: bool,
+    /// Whether a run prints nothing if a command or a batch made more buckets than it has
+    /// `add-bucket` commands (`--no-make`).
+    pub no_make: bool,
+    /// Whether the status is 6 instead of 0 if there is a change or a difference to report
+    /// (`--exit-code`).
+    pub exit_code: bool,
+    /// Whether standard error gets places and reasons below its one line (`--explain`).
+    pub explain: bool,
+    /// Whether standard output is one JSON document (`--json`).
+    pub json: bool,
+}
+
+/// The part of a tree that is printed. If neither name is given, the whole tree is printed.
+#[derive(Debug, Drop)]
+pub struct TreePartSpec {
+    /// The name of the item that is printed, with all that is below it (`--under`).
+    pub under: Option<String>,
+    /// The type of the buckets below which nothing is printed (`--down-to`).
+    pub down_to: Option<String>,
+}
+
+/// The old map, since which changes are printed, and the items whose changes are printed.
+#[derive(Debug, Drop)]
+pub struct Since {
+    /// The name of the old map's file (`--since`).
+    pub map: String,
+    /// Whether items of both maps are matched by name instead of by id (`--by-name`).
+    pub by_name: bool,
+    /// The name of the item whose changes are printed, with the changes of all items that are or
+    /// were below it (`--under`). Without a name all changes are printed.
+    pub under: Option<String>,
+}
+
+/// The map that commands are to lead to, and how they are found and printed.
+#[derive(Debug, Drop)]
+pub struct Target {
+    /// The name of the wanted map's file (`--to`).
+    pub map: String,
+    /// Whether the commands are printed as Ceph's own (`--as-ceph`).
+    pub as_ceph: bool,
+    /// Whether buckets of both maps are matched by name and type alone, and not by id
+    /// (`--by-name`).
+    pub by_name: bool,
+    /// The name of the item that commands are for, with all items that are below it or shall be
+    /// (`--under`). Without a name the commands are for all items.
+    pub under: Option<String>,
+}
+
+/// What is printed about the map after the scripts have run.
+#[derive(Debug, Drop)]
+pub enum OutputSpec {
+    /// The text of the map.
+    Map,
+    /// The tree of the map, with a line for each item.
+    Tree(TreePartSpec),
+    /// The changes since another map, item by item.
+    Since(Since),
+    /// The changes since another map as a tree. The string is the name of that map's file.
+    Changes(String),
+    /// The commands that changed the map, as Ceph's own.
+    AsCeph,
+    /// The commands that lead from the map to a wanted map.
+    To(Target),
+}
+
+/// What the program is to do.
+#[derive(Debug, Drop)]
+pub struct Options {
+    /// How the job is run.
+    pub mode: Mode,
+    /// What is printed after the run.
+    pub output_spec: OutputSpec,
+    /// The names of at most 16 files, whose scripts follow the job in this order (`--script`).
+    pub scripts: Vec<String>,
+    /// The name of the job's file. Without a name the job is read from standard input.
+    pub file: Option<String>,
+}
+
+/// Why the words of a command line start no run.
+#[derive(Debug, Drop, Error)]
+pub enum OptionsFault {
+    /// A word asks for the help or for the version; the string is that text.
+    #[error("{0}")]
+    Help(String),
+    /// The words aren't a command line of the program; the string is the error's text, as printed.
+    #[error("{0}")]
+    Refused(String),
+    #[error("out of memory")]
+    Memory,
+}
+
+impl From<AllocError> for OptionsFault {
+    ghost use Rattle.crush_options.specs.declared.parsed_options.OptionsFault.TheVariants.{Memory};
+    ghost use Rattle.std.specs.Prelude.{◌≡◌};
+
+    ghost from_gives = { λ _ fault. fault ≡ Memory };
+
+    fn from(_error: AllocError) -> OptionsFault {
+        OptionsFault::Memory
+    }
+}
