@@ -8,7 +8,7 @@
 #   make install   the program, the recipe and their manual pages below PREFIX, which is /usr/local if nothing is said
 #   make dist      the same as an archive and, where dpkg-deb is there, a package of Debian, below out/
 #   make manual    writes the manual page out of the help, which `make check` compares
-#   make tables    writes what the last `make check` took into docs/WORKING.md
+#   make tables    writes what the last `make check` took into CONTRIBUTING.md
 #   make recipe    installs below out/, and tries there the recipe for operators and what its pages show
 #   make trials    tries that program with sessions of a shell, jobs of chance, little memory and stack, and streams that fail
 #   make monitor   as root: that program, the recipe, --to and --as-ceph beside a monitor of Ceph 18, which is fetched below out/

@@ -1,15 +1,15 @@
 #!/usr/bin/env python3
 """Looks whether what docs/ and README.md name is there.
 
-Each name in backticks has to stand in the crates: a function, a type, a definition, a clause, a file or an edit that
-must fail, or be a job of examples/; but of the pages of WORDS_OF_TEXTS, which name words of jobs and of Ceph beside
-them. Each link leads to a file, and to a heading of it. ADDING.md lists the files that an addition touches: each has to
-be there, and each file of src/, specs/ and proofs/ that names all variants of an enum of ADDED, or all words of a row
+Each name in backticks has to be declared in the crates of the product: a function, a type, a definition, a clause, a
+file or an edit that must fail, or be a job of examples/. A name of a test counts on a line that names a crate of tests.
+Pages of WORDS_OF_TEXTS, which name words of jobs and of Ceph too, are left out. Each link leads to a file, and to a heading of it. CONTRIBUTING.md lists the files that an addition touches: each has
+to be there, and each file of src/, specs/ and proofs/ that names all variants of an enum of ADDED, or all words of a row
 of NAMED, has to stand in its section. Each public function that may answer one of several faults, or fails and is lent
 what it changes, has a clause that says which and what is left, by the names that PROVED.md tells, or is told there to
 have none. Each must-fail edit has a function of its crate in its name. What pages tell in words and numbers told.py
-compares. The index of examples/ names each job and each folder. The table of crates/README.md has each crate in a room,
-and each call of code between rooms. The version of the command line stands in VERSIONS; what the scripts of MADE_BY write is
+compares. The index of examples/ names each job and each folder. The table of docs/ARCHITECTURE.md has each crate in a layer,
+and each call of code between layers. The version of the command line stands in VERSIONS; what the scripts of MADE_BY write is
 what they would write now; and `--version` and PROVED.md name the toolchain, where `rt` is there to tell its line.
 Prints what is missing, and ends with status 1 where anything is.
 """
@@ -19,7 +19,7 @@ import subprocess
 import sys
 
 sys.dont_write_bytecode = True
-from sources import COMMAND_LINE, MADE, PAGES, PROGRAMS, TOP, WORDS_OF_TEXTS  # noqa: E402
+from sources import COMMAND_LINE, CONTRIBUTING, LINKED, PAGES, PROGRAMS, TOP, WORDS_OF_TEXTS  # noqa: E402
 from sources import contracts, crate_files, fields_of_records, files_below, known_words, quoted, sections_of, variants  # noqa: E402
 from told import told_faults  # noqa: E402
 
@@ -27,7 +27,7 @@ from told import told_faults  # noqa: E402
 NAME = re.compile(r"^[A-Za-z_][A-Za-z0-9_]*(?:(?:::|\.)[A-Za-z_][A-Za-z0-9_]*)*(?:\(\))?$")
 # A file or a folder of the repository.
 FILE = re.compile(r"^(?:[a-z0-9_./-]*/[A-Za-z0-9_./+-]*|[A-Za-z0-9_]+\.(?:md|rt|antt|txt|job|py|edit))$")
-# The sections of ADDING.md, each with the enum that grows by what it adds.
+# The sections of CONTRIBUTING.md, each with the enum that grows by what it adds.
 ADDED = {
     "An edit": ("crush_edits/src/edit.rt", "Edit"),
     "A refusal": ("crush_edits/src/refusal.rt", "Refusal"),
@@ -133,7 +133,7 @@ def call_faults():
     """Which calls have no clause that says which of several faults is told, or what is left, and aren't told of in PROVED.md."""
     section = sections_of("PROVED.md")["Each public call"]
     sources, named, waiting = "".join(path.read_text() for path in crate_files()), set(quoted(section)), set()
-    without, records = set(quoted(re.search(r"(?m)^Without such a clause.*$", section)[0])), fields_of_records()
+    without, records = set(quoted(section.partition("### Calls without such a clause")[2])), fields_of_records()
     for _, name, text in contracts():
         fault, head = told_of(text), re.split(r"\bensures\b|\brequires\b", text)[0]
         body = re.search(rf"pub enum {fault}(?:Kind)?\b[^{{]*\{{(.*?)\n\}}", sources, re.S) if fault else None
@@ -153,8 +153,8 @@ def call_faults():
 
 
 def adding_faults():
-    """What is wrong with the lists of files of ADDING.md."""
-    sections = {title: quoted(section) for title, section in sections_of("ADDING.md").items()}
+    """What is wrong with the lists of files of CONTRIBUTING.md."""
+    sections = {title: quoted(section) for title, section in sections_of(CONTRIBUTING, "###").items()}
     wanted = {title: [variants(name, enum)] for title, (name, enum) in ADDED.items()}
     for title, names in {**wanted, **NAMED}.items():
         for file in sorted({file for words in names for file in naming_all(words)}):
@@ -171,46 +171,46 @@ def calls_of(crate):
     return named & {path.name for path in (TOP / "crates").iterdir()} - {crate}
 
 
-def room_faults():
-    """What is wrong with the table of the rooms: a crate without a room, or calls that differ from those of the code, or go upward."""
-    rows = re.findall(r"(?m)^\| ([a-z ]+) \| (`crush.*?) \| .*? \| (.*?) ?\| \[", (TOP / "crates/README.md").read_text())
-    rooms = {room: quoted(crates) for room, crates, _ in rows}
-    room_of = {crate: room for room, crates in rooms.items() for crate in crates}
+def layer_faults():
+    """What is wrong with the table of the layers: a crate without a layer, or calls that differ from those of the code, or go upward."""
+    rows = re.findall(r"(?m)^\| ([a-z ]+) \| (`crush.*?) \| .*? \| (.*?) ?\| \[", (TOP / "docs/ARCHITECTURE.md").read_text())
+    layers = {layer: quoted(crates) for layer, crates, _ in rows}
+    layer_of = {crate: layer for layer, crates in layers.items() for crate in crates}
     for line in (TOP / "crates.txt").read_text().splitlines():
         crate = line.split(":")[0]
-        if line[:1] not in {"", "#"} and not crate.endswith("_tests") and crate not in {*room_of, *PROGRAMS}:
-            yield f"no room has {crate}"
-    for place, (room, crates, listed) in enumerate(rows):
-        called = {room_of[name] for crate in quoted(crates) for name in calls_of(crate)} - {room}
+        if line[:1] not in {"", "#"} and not crate.endswith("_tests") and crate not in {*layer_of, *PROGRAMS}:
+            yield f"no layer has {crate}"
+    for place, (layer, crates, listed) in enumerate(rows):
+        called = {layer_of[name] for crate in quoted(crates) for name in calls_of(crate)} - {layer}
         for other in sorted(called ^ set(filter(None, listed.split(", ")))):
-            yield f"the room {room} {'calls' if other in called else 'does not call'} {other}"
+            yield f"the layer {layer} {'calls' if other in called else 'does not call'} {other}"
         for other in sorted(called & {name for name, _, _ in rows[:place]}):
-            yield f"the room {room} calls {other}, which stands above it"
+            yield f"the layer {layer} calls {other}, which stands above it"
 
 
 def main():
-    words = known_words()
+    words, of_tests = known_words(), known_words(of_tests=True)
     files = {str(path.relative_to(TOP)) for path in files_below(TOP)}
     faults = []
     for page in PAGES:
+        blocks = " ".join(re.findall(r"```.*?```", page.read_text(), flags=re.S))
         text = re.sub(r"```.*?```", "", page.read_text(), flags=re.S)
         if page.name in WORDS_OF_TEXTS:
             continue
-        for name in quoted(text):
-            if re.search(r"\b[A-Z]{4,}\b", name.replace("_", " ")):
-                continue  # capitals stand for any name
-            if FILE.match(name):
-                if not any(f"/{file}".endswith("/" + name.strip("/")) for file in files):
-                    faults.append(f"{page.name}: no file {name}")
-            elif NAME.match(name):
-                for part in re.findall(r"[A-Za-z_][A-Za-z0-9_]*", name):
-                    if part not in words:
-                        faults.append(f"{page.name}: nothing is named {name}")
-                        break
-    faults += [f"crates/README.md: {fault}" for fault in room_faults()]
-    for page in [*PAGES, MADE, TOP / "examples/README.md", TOP / "crates/README.md"]:
+        for line in text.splitlines():
+            known = words | set(re.findall(r"\w+", blocks)) | (of_tests if re.search(r"`crush_\w+_tests`", line) else set())
+            for name in quoted(line):
+                if re.search(r"\b[A-Z]{4,}\b", name.replace("_", " ")):
+                    continue  # capitals stand for any name
+                if FILE.match(name):
+                    if not any(f"/{file}".endswith("/" + name.strip("/")) for file in files):
+                        faults.append(f"{page.name}: no file {name}")
+                elif NAME.match(name) and not set(re.findall(r"[A-Za-z_]\w*", name)) <= known:
+                    faults.append(f"{page.name}: nothing is named {name}")
+    faults += [f"ARCHITECTURE.md: {fault}" for fault in layer_faults()]
+    for page in [*PAGES, *LINKED]:
         faults += link_faults(page)
-    faults += [f"ADDING.md: {fault}" for fault in adding_faults()]
+    faults += [f"CONTRIBUTING.md: {fault}" for fault in adding_faults()]
     faults += [f"PROVED.md: {fault}" for fault in call_faults()]
     faults += [f"examples/README.md: {fault}" for fault in example_faults()]
     faults += [*told_faults(), *version_faults(), *made_faults(), *edit_faults()]

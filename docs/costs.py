@@ -1,5 +1,5 @@
 #!/usr/bin/env python3
-"""Measures what each crate costs the gate, and writes the table of docs/WORKING.md out of such a log.
+"""Measures what each crate costs the gate, and writes the table of CONTRIBUTING.md out of such a log.
 
     python3 docs/costs.py --watch LOG PROCESS
     python3 docs/costs.py LOG
@@ -7,7 +7,7 @@
 With --watch, as long as that process lasts or until it is ended, LOG has a line for each crate, `NAME WHAT SECONDS`:
 the processor seconds of the provers that the process started, by what they are at: `proof`, `tests` or `edits`. They
 are looked at each second, so a prover's last second is missed. Without it the table between the two comments
-of docs/WORKING.md is made of LOG: a row for each crate, and one of sums.
+of CONTRIBUTING.md is made of LOG: a row for each crate, and one of sums.
 """
 import collections
 import itertools
@@ -18,7 +18,7 @@ import sys
 import time
 
 CRATES = pathlib.Path(__file__).resolve().parent.parent / "crates.txt"
-PAGE = pathlib.Path(__file__).resolve().parent / "WORKING.md"
+PAGE = pathlib.Path(__file__).resolve().parent.parent / "CONTRIBUTING.md"
 BEGIN, END = "<!-- made by docs/costs.py -->\n", "<!-- end -->\n"
 WHATS = ("proof", "tests", "edits")
 PROVER = "rattle"

@@ -11,12 +11,12 @@ they are. Calls are told by names, so that two methods of one name hide one anot
 one's, and one of which it is silent may still be. Prints each, and names of OFFERED that no crate has, and ends with
 status 1 where there are any.
 """
-import pathlib
 import re
 import sys
 
-TOP = pathlib.Path(__file__).resolve().parent.parent
-PROGRAMS = {"crush_examples", "crush_one_edit", "crush_two_operators", "crushedit"}
+sys.dont_write_bytecode = True
+from sources import PROGRAMS, TOP  # noqa: E402
+
 # What the library offers, whether or not the program calls it: its surface, as docs/CALLING.md and docs/SIGNATURES.md
 # tell it, the tests by which a caller meets what a call requires, and what contracts of others name.
 OFFERED = {

@@ -1,11 +1,11 @@
 #!/usr/bin/env python3
 """Writes docs/SIGNATURES.md: what a caller of the library takes, as the crates declare it.
 
-It begins with the names of the list of docs/CALLING.md and with those that docs/doors.py offers, and goes on with each
-type that a signature, a field or a variant among them names. A type stands under the last crate that hands it on, with
-its public fields or variants, its public methods and the traits that it has; a function with its first sentence and the
-names of what it requires and ensures. A call that asks for a type of INSIDE, of which no caller has a value, is left
-out. With --check nothing is written, and the status is 1 where the page has other bytes.
+It begins with the names in the table of docs/CALLING.md and with those that docs/doors.py offers, and goes on with each
+type that a signature, a field or a variant among them names. A type stands under the last crate that re-exports it, with
+its public fields or variants, its public methods and its traits; a function with the names of its clauses; a module of
+constants with each constant. Each has its whole comment, also fields and variants. A call that takes a type of INSIDE, of
+which no caller has a value, is left out. With --check nothing is written, and the status is 1 if the page has other bytes.
 """
 import pathlib
 import re
@@ -20,7 +20,11 @@ PAGE = TOP / "docs/SIGNATURES.md"
 HEAD = """\
 # Signatures
 
-What a caller of the library takes; [how](CALLING.md). `docs/signatures.py` makes this page of the sources, in which each call has its contract. Here stand the names of its clauses, `requires` alone where a condition has no name, and behind a type the traits that it has; [limits](RULES.md#limits) stand in `crush_units::limits`. Of type parameters `A` says in whose memory a map is, `N` is the name of an editor, and `O` what it keeps of its opening.
+This page is for a programmer who calls the library. It lists the types, calls and constants that a caller needs, crate by crate, lowest first. [CALLING](CALLING.md) shows how to use them, and the contract of each call stands in its source. `docs/signatures.py` writes this page from the sources.
+
+- A line `// requires a; ensures b, c` has the names of a call's clauses. `requires` without a name is a condition that has none.
+- A line `// traits: ..` has the traits of the type below it.
+- The type parameter `A` is the allocator of a map's memory, `N` is the name of an editor, and `O` is what an editor keeps of its opening map.
 """
 # Types of which no caller has a value, so that no call that asks for one is shown: a map comes of a reader or a builder.
 INSIDE = {"Hierarchy", "Guide"}
@@ -29,6 +33,10 @@ UNTOLD = {"Drop", "Model"}
 WIDTH = 116
 FUNCTION = re.compile(r"(?m)^(?P<in>(?:    )?)pub (?P<kind>(?:const )?(?:unsafe )?)fn (?P<name>\w+)")
 TYPE = re.compile(r"(?m)^pub (?P<kind>struct|enum|trait|type) (?P<name>\w+)")
+OF_TRAIT = re.compile(r"(?m)^(?P<in>    )fn (?P<name>\w+)")
+CONSTANT = re.compile(r"(?m)^pub const (\w+): .*;$")
+# A field or a variant with the comment and the attributes above it.
+PART = re.compile(r"((?:[ \t]*///.*\n|[ \t]*//.*\n|[ \t]*#\[(?:[^\[\]]|\[[^\]]*\])*\]\n|\s*\n)*)[ \t]*(\S(?:[^,{(<]|\((?:[^()]|\([^()]*\))*\)|<(?:[^<>]|<[^<>]*>)*>|\{[^{}]*\})*),?")
 
 
 def code_of(path):
@@ -62,17 +70,29 @@ class Crate:
 
 
 def docs_above(text, at):
-    """The first sentence of the comment above a place."""
+    """The comment above a place, paragraph by paragraph."""
     lines = []
     for line in reversed(text[:at].splitlines()):
         line = line.strip()
         if line.startswith("///"):
             lines.insert(0, line[3:].strip())
-        elif not line.startswith("#["):
+        elif not line.startswith("#[") and not line.startswith("//"):
             break
-    said = " ".join(lines[: lines.index("")] if "" in lines else lines)
-    said = re.sub(r"\[(`[^`]+`)\]\(crate::[\w:]+\)", r"\1", said)
-    return re.split(r"\. (?=[A-Z`\[])", said)[0].rstrip(".:") + "." if said else ""
+    return paragraphs(lines)
+
+
+def paragraphs(lines):
+    """The paragraphs of the lines of a comment, with links to the sources as plain names."""
+    said = re.split(r"\n\s*\n", "\n".join(lines).strip())
+    return [re.sub(r"\[(`[^`]+`)\](?:\([\w:]+\))?", r"\1", " ".join(part.split())) for part in said if part.strip()]
+
+
+def commented(said, indent=""):
+    """The lines of a comment."""
+    for number, part in enumerate(said):
+        if number:
+            yield f"{indent}///"
+        yield from (f"{indent}/// {line}" for line in textwrap.wrap(part, WIDTH - 4 - len(indent), break_on_hyphens=False))
 
 
 def braced(text, at):
@@ -99,7 +119,7 @@ class Function:
             self.clauses[word].append(name or "")
 
     def lines(self):
-        yield from (f"/// {line}" for line in textwrap.wrap(self.docs, WIDTH - 4))
+        yield from commented(self.docs)
         told = [f"{word} {', '.join(filter(None, names))}".strip() for word, names in self.clauses.items()
                 if any(names) or names and word == "requires"]
         yield from behind(wrapped(self.head), "; ".join(told))
@@ -134,6 +154,24 @@ def wrapped(head):
     if bounds:
         lines += ["where", *textwrap.wrap(bounds, WIDTH, initial_indent="    ", subsequent_indent="    ")]
     return lines
+
+
+def parts_of(inside, is_struct, indent):
+    """The lines of the public fields of a struct, or of all variants of an enum and their fields, each below its comment."""
+    for above, part in PART.findall(inside):
+        said = paragraphs([line.strip()[3:].strip() for line in above.splitlines() if line.strip().startswith("///")])
+        if is_struct and not part.startswith("pub "):
+            continue
+        yield from commented(said, indent)
+        head, brace, fields = part.partition("{")
+        if brace and "///" in fields:
+            yield f"{indent}{head.strip()} {{"
+            yield from parts_of(fields.rstrip().removesuffix("}"), False, indent + "    ")
+            yield f"{indent}}},"
+        elif brace:
+            yield f"{indent}{head.strip()} {{ {' '.join(fields.rstrip().removesuffix('}').split()).rstrip(',')} }},"
+        else:
+            yield f"{indent}{' '.join(part.split())},"
 
 
 class Library:
@@ -195,14 +233,14 @@ class Library:
             line = text[found.start() : text.index(";", found.end())]
             return " ".join(line.split()) if re.search(r"\(\s*pub ", line) else " ".join(line.split("(")[0].split())
         head = " ".join(line.split())
-        if text[found.start() + len(line)] == ";" or found["kind"] == "trait":
+        if text[found.start() + len(line)] == ";":
             return head
-        inside = re.sub(r"(?m)^ *(?:///?.*|#\[.*\])\n", "", braced(text, found.end()))
-        inside = re.sub(r"\{([^{}]*)\}", lambda fields: "{ " + " ".join(fields[1].split()).rstrip(",") + " }", inside)
-        parts = [" ".join(part.split()) for part in re.split(r",\n", inside) if part.strip()]
-        if found["kind"] == "struct":
-            parts = [part for part in parts if part.startswith("pub ")]
-        return "\n".join([head + " {", *(f"    {part.rstrip(',')}," for part in parts), "}"]) if parts else head
+        if found["kind"] == "trait":
+            inside = braced(text, found.end())
+            calls = [[f"    {line}" for line in Function(inside, it).lines()] for it in OF_TRAIT.finditer(inside)]
+            return "\n".join([head + " {", *"\n\n".join("\n".join(lines) for lines in calls).splitlines(), "}"]) if calls else head
+        parts = list(parts_of(braced(text, found.end()), found["kind"] == "struct", "    "))
+        return "\n".join([head + " {", *parts, "}"]) if parts else head
 
     def traits(self, crate, name):
         path, found = self.types[crate, name]
@@ -228,27 +266,35 @@ class Library:
 
 
 def roots(library):
-    """What CALLING.md lists and docs/doors.py offers: types and functions, by the crates that declare them."""
+    """What the table of CALLING.md lists and docs/doors.py offers: types, functions and modules, by the crates that declare them."""
     listed = {}
-    for line in re.findall(r"(?m)^- `crush_.*$", (TOP / "docs/CALLING.md").read_text()):
-        for part in line.split("; `crush_"):
-            crates, _, names = part.removeprefix("- ").partition(": ")
-            names = re.findall(r"`(\w+)`", re.sub(r"\(.*?\)", "", names))
-            for crate in re.findall(r"crush_\w+", f"crush_{crates}" if not crates.startswith("`") else crates):
-                listed.setdefault(crate, set()).update(names)
+    for crate, names in re.findall(r"(?m)^\| `(crush_\w+)` \| ([^|]*) \|", (TOP / "docs/CALLING.md").read_text()):
+        listed.setdefault(crate, set()).update(re.findall(r"`([\w:]+)`", names))
     for crate, names in OFFERED.items():
-        listed.setdefault(crate, set()).update(name.split("::")[0] for name in names)
+        listed.setdefault(crate, set()).update(names)
     for crate, names in sorted(listed.items()):
-        for name in sorted(names):
+        for name in sorted({name.split("::")[0] for name in names}):
             yield library.origin(crate, name), name
+
+
+def constants(library, crate, module):
+    """The lines of a module of constants."""
+    path = CRATES / crate / "src" / f"{module}.rt"
+    text = library.crates[crate].files[path]
+    yield f"pub mod {module} {{"
+    for found in CONSTANT.finditer(text):
+        yield from (f"    {line}" for line in [*commented(docs_above(text, found.start())), found[0]])
+    yield "}"
 
 
 def closed(library):
     """Those, and each type that they name."""
-    types, functions, waiting = set(), set(), list(roots(library))
+    types, functions, modules, waiting = set(), set(), set(), list(roots(library))
     while waiting:
         crate, name = waiting.pop()
-        if (crate, name) in library.functions:
+        if name in library.crates[crate].public:
+            modules.add((crate, name))
+        elif (crate, name) in library.functions:
             functions.add((crate, name))
             path, function = library.functions[crate, name]
             waiting += [it for it in library.named(crate, path, function.head) if it not in types]
@@ -257,32 +303,34 @@ def closed(library):
             path, found = library.types[crate, name]
             if found["kind"] == "type":
                 continue  # a caller hands it on, and looks at nothing of it
-            waiting += library.named(crate, path, library.body_of(crate, name))
+            waiting += library.named(crate, path, re.sub(r"(?m)^ *///.*$", "", library.body_of(crate, name)))
             for paths, head, methods in library.methods(crate, name):
                 for path in paths:
                     waiting += library.named(crate, path, " ".join([head, *(it.head for it in methods)]))
-    return types, functions
+    return types, functions, modules
 
 
 def page():
     library = Library()
-    types, functions = closed(library)
+    types, functions, modules = closed(library)
     parts = [HEAD]
     for crate in library.order:
         of_types = sorted(it for it in types if library.home(*it) == crate)
         of_functions = sorted(it for it in functions if library.home(*it) == crate)
-        if not of_types and not of_functions:
+        lines = [line for module in sorted(modules) if module[0] == crate for line in [*constants(library, *module), ""]]
+        if not of_types and not of_functions and not lines:
             continue
-        lines = []
         for it in of_types:
             path, found = library.types[it]
-            said = docs_above(library.crates[it[0]].files[path], found.start())
-            lines += [f"/// {line}" for line in textwrap.wrap(said, WIDTH - 4)]
-            lines += behind(library.body_of(*it).splitlines(), ", ".join(library.traits(*it)))
+            lines += commented(docs_above(library.crates[it[0]].files[path], found.start()))
+            traits = ", ".join(library.traits(*it))
+            lines += textwrap.wrap(traits, WIDTH, initial_indent="// traits: ", subsequent_indent="//   ") if traits else []
+            lines += library.body_of(*it).splitlines()
             for _, head, methods in library.methods(*it):
-                lines += [f"{head} {{"]
-                lines += [f"    {line}" for method in methods for line in method.lines()]
-                lines += ["}"]
+                lines += ["", f"{head} {{"]
+                for method in methods:
+                    lines += [f"    {line}".rstrip() for line in method.lines()] + [""]
+                lines[-1] = "}"
             lines += [""]
         for it in of_functions:
             lines += [*library.functions[it][1].lines(), ""]

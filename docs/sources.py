@@ -6,9 +6,13 @@ import re
 
 TOP = pathlib.Path(__file__).resolve().parent.parent
 MADE = TOP / "docs/SIGNATURES.md"
-PAGES = sorted(set((TOP / "docs").glob("*.md")) - {MADE}) + [TOP / "README.md", TOP / "bench/README.md"]
-# Crates of which nobody calls a function.
-PROGRAMS = {"crush_examples", "crush_one_edit", "crush_two_operators", "crushedit"}
+# The page for contributors, with a section for each kind of addition.
+CONTRIBUTING = TOP / "CONTRIBUTING.md"
+PAGES = sorted(set((TOP / "docs").glob("*.md")) - {MADE}) + [TOP / "README.md", CONTRIBUTING, TOP / "bench/README.md"]
+# Pages of which only the links are looked at.
+LINKED = [MADE, TOP / "SECURITY.md", TOP / "bench/RESULTS.md", TOP / "crates/README.md", TOP / "examples/README.md"]
+# Crates that are programs: nobody calls a function of theirs.
+PROGRAMS = {path.parent.parent.name for path in TOP.glob("crates/*/src/main.rt")}
 # The words of the command line, the help and the version.
 COMMAND_LINE = "crates/crush_options/src/command_line.rt"
 # The sections of RULES.md that have a row for each variant of an enum.
@@ -34,14 +38,39 @@ def crate_files():
     return [path for path in sorted(files_below(TOP / "crates")) if path.suffix in {".rt", ".antt", ".edit"}]
 
 
+# Words of the language, and a program beside this one.
+OTHER_WORDS = {"self", "now", "match", "requires", "ensures", "crushtool"}
+# What a source declares: an item or a module, a field or a parameter, a variant, a clause; and a word of a text, alone.
+DECLARED = {
+    ".rt": [r"\b(?:fn|struct|enum|trait|type|const|static|mod)\s+(\w+)", r"\b(\w+):", r"(?m)^ {4,8}([A-Z]\w*)\b", r"\b(?:ensures|requires) (\w+) \{", r"\bghost (\w+)\b", r"\"(\w+)\""],
+    ".antt": [r"(?m)^ *(?:(?:abbrev|unfoldable|opaque|def|private) )*(?:pub )?(?:record |data |module )?(\w+) .*?:", r"(?m)^ *pub (?:record |data )?(\w+)", r"\"(\w+)\""],
+}
+TAKEN = re.compile(r"(?ms)^\s*(?:pub(?:\([^)]*\))? |ghost )?use (.*?)(?:;|$)|#\[derive\((.*?)\)\]")
+
+
+def declared(path):
+    """The names that a source declares or takes from elsewhere; what stands in its comments is no name."""
+    text = re.sub(r"(?m)(?:--|//).*$", "", path.read_text())
+    names = {name for form in DECLARED[path.suffix] for name in re.findall(form, text)}
+    for parts in TAKEN.findall(text):
+        names.update(re.findall(r"\w+", " ".join(parts)))
+    return names
+
+
 @functools.cache
-def known_words():
-    """Each word of the crates, and the names of their files and of the jobs of examples/."""
-    words = {path.stem for path in (TOP / "examples").rglob("*.job")}
+def known_words(of_tests=False):
+    """What the product declares, or its tests, with the names of its files and of the jobs of examples/.
+
+    A call that is gone may go on as a word of a comment, of a text or of a test: there it is no call.
+    """
+    words = {path.stem for path in (TOP / "examples").rglob("*.job")} | OTHER_WORDS
+    words.update(re.findall(r"\w+", re.sub(r"(?m)^#.*$", "", (TOP / "crates.txt").read_text())))
     for path in crate_files():
-        words.add(path.stem)
-        words.update(part for part in path.parts)
-        words.update(re.findall(r"[A-Za-z_][A-Za-z0-9_]*", path.read_text()))
+        parts = path.relative_to(TOP / "crates").parts
+        if parts[0].endswith("_tests") == of_tests:
+            words.update({path.stem, *parts})
+            if path.suffix != ".edit":
+                words.update(declared(path))
     return words
 
 
@@ -79,10 +108,12 @@ def variants(name, enum):
     return re.findall(r"^    ([A-Z]\w*)", body, re.M)
 
 
-def sections_of(page):
-    """The sections of a page by their titles."""
-    sections = re.split(r"(?m)^## ", (TOP / "docs" / page).read_text())[1:]
-    return {section.split("\n", 1)[0]: section for section in sections}
+def sections_of(page, level="##"):
+    """The sections of a page of docs/, or of one that a path names, by their titles, at this level of headings."""
+    sections = re.split(rf"(?m)^(?={level} )", (TOP / "docs" / page).read_text())
+    # A line of a block of code may begin with one `#`.
+    sections = [re.split(r"(?m)^(?=## )", section)[0] if level == "###" else section for section in sections]
+    return {section.split("\n", 1)[0].removeprefix(level).strip(): section for section in sections if section.startswith(f"{level} ")}
 
 
 def contracts():
@@ -90,7 +121,7 @@ def contracts():
     start = re.compile(r"(?m)^(?:impl\b[^{;]*\{|\}|(?P<in> *)pub (?:const |unsafe )?fn (?P<name>\w+))")
     for path in crate_files():
         crate, folder = path.relative_to(TOP / "crates").parts[:2]
-        if folder != "src" or crate.endswith("_tests") or crate in PROGRAMS:
+        if folder != "src" or crate.endswith("_tests") or crate in PROGRAMS or path.suffix != ".rt":
             continue
         text, owner, library = path.read_text(), "", (TOP / "crates" / crate / "src/lib.rt").read_text()
         module = path.relative_to(TOP / "crates" / crate / "src").parts[0].removesuffix(".rt")

@@ -3,9 +3,10 @@
 RULES.md has a row for each variant of the enums of ROWS, and for each limit with its value, and a sentence for each,
 which is the one of SENTENCES; and the sentences of runs and those with names. MODEL.md tells how many worked lines
 there are, the pages of the gate how many trials it runs, edits.md which refusals the tests of an edit may tell. In
-PROVED.md what is trusted has each crate that isn't of this repository, and what is unsafe is told. A clause that a page
-tells of calls is one of each; CALLING.md shows lines of a program, and tells which traits faults and values have. FORMATS.md has a heading for each word of the help, README.md a row for each status. Names of
-refusals and faults stand in the crates, also on pages of WORDS_OF_TEXTS.
+PROVED.md what is trusted has each crate that isn't of this repository, and what is unsafe is told; each call there is
+of the crate that it names. A clause that a page tells of calls is one of each. CALLING.md and editor.md show lines of
+programs, and CALLING.md tells which traits faults and values have. FORMATS.md has a heading for each word of the help,
+README.md a row for each status. Names of refusals and faults stand in the crates, also on pages of WORDS_OF_TEXTS.
 """
 import re
 
@@ -17,7 +18,7 @@ SENTENCES = "crush_reasons/specs/Sentences.antt"
 SAID = {("text",): "Faults of a text", ("job",): "Faults of a job", ("refusal", "stale"): "Refusals"}
 # A fault of the text that a job has, whose sentence is the text's.
 NO_SENTENCE = {"Text"}
-NUMBERS = "no one two three four five six seven eight nine ten eleven twelve".split()
+NUMBERS = "no one two three four five six seven eight nine ten eleven twelve thirteen fourteen fifteen sixteen".split()
 
 
 def rule_faults():
@@ -88,7 +89,7 @@ def number_faults():
     if f"`crates/crush_edits/proofs/Worked` has {count} such lines" not in (TOP / "docs/MODEL.md").read_text():
         yield f"MODEL.md: there are {count} worked lines"
     trials = len(re.findall(r"(?m)^python3 (?:-B )?bench/", (TOP / ".ci/run").read_text()))
-    for page, form in (("docs/WORKING.md", "{} scripts of [bench/]"), ("bench/README.md", "The gate runs {} of them.")):
+    for page, form in (("CONTRIBUTING.md", "{} scripts of [bench/]"), ("bench/README.md", "The gate runs {} of them.")):
         if form.format(NUMBERS[trials]) not in (TOP / page).read_text():
             yield f"{page}: the gate runs {trials} scripts of bench/"
 
@@ -134,13 +135,21 @@ def trust_faults():
 
 
 def clause_faults():
-    """Which clauses the pages tell, in brackets behind calls, that these don't have."""
-    records, clauses = fields_of_records(), {}
-    for _, name, text in contracts():
+    """Which clauses the pages tell that the calls don't have, in brackets behind calls or as of PROVED.md, and which calls crates don't have."""
+    records, clauses, by_crate = fields_of_records(), {}, {}
+    for crate, name, text in contracts():
         there = set(re.findall(r"\bensures (\w+) \{", text))
+        by_crate[crate, name] = set(there)
         there.update(*(records.get(record, ()) for record in re.findall(r"\bensures (?:\w+ )?\{ (\w+)", text)))
         for called in {name, name.split("::")[-1]}:
             clauses.setdefault(called, set()).update(there)
+    carried = re.compile(r"`([\w:]+)` in `(crush_\w+)`(?:, clauses? ((?:`\w+`(?:, | and )?)+))?")
+    for call, crate, named in carried.findall((TOP / "docs/PROVED.md").read_text()):
+        if (crate, call) not in by_crate and not any(it[0] == crate and it[1].startswith(f"{call}::") for it in by_crate):
+            yield f"PROVED.md: {crate} has no public call {call}"
+        for clause in quoted(named):
+            if clause not in by_crate.get((crate, call), ()):
+                yield f"PROVED.md: {call} of {crate} has no clause {clause}"
     told = re.compile(r"((?:`[\w:]+`, )*`[\w:]+`)(?:, clauses? |: )((?:`\w+`(?:, | and )?)+)(?::|$)")
     for page in sorted((TOP / "docs").glob("*.md")):
         for inside in re.findall(r"\(([^()]+)\)", page.read_text()):
@@ -152,19 +161,47 @@ def clause_faults():
                             yield f"{page.name}: {call} has no clause {clause}"
 
 
+def plain_lines(text):
+    """The lines of code of a text, without comments, contracts and blank lines."""
+    lines, is_clause = [], False
+    for line in text.splitlines():
+        word = line.strip()
+        if not word or word.startswith(("//", "ghost ")):
+            continue
+        if word.startswith(("ensures", "requires")):
+            is_clause = True
+        elif is_clause and (word == "{" or re.match(r"\{ \S.*[^}] \},$", word)):
+            is_clause = False
+        if not is_clause:
+            lines.append(line.rstrip())
+        is_clause = is_clause and not word.endswith(";")
+    return "\n" + "\n".join(lines) + "\n"
+
+
+def shown_faults():
+    """Whether the lines of code that CALLING.md and editor.md show stand so in the program that is named above them; `..` leaves lines out."""
+    for name in ("CALLING.md", "editor.md"):
+        page = (TOP / "docs" / name).read_text()
+        for found in re.finditer(r"(?s)```rust\n(.*?)```", page):
+            file = re.findall(r"`(crates/crush_[\w/]+\.rt)`", page[: found.start()])[-1]
+            program = plain_lines((TOP / file).read_text())
+            for part in re.split(r"(?m)^ *\.\.\n", found[1]):
+                if plain_lines(part) not in program:
+                    yield f"{name}: {file} has other lines"
+
+
 def caller_faults():
-    """Whether the lines of CALLING.md are those of the program that it names, and which faults and values lack what it says they have."""
-    page, program = (TOP / "docs/CALLING.md").read_text(), (TOP / "crates/crush_one_edit/src/main.rt").read_text()
-    head, body = re.search(r"(?s)```rust\n(.*?)```", page)[1].split("    ensures ..\n")
-    for part in (head, body):
-        if part not in program:
-            yield "CALLING.md: crush_one_edit has other lines"
-    surface = (TOP / "docs/SIGNATURES.md").read_text()
-    for name, rest in re.findall(r"(?ms)^pub (?:enum|struct) (\w+)(.*?)(?=^(?:pub|impl|///|```))", surface):
-        traits = re.findall(r"\w+", rest.partition("// ")[2])
-        for trait, has in (("Error", "Fault" in name or name == "Refusal"), ("Display", name in {"Weight", "Name"} or re.search("[a-z]Id$", name))):
-            if has and trait not in traits and name not in {"ShadowId", "TypeId"}:
-                yield f"CALLING.md: {name} has no {trait}"
+    """Which faults and values lack a trait that CALLING.md says they have."""
+    surface, traits = (TOP / "docs/SIGNATURES.md").read_text(), []
+    for line in surface.splitlines():
+        if re.match("// +", line) and (traits or line.startswith("// traits: ")):
+            traits += re.findall(r"\w+", line)
+        elif found := re.match(r"pub (?:enum|struct) (\w+)", line):
+            name = found[1]
+            for trait, has in (("Error", "Fault" in name or name == "Refusal"), ("Display", name in {"Weight", "Name"} or re.search("[a-z]Id$", name))):
+                if has and trait not in traits and name not in {"ShadowId", "TypeId"}:
+                    yield f"CALLING.md: {name} has no {trait}"
+            traits = []
 
 
 def word_faults():
@@ -196,5 +233,5 @@ def told_faults():
     """All of these, each with its page."""
     yield from (f"RULES.md: {fault}" for of in (rule_faults, sentence_faults, run_sentence_faults, named_sentence_faults) for fault in of())
     yield from (f"PROVED.md: {fault}" for fault in trust_faults())
-    for of in (number_faults, met_faults, clause_faults, caller_faults, word_faults, name_faults):
+    for of in (number_faults, met_faults, clause_faults, shown_faults, caller_faults, word_faults, name_faults):
         yield from of()
