@@ -1,16 +1,27 @@
 #!/bin/bash
-# A monitor of Ceph 18.2.7 in a folder of its own, on the loopback alone, for bench/against_monitor.py.
+# Runs a monitor of Ceph 18.2.7 in a folder of its own, on the loopback alone, for bench/against_monitor.py.
 #
 #     bench/monitor.sh install|start|stop FOLDER
 #
-# It needs root. `install` makes of FOLDER a Debian 13 (`debootstrap`, which it fetches if it isn't there; 800 MB with
-# the packages ceph-mon, ceph-common and ceph-base), `start` a monitor with an empty store and ten OSDs that are known
-# and never run, `stop` ends it. What runs sees FOLDER alone (`chroot`), with a /proc of its own, so that no mount is
-# left and FOLDER may be removed once the monitor has stopped.
+# It needs root. `install` installs a Debian 13 in FOLDER (by `debootstrap`, which it fetches if it isn't there; 800 MB
+# with the packages ceph-mon, ceph-common and ceph-base). `start` starts a monitor with an empty store and ten OSDs that
+# the monitor knows and that never run. `stop` ends the monitor. What runs sees FOLDER alone (`chroot`), with a /proc of
+# its own, so that no mount is left, and FOLDER may be removed once the monitor has stopped.
+#
+# FOLDER has to be new or empty for `install`, which puts a mark there. The script writes and removes nothing in a folder
+# without that mark: `start` replaces the store of the monitor and the configuration of Ceph that it finds there.
 set -euo pipefail
+unset CDPATH
+
+fail() {
+    echo "monitor.sh: $*" >&2
+    exit 1
+}
 
 [ $# -eq 2 ] || { echo "usage: monitor.sh install|start|stop FOLDER" >&2; exit 2; }
 root=$(realpath -m "$2")
+mark=$root/.crushedit-monitor
+[ "$root" != / ] || fail "the root folder is no folder for a monitor"
 export DEBIAN_FRONTEND=noninteractive LC_ALL=C.UTF-8
 osds=10
 
@@ -29,12 +40,18 @@ stop() {
         [ -e "/proc/$pid" ] || return 0
         sleep 0.1
     done
-    echo "monitor.sh: the monitor, process $pid, doesn't end" >&2
-    exit 1
+    fail "the monitor, process $pid, doesn't end"
 }
 
 case $1 in
+install) [ -e "$mark" ] || [ -z "$(ls -A "$root" 2>/dev/null)" ] || fail "$root isn't empty, and monitor.sh hasn't made it" ;;
+start | stop) [ -e "$mark" ] || fail "monitor.sh hasn't installed a monitor in $root" ;;
+esac
+
+case $1 in
 install)
+    mkdir -p "$root"
+    touch "$mark"
     command -v debootstrap >/dev/null || { apt-get update -qq; apt-get install -y -qq debootstrap; }
     [ -x "$root/usr/bin/apt-get" ] || debootstrap --variant=minbase trixie "$root" http://deb.debian.org/debian
     cp /etc/resolv.conf "$root/etc/resolv.conf"
