@@ -80,6 +80,11 @@ trials: $(PROGRAM)
 monitor: $(PROGRAM)
 	bench/monitor.sh install out/monitor
 	bench/monitor.sh start out/monitor
+	python3 -B bench/recipe_by_monitor.py $(PROGRAM) out/monitor
+	bench/monitor.sh start out/monitor
+	bench/monitor.sh osds out/monitor
+	python3 -B bench/recipe_by_monitor.py $(PROGRAM) out/monitor
+	bench/monitor.sh start out/monitor
 	{ python3 bench/plans_by_monitor.py $(PROGRAM) out/monitor 100 1 && python3 bench/against_monitor.py $(PROGRAM) out/monitor 2000 1; }; \
 	  status=$$?; bench/monitor.sh stop out/monitor; exit $$status
 

@@ -20,6 +20,7 @@ It needs Python 3.6 or later, and nothing beside its standard library.
 import argparse
 import collections
 import contextlib
+import errno
 import json
 import os
 import re
@@ -35,8 +36,6 @@ END_OF_MAP = re.compile(r"^# end crush map$", re.M)
 LONGEST_JOB = 16777216
 # A weight of 1.0, which is one TiB, has so many units.
 UNITS = 65536
-# crushtool computes in floats of 32 bits, which hold whole units up to 256.0 alone.
-EXACT_SUM = 256 * UNITS
 DEFAULT_SIZES = [2, 3, 4, 6, 8, 12]
 DEFAULT_SIZE = 3
 # A place of an erasure-coded pool that has no device (CRUSH_ITEM_NONE).
@@ -72,8 +71,18 @@ def decoded(data):
 def say(text, stream=None):
     """Prints lines at once, as UTF-8 whatever the locale is."""
     stream = stream or sys.stdout
+    if stream is None:
+        raise OSError(errno.EBADF, os.strerror(errno.EBADF))
     stream.buffer.write((shown(text) + "\n").encode("utf-8"))
     stream.buffer.flush()
+
+
+def complain(text):
+    """Prints lines on standard error, if there is one."""
+    try:
+        say(text, sys.stderr)
+    except (OSError, AttributeError):
+        pass
 
 
 def name_of(path):
@@ -90,6 +99,11 @@ def quoted(word):
     return shlex.quote(name)
 
 
+def ceph_words(tools):
+    """Returns the words by which ceph is called, as a shell takes them."""
+    return " ".join(map(quoted, tools.ceph))
+
+
 def indented(text):
     """Returns lines with four spaces before each."""
     return "\n".join("    " + line for line in text.rstrip("\n").split("\n"))
@@ -97,13 +111,8 @@ def indented(text):
 
 # The command line and the environment.
 
-class Request:
-    """What the recipe is to do: a file of commands or a wanted map, and the folder."""
-
-    def __init__(self, commands, wanted, folder):
-        self.commands = commands
-        self.wanted = wanted
-        self.folder = folder
+# What the recipe is to do: a file of commands or of a wanted map, of which one is None, and the folder.
+Request = collections.namedtuple("Request", "commands wanted folder")
 
 
 class Parser(argparse.ArgumentParser):
@@ -184,7 +193,7 @@ def new_folder(name):
     try:
         os.mkdir(name)
     except FileExistsError:
-        raise Stop("{} exists already. FOLDER must be new, so that no map that was kept is overwritten".format(name_of(name)))
+        raise Stop("{} exists already. FOLDER must be new, so that no kept map is overwritten".format(name_of(name)))
     except OSError as fault:
         raise Stop("{} can't be created: {}".format(name_of(name), fault.strerror))
     folder = Folder(name)
@@ -199,7 +208,7 @@ def read_file(path):
     """Returns the bytes of a file that an operator has written."""
     name = name_of(path)
     if os.path.isdir(path):
-        raise Stop("{} is a folder, and a file is wanted".format(name))
+        raise Stop("{} is a folder and not a file".format(name))
     try:
         with open(path, "rb") as file:
             data = file.read(LONGEST_JOB + 1)
@@ -212,7 +221,7 @@ def read_file(path):
     return data
 
 
-Ended = collections.namedtuple("Ended", "status out told")
+Ended = collections.namedtuple("Ended", "status out errors")
 
 
 def run(words):
@@ -228,7 +237,7 @@ def output_of(words, what):
     """Runs a program that has to succeed, and returns how it ended. WHAT names the step in the message."""
     ended = run(words)
     if ended.status:
-        raise Stop("{} failed with status {}".format(what, ended.status), ended.told)
+        raise Stop("{} failed with status {}".format(what, ended.status), ended.errors)
     return ended
 
 
@@ -263,23 +272,24 @@ def with_exact_weights(text):
                   lambda found: found[1] + exact_weight(units_of(found[2])), text)
 
 
-def without_negative_sums(text):
-    """Returns the text of a map with 0 in place of each negative weight of a bucket, and the number of these.
+def with_dumped_weights(text, dump):
+    """Returns the text of a map that `crushtool -d` printed, with the weights of its items as `crushtool --dump` has them.
 
-    `crushtool -d` prints a sum of 32,768 TiB and more as a negative number. crushedit replaces it by the sum of the devices.
+    The dump has whole units. The text has rounded ones: version 16 prints three decimals, sums above 256 TiB are floats, and
+    sums of 32,768 TiB and more are negative.
     """
-    devices = {name for name, _ in read_map(text).devices.values()}
-    count = 0
-
-    def mended(found):
-        nonlocal count
-        if found[2] in devices:
-            return found[0]
-        count += 1
-        return found[1] + "0.00000"
-
-    text = re.sub(r"(?m)^(\titem (\S+) weight )-[0-9.]+$", mended, text)
-    return text, count
+    names = {item["id"]: item["name"] for item in dump["devices"] + dump["buckets"]}
+    units = {(bucket["name"], names.get(item["id"])): item["weight"] % 2**32
+             for bucket in dump["buckets"] for item in bucket["items"]}
+    lines, bucket = [], None
+    for line in text.split("\n"):
+        words = line.split()
+        if words[2:3] == ["{"]:
+            bucket = words[1]
+        if words[:1] == ["item"] and (bucket, words[1]) in units:
+            line = re.sub(r" weight -?[0-9.]+", " weight " + exact_weight(units[bucket, words[1]]), line)
+        lines.append(line)
+    return "\n".join(lines)
 
 
 # Texts of maps.
@@ -292,13 +302,12 @@ class Block:
         self.lines = []
 
     def ids(self):
-        """Returns the bucket's own id under "", and the id of its tree of each class under the class's name."""
-        return {line[3] if len(line) > 3 else "": int(line[1]) for line in self.lines if line[0] == "id"}
+        """Returns the bucket's own id under "", and the id of each of its class trees under the name of the class."""
+        return {"".join(line[3:]): int(line[1]) for line in self.lines if line[0] == "id"}
 
     def items(self):
         """Returns the bucket's items in their order, each with its units."""
-        return collections.OrderedDict((line[1], units_of(line[3])) for line in self.lines
-                                       if line[0] == "item")
+        return collections.OrderedDict((line[1], units_of(line[3])) for line in self.lines if line[0] == "item")
 
     def settings(self):
         """Returns a bucket's kind, id, algorithm and hash, and the names of its items."""
@@ -319,7 +328,7 @@ class CrushMap:
         self.rules = {}
 
     def names(self):
-        """Returns the name of each id, as Ceph names it: of a device, a bucket, or a bucket's tree of a class."""
+        """Returns the name of each id, as Ceph names it: of a device, a bucket, or a class tree (BUCKET~CLASS)."""
         names = {number: name for number, (name, _) in self.devices.items()}
         for name, bucket in self.buckets.items():
             names.update((number, name + "~" + kind if kind else name) for kind, number in bucket.ids().items())
@@ -353,16 +362,16 @@ def read_map(text):
     return crush_map
 
 
-def check_whole(text, name, why):
-    """Stops if a text lacks the last line of a map: the rest is a smaller map, to crushedit and to crushtool."""
+def check_whole(text, name):
+    """Stops if a text lacks the last line of a map, since crushedit and crushtool would take it for a smaller map."""
     if not END_OF_MAP.search(text):
-        raise Stop("{} isn't a whole map: {}".format(name, why))
+        raise Stop("{} isn't a whole map: it lacks the last line, `# end crush map`".format(name))
 
 
 def false_takes(crush_map, dump):
     """Returns what rules take that the text names otherwise: the rule, the name in the text, and the true name.
 
-    After `ceph osd crush rename-bucket` a monitor keeps the old name on the bucket's trees of classes. The text then names
+    After `ceph osd crush rename-bucket` a monitor keeps the old name on the bucket's class trees. The text then names
     another bucket, or `crushtool -d` cuts it there.
     """
     names, faults = crush_map.names(), []
@@ -376,16 +385,15 @@ def false_takes(crush_map, dump):
     return faults
 
 
-def differing_weights(bucket, name, meant, made):
-    """Returns a line for each item that weighs otherwise, apart from sums that crushtool can't print exactly."""
+def differing_weights(name, meant, made):
+    """Returns a line for each item of a bucket that weighs otherwise."""
     was, now = meant.items(), made.items()
     return ["{} in {} weighs {} and not {}".format(item, name, exact_weight(now[item]), exact_weight(was[item]))
-            for item in was if was[item] != now[item]
-            and not (item in bucket and max(was[item], now[item]) > EXACT_SUM)]
+            for item in was if was[item] != now[item]]
 
 
 def differences(meant, made):
-    """Returns in what a map differs from the one that was meant, apart from ids of classes and from sums above 256 TiB."""
+    """Returns in what a map differs from the one that was meant, apart from ids of class trees, which crushtool makes anew."""
     faults = ["the {} differ".format(part) for part, was, now in (
         ("devices", meant.devices, made.devices),
         ("tunables or types", sorted(meant.settings), sorted(made.settings)),
@@ -395,7 +403,7 @@ def differences(meant, made):
         if not was or not now or was.settings() != now.settings():
             faults.append("the bucket {} differs".format(name))
         else:
-            faults += differing_weights(meant.buckets, name, was, now)
+            faults += differing_weights(name, was, now)
     return faults
 
 
@@ -414,67 +422,73 @@ def fetch_map(tools, folder):
     """Writes the cluster's map to map.bin, and returns its version, by which Ceph refuses it if somebody changed the map."""
     ended = output_of(tools.ceph + ["osd", "getcrushmap"], "ceph osd getcrushmap")
     if not ended.out:
-        raise Stop("ceph osd getcrushmap wrote no map", ended.told)
+        raise Stop("ceph osd getcrushmap wrote no map", ended.errors)
     folder.write("map.bin", ended.out)
-    versions = re.findall(r"(?m)^[0-9]+$", ended.told)
+    versions = re.findall(r"(?m)^[0-9]+$", ended.errors)
     if len(versions) != 1:
-        raise Stop("ceph osd getcrushmap printed no version, which guards against a change in between", ended.told)
+        raise Stop("ceph osd getcrushmap printed no version, which guards against a change in between", ended.errors)
     return int(versions[0])
 
 
-def decompile(tools, folder, binary, name):
-    """Writes the text of a binary map to a file, and returns what it says. Stops if the text names other class trees."""
-    raw = folder.path(name)
-    output_of(tools.crushtool + ["-d", folder.path(binary), "-o", raw], "crushtool -d")
-    if not os.path.exists(raw):
-        raise Stop("crushtool -d wrote no text of a cluster's map")
-    text, count = without_negative_sums(folder.text(name))
-    crush_map = read_map(text)
-    faults = false_takes(crush_map, dump_of(tools, folder.path(binary)))
+def check_class_trees(tools, crush_map, dump):
+    """Stops if the text of a map names another class tree than a rule takes."""
+    faults = false_takes(crush_map, dump)
     if faults:
-        raise Stop("a tree of a class has an old name, so the text of the map would name another bucket. This command "
-                   "mends the names, and sums the weights anew:\n    {} osd crush reweight-all".format(
-                       " ".join(map(quoted, tools.ceph))),
+        raise Stop("a class tree has an old name, so the text of the map would name another bucket. This command gives the "
+                   "class trees their names, and sums the weights anew:\n    {} osd crush reweight-all".format(
+                       ceph_words(tools)),
                    "\n".join("rule {} takes {}, which the map calls {}".format(rule, is_now, was)
                              for rule, was, is_now in faults))
-    check_whole(text, name_of(raw), "crushtool -d wrote no text of a cluster's map")
+
+
+def decompile(tools, folder, binary, name):
+    """Writes the text of a binary map, with exact weights, to a file, and returns what it says."""
+    path = folder.path(name)
+    output_of(tools.crushtool + ["-d", folder.path(binary), "-o", path], "crushtool -d")
+    dump = dump_of(tools, folder.path(binary))
+    text = with_dumped_weights(folder.text(name), dump)
+    crush_map = read_map(text)
+    check_class_trees(tools, crush_map, dump)
+    check_whole(text, "the text that crushtool -d printed")
     folder.write(name, text)
-    return crush_map, count
+    return crush_map
 
 
 def read_cluster_map(tools, folder):
-    """Writes map.txt and, as crushedit prints it without an edit, before.txt. Returns the map and the lines to print last."""
-    crush_map, negative = decompile(tools, folder, "map.bin", "map.txt")
+    """Writes map.txt and, as crushedit prints it without an edit, before.txt. Returns the map, and a line to show last."""
+    crush_map = decompile(tools, folder, "map.bin", "map.txt")
     if not crush_map.devices:
-        raise Stop("{} has no device: it isn't a cluster's map".format(name_of(folder.path("map.txt"))))
+        raise Stop("the cluster's map has no device")
     ended = run(tools.crushedit + ["--explain", folder.path("map.txt")])
     if ended.status:
-        raise Stop("crushedit doesn't take the map", ended.told)
-    before = folder.text(os.path.basename(folder.write("before.txt", ended.out)))
-    check_whole(before, name_of(folder.path("before.txt")), "crushedit printed a part")
+        raise Stop("crushedit doesn't take the map", ended.errors)
+    folder.write("before.txt", ended.out)
+    before = folder.text("before.txt")
+    check_whole(before, "the text that crushedit printed")
     if read_map(before).devices != crush_map.devices:
         raise Stop("crushedit printed other devices than crushtool")
-    notes = []
-    if negative:
-        notes.append("crushtool printed {} sums of 32,768 TiB and more as negative weights. crushedit got 0 in their place, "
-                     "and replaced them by the sums of the devices.".format(negative))
-    if ended.told:
-        notes.append("{}: {} names them.".format(ended.told.splitlines()[0],
-                                                 quoted(folder.write("adjusted", ended.told))))
-    return crush_map, notes
+    return crush_map, adjusted_line(folder, ended.errors)
+
+
+def adjusted_line(folder, errors):
+    """Keeps what crushedit says of sums that were wrong, and returns the line that names the file."""
+    found = re.match(r"crushedit: adjusted (\d+)", errors)
+    if not found:
+        return ""
+    return "In {} places the map had another weight than the sum of the devices, which replaces it: see {}".format(
+        found[1], quoted(folder.write("adjusted", errors)))
 
 
 def planned_commands(tools, folder, wanted):
     """Writes the commands that lead to the wanted map, and returns them, or None if there is nothing to do."""
-    check_whole(decoded(read_file(wanted)), name_of(wanted), "a text that was cut is a smaller map")
     ended = run(tools.crushedit + ["--strict", "--explain", "--to", wanted, folder.path("map.txt")])
     if ended.status:
-        hint = "\n" + RULE_HINT if re.search(r"(?m)^rules differ$", ended.told) else ""
-        raise Stop("no commands lead to {}{}".format(name_of(wanted), hint), ended.told)
+        hint = "\n" + RULE_HINT if re.search(r"(?m)^rules differ$", ended.errors) else ""
+        raise Stop("no commands lead to {}{}".format(name_of(wanted), hint), ended.errors)
     folder.write("commands", ended.out)
     if re.search(rb"(?m)^# 0 commands$", ended.out):
         say(decoded(ended.out).rstrip("\n"))
-        say("Nothing is to be set: the map is the wanted one.")
+        say("There is nothing to set: the map is the wanted one already.")
         return None
     return ended.out
 
@@ -487,9 +501,9 @@ def job_of(text, commands):
     return head + commands, head.count(b"\n")
 
 
-def fault_lines(told, name, commands, ahead):
+def fault_lines(errors, name, commands, ahead):
     """Returns what crushedit says of a job, with the lines of the commands' file in place of those of the job."""
-    lines = told.rstrip("\n").split("\n")
+    lines = errors.rstrip("\n").split("\n")
     found = re.match(r"crushedit: line (\d+): (.*)", lines[0])
     if found and int(found[1]) > ahead:
         number = int(found[1]) - ahead
@@ -506,15 +520,16 @@ def edit_map(tools, folder, commands, name):
     path = folder.write("job.txt", job)
     ended = run(tools.crushedit + ["--in-turn", "--strict", "--explain", path])
     if ended.status:
-        is_taken = re.search(r"(?m)^# .* = refused (?:at \d+ )?InUse ", ended.told)
-        raise Stop("the job is refused" + ("\n" + RULE_HINT if is_taken else ""),
-                   fault_lines(ended.told, name, commands, ahead))
-    printed = folder.text(os.path.basename(folder.write("new.txt", ended.out)))
-    check_whole(printed, name_of(folder.path("new.txt")), "crushedit printed a part")
+        is_taken = re.search(r"(?m)^# .* = refused (?:at \d+ )?InUse ", ended.errors)
+        raise Stop("crushedit refuses the commands" + ("\n" + RULE_HINT if is_taken else ""),
+                   fault_lines(ended.errors, name, commands, ahead))
+    folder.write("new.txt", ended.out)
+    printed = folder.text("new.txt")
+    check_whole(printed, "the text that crushedit printed")
     end = END_OF_MAP.search(printed).end() + 1
-    replies = [line for line in printed[end:].splitlines() if re.match(r"# [0-9]+ ", line)]
+    replies = [line for line in printed[end:].split("\n") if re.match(r"# [0-9]+ ", line)]
     if not replies:
-        raise Stop("no command was run")
+        raise Stop("the file has no command")
     return printed[:end], replies
 
 
@@ -528,7 +543,7 @@ def compile_map(tools, folder, text):
     output_of(tools.crushtool + ["-i", raw, "--reweight", "-o", new], "crushtool --reweight")
     if not os.path.exists(new) or not os.path.getsize(new):
         raise Stop("crushtool wrote no map")
-    made, _ = decompile(tools, folder, "new.bin", "after.txt")
+    made = decompile(tools, folder, "new.bin", "after.txt")
     faults = differences(read_map(text), made)
     if faults:
         raise Stop("crushtool has compiled another map than crushedit printed", "\n".join(faults))
@@ -536,15 +551,19 @@ def compile_map(tools, folder, text):
 
 
 def check_devices(tools, before, after):
-    """Stops if the new map has a device that neither the old map nor the cluster has: it would end Ceph's monitors."""
+    """Stops if the new map has a device that neither the old map nor the cluster has.
+
+    A monitor takes such a map. If the device's id isn't below max_osd, the monitor then fails an assertion at
+    `ceph osd tree`, also after each restart.
+    """
     added = sorted(set(after.devices) - set(before.devices))
     if not added:
         return
     known = ask_ceph(tools, "osd", "ls")
     lacking = [after.devices[number][0] for number in added if number not in known]
     if lacking:
-        raise Stop("the cluster has no {}. A map with a device that the cluster lacks ends Ceph's monitors. Create the OSD "
-                   "first, or correct its number".format(", ".join(lacking)))
+        raise Stop("the cluster has no {}. A map with a device that the cluster lacks can end Ceph's monitors. Create the "
+                   "OSD first, or correct its number".format(", ".join(lacking)))
 
 
 # What changes, and the way back.
@@ -558,9 +577,9 @@ def show_changes(tools, folder, before, after, replies):
     say(changes)
     made = [line for line in replies if re.search(r" = .* made [1-9]", line)]
     if made:
-        say("New buckets were made. Are all their names as you meant them?\n" + "\n".join(made))
+        say("New buckets were made. Are these the names that you meant?\n" + "\n".join(made))
     for kind in sorted(after.classes() - before.classes() - after.taken_classes()):
-        say("The class {} is new, and no rule takes it. Is its name as you meant it?".format(kind))
+        say("The class {} is new, and no rule takes it. Is that the name that you meant?".format(kind))
     if not after.devices:
         say("No device is left in the map. Is that what you meant?")
 
@@ -658,12 +677,20 @@ def pool_line(pool, before, after, used):
     return line if used is None or not copies else line + ", about " + bytes_of(used * sum(moves) / copies)
 
 
+def used_bytes(tools):
+    """Returns the bytes that each pool uses, by its id; nothing if ceph doesn't say, since they are an estimate alone."""
+    try:
+        return {pool["id"]: pool["stats"].get("bytes_used") for pool in ask_ceph(tools, "df")["pools"]}
+    except Stop:
+        return {}
+
+
 def show_pools(tools, folder, pools):
     """Asks Ceph's own tools which PGs move, shows it, and stops if a PG gets fewer devices than before."""
     folder.write("osdmap.bin", output_of(tools.ceph + ["osd", "getmap"], "ceph osd getmap").out)
     before, after = (pg_placements(tools, folder, binary, pools) for binary in ("map.bin", "new.bin"))
     check_pgs(pools, before, after)
-    used = {pool["id"]: pool["stats"].get("bytes_used") for pool in ask_ceph(tools, "df")["pools"]}
+    used = used_bytes(tools)
     for pool in pools:
         number = pool["pool_id"]
         say(pool_line(pool, before[number], after[number], used.get(number)))
@@ -673,7 +700,7 @@ def test_placements(tools, path, size, rule=None):
     """Returns the placements of 1,024 inputs for each rule, or for one: rule id -> list of devices."""
     words = ["-i", path, "--test", "--show-mappings", "--num-rep", str(size)]
     out = decoded(output_of(tools.crushtool + words + ([] if rule is None else ["--rule", str(rule)]),
-                            "crushtool --test of {}".format(name_of(path))).out)
+                            "crushtool --test of {}".format(os.path.basename(path))).out)
     placed = collections.OrderedDict()
     for number, devices in re.findall(r"(?m)^CRUSH rule (\d+) x \d+ \[([0-9,]*)\]", out):
         placed.setdefault(int(number), []).append(devices_of(devices))
@@ -686,8 +713,8 @@ def check_rules(tools, folder, tries, names):
     for size, rule in tries:
         bad = [{number: sum(count_of(placement) < size for placement in placements) for number, placements
                 in test_placements(tools, folder.path(binary), size, rule).items()} for binary in ("map.bin", "new.bin")]
-        faults += ["rule {} places less than before: {} replicas: {} bad mappings before, {} after".format(
-            names.get(number, number), size, bad[0].get(number, 0), count)
+        faults += ["rule {} places less than before: of 1,024 placements of {} replicas, {} lacked a device before, and {} do "
+                   "now".format(names.get(number, number), size, bad[0].get(number, 0), count)
             for number, count in sorted(bad[1].items()) if count > bad[0].get(number, 0)]
         missing = sorted(set(bad[0]) - set(bad[1]))
         faults += ["rule {} isn't tried by crushtool --test of the new map".format(names.get(number, number)) for number in missing]
@@ -743,39 +770,45 @@ def show_placements(tools, folder, after, sizes):
 
 # The commands for the operator.
 
-def show_commands(tools, folder, version, way_back, notes):
+def show_commands(tools, folder, version, way_back, adjusted):
     """Shows the command that sets the new map, and the ways back."""
-    ceph = " ".join(map(quoted, tools.ceph))
-    for note in notes:
-        say(note)
-    say("Nothing is changed yet. This command sets the new map, and data moves from then on:")
+    ceph = ceph_words(tools)
+    if adjusted:
+        say(adjusted)
+    say("Nothing has been changed yet. This command sets the new map, and data moves from then on:")
     say("    {} osd setcrushmap -i - {} < {}".format(ceph, version, quoted(folder.path("new.bin"))))
-    say("`{0} osd set norebalance` before it holds the data until `{0} osd unset norebalance`.".format(ceph))
+    say("To hold the data back, run `{0} osd set norebalance` first, and `{0} osd unset norebalance` later.".format(ceph))
     say("This command goes back to the map as it was. Ceph refuses it (EPERM) if somebody has changed the map in between:")
     say("    {} osd setcrushmap -i - {} < {}".format(ceph, version + 1, quoted(folder.path("map.bin"))))
     say(way_back)
 
 
-def prepare(request, tools, sizes, folder):
+def given_commands(request):
+    """Returns the commands of the file, or None if a map is wanted, whose text has to be whole."""
+    data = read_file(request.commands or request.wanted)
+    if request.commands:
+        return data
+    check_whole(decoded(data), name_of(request.wanted))
+    return None
+
+
+def prepare(request, given, tools, sizes, folder):
     """Takes the cluster's map through all steps. Returns whether there is a new map to set."""
     version = fetch_map(tools, folder)
-    before, notes = read_cluster_map(tools, folder)
-    if request.wanted is None:
-        commands, name = request.data, name_of(request.commands)
-    else:
-        commands, name = planned_commands(tools, folder, request.wanted), "commands"
+    before, adjusted = read_cluster_map(tools, folder)
+    commands = given or planned_commands(tools, folder, request.wanted)
     if commands is None:
         return False
-    text, replies = edit_map(tools, folder, commands, name)
+    text, replies = edit_map(tools, folder, commands, name_of(request.commands or "the plan"))
     check_devices(tools, before, read_map(text))
     after = compile_map(tools, folder, text)
     show_changes(tools, folder, before, after, replies)
     if folder.read("map.bin") == folder.read("new.bin"):
-        say("Nothing is to be set: the new map is the old one, byte for byte.")
+        say("There is nothing to set: the new map is the old one, byte for byte.")
         return False
     way_back = find_way_back(tools, folder)
     show_placements(tools, folder, after, sizes)
-    show_commands(tools, folder, version, way_back, notes)
+    show_commands(tools, folder, version, way_back, adjusted)
     return True
 
 
@@ -791,14 +824,16 @@ def main(words):
     try:
         request = request_of(words)
         tools, sizes = tools_of(os.environ), sizes_of(os.environ)
-        request.data = read_file(request.commands if request.wanted is None else request.wanted)
-        quoted(request.folder)
+        given = given_commands(request)
+        # What can't be shown as a command is refused before anything is created.
+        quoted(request.folder), ceph_words(tools)
         with new_folder(request.folder) as folder:
-            folder.is_kept = prepare(request, tools, sizes, folder)
+            folder.is_kept = prepare(request, given, tools, sizes, folder)
     except Stop as stop:
-        if stop.detail:
-            say(stop.detail, sys.stderr)
-        say("recipe: {}".format(stop), sys.stderr)
+        complain("\n".join(filter(None, (stop.detail, "recipe: {}".format(stop)))))
+        return 1
+    except OSError as fault:
+        complain("recipe: a file or standard output couldn't be written: {}".format(fault.strerror))
         return 1
     return 0
 

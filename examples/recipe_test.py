@@ -50,7 +50,8 @@ class Trial(unittest.TestCase):
         self.folder = self.here / "folder"
         self.environment = {**os.environ, **{name.upper(): str(self.tools / name) for name in
                                              ("ceph", "crushtool", "osdmaptool", "crushedit")}}
-        self.environment.pop("REPLICAS", None)
+        # Each size is two more runs of crushtool; what is tried by default has trials of its own.
+        self.environment["REPLICAS"] = "2 3"
 
     def put(self, name, text):
         """Gives the stand-ins a file."""
@@ -124,11 +125,11 @@ class Edits(Trial):
         self.assertEqual(self.run_shown(printed, 42)[0], "osd setcrushmap -i - 42\n")
 
     def test_new_buckets_are_listed(self):
-        self.assertIn("Are all their names", self.try_commands("add osd.3 1 host=h3 root=default\n"))
+        self.assertIn("Are these the names", self.try_commands("add osd.3 1 host=h3 root=default\n"))
 
     def test_new_class_that_no_rule_takes(self):
         printed = self.try_commands("set-device-class sdd osd.1\n")
-        self.assertIn("The class sdd is new, and no rule takes it. Is its name as you meant it?\n", printed)
+        self.assertIn("The class sdd is new, and no rule takes it. Is that the name that you meant?\n", printed)
 
     def test_new_class_that_a_rule_takes(self):
         self.put("cluster", CLASSES.replace("class hdd\ndevice", "class ssd\ndevice"))
@@ -146,7 +147,7 @@ class Edits(Trial):
 
     def test_what_is_so_already(self):
         printed = self.try_commands("reweight osd.2 0.5\n")
-        self.assertIn("Nothing is to be set", printed)
+        self.assertIn("There is nothing to set", printed)
         self.assertNotIn("setcrushmap", printed)
         self.assertFalse(self.folder.exists())
 
@@ -180,7 +181,7 @@ class Refusals(Trial):
         self.assertIn("commands, line 2: OpenBatch: begin", self.try_commands("rm osd.2\nbegin\nrm osd.1\n", 1))
 
     def test_no_commands(self):
-        self.assertIn("no command was run", self.try_commands("# later\n", 1))
+        self.assertIn("the file has no command", self.try_commands("# later\n", 1))
         self.assertIn("is empty", self.try_commands("", 1))
 
     def test_root_that_a_rule_takes(self):
@@ -256,7 +257,7 @@ class Harm(Trial):
     def test_class_tree_with_an_old_name_and_a_cut_text(self):
         text = CLASSES.replace("default {", "top {").replace("class hdd\n\tstep chooseleaf firstn 0 type host\n", "\0")
         self.put("cluster", text[:text.index("take default")])
-        self.put("dump", json.dumps({"rules": [{"rule_id": 0, "rule_name": "replicated_rule", "steps": [
+        self.put("dump", json.dumps({"devices": [], "buckets": [], "rules": [{"rule_id": 0, "rule_name": "replicated_rule", "steps": [
             {"op": "take", "item": -11, "item_name": "default~hdd"}, {"op": "emit"}]}]}))
         printed = self.try_commands("reweight osd.0 2\n", 1)
         self.assertIn("rule replicated_rule takes top~hdd, which the map calls default~hdd\n", printed)
@@ -265,7 +266,7 @@ class Harm(Trial):
     def test_class_tree_with_the_name_of_another_root(self):
         other = "root other {\n\tid -4\n\tid -14 class hdd\n\talg straw2\n\thash 0\n}\n# rules"
         self.put("cluster", CLASSES.replace("# rules", other))
-        self.put("dump", json.dumps({"rules": [{"rule_id": 0, "rule_name": "replicated_rule", "steps": [
+        self.put("dump", json.dumps({"devices": [], "buckets": [], "rules": [{"rule_id": 0, "rule_name": "replicated_rule", "steps": [
             {"op": "take", "item": -14, "item_name": "default~hdd"}, {"op": "emit"}]}]}))
         printed = self.try_commands("reweight osd.0 2\n", 1)
         self.assertIn("rule replicated_rule takes other~hdd, which the map calls default~hdd\n", printed)
@@ -292,13 +293,14 @@ class Rules(Trial):
     """Whether rules place as much as before, and what moves."""
 
     def test_rule_that_places_nothing(self):
+        del self.environment["REPLICAS"]
         printed = self.try_commands("rm osd.0\nrm osd.1\nrm osd.2\n", 1)
-        self.assertIn("rule replicated_rule places less than before: 2 replicas: 0 bad mappings before, ", printed)
+        self.assertIn("rule replicated_rule places less than before: of 1,024 placements of 2 replicas, 0 lacked a device before, and ", printed)
 
     def test_sizes_that_are_asked_about(self):
         self.environment["REPLICAS"] = "3"
         printed = self.try_commands("rm osd.0\nrm osd.1\nrm osd.2\n", 1)
-        self.assertIn("3 replicas: 0 bad mappings before, ", printed)
+        self.assertIn("placements of 3 replicas, 0 lacked a device before, and 10 do now", printed)
 
     def test_sizes_that_are_no_numbers(self):
         for words in ("2,3", "3x", "3 0", "-1"):
@@ -325,6 +327,7 @@ class Rules(Trial):
         self.assertIn("rule replicated_rule: 66.7 % of 30 shards move\n", printed)
 
     def test_pools_are_asked(self):
+        del self.environment["REPLICAS"]
         self.put("pools", json.dumps([POOL, {**POOL, "pool_id": 2, "pool_name": "ec", "type": 3}]))
         self.put("df", json.dumps({"pools": [{"id": 1, "stats": {"bytes_used": 3 * 2**30}}]}))
         printed = self.try_commands("add osd.3 1 host=h1\nreweight osd.0 0\n")
@@ -332,11 +335,13 @@ class Rules(Trial):
         self.assertIn("pool ec: 8 of 8 PGs move, 16 of 24 shards\n", printed)
 
     def test_pgs_that_get_fewer_devices(self):
+        del self.environment["REPLICAS"]
         self.put("pools", json.dumps([POOL]))
         printed = self.try_commands("rm osd.1\n", 1)
         self.assertIn("pool rbd: 8 of 8 PGs get fewer devices than before, such as 1.0: 2 in place of 3\n", printed)
 
     def test_sizes_that_no_pool_has_stop_nothing(self):
+        del self.environment["REPLICAS"]
         self.put("pools", json.dumps([{**POOL, "size": 2}]))
         self.put("cluster", MAP.replace("# rules", "root empty {\n\tid -9\n\talg straw2\n\thash 0\n}\n# rules"))
         self.try_commands("rm osd.1\n")
@@ -393,7 +398,7 @@ class Ways(Trial):
     def test_adjusted_weights_are_named_last(self):
         self.put("cluster", MAP.replace("item h1 weight 2.00000", "item h1 weight 3.00000"))
         printed = self.try_commands("reweight osd.2 1.0\n")
-        self.assertIn("crushedit: adjusted 1: {}/adjusted names them".format(self.folder), printed)
+        self.assertIn("which replaces it: see {}/adjusted\n".format(self.folder), printed)
         shutil.rmtree(str(self.folder))
         self.assertNotIn("/adjusted", self.try_commands("rm osd.0\nrm osd.1\nrm osd.2\n", 1))
 
@@ -401,7 +406,14 @@ class Ways(Trial):
         heavy = MAP.replace("weight 1.00000", "weight 20000.00000").replace("h1 weight 2.00000", "h1 weight 40000.00000")
         self.put("cluster", heavy)
         printed = self.try_commands("reweight osd.2 1.0\n")
-        self.assertIn("1 sums of 32,768 TiB and more as negative weights", printed)
+        self.assertNotIn("adjusted", printed)
+        self.assertIn("item h1 weight 40000.000000\n", (self.folder / "map.txt").read_text())
+        self.assertIn("item h1 weight 40000.000000\n", (self.folder / "after.txt").read_text())
+
+    def test_sums_above_256(self):
+        heavy = MAP.replace("weight 1.00000", "weight 300.00001").replace("h1 weight 2.00000", "h1 weight 600.00003")
+        self.put("cluster", heavy)
+        self.assertNotIn("/adjusted", self.try_commands("reweight osd.2 1.0\n"))
 
 
 class Words(Trial):
@@ -437,7 +449,16 @@ class Words(Trial):
         self.assertIn("line 1: NoSuchCommand: fly ?[31m??h1?\n", printed)
 
     def test_folder_in_place_of_a_file(self):
-        self.assertIn("is a folder, and a file is wanted", self.check(1, (self.here, self.folder)))
+        self.assertIn("is a folder and not a file", self.check(1, (self.here, self.folder)))
+
+    def test_full_output(self):
+        (self.here / "commands").write_text("reweight osd.2 1.0\n")
+        for how in ("> /dev/full", ">&-", "> /dev/full 2>&1", ">&- 2>&-"):
+            command = '"$0" commands folder ' + how
+            ended = subprocess.run(["bash", "-c", command, str(RECIPE)], cwd=str(self.here), env=self.environment,
+                                   stdin=subprocess.DEVNULL, stdout=subprocess.PIPE, stderr=subprocess.PIPE)
+            self.assertEqual((ended.returncode, self.folder.exists()), (1, False), how)
+            self.assertNotIn(b"Traceback", ended.stderr)
 
     def test_kept_folder(self):
         self.folder.mkdir()

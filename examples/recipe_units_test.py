@@ -138,11 +138,13 @@ class Weights(unittest.TestCase):
         self.assertEqual(recipe.with_exact_weights(text), "\t# weight 3.638688\n\titem osd.1.5 weight 1.818970\n"
                          "\titem h1 weight -1.0\n# weight 3.63869\n")
 
-    def test_without_negative_sums(self):
-        text = MAP.replace("h1 weight 2.00000", "h1 weight -25536.00000")
-        self.assertEqual(recipe.without_negative_sums(text), (MAP.replace("h1 weight 2.00000", "h1 weight 0.00000"), 1))
-        device = MAP.replace("osd.0 weight 1", "osd.0 weight -1")
-        self.assertEqual(recipe.without_negative_sums(device), (device, 0))
+    def test_with_dumped_weights(self):
+        text = MAP.replace("h1 weight 2.00000", "h1 weight -25536.00000").replace("osd.0 weight 1.00000", "osd.0 weight 1.819")
+        dump = {"devices": [{"id": number, "name": "osd.{}".format(number)} for number in range(3)],
+                "buckets": [{"id": -2, "name": "h1", "items": [{"id": 0, "weight": 119209}, {"id": 1, "weight": 65536}]},
+                            {"id": -1, "name": "default", "items": [{"id": -2, "weight": 40000 * 65536 - 2**32}]}]}
+        self.assertEqual(recipe.with_dumped_weights(text, dump), MAP.replace("h1 weight 2.00000", "h1 weight 40000.000000").replace(
+            "osd.0 weight 1.00000", "osd.0 weight 1.818985").replace("osd.1 weight 1.00000", "osd.1 weight 1.000000"))
 
 
 class Texts(unittest.TestCase):
@@ -168,9 +170,9 @@ class Texts(unittest.TestCase):
             read.names(), read.taken_classes(), [bucket.settings() for bucket in read.buckets.values()]
 
     def test_check_whole(self):
-        recipe.check_whole(MAP, "map.txt", "")
+        recipe.check_whole(MAP, "map.txt")
         with self.assertRaises(recipe.Stop):
-            recipe.check_whole(MAP.replace("# end", "#end"), "map.txt", "why")
+            recipe.check_whole(MAP.replace("# end", "#end"), "map.txt")
 
     def dump(self, item, name):
         return {"rules": [{"rule_name": "replicated_rule", "steps": [{"op": "take", "item": item, "item_name": name},
@@ -199,12 +201,12 @@ class Texts(unittest.TestCase):
                                ("h2 weight 0.50000", "h2 weight 0.50002", "h2 in default weighs 0.500016 and not 0.500000")):
             self.assertEqual(recipe.differences(meant, recipe.read_map(MAP.replace(old, new, 1)))[0], line)
 
-    def test_differences_of_large_sums(self):
-        heavy, heavier = (recipe.read_map(MAP.replace("h2 weight 0.50000", "h2 weight " + weight).replace(
-            "osd.2 weight 0.50000", "osd.2 weight " + other)) for weight, other in (("300.00000", "50.00000"), ("301.00000", "50.00000")))
-        self.assertEqual(recipe.differences(heavy, heavier), [])
-        heavy, heavier = (recipe.read_map(MAP.replace("osd.2 weight 0.50000", "osd.2 weight " + weight)) for weight in ("300.0", "301.0"))
-        self.assertEqual(recipe.differences(heavy, heavier), ["osd.2 in h2 weighs 301.000000 and not 300.000000"])
+    def test_any_map_is_read(self):
+        for path in sorted(HERE.glob("maps/*.job")):
+            text = path.read_text().partition("%")[0]
+            read = recipe.read_map(text)
+            self.assertEqual(len(read.devices), text.count("\ndevice "), path.name)
+            read.names(), read.taken_classes()
 
     def test_job_of(self):
         self.assertEqual(recipe.job_of("a\nb\n", b"rm x"), (b"a\nb\n%operator recipe\nrm x", 3))

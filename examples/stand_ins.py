@@ -7,7 +7,7 @@ by, and reads and writes files beside itself:
 - version: what `ceph osd getcrushmap` prints on standard error.
 - osds, pools, df: the JSON that `ceph osd ls`, `ceph osd pool ls detail` and `ceph df` print.
 - asked, given: the words of any other command of ceph, and its standard input.
-- broken-WORD: `crushtool WORD` fails; broken-new: `crushtool --test` is killed at the map that isn't the cluster's.
+- broken-WORD: `crushtool WORD` fails; broken-new: `crushtool --test` of 2 replicas is killed at another map than the cluster's.
 - dump: what `crushtool --dump` prints of the cluster's map, in place of what its text says.
 
 As Ceph's own, `crushtool -c` cuts weights to units, and `crushtool -d` prints five decimals and large sums as negative.
@@ -79,18 +79,21 @@ def signed(text):
 
 
 def dump(text):
-    """What `crushtool --dump` says of rules."""
+    """What `crushtool --dump` says of devices, buckets and rules."""
     if has("dump") and text == text_of("cluster"):
         return text_of("dump")
-    ids, rules = {}, []
+    ids, rules, buckets = {name: int(number) for number, name in re.findall(r"(?m)^device (\d+) (\S+)", text)}, [], []
+    devices = [{"id": number, "name": name} for name, number in ids.items()]
     for kind, name, lines in blocks_of(text):
         if kind != "rule":
             ids.update(("~".join([name] + line[3:]), int(line[1])) for line in lines if line[:1] == ["id"])
+            items = [{"id": ids[line[1]], "weight": round(Fraction(line[3]) * UNITS)} for line in lines if line[:1] == ["item"]]
+            buckets.append({"id": ids[name], "name": name, "items": items})
             continue
         steps = [{"op": "take", "item": ids["~".join(line[2::2])], "item_name": "~".join(line[2::2])}
                  for line in lines if line[:2] == ["step", "take"]]
         rules.append({"rule_id": int(lines[0][1]), "rule_name": name, "steps": steps})
-    return json.dumps({"rules": rules})
+    return json.dumps({"devices": devices, "buckets": buckets, "rules": rules})
 
 
 def placed(text, size):
@@ -99,9 +102,9 @@ def placed(text, size):
 
 
 def tested(text, words):
-    if has("broken-new") and text != text_of("cluster"):
-        os.kill(os.getpid(), signal.SIGSEGV)
     size = words[words.index("--num-rep") + 1]
+    if has("broken-new") and size == "2" and text != text_of("cluster"):
+        os.kill(os.getpid(), signal.SIGSEGV)
     if not size.isdigit():
         sys.exit(1)
     for kind, _, lines in blocks_of(text):
