@@ -12,7 +12,7 @@
 #   make recipe    installs below out/, and tries there the recipe for operators and what its pages show
 #   make trials    tries that program with sessions of a shell, jobs of chance, little memory and stack, and streams that fail
 #   make monitor   as root: that program, the recipe, --to and --as-ceph beside a monitor of Ceph 18, which is fetched below out/
-#   make clean     removes what the checks kept, and out/
+#   make clean     removes what the checks kept, what Python has compiled, and out/
 
 PREFIX = /usr/local
 DESTDIR =
@@ -43,7 +43,7 @@ check:
 install: $(PROGRAM)
 	install -d $(DESTDIR)$(PREFIX)/bin $(DESTDIR)$(PREFIX)/share/man/man1
 	install -m 755 $(PROGRAM) $(DESTDIR)$(PREFIX)/bin/crushedit
-	install -m 755 examples/recipe.sh $(DESTDIR)$(PREFIX)/bin/crushedit-recipe
+	install -m 755 examples/recipe.py $(DESTDIR)$(PREFIX)/bin/crushedit-recipe
 	install -m 644 docs/crushedit.1 docs/crushedit-recipe.1 $(DESTDIR)$(PREFIX)/share/man/man1
 	install -D -m 644 docs/crushedit.bash $(DESTDIR)$(PREFIX)/share/bash-completion/completions/crushedit
 
@@ -63,7 +63,7 @@ tables:
 
 recipe: $(PROGRAM)
 	$(MAKE) install DESTDIR=$(CURDIR)/out/tried PREFIX=/usr
-	examples/recipe_test.sh out/tried/usr/bin/crushedit out/tried/usr/bin/crushedit-recipe
+	python3 -B examples/recipe_test.py out/tried/usr/bin/crushedit out/tried/usr/bin/crushedit-recipe
 	python3 examples/pages_test.py out/tried/usr/bin/crushedit
 
 trials: $(PROGRAM)
@@ -81,8 +81,14 @@ trials: $(PROGRAM)
 monitor: $(PROGRAM)
 	bench/monitor.sh install out/monitor
 	bench/monitor.sh start out/monitor
+	python3 -B bench/recipe_by_monitor.py $(PROGRAM) out/monitor
+	bench/monitor.sh start out/monitor
+	bench/monitor.sh osds out/monitor
+	python3 -B bench/recipe_by_monitor.py $(PROGRAM) out/monitor
+	bench/monitor.sh start out/monitor
 	{ python3 bench/plans_by_monitor.py $(PROGRAM) out/monitor 100 1 && python3 bench/against_monitor.py $(PROGRAM) out/monitor 2000 1; }; \
 	  status=$$?; bench/monitor.sh stop out/monitor; exit $$status
 
 clean:
 	rm -rf crates/*/out out
+	find . -name __pycache__ -prune -exec rm -rf {} +

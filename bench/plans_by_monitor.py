@@ -171,7 +171,7 @@ def trial(program, monitor, way, pairs, seed, counts):
 def recipe(program, monitor):
     """The recipe's plan to a wanted map, and the one back, each set by the command that it shows."""
     root = monitor.root
-    for source, name in ((program, "crushedit"), (TOP / "examples/recipe.sh", "crushedit-recipe")):
+    for source, name in ((program, "crushedit"), (TOP / "examples/recipe.py", "crushedit-recipe")):
         shutil.copy(source, os.path.join(root, "usr/local/bin", name))
         os.chmod(os.path.join(root, "usr/local/bin", name), 0o755)
     before = monitor.take((TOP / "examples/maps/class-3.job").read_text().partition("%")[0])

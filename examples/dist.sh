@@ -1,12 +1,15 @@
 #!/bin/sh
-# Makes of the program an archive for machines without the toolchain, and where dpkg-deb is there a package of Debian.
+# Packs the program for machines without the toolchain: as an archive and, if dpkg-deb is there, as a package of Debian.
 #
 #     examples/dist.sh crates/crushedit/out/crushedit [FOLDER]
 #
-# FOLDER is out/ if nothing is said. In the archive are the program, the recipe, their manual pages, the completion for
-# bash, README and the pages for operators, the recipe's test with its map, the licence, the line of
-# `crushedit --version` and the checksums of them all.
+# FOLDER is out/ if it isn't given. The archive has the program, the recipe, their manual pages, the completion for bash,
+# README and the pages for operators, the recipe's test with its map, the licence, the line of `crushedit --version`, and
+# the checksums of all these files. The script works in a folder of its own inside FOLDER, and removes no other one.
 set -eu
+# A folder or a file that only its owner can read would stop dpkg-deb, and an exported CDPATH makes `cd` print.
+umask 022
+unset CDPATH
 
 [ $# -eq 1 ] || [ $# -eq 2 ] || { echo "usage: dist.sh CRUSHEDIT [FOLDER]" >&2; exit 2; }
 program=$1
@@ -16,46 +19,48 @@ out=$(cd "${2:-$top/out}" && pwd)
 line=$("$program" --version)
 version=$(echo "$line" | cut -d ' ' -f 2)
 name=crushedit-$version-linux-x86_64
+work=$(mktemp -d "$out/packing.XXXXXX")
+trap 'rm -rf "$work"' EXIT
+trap 'exit 1' HUP INT TERM
 
-# lay ROOT: the files as they lie below /usr.
+# lay ROOT: lays the files out as below /usr.
 lay() {
-    rm -rf "$1"
     mkdir -p "$1/bin" "$1/share/man/man1" "$1/share/bash-completion/completions" "$1/share/doc/crushedit/docs"
     cp "$program" "$1/bin/crushedit"
-    cp "$top/examples/recipe.sh" "$1/bin/crushedit-recipe"
-    chmod 755 "$1/bin/crushedit" "$1/bin/crushedit-recipe"
+    cp "$top/examples/recipe.py" "$1/bin/crushedit-recipe"
     cp "$top/docs/crushedit.1" "$top/docs/crushedit-recipe.1" "$1/share/man/man1"
     cp "$top/docs/crushedit.bash" "$1/share/bash-completion/completions/crushedit"
-    cp "$top/README.md" "$top/LICENSE" "$top/examples/recipe_test.sh" "$top/examples/example.txt" "$1/share/doc/crushedit"
+    cp "$top/README.md" "$top/LICENSE" "$top/examples/example.txt" "$1/share/doc/crushedit"
+    cp "$top/examples/recipe_test.py" "$top/examples/stand_ins.py" "$1/share/doc/crushedit"
     cp "$top/docs/OPERATING.md" "$top/docs/FORMATS.md" "$top/docs/RULES.md" "$1/share/doc/crushedit/docs"
     echo "$line" >"$1/share/doc/crushedit/VERSION"
+    find "$1" -type f -exec chmod 644 {} +
+    chmod 755 "$1/bin/crushedit" "$1/bin/crushedit-recipe" "$1/share/doc/crushedit/recipe_test.py"
 }
 
-lay "$out/$name"
-(cd "$out/$name" && find . -type f ! -name SHA256SUMS | LC_ALL=C sort | xargs sha256sum >SHA256SUMS)
-tar -C "$out" --owner=0 --group=0 --numeric-owner -czf "$out/$name.tar.gz" "$name"
-rm -rf "${out:?}/$name"
+lay "$work/$name"
+(cd "$work/$name" && find . -type f ! -name SHA256SUMS | LC_ALL=C sort | xargs sha256sum >SHA256SUMS)
+tar -C "$work" --owner=0 --group=0 --numeric-owner -czf "$out/$name.tar.gz" "$name"
 echo "$out/$name.tar.gz"
 
 if command -v dpkg-deb >/dev/null; then
-    lay "$out/deb/usr"
-    mv "$out/deb/usr/share/doc/crushedit/LICENSE" "$out/deb/usr/share/doc/crushedit/copyright"
-    gzip -9n "$out/deb/usr/share/man/man1"/*.1
-    mkdir "$out/deb/DEBIAN"
-    cat >"$out/deb/DEBIAN/control" <<END
+    mkdir "$work/deb" "$work/deb/DEBIAN"
+    lay "$work/deb/usr"
+    mv "$work/deb/usr/share/doc/crushedit/LICENSE" "$work/deb/usr/share/doc/crushedit/copyright"
+    gzip -9n "$work/deb/usr/share/man/man1"/*.1
+    cat >"$work/deb/DEBIAN/control" <<END_OF_CONTROL
 Package: crushedit
 Version: $version
 Architecture: amd64
 Maintainer: the maintainers of crushedit <root@localhost>
-Depends: libc6 (>= 2.34)
+Depends: libc6 (>= 2.34), python3 (>= 3.6)
 Suggests: ceph-base
 Section: admin
 Priority: optional
 Description: edits the hierarchy of a Ceph CRUSH map outside the cluster
- The text of a map is read with commands of "ceph osd crush" behind it, and
- the map after them is printed, with a reply to each.
-END
-    dpkg-deb --root-owner-group --build "$out/deb" "$out/crushedit_${version}_amd64.deb" >/dev/null
-    rm -rf "$out/deb"
+ The program reads the text of a map, followed by commands of
+ "ceph osd crush", and prints the map after them, with a reply to each.
+END_OF_CONTROL
+    dpkg-deb --root-owner-group --build "$work/deb" "$out/crushedit_${version}_amd64.deb" >/dev/null
     echo "$out/crushedit_${version}_amd64.deb"
 fi
