@@ -35,7 +35,7 @@ try:
 	  { rt try --data map=$$map $(if $(ARGS),-- $(ARGS)) < $(abspath $(JOB)); status=$$?; rm $$map; exit $$status; }
 
 test:
-	python3 -B bench/all_tests.py
+	python3 -B tests/all_tests.py
 
 check:
 	.ci/run
@@ -43,9 +43,9 @@ check:
 install: $(PROGRAM)
 	install -d $(DESTDIR)$(PREFIX)/bin $(DESTDIR)$(PREFIX)/share/man/man1
 	install -m 755 $(PROGRAM) $(DESTDIR)$(PREFIX)/bin/crushedit
-	install -m 755 examples/recipe.py $(DESTDIR)$(PREFIX)/bin/crushedit-recipe
-	install -m 644 docs/crushedit.1 docs/crushedit-recipe.1 $(DESTDIR)$(PREFIX)/share/man/man1
-	install -D -m 644 docs/crushedit.bash $(DESTDIR)$(PREFIX)/share/bash-completion/completions/crushedit
+	install -m 755 bin/crushedit-recipe $(DESTDIR)$(PREFIX)/bin/crushedit-recipe
+	install -m 644 man/crushedit.1 man/crushedit-recipe.1 $(DESTDIR)$(PREFIX)/share/man/man1
+	install -D -m 644 completions/crushedit.bash $(DESTDIR)$(PREFIX)/share/bash-completion/completions/crushedit
 
 uninstall:
 	rm -f $(addprefix $(DESTDIR)$(PREFIX)/bin/, crushedit crushedit-recipe)
@@ -53,41 +53,41 @@ uninstall:
 	rm -f $(DESTDIR)$(PREFIX)/share/bash-completion/completions/crushedit
 
 dist: $(PROGRAM)
-	examples/dist.sh $(PROGRAM)
+	packaging/dist.sh $(PROGRAM)
 
 manual:
-	python3 docs/manual.py
+	python3 tools/manual.py
 
 tables:
-	test ! -e out/costs.log || python3 docs/costs.py out/costs.log
+	test ! -e out/costs.log || python3 tools/costs.py out/costs.log
 
 recipe: $(PROGRAM)
 	$(MAKE) install DESTDIR=$(CURDIR)/out/tried PREFIX=/usr
-	python3 -B examples/recipe_test.py out/tried/usr/bin/crushedit out/tried/usr/bin/crushedit-recipe
-	python3 examples/pages_test.py out/tried/usr/bin/crushedit
+	python3 -B tests/recipe_test.py out/tried/usr/bin/crushedit out/tried/usr/bin/crushedit-recipe
+	python3 tests/pages_test.py out/tried/usr/bin/crushedit
 
 trials: $(PROGRAM)
-	python3 bench/runs.py $(PROGRAM)
-	python3 bench/against_reference.py $(PROGRAM) 1000
-	python3 bench/plans.py $(PROGRAM) 1000
-	python3 bench/documents.py $(PROGRAM) 1000
-	python3 bench/parts.py $(PROGRAM) 1000
-	python3 bench/at_once.py $(PROGRAM) 200
-	python3 bench/refused_memory.py $(PROGRAM)
-	python3 bench/limits.py $(PROGRAM) --fits 1024
-	python3 bench/colliding.py $(PROGRAM)
-	python3 bench/streams.py $(PROGRAM)
+	python3 tests/runs.py $(PROGRAM)
+	python3 tests/against_reference.py $(PROGRAM) 1000
+	python3 tests/plans.py $(PROGRAM) 1000
+	python3 tests/documents.py $(PROGRAM) 1000
+	python3 tests/parts.py $(PROGRAM) 1000
+	python3 tests/at_once.py $(PROGRAM) 200
+	python3 tests/refused_memory.py $(PROGRAM)
+	python3 tests/limits.py $(PROGRAM) --fits 1024
+	python3 tests/colliding.py $(PROGRAM)
+	python3 tests/streams.py $(PROGRAM)
 
 monitor: $(PROGRAM)
-	bench/monitor.sh install out/monitor
-	bench/monitor.sh start out/monitor
-	python3 -B bench/recipe_by_monitor.py $(PROGRAM) out/monitor
-	bench/monitor.sh start out/monitor
-	bench/monitor.sh osds out/monitor
-	python3 -B bench/recipe_by_monitor.py $(PROGRAM) out/monitor
-	bench/monitor.sh start out/monitor
-	{ python3 bench/plans_by_monitor.py $(PROGRAM) out/monitor 100 1 && python3 bench/against_monitor.py $(PROGRAM) out/monitor 2000 1; }; \
-	  status=$$?; bench/monitor.sh stop out/monitor; exit $$status
+	tests/monitor.sh install out/monitor
+	tests/monitor.sh start out/monitor
+	python3 -B tests/recipe_by_monitor.py $(PROGRAM) out/monitor
+	tests/monitor.sh start out/monitor
+	tests/monitor.sh osds out/monitor
+	python3 -B tests/recipe_by_monitor.py $(PROGRAM) out/monitor
+	tests/monitor.sh start out/monitor
+	{ python3 tests/plans_by_monitor.py $(PROGRAM) out/monitor 100 1 && python3 tests/against_monitor.py $(PROGRAM) out/monitor 2000 1; }; \
+	  status=$$?; tests/monitor.sh stop out/monitor; exit $$status
 
 clean:
 	rm -rf crates/*/out out

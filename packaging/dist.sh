@@ -1,0 +1,72 @@
+#!/bin/sh
+# Packs the program for machines without the toolchain: as an archive and, if dpkg-deb is there, as a package of Debian.
+#
+#     packaging/dist.sh crates/crushedit/out/crushedit [FOLDER]
+#
+# FOLDER is out/ if it isn't given. The archive has the program, the recipe, their manual pages, the completion for bash,
+# README and the pages for operators, the recipe's test with its map, the licence, the line of `crushedit --version`, and
+# the checksums of all these files. The script works in a folder of its own inside FOLDER, and removes no other one.
+set -eu
+# A folder or a file that only its owner can read would stop dpkg-deb, and an exported CDPATH makes `cd` print.
+umask 022
+unset CDPATH
+
+[ $# -eq 1 ] || [ $# -eq 2 ] || { echo "usage: dist.sh CRUSHEDIT [FOLDER]" >&2; exit 2; }
+program=$1
+top=$(cd "$(dirname "$0")/.." && pwd)
+mkdir -p "${2:-$top/out}"
+out=$(cd "${2:-$top/out}" && pwd)
+line=$("$program" --version)
+version=$(echo "$line" | cut -d ' ' -f 2)
+name=crushedit-$version-linux-x86_64
+work=$(mktemp -d "$out/packing.XXXXXX")
+trap 'rm -rf "$work"' EXIT
+trap 'exit 1' HUP INT TERM
+
+# The pages, what they link, and the recipe's test with its map. They lie below share/doc/crushedit as they lie here, so
+# that each link leads to its file.
+documents=$(cd "$top" && ls LICENSE ./*.md bench/*.md crates/*.md docs/*.md docs/*/*.md examples/*.md tests/*.md tools/*.md \
+    examples/*.txt tests/recipe_test.* tests/stand_ins.py)
+
+# lay ROOT: lays the files out as below /usr.
+lay() {
+    mkdir -p "$1/bin" "$1/share/man/man1" "$1/share/bash-completion/completions" "$1/share/doc/crushedit"
+    cp "$program" "$1/bin/crushedit"
+    cp "$top/bin/crushedit-recipe" "$1/bin/crushedit-recipe"
+    cp "$top/man/crushedit.1" "$top/man/crushedit-recipe.1" "$1/share/man/man1"
+    cp "$top/completions/crushedit.bash" "$1/share/bash-completion/completions/crushedit"
+    for file in $documents; do
+        mkdir -p "$1/share/doc/crushedit/$(dirname "$file")"
+        cp "$top/$file" "$1/share/doc/crushedit/$file"
+    done
+    echo "$line" >"$1/share/doc/crushedit/VERSION"
+    find "$1" -type f -exec chmod 644 {} +
+    chmod 755 "$1/bin/crushedit" "$1/bin/crushedit-recipe" "$1/share/doc/crushedit/tests/recipe_test.py"
+}
+
+lay "$work/$name"
+(cd "$work/$name" && find . -type f ! -name SHA256SUMS | LC_ALL=C sort | xargs sha256sum >SHA256SUMS)
+tar -C "$work" --owner=0 --group=0 --numeric-owner -czf "$out/$name.tar.gz" "$name"
+echo "$out/$name.tar.gz"
+
+if command -v dpkg-deb >/dev/null; then
+    mkdir "$work/deb" "$work/deb/DEBIAN"
+    lay "$work/deb/usr"
+    cp "$work/deb/usr/share/doc/crushedit/LICENSE" "$work/deb/usr/share/doc/crushedit/copyright"
+    gzip -9n "$work/deb/usr/share/man/man1"/*.1
+    cat >"$work/deb/DEBIAN/control" <<END_OF_CONTROL
+Package: crushedit
+Version: $version
+Architecture: amd64
+Maintainer: the maintainers of crushedit <root@localhost>
+Depends: libc6 (>= 2.34), python3 (>= 3.6)
+Suggests: ceph-base
+Section: admin
+Priority: optional
+Description: edits the hierarchy of a Ceph CRUSH map outside the cluster
+ The program reads the text of a map, followed by commands of
+ "ceph osd crush", and prints the map after them, with a reply to each.
+END_OF_CONTROL
+    dpkg-deb --root-owner-group --build "$work/deb" "$out/crushedit_${version}_amd64.deb" >/dev/null
+    echo "$out/crushedit_${version}_amd64.deb"
+fi

@@ -1,0 +1,499 @@
+"""What `--explain` tells below the one line on standard error, by docs/user/FORMATS.md; the sentences are those of
+docs/user/RULES.md."""
+
+import collections
+import pathlib
+import re
+
+from model import is_change, make, number_of, route, text_of, units_of
+
+RULES = pathlib.Path(__file__).resolve().parent.parent / "docs/user/RULES.md"
+MOST_SHOWN, MOST_BEFORE = 72, 40
+# For how many refused calls a name is looked for that is nearly one that isn't there.
+MOST_LOOKS = 256
+
+
+def sentences(heading, name):
+    """The sentences of a table of RULES.md, by the words of the column `name`."""
+    section = RULES.read_text().partition(f"\n## {heading}\n")[2].partition("\n## ")[0]
+    rows = [re.split(r" ?\| ?", line)[1:-1] for line in re.findall(r"(?m)^\|.*\|$", section)]
+    own, said = rows[0].index(name), rows[0].index("Sentence")
+    return {row[own].split("`")[1]: row[said] for row in rows[2:]}
+
+
+OF_TEXTS, OF_JOBS = sentences("Faults of a text", "Fault"), sentences("Faults of a job", "Fault")
+OF_REFUSALS, OF_RUNS = sentences("Refusals", "Refusal"), sentences("Sentences of runs", "Line")
+OF_NAMES = sentences("Refusals that name what is in the way", "Refusal")
+# The forms of lines by their first words, and what each word behind is to be.
+FORMS = {
+    "%operator": ("NAME", ["name"]), "begin": ("", ["at", "count"]), "commit": ("", []),
+    "add": ("osd.N WEIGHT TYPE=NAME ..", ["device", "weight", "pairs"]),
+    "set": ("osd.N WEIGHT TYPE=NAME ..", ["device", "weight", "pairs"]),
+    "create-or-move": ("osd.N WEIGHT TYPE=NAME ..", ["device", "weight", "pairs"]),
+    "move": ("NAME TYPE=NAME ..", ["name", "pairs"]), "swap-bucket": ("NAME NAME", ["name", "name"]),
+    "reweight": ("NAME WEIGHT", ["name", "weight"]), "reweight-subtree": ("NAME WEIGHT", ["name", "weight"]),
+    "rm": ("NAME", ["name"]), "remove": ("NAME", ["name"]), "add-bucket": ("NAME TYPE", ["name", "name"]),
+    "rename-bucket": ("FROM TO", ["name", "name"]), "set-device-class": ("CLASS NAME", ["name", "name"]),
+    "rm-device-class": ("NAME", ["name"]),
+}
+MISSING = {"device": "a device is missing, as osd.0", "weight": "a weight is missing, as 1.5", "name": "a name is missing",
+           "count": "a number of changes is missing"}
+OPEN, MOST_EDITS = "a batch is open here: commit ends it", "a batch has at most 65536 edits"
+# What is wanted in a map's text at each place of its grammar, and the range of a number there.
+STATEMENT = "tunable, device, type, rule or a type's name"
+LATER = "rule or a type's name; tunables, devices and types stand above the first bucket or rule"
+STEP_WORDS = "take, choose, chooseleaf, emit or a word that begins with set_"
+LARGE, NEGATIVE = "0 to 2147483647", "-1 to -2147483648"
+
+
+def shown(line):
+    return "".join(" " if byte in "\t\r" else byte if " " <= byte <= "~" else "?" for byte in line[:MOST_SHOWN])
+
+
+def is_name(word):
+    return re.fullmatch("[A-Za-z0-9._-]{1,255}", word) is not None
+
+
+def weight_fault(word):
+    """Whether a word is a weight ("") or too large a one, or no weight's text."""
+    if not re.fullmatch(r"[0-9]{1,10}(\.[0-9]{1,18})?", word):
+        return "syntax"
+    return "" if units_of(word) <= 2**32 - 1 else "large"
+
+
+def is_device(word):
+    return re.fullmatch("osd\\.(0|[1-9][0-9]{0,9})", word) is not None and int(word[4:]) < 2**31
+
+
+def is_pair(word):
+    kind, equals, name = word.partition("=")
+    return equals == "=" and is_name(kind) and is_name(name)
+
+
+def bare(word):
+    return word[1:-1] if len(word) > 1 and word[0] in "\"'" and word[-1] in "\"'" else word
+
+
+def weight_meant(word):
+    plain = word[:-1] if word.endswith("T") else word
+    if not weight_fault(plain):
+        return plain
+    parts = re.fullmatch("([0-9]{0,10})[,.]([0-9]{1,18})", word)
+    return f"{parts[1] or 0}.{parts[2]}" if parts else "a number as 1.5"
+
+
+def wrong(slot, word, count):
+    """What is told of a word that doesn't fit, behind so many pairs."""
+    told = f"`{shown(word)}`"
+    if slot == "device":
+        digits = re.sub("^osd\\.", "", bare(word))
+        is_number = re.fullmatch("[0-9]{1,10}", digits) and int(digits) < 2**31
+        return f"{told} is no device; write osd.{int(digits) if is_number else 'N, N from 0 to 2147483647'}"
+    if slot == "weight":
+        large = weight_fault(word) == "large"
+        return told + (" is no weight: 0 to 65535.99998" if large else f" is no weight; write {weight_meant(bare(word))}")
+    if slot == "name":
+        own = bare(word)
+        return told + (f" is no name; write {own}" if is_name(own) else
+                       " is no name: letters, digits, - _ and . alone, at most 255")
+    if slot == "pairs":
+        return told + (" is no pair; write TYPE=NAME without blanks" if count < 16 else
+                       " is a pair too many: a location has at most 16")
+    return told + (" is no number of changes, 0 to 65536" if slot == "count" else " is a word too many")
+
+
+def fits(slot, word, count):
+    return {"device": is_device, "weight": lambda word: not weight_fault(word), "name": is_name,
+            "pairs": lambda word: count < 16 and is_pair(word), "at": lambda word: word == "at",
+            "count": lambda word: re.fullmatch("[0-9]+", word) is not None and int(word) <= 65536}[slot](word)
+
+
+def line_words(line):
+    line = line.removesuffix("\r").partition("#")[0]
+    return [word for word in re.split("[ \t]", line) if word]
+
+
+def line_reason(line):
+    """What is told of a line that isn't of its form: the form, and the first word that doesn't fit."""
+    first, *rest = line_words(line)
+    if first not in FORMS:
+        return "a line that begins with % is %operator NAME"
+    form, slots = FORMS[first]
+    head = "begin, or begin at N" if first == "begin" else f"{'rm' if first == 'remove' else first} {form}".rstrip()
+    slots, count = list(slots), 0
+    for word in rest:
+        slot = slots[0] if slots else ""
+        if not slot or not fits(slot, word, count):
+            return f"{head}: {wrong(slot, word, count)}"
+        count += slot == "pairs"
+        slots = slots if slot == "pairs" else slots[1:]
+    if first == "commit":
+        return f"{head}: no batch is open here: begin begins one"
+    if first == "begin":
+        return f"{head}: {MISSING['count'] if slots == ['count'] else OPEN}"
+    return f"{head}: {MISSING[slots[0]] if slots and slots[0] != 'pairs' else MOST_EDITS}"
+
+
+def bucket_wanted(words):
+    """What is wanted behind these words of a bucket, which begin behind its name."""
+    head = ["{", "id", ("an id", NEGATIVE)]
+    if len(words) < len(head):
+        return head[len(words)]
+    words = words[3:]
+    while words[:1] == ["id"]:
+        class_id = [("an id", NEGATIVE), "class", "a class"]
+        if len(words) - 1 < len(class_id):
+            return class_id[len(words) - 1]
+        words = words[4:]
+    if not words:
+        return "id or alg"
+    if len(words) == 1:
+        return "straw2, straw or list"
+    words = words[2:]
+    if not words:
+        return "hash, item or }"
+    if words[0] == "hash":
+        if len(words) == 1:
+            return "0", "0"
+        words = words[2:]
+    while words:
+        if len(words) == 1:
+            return "an item's name"
+        if len(words) == 2:
+            return "weight, item or }"
+        if words[2] == "weight":
+            if len(words) == 3:
+                return "a weight"
+            words = words[4:]
+        else:
+            words = words[2:]
+    return "item or }"
+
+
+def rule_wanted(words):
+    """The same of a rule."""
+    head = ["{", "id or ruleset", ("a number", LARGE), "type", "a word, as replicated"]
+    if len(words) < len(head):
+        return head[len(words)]
+    words, due = words[5:], "min_size, max_size, step or }"
+    for size, later in (("min_size", "max_size, step or }"), ("max_size", "step or }")):
+        if words[:1] == [size]:
+            if len(words) == 1:
+                return "a number", LARGE
+            words, due = words[2:], later
+    while words:
+        words, due = words[1:], "step or }"
+        if not words:
+            return STEP_WORDS
+        if words[0] == "take":
+            if len(words) < 3:
+                return ["a bucket's name", "class, step or }"][len(words) - 1]
+            if words[2] == "class" and len(words) == 3:
+                return "a class"
+            words = words[4:] if words[2] == "class" else words[2:]
+        elif words[0] in ("choose", "chooseleaf"):
+            of_choose = ["firstn or indep", ("a number", "-2147483648 to 2147483647"), "type", "a type's name"]
+            if len(words) - 1 < len(of_choose):
+                return of_choose[len(words) - 1]
+            words = words[5:]
+        elif words[0].startswith("set_"):
+            if len(words) == 1:
+                return "a number", LARGE
+            words = words[2:]
+        else:
+            words = words[1:]
+    return due
+
+
+def wanted(found):
+    """What is wanted behind these words, which are right, with the range of a number, and the place and the first two
+    words of the bucket or the rule that is open."""
+    late = False
+    while found:
+        texts = [word for _, word in found]
+        if texts[0] in ("tunable", "device", "type"):
+            due = {"tunable": ["a name", ("a number", "0 to 4294967295")], "device": [("a number", LARGE), "a name"],
+                   "type": [("a number", "0 to 65535"), "a name that begins no statement"]}[texts[0]]
+            if len(found) - 1 < len(due):
+                return due[len(found) - 1], None
+            if texts[0] == "device" and len(found) == 3:
+                return f"class, {STATEMENT}", None
+            has_class = texts[0] == "device" and texts[3] == "class"
+            if has_class and len(found) == 4:
+                return "a class", None
+            found = found[5:] if has_class else found[3:]
+            continue
+        if len(found) == 1:
+            return "a name", None
+        end = texts.index("}") if "}" in texts else None
+        if end is None:
+            of = rule_wanted if texts[0] == "rule" else bucket_wanted
+            return of(texts[2:]), (found[0][0], " ".join(texts[:2]))
+        found, late = found[end + 1:], True
+    return LATER if late else STATEMENT, None
+
+
+def flaw_told(text, kind, at, files):
+    """The place that is shown of a flaw, and what is told of it."""
+    from reading import words
+
+    word = (re.compile("[{}]|[A-Za-z0-9._-]+").match(text, at) or [""])[0]
+    if kind in ("BadWord", "Unexpected") and at == 0:
+        return at, "no text of a map begins so: is this what crushtool -d prints?"
+    if kind == "UnknownType" and word in FORMS and not text[:at].rpartition("\n")[2].strip(" \t\r"):
+        return at, "commands stand below a line %operator NAME"
+    if kind == "LeftOut":
+        return at, {"choose_args": "a map with weight sets can't be edited here: taking them out moves data",
+                    "choosemsr": "a map with MSR rules can't be edited here: a step choosemsr isn't read",
+                    "pos": "items stand in the order of their lines: pos and its number are taken out, where they say "
+                           "the same"}[word]
+    if kind not in ("Ended", "Unexpected", "BadNumber"):
+        return at, OF_TEXTS[kind]
+    found = words(text[:at])[:-1]
+    due, is_open = wanted(found)
+    due, range = due if isinstance(due, tuple) else (due, "")
+    block = ""
+    if is_open:
+        begun, head = is_open
+        block = f"the {head} that begins at line {line_told(text[:begun].count(chr(10)) + 1, files).rpartition(' ')[2]}"
+    if kind == "Ended":
+        return found[-1][0], f"{block} isn't closed" if block else OF_TEXTS[kind]
+    if kind == "BadNumber":
+        return at, f"a whole number is wanted here: {range}"
+    return at, f"another word is wanted here: {due}" + (f"; in {block}" if block else "")
+
+
+def own_line(line, files):
+    """The file and the number there of a line of a text of these files. Each file is its name, perhaps none, its first
+    line in the text, and the number of that line in the file: 0 where it was put before the file's own. A line is of
+    the last file that begins at it or above."""
+    name, first, number = [file for file in files if file[1] <= line][-1]
+    return name, line - first + number
+
+
+def line_told(line, files):
+    name, number = own_line(line, files)
+    return f"{name} line {number}" if name else f"line {number}"
+
+
+def command_head(line, files):
+    """What stands before a command of a batch that was refused."""
+    name, number = own_line(line, files)
+    return f"{name}:{number}: " if name else f"line {number}: "
+
+
+def edit_lines(text):
+    """The lines of the commands of each operator, batched or not."""
+    lines, own = {}, None
+    for number, line in enumerate(text.split("\n"), 1):
+        words = line_words(line)
+        if line.startswith("%"):
+            own = lines.setdefault(words[1], [])
+        elif own is not None and words and words[0] not in ("begin", "commit"):
+            own.append(number)
+    return lines
+
+
+def place(text, at, files):
+    """Line and column of a byte, the line there, and the sign below."""
+    before = text[:at]
+    behind = len(before) - (before.rfind("\n") + 1)
+    kept = min(behind, MOST_BEFORE)
+    line = text[at - kept :].split("\n", 1)[0]
+    told = line_told(before.count("\n") + 1, files)
+    return f"{told}, column {behind + 1}\n    {shown(line)}\n    {' ' * kept}^\n"
+
+
+def fault_text(text, fault, files=(("", 1, 1),), of_runs=""):
+    """What is told of a fault of a text of these files, whose one line says `fault`. `of_runs` stands before it where
+    a fault without a place has a sentence among those of runs."""
+    where, _, kind = fault.rpartition(": ")
+    if where.startswith("byte "):
+        at, reason = flaw_told(text, kind, int(where[5:]), files)
+        return f"  {place(text, at, files)}  {reason}\n"
+    if where.startswith("line "):
+        number = int(where[5:])
+        line, told = text.split("\n")[number - 1], line_told(number, files)
+        reason = OF_JOBS[kind]
+        if kind == "BadLine":
+            put = told.endswith("line 0")
+            reason = ("the file's name is no operator's: begin it with a line %operator NAME" if put
+                      else line_reason(line))
+        return f"  {told}\n    {shown(line)}\n  {reason}\n"
+    return f"  {OF_RUNS[of_runs + kind] if of_runs else OF_JOBS[kind]}\n"
+
+
+def unread_text(line, name="", reason=""):
+    """What is told of a run that ends with this line, where a file can't be opened or read for this reason; without one,
+    standard input can't be read."""
+    return f"crushedit: {line}\n  {OF_RUNS[line]}\n" + (f"  {name}: {reason}\n" if reason else "")
+
+
+def written_text(written, text):
+    """What is told of a map's text, at the head of a job: of one without a line feed that it has carriage returns, and of
+    weights of buckets that aren't the sums: each a name, the word that was written, and the sum."""
+    text = "" if text.startswith("%") else text.partition("\n%")[0] + "\n" * ("\n%" in text)
+    alone = "\r" in text and "\n" not in text
+    returns = "the text has carriage returns and no line feed: a comment goes on to its end\n" if alone else ""
+    return returns + "".join(f"{name}: {word} was written, the sum is {text_of(sum)}\n" for name, word, sum in written)
+
+
+def by_id(map):
+    """Names by ids, the buckets from -1 downward and then the devices upward."""
+    names = {item["id"]: name for name, item in map.items.items()}
+    return {number: names[number] for number in in_order(names)}
+
+
+def in_order(numbers):
+    return sorted(numbers, key=lambda number: (number >= 0, abs(number)))
+
+
+def tree_rows(map):
+    """Depths and names: of each root all below it, and then the devices that stand in no bucket."""
+
+    def of(name, depth):
+        yield depth, name
+        for kid in map.items[name]["kids"]:
+            yield from of(kid, depth + 1)
+
+    alone = [name for name in by_id(map).values() if not map.parent(name)]
+    for name in alone:
+        yield from of(name, 0)
+
+
+def location_of(words):
+    return [tuple(pair.split("=")) for pair in words if "=" in pair]
+
+
+def blamed_of_location(map, at, kind):
+    """What of a location a refusal is about, or nothing."""
+    kinds, names = [kind for kind, _ in at], [name for _, name in at]
+    if kind == "BadLocation":
+        wrong = [own for place, own in enumerate(kinds) if number_of(map, own) == 0 or own in kinds[place + 1 :]]
+        return (wrong + [own for place, own in enumerate(names) if own in names[place + 1 :]])[0]
+    if kind == "NoSuchType":
+        return next(own for own in kinds if number_of(map, own) is None)
+    return route(map, at)[1] if kind in ("NotABucket", "WrongType", "Loop") else None
+
+
+def blamed(map, words, kind):
+    """The name that a refusal of a command is about, on the map that refused it."""
+    command, names = words[0], words[1:]
+    if command in ("add", "set", "create-or-move", "move"):
+        return blamed_of_location(map, location_of(names), kind) or names[0]
+    if command == "swap-bucket":
+        second = kind == "NoSuchItem" and names[0] in map.items or kind == "NotABucket" and not map.is_device(names[0])
+        return names[1] if second else names[0]
+    if command == "add-bucket":
+        return names[1] if kind in ("NoSuchType", "WrongType") else names[0]
+    if command == "rename-bucket":
+        return names[1] if kind in ("NameTaken", "AlreadyRenamed") else names[0]
+    return names[1] if command == "set-device-class" else names[0]
+
+
+def is_near(name, other):
+    """Whether one has a letter more, less or other, or is the other in another case."""
+    short, long = sorted((name, other), key=len)
+    if len(long) == len(short):
+        return sum(a != b for a, b in zip(long, short)) <= 1 or long.lower() == short.lower()
+    return any(long[:place] + long[place + 1 :] == short for place in range(len(long)))
+
+
+def taking_rule(map, name):
+    return next(rule["name"] for rule in map.rules if any(number == map.items[name]["id"] for _, number in rule["lines"]))
+
+
+def sentence_of(words, kind, is_itself, count, near):
+    """The sentence of a refusal, with the words for which something of the map stands."""
+    if kind == "NotADevice" and words[0].endswith("device-class"):
+        return "NAME is a bucket: a class is a device's"
+    if kind == "WrongType" and words[0] == "add-bucket":
+        return "NAME is the type of devices"
+    if kind == "Loop" and is_itself:
+        return "NAME cannot come into itself"
+    if kind == "NotEmpty" and count == 1:
+        return "NAME holds 1 item: move or remove it first"
+    if kind == "NoSuchItem" and near:
+        return "NAME isn't there: is it NEAR?"
+    return OF_NAMES.get(kind, OF_REFUSALS[kind])
+
+
+def seen_in(map, words, name, kind):
+    """What the map says of the name, by the words that stand for it."""
+    item = map.items.get(name)
+    if kind == "AlreadyPlaced":
+        return {"BUCKET": map.parent(name)}
+    if kind == "WrongType" and words[0] != "add-bucket":
+        return {"TYPE": map.types[item["kind"]], "WANTED": next(own for own, other in location_of(words) if other == name)}
+    if kind == "ClassBound":
+        return {"CLASS": item["class"]}
+    if kind == "InUse":
+        return {"RULE": taking_rule(map, name)}
+    return {"MOVED": words[1]} if kind == "Loop" else {"N": str(len(item["kids"]))} if kind == "NotEmpty" else {}
+
+
+def edit_reason(map, edit, kind, looks):
+    """What was wanted of a command that the map refused so, where near names are looked for or not."""
+    words = edit.split(" ")
+    name = blamed(map, words, kind)
+    looks = looks and kind == "NoSuchItem"
+    near = next((other for _, other in tree_rows(map) if is_near(name, other)), None) if looks else None
+    count = len(map.items[name]["kids"]) if kind == "NotEmpty" else 0
+    seen = {"NAME": name, "NEAR": near, **seen_in(map, words, name, kind)}
+    sentence = sentence_of(words, kind, name == words[1], count, near)
+    return re.sub(r"\b(" + "|".join(seen) + r")\b", lambda word: seen[word[0]], sentence)
+
+
+def after_edits(map, edits):
+    for words in edits:
+        map = make(map, words)[0]
+    return map
+
+
+def call_reason(map, call, line, heads, looks):
+    """What was wanted of a call that the map refused, which its history line tells; each of its commands has a head."""
+    at, kind = re.search(r" = refused (?:at (\d+) )?(\w+) ", line).groups()
+    seen, count = re.search(r" begin at (\d+) ", line), re.search(r" changes (\d+)$", line)
+    told = line.split(" ", 3)[3].rpartition(" = refused ")[0]
+    if kind == "Stale":
+        return (f"{seen[1]} counts the changes of this run: so far there were {count[1]}" if int(count[1]) < int(seen[1])
+                else OF_REFUSALS[kind])
+    if at:
+        edit = told.split(" ; ")[1 + int(at)]
+        return f"{heads[int(at)]}{edit}: {edit_reason(after_edits(map, call[1][: int(at)]), edit, kind, looks)}"
+    return edit_reason(map, told, kind, looks)
+
+
+def refused_text(map, made, job, files):
+    """Of calls that were made, the first on this map, each with its history line: the lines of what was refused, each
+    with its sentence below, by the map that refused it. The calls are those of the job of this text."""
+    text, refused, given, lines = "", 0, collections.Counter(), edit_lines(job)
+    for call, line in made:
+        operator = line.split(" ", 3)[2]
+        if " = refused " in line:
+            heads = [command_head(number, files) for number in lines[operator][given[operator] :][: len(call[1])]]
+            text += f"{line}  {call_reason(map, call, line, heads, refused < MOST_LOOKS)}\n"
+            refused += 1
+        given[operator] += len(call[1])
+        if is_change(line):
+            map = after_edits(map, call[1])
+    return text
+
+
+def is_reason(line, reason, job, files):
+    """Whether a line below a refused one has the form of its reason, whatever the map was that refused it; a command of
+    a batch stands on a line of its operator in the job of this text."""
+    at, kind = re.search(r" = refused (?:at (\d+) )?(\w+) ", line).groups()
+    if kind == "Stale":
+        return reason == f"  {call_reason(None, None, line, [], True)}\n"
+    told = line.split(" ", 3)[3].rpartition(" = refused ")[0]
+    edit = told.split(" ; ")[1 + int(at)] if at else told
+    words = edit.split(" ")
+    forms = [sentence_of(words, kind, itself, count, near) for itself in (False, True) for count in (1, 2) for near in (None, "")
+             ] + [sentence_of(words, kind, False, 2, "NEAR")]
+    names = {"NoSuchItem": "NAME|NEAR", "AlreadyPlaced": "NAME|BUCKET", "WrongType": "NAME|TYPE|WANTED", "ClassBound": "NAME|CLASS",
+             "InUse": "NAME|RULE", "Loop": "NAME|MOVED", "NotEmpty": "NAME|N"}.get(kind, "NAME")
+    heads = [command_head(number, files) for number in edit_lines(job)[line.split(" ", 3)[2]]] if at else []
+    front = f"(?:{'|'.join(map(re.escape, heads))}){re.escape(edit)}: " if at else ""
+    return any(re.fullmatch("  " + front + re.sub(rf"\b({names})\b", lambda word: r"\S+", re.escape(form)) + "\n", reason)
+               for form in forms)

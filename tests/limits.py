@@ -1,0 +1,165 @@
+"""Runs crushedit with little address space and with little stack, and prints how each run ends.
+
+    python3 tests/limits.py crates/crushedit/out/crushedit [--space FROM TO STEP] [--stack FROM TO STEP]
+    python3 tests/limits.py crates/crushedit/out/crushedit --fits 1024
+
+The numbers are kB, as `ulimit -v` and `ulimit -s` take them. A run may end with status 0 and the whole output, with
+another status and its line on standard error, by a signal, or in the loader (status 127) before the program begins. The
+script prints one line for each range of limits within which a job ends alike, and how many bytes a run wrote that did not
+end with status 0.
+
+1. With both limits: the example map with an edit, a nest of 4,096 buckets with an edit of the device in the innermost
+   one, and the maps of two operators, each at once and with --in-turn.
+2. With little stack: each kind of edit at the foot of such a nest, whose innermost bucket holds two, and batches that
+   are rolled back. `--edits` runs these alone.
+3. With little stack: the forms of output that look at the whole nest, or compare it with another map. `--forms` runs
+   these alone.
+
+With `--fits KB`, as in the gate, the script only looks whether each edit of part 2 succeeds with so much stack, and ends
+with status 1 if one doesn't.
+"""
+
+import argparse
+import os
+import pathlib
+import resource
+import subprocess
+import sys
+import tempfile
+
+sys.path.append(str(pathlib.Path(__file__).resolve().parent.parent / "bench"))
+from hostile import MOST_BUCKETS, OPERATOR, TYPES, bucket, nest  # noqa: E402
+from make_job import map_text, script  # noqa: E402
+
+JOBS = {
+    "small map": map_text(3) + script(3, 1),
+    "nest of 4,096": "\n".join(nest() + [OPERATOR, "reweight osd.0 2.0"]) + "\n",
+    "two operators": map_text(40) + script(40, 20, 2),
+}
+EDITS = [
+    "reweight osd.0 2.0", "reweight-subtree left 3.0", "move osd.0 rack=right", "move left rack=right",
+    "add osd.2 1.0 rack=left", "set osd.2 1.0 rack=left", "create-or-move osd.2 1.0 rack=left", "rm osd.0",
+    "rename-bucket left x", "swap-bucket left right", "begin\nswap-bucket left right\nrm osd.0\ncommit",
+    "begin\nreweight-subtree b1 3.0\nrm left\ncommit",
+    "begin\nmove osd.0 rack=right\nadd osd.2 1.0 rack=left\nrm left\ncommit",
+]
+
+# Forms of output that walk through a whole nest; OTHER is the map that they compare with.
+OTHER = "other"
+FORMS = [
+    ["--tree"], ["--tree", "--under", "b1"], ["--tree", "--down-to", "rack"], ["--since", OTHER], ["--tree", "--since", OTHER],
+    ["--since", OTHER, "--by-name"], ["--json"], ["--json", "--since", OTHER],
+]
+
+
+def fork():
+    """Buckets in one another, as many as there may be, the innermost of which holds two with a device each."""
+    lines = ["device 0 osd.0", "device 1 osd.1", *TYPES]
+    lines += bucket("rack", "left", MOST_BUCKETS, [("osd.0", 1)])
+    lines += bucket("rack", "right", MOST_BUCKETS - 1, [("osd.1", 1)])
+    items = [("left", 1), ("right", 1)]
+    for number in range(MOST_BUCKETS - 2, 0, -1):
+        lines += bucket("rack", f"b{number}", number, items)
+        items = [(f"b{number}", 2)]
+    return lines
+
+
+def ending(words, job, kind, limit):
+    """How a run of these words ends under a limit, in the folder of the job."""
+    def limited():
+        resource.setrlimit(kind, (limit * 1024, limit * 1024))
+
+    with open(job, "rb") as stdin:
+        try:
+            run = subprocess.run(words, stdin=stdin, capture_output=True, preexec_fn=limited, timeout=120,
+                                 cwd=os.path.dirname(job))
+        except subprocess.TimeoutExpired:
+            return "takes more than 120 s"
+        except OSError:
+            return "isn't started"
+    written = f", {len(run.stdout)} bytes written" if run.returncode and run.stdout else ""
+    if run.returncode < 0:
+        return f"signal {-run.returncode}{written}"
+    told = run.stderr.decode(errors="replace").strip().splitlines()[-1:]
+    return f"status {run.returncode}{written}" + (f", {told[0][-60:]}" if told else "")
+
+
+def ranges(endings):
+    """Neighbours that end alike as one."""
+    begin = last = shown = None
+    for limit, how in endings:
+        if how != shown:
+            if shown is not None:
+                yield begin, last, shown
+            begin, shown = limit, how
+        last = limit
+    if shown is not None:
+        yield begin, last, shown
+
+
+def edits_at_the_foot():
+    """The name of each kind of edit, and the job that makes it at the foot of a nest."""
+    return [(edit.replace("\n", "; "), "\n".join([*fork(), OPERATOR, edit]) + "\n") for edit in EDITS]
+
+
+def misfits(program, folder, stack):
+    """The jobs that don't end well with so much stack, each at once and in turn."""
+    job = os.path.join(folder, "job")
+    for name, text in edits_at_the_foot():
+        with open(job, "w") as out:
+            out.write(text)
+        for flags in ([], ["--in-turn"]):
+            how = ending([program, *flags], job, resource.RLIMIT_STACK, stack)
+            if how != "status 0":
+                yield f"{' '.join([name, *flags])}: {how}"
+
+
+def endings_of(program, folder, name, text, forms, kinds):
+    """The lines to print of a job: how it ends in each of the forms, under limits of each of these kinds."""
+    job = os.path.join(folder, "job")
+    with open(job, "w") as out:
+        out.write(text)
+    for flags in forms:
+        for shown, kind, (first, last, step) in kinds:
+            endings = ((limit, ending([program, *flags], job, kind, limit)) for limit in range(first, last + 1, step))
+            for begin, end, how in ranges(endings):
+                yield f"{name:34} {' '.join(flags):10} {shown} {begin:>6} to {end:>6}: {how}"
+
+
+def main():
+    parser = argparse.ArgumentParser(description=__doc__.splitlines()[0])
+    parser.add_argument("program")
+    parser.add_argument("--space", type=int, nargs=3, default=[2800, 14000, 10])
+    parser.add_argument("--stack", type=int, nargs=3, default=[64, 4096, 32])
+    parser.add_argument("--jobs", nargs="+", choices=list(JOBS), default=list(JOBS))
+    parser.add_argument("--edits", action="store_true", help="only the edits at the foot of a nest")
+    parser.add_argument("--forms", action="store_true", help="only the forms of output that look at a whole nest")
+    parser.add_argument("--fits", type=int, metavar="KB", help="only whether each of these edits is made with so much stack")
+    options = parser.parse_args()
+    program = os.path.abspath(options.program)
+    if options.fits is not None:
+        with tempfile.TemporaryDirectory() as folder:
+            found = list(misfits(program, folder, options.fits))
+        print(*found or [f"{2 * len(EDITS)} edits at the foot of {MOST_BUCKETS} buckets fit {options.fits} kB of stack"], sep="\n")
+        sys.exit(bool(found))
+    space = "ulimit -v", resource.RLIMIT_AS, options.space
+    stack = "ulimit -s", resource.RLIMIT_STACK, options.stack
+    both = [[], ["--in-turn"]]
+    runs = []
+    if not options.edits and not options.forms:
+        runs += [(name, JOBS[name], both, (space, stack)) for name in options.jobs]
+    if not options.forms:
+        runs += [(name, text, both, (stack,)) for name, text in edits_at_the_foot()]
+    if not options.edits:
+        edited = "\n".join([*fork(), OPERATOR, "reweight osd.0 2.0"]) + "\n"
+        runs.append(("nest, edited", edited, [[*form, "--no-history"] for form in FORMS], (stack,)))
+    with tempfile.TemporaryDirectory() as folder:
+        with open(os.path.join(folder, OTHER), "w") as out:
+            out.write("\n".join(fork()) + "\n")
+        for run in runs:
+            for line in endings_of(program, folder, *run):
+                print(line, flush=True)
+
+
+if __name__ == "__main__":
+    main()

@@ -1,0 +1,209 @@
+#!/usr/bin/env python3
+"""Runs what the pages show, and compares what comes with what stands there.
+
+    python3 tests/pages_test.py crates/crushedit/out/crushedit
+
+Each console block of the pages of PAGES is run in a folder of its own, in which map.txt is the page's map, and examples/
+is that of the repository: the lines after `$ ` are the commands, and the lines below each are what it has to print. A
+block of bash that is followed by "It prints:" and a block of text is run in the same way. A line of two dots, perhaps
+with words after them, stands for any lines. A block of Python, whose first line is a comment with its name, is a file of
+that name there. Blocks that call `make` aren't run. README's table of statuses has the line of each command of ENDS in
+the row of its status. Then it is looked whether README's script makes its map and tells of it in one order of operators,
+maps that `crushtool` printed differ at most by the order of their buckets when they are printed here, `make try` shows
+what changes, bash completes what is typed (completed.py), and each link of the archive's pages leads to a file of the archive. Prints a line for each block and each of these, and
+ends with status 1 where one prints something else, or isn't so.
+"""
+import os
+import pathlib
+import re
+import subprocess
+import sys
+import tarfile
+import tempfile
+
+sys.dont_write_bytecode = True
+from completed import completion_faults
+
+TOP = pathlib.Path(__file__).resolve().parent.parent
+FIRST_MAP, SMALL_MAP = "examples/map.txt", "examples/example.txt"
+# The map of each page's examples, which the page links.
+PAGES = {"README.md": FIRST_MAP, "docs/user/OPERATING.md": FIRST_MAP, "docs/user/FORMATS.md": SMALL_MAP}
+MAPS = TOP / "examples/maps"
+# How runs end, with the status and the line on standard error that README's table has. Of status 4, which takes a system
+# that refuses memory or threads, tests/refused_memory.py looks at the lines.
+ENDS = [
+    (0, "crushedit old.txt"),
+    (1, "(cat map.txt; echo '%operator a'; echo fly osd.1) | crushedit"),
+    (1, "echo nothing | crushedit"),
+    (1, "crushedit /dev/zero"),
+    *((1, f"{given} | crushedit --{word} /dev/stdin map.txt") for word in ("since", "to") for given in ("echo nothing", "cat /dev/zero")),
+    (2, "crushedit --fly"),
+    (3, "crushedit missing"),
+    (3, "crushedit map.txt > /dev/full"),
+    *((3, f"crushedit --{word} missing map.txt") for word in ("since", "to")),
+    (5, "(cat map.txt; echo '%operator a'; echo rm default) | crushedit --strict"),
+    (5, "sed 's/total_tries 50/total_tries 51/' map.txt | crushedit --strict --to map.txt"),
+    (5, "(cat map.txt; echo '%operator a'; echo move osd.0 host=h9) | crushedit --no-make"),
+    (6, "(cat old.txt; echo '%operator a'; echo reweight osd.0 2) | crushedit --exit-code"),
+]
+UNTRIED = {"4"}
+
+
+def steps_of(block):
+    """The commands of a block, each with what it has to print."""
+    for step in re.split(r"(?m)^\$ ", block)[1:]:
+        lines = step.splitlines(keepends=True)
+        # A command goes on after a backslash, and up to the END of a text that it has behind it.
+        last = (lambda line: line == "END\n") if "<<'END'" in lines[0] else (lambda line: not line.endswith("\\\n"))
+        count = next(number for number, line in enumerate(lines, 1) if last(line))
+        yield "".join(lines[:count]), "".join(lines[count:])
+
+
+def examples_of(text):
+    """The examples of a page, in its order: each a list of commands, each with what it has to print."""
+    console, typed = r"^```console\n(?P<console>.*?)^```$", r"^```bash\n(?P<bash>.*?)^```\n\nIt prints:\n\n```text\n(?P<text>.*?)^```$"
+    for block in re.finditer(rf"(?ms){console}|{typed}", text):
+        if "$ make " not in (block["console"] or ""):
+            yield list(steps_of(block["console"])) if block["console"] else [(block["bash"], block["text"])]
+
+
+def scripts_of(text):
+    """The names and texts of the blocks of Python of a page."""
+    return re.findall(r"(?ms)^```python\n# (\S+)\n(.*?)^```$", text)
+
+
+def is_shown(printed, shown):
+    parts = re.split(r"(?m)^ *\.\.(?: .*)?\n", shown)
+    return re.fullmatch(r"(?s:.*)".join(re.escape(part) for part in parts), printed) is not None
+
+
+def run_in(here, command, environment, stdout=None):
+    """What a command of bash prints in this folder, as it ends."""
+    return subprocess.run(["bash", "-c", command], cwd=here, env=environment, text=True,
+                          stdout=stdout or subprocess.PIPE, stderr=subprocess.PIPE if stdout else subprocess.STDOUT)
+
+
+def example_folder(folder, name):
+    here = pathlib.Path(folder, name)
+    here.mkdir()
+    (here / "map.txt").write_text((TOP / SMALL_MAP).read_text())
+    (here / "old.txt").write_text((MAPS / "class-100-v16.job").read_text().partition("%")[0])
+    return here
+
+
+def has_line(cell, line):
+    """Whether a cell of README's table has this line: as it is, or without the word that asks for another map."""
+    forms = re.findall(r"`([^`]+)`", cell)
+    for word in ("since: ", "to: "):
+        line = line.replace(f"crushedit: {word}", "crushedit: ") if word in forms else line
+    names = {r"\bNAME\b": r"\\w+", r"\b[LPN]\b": r"\\d+"}
+    for form in forms:
+        pattern = re.escape(form)
+        for name, words in names.items():
+            pattern = re.sub(name, words, pattern)
+        if re.fullmatch(pattern + (".*" if form.endswith(": ") else ""), line):
+            return True
+    return False
+
+
+def status_faults(folder, environment):
+    """Which lines and statuses README's table doesn't tell, and which of its rows nothing here ends by."""
+    here, rows = example_folder(folder, "ends"), {}
+    for status, cell in re.findall(r"(?m)^\| (\d) \|.*\| (.*) \|$", (TOP / "README.md").read_text()):
+        rows[status] = rows.get(status, "") + (rows[cell[-1]] if cell.startswith("as with ") else cell)
+    for status, command in ENDS:
+        ran = run_in(here, f"set -o pipefail; {command}", environment, stdout=subprocess.DEVNULL)
+        line = ran.stderr.partition("\n")[0]
+        if ran.returncode != status or not has_line(rows.get(str(status), ""), line):
+            yield f"README.md: {command}\nends with status {ran.returncode} and {line!r}, which its row doesn't tell"
+    for status in sorted(rows.keys() - UNTRIED - {str(status) for status, _ in ENDS}):
+        yield f"README.md: nothing is tried that ends with status {status}"
+
+
+def order_faults(folder, environment):
+    """Which maps that `crushtool` printed are printed here otherwise than in another order of their buckets."""
+    here, orders = example_folder(folder, "order"), 0
+    for job in sorted(MAPS.glob("*.job")):
+        text = job.read_text().partition("%")[0]
+        (here / "job.txt").write_text(text)
+        ran = subprocess.run(["crushedit", "--no-history", "job.txt"], cwd=here, env=environment, capture_output=True, text=True)
+        if ran.stderr or ran.stdout == text:
+            continue
+        parts = [re.split(r"(?m)(?<=^}\n)", it[it.index("# buckets\n") + 10 :]) for it in (text, ran.stdout)]
+        orders += 1
+        if sorted(parts[0]) != sorted(parts[1]):
+            yield f"README.md: {job.name} is printed otherwise than in another order of its buckets"
+    if orders == 0:
+        yield "README.md: no map is printed in another order of its buckets"
+
+
+def shown_in_turn(_program, _folder):
+    """README's script runs its job more than once, at once each time in another order."""
+    script = re.search(r"(?ms)^```sh\n(.*?)^```$", (TOP / "README.md").read_text())[1]
+    runs = re.findall(r"(?m)^crushedit .*$", script)
+    return len(runs) > 1 and all(" --in-turn " in run for run in runs)
+
+
+def maps_are_linked(_program, _folder):
+    """The examples of each page are run with a file that the page links."""
+    return all(f"]({'../' * page.count('/')}{map_file})" in (TOP / page).read_text() for page, map_file in PAGES.items())
+
+
+def tried_is_short(_program, _folder):
+    """What `make try` runs, whose own map would be 110 lines."""
+    ran = subprocess.run(["make", "-n", "try"], cwd=TOP, capture_output=True, text=True)
+    return " --since map " in ran.stdout
+
+
+def archive_faults(program, folder):
+    """What the archive lacks: the completion, and files to which links of its pages lead. It has no sources of crates."""
+    ran = subprocess.run([TOP / "packaging/dist.sh", program, folder], capture_output=True, text=True, check=True)
+    with tarfile.open(ran.stdout.split()[0]) as archive:
+        names = set(archive.getnames())
+        pages = {name: archive.extractfile(name).read().decode() for name in names if name.endswith(".md")}
+    top = min(names, key=len)
+    for name in ("bash-completion/completions/crushedit", "doc/crushedit/README.md", "doc/crushedit/docs/user/OPERATING.md"):
+        if f"{top}/share/{name}" not in names:
+            yield f"the archive has no {name}"
+    for page, text in sorted(pages.items()):
+        for link in re.findall(r"\]\(([^)#\s]+)", text):
+            to = os.path.normpath(os.path.join(os.path.dirname(page), link))
+            if not link.startswith("http") and not re.search(r"/doc/crushedit/crates/\w+/", to):
+                if to not in names and not any(name.startswith(f"{to}/") for name in names):
+                    yield f"the archive's {page.partition('/doc/crushedit/')[2]} has a link to {link}, which isn't packed"
+
+
+def main():
+    program, failed = os.path.abspath(sys.argv[1]), False
+    with tempfile.TemporaryDirectory() as folder:
+        os.symlink(program, os.path.join(folder, "crushedit"))
+        environment = {**os.environ, "PATH": f"{folder}:{os.environ['PATH']}", "LC_ALL": "C.UTF-8"}
+        for page, map_file in PAGES.items():
+            text = (TOP / page).read_text()
+            for number, steps in enumerate(examples_of(text), 1):
+                here = os.path.join(folder, f"{pathlib.Path(page).stem}{number}")
+                os.mkdir(here)
+                os.symlink(TOP / "examples", os.path.join(here, "examples"))
+                for name, own in [("map.txt", (TOP / map_file).read_text()), *scripts_of(text)]:
+                    pathlib.Path(here, name).write_text(own)
+                for command, shown in steps:
+                    ran = run_in(here, command, environment)
+                    if not is_shown(ran.stdout, shown):
+                        print(f"{page}, example {number}: {command}prints\n{ran.stdout}and not\n{shown}")
+                        failed = True
+                print(f"{page}, example {number}: run")
+        for test in (status_faults, order_faults, completion_faults):
+            faults = list(test(folder, environment))
+            print("\n".join([*faults, f"{test.__name__}: {len(faults)}"]))
+            failed |= bool(faults)
+        faults = list(archive_faults(program, os.path.join(folder, "archive")))
+        print("\n".join([*faults, f"archive_faults: {len(faults)}"]))
+        failed |= bool(faults)
+        for test in (shown_in_turn, maps_are_linked, tried_is_short):
+            is_so = test(program, os.path.join(folder, "archive"))
+            print(f"{test.__name__}: {'so' if is_so else 'NOT so'}")
+            failed |= not is_so
+    sys.exit(failed)
+
+
+main()

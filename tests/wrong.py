@@ -1,0 +1,298 @@
+#!/usr/bin/env python3
+"""Tries the wrong bodies of the crates: the prover must refuse each of them.
+
+    python3 tests/wrong.py [--jobs N] [--top FOLDER] [CRATE ..]
+
+A wrong body is an edit, a file of crates/NAME/wrong/ in the form that `rt must-fail` reads: a line `file: src/..`, then
+pairs of lines `old: TEXT` and `new: TEXT`. It changes a line or two of the sources so that a promise is broken. If the
+prover still accepts the edited function, then its contract doesn't carry the promise.
+
+`rt must-fail` checks the whole crate for each edit. This script applies all edits of a crate to one copy, at most one for
+each function, and asks for the edited functions alone (`rattle check --only`). A proof cites the contracts of other
+functions and never their bodies, so an edit of one function changes nothing for another. An edit waits for a further
+round if another edit of that round is in the same function or in one that it calls. An edit outside of functions, as of a
+constant, is tried alone, with the whole crate.
+
+The script works on copies, over the libraries that `rt ci` or `rt check` built for the crates below, and needs the crate
+itself to be proved. It tries N crates at a time (1 by default), prints a line for each edit that isn't refused for what
+it breaks, a line for each crate, and at the end `N passed, M failed`. It ends with status 1 if an edit
+
+- is still proved, or can't be applied, or can't be read by the prover;
+- is refused only because a proof names what the edit took away, or only by a limit of the prover;
+- could not be tried.
+"""
+import argparse
+import collections
+import concurrent.futures
+import dataclasses
+import pathlib
+import re
+import shutil
+import subprocess
+import sys
+import tempfile
+
+TOP = pathlib.Path(__file__).resolve().parent.parent
+FUNCTION = re.compile(r"^(\s*)(?:pub(?:\([^)]*\))?\s+)?(?:const\s+|unsafe\s+)*fn\s+(\w+)")
+IMPL = re.compile(r"^impl\b(.*)")
+# What the prover says of a function that it refuses for its own body, and of one that waits for another function.
+REFUSED = re.compile(r"not proved|no proof")
+WAITS = re.compile(r"it calls|it passes|a call of")
+# A complaint about a proof that names what isn't there any more: it says nothing of the contract.
+NAMES_ALONE = re.compile(r"has no field|is not in scope|has no `|was not admitted")
+LIMIT = re.compile(r"antt ran out of|outgrew the memory limit|stopped at the step limit")
+
+REFUSED_WELL = "refused"
+PROVED = "it is still proved"
+
+# Where an edit is: the module, the type of the impl if it is in one, and the function. Without a function it is outside.
+Place = collections.namedtuple("Place", "module owner function")
+
+
+@dataclasses.dataclass(frozen=True)
+class Repository:
+    """A repository of crates, and the folder of the toolchain."""
+
+    top: pathlib.Path
+    kit: pathlib.Path
+
+    def crate(self, name):
+        return self.top / "crates" / name
+
+    def dependencies(self):
+        """The crates and libraries that each crate stands on, as crates.txt lists them."""
+        lines = (self.top / "crates.txt").read_text().splitlines()
+        rows = [line.split(":") for line in lines if line and not line.startswith("#")]
+        return {name.strip(): below.split() for name, below in rows}
+
+    def below(self, name):
+        """All crates of the repository below this one, lowest first."""
+        stands_on, found = self.dependencies(), []
+        for other in stands_on[name]:
+            if other in stands_on:
+                found += [it for it in [*self.below(other), other] if it not in found]
+        return found
+
+    def check_command(self, name):
+        """The words of a check of this crate over the libraries that are built."""
+        stands_on = self.dependencies()
+        root = "src/main.rt" if (self.crate(name) / "src/main.rt").exists() else "src/lib.rt"
+        words = [self.kit / "bin/rattle", "check", "--crate-name", name, root]
+        for library in ["std", *stands_on[name]]:
+            folder = self.crate(library) / "out/rlib" if library in stands_on else self.kit / "rlibs"
+            words += ["--extern", f"{library}={folder / library}.rlib"]
+        for folder in [self.kit / "rlibs", *(self.crate(it) / "out/rlib" for it in self.below(name))]:
+            words += ["-L", f"dependency={folder}"]
+        words += ["--antt-project", self.kit / "rattle/logic/antt-project.json"]
+        return [*words, "--logic-built", self.kit / "logic_built", "--links", f"{name}=", "--jobs", "1"]
+
+
+def module_of(path):
+    """The module that a file of src/ is, and nothing of the root."""
+    module = path.removeprefix("src/").removesuffix(".rt").replace("/", "::")
+    return "" if module in ("lib", "main") else module
+
+
+def plain_type(text):
+    """The name of a type, without its path and its parameters."""
+    return re.sub(r"<.*", "", text.strip().lstrip("&")).split("::")[-1].strip()
+
+
+def impl_owner(head, module, folder):
+    """The module and the name below which the prover lists the methods of an impl.
+
+    Methods of a type are listed in the module that declares the type, below its name; methods of a trait in the module of
+    the impl, below the names of type and trait together.
+    """
+    text = re.sub(r"^\s*<(?:[^<>]|<[^<>]*>)*>", "", head).strip().removesuffix("{").split(" where ")[0]
+    first, _, second = text.partition(" for ")
+    if second:
+        return module, plain_type(second) + plain_type(first)
+    declaration = re.compile(rf"(?m)^(pub(\([^)]*\))? )?(struct|enum) {plain_type(first)}\b")
+    for path in sorted((folder / "src").rglob("*.rt")):
+        if declaration.search(path.read_text()):
+            module = module_of(str(path.relative_to(folder)))
+    return module, plain_type(first)
+
+
+def place_of(text, offset, path, folder):
+    """The place of a byte of a file."""
+    module, function = module_of(path), None
+    for line in reversed(text[: text.find("\n", offset)].split("\n")):
+        if function is None:
+            found = FUNCTION.match(line)
+            function = found and found[2]
+            if found and not found[1]:
+                break
+            if not found and (line.startswith("}") or re.match(r"(pub )?(const|static) ", line)):
+                break
+        elif IMPL.match(line):
+            return Place(*impl_owner(IMPL.match(line)[1], module, folder), function)
+    return Place(module, None, function)
+
+
+def applied(edit, folder, given):
+    """The texts that an edit makes of the files of a crate, and its places; no texts if it can't be applied.
+
+    `given` has the files that other edits of this round have changed already.
+    """
+    texts, places, path, old = {}, set(), None, None
+    for line in edit.read_text().split("\n"):
+        if line.startswith("file: "):
+            path = line[6:].strip()
+        elif line.startswith("old: "):
+            old = line[5:]
+        elif line.startswith("new:"):
+            text = texts.get(path) or given.get(path) or (folder / path).read_text()
+            if text.count(old) != 1:
+                return {}, places
+            places.add(place_of(text, text.index(old), path, folder))
+            texts[path] = text.replace(old, line[4:].removeprefix(" "))
+    return texts, places
+
+
+def path_of(place):
+    return "::".join(it for it in place if it)
+
+
+def is_outside(places):
+    return any(it.function is None for it in places)
+
+
+def choose(edits, folder, results):
+    """The edits of the next round with their places, and the texts of the files with all of them applied.
+
+    Notes in `results` which edits can't be applied at all.
+    """
+    chosen, texts = {}, {}
+    for edit in edits:
+        alone, places = applied(edit, folder, {})
+        if not alone:
+            results[edit] = "it can't be applied"
+        elif is_outside(places):
+            if not chosen:
+                return {edit: places}, alone
+        elif not any(places & other for other in chosen.values()):
+            made, _ = applied(edit, folder, texts)
+            if made:
+                chosen[edit] = places
+                texts |= made
+    return chosen, texts
+
+
+def complaints_of(said, places):
+    """The lines of the prover that complain of these functions' proofs."""
+    folders = ["proofs/" + path_of(it).replace("::", "/") + "/" for it in places]
+    lines = [line for line in said.split("\n") if re.match(r"(note: )?(\./)?\S+:\d+:\d+:", line)]
+    return [line for line in lines if any(folder in line for folder in folders)]
+
+
+def verdict(said, crate, places):
+    """What the prover's words say of an edit, or None if it has to wait for another round."""
+    names = {f"{crate}::{path_of(it)}" for it in places}
+    found = re.findall(r"(?m)^fn (\S+): (.*)$", said)
+    told = [words for name, words in found if is_outside(places) or name in names]
+    own = [words for words in told if REFUSED.match(words) and not WAITS.search(words)]
+    if own:
+        complaints = complaints_of(said, places)
+        if complaints and all(NAMES_ALONE.search(line) for line in complaints):
+            return f"a proof names what it takes away, so its refusal shows nothing: {complaints[0]}"
+        return REFUSED_WELL
+    if told and all(words.startswith("proved") for words in told):
+        return PROVED
+    return None
+
+
+def unread(said):
+    """The line in which the prover says that it can't read the edited sources, if any."""
+    lines = said.split("\n")
+    if any(line.startswith("fn ") for line in lines):
+        return None
+    return next((line for line in lines if re.search(r"\berror\b|^rattle", line)), None)
+
+
+def try_edits(crate, edits, folder, check):
+    """What each edit comes to, round by round. `check` runs the prover in a folder, and returns what it says."""
+    results, left = {}, list(edits)
+    with tempfile.TemporaryDirectory(prefix="wrong-") as room:
+        while left:
+            chosen, texts = choose(left, folder, results)
+            if chosen:
+                said = check_round(chosen, texts, folder, pathlib.Path(room), check)
+                found = {edit: verdict(said, crate, places) for edit, places in chosen.items()}
+                results |= {edit: it for edit, it in found.items() if it}
+                if not any(found.values()):
+                    # Nothing is known of any of them: one that stands alone can't be tried.
+                    why = unread(said) or (said.strip().split("\n") or [""])[-1]
+                    what = "only a limit of the prover refuses it" if LIMIT.search(said) else "it couldn't be tried"
+                    lone = next(iter(chosen))
+                    if len(chosen) == 1:
+                        results[lone] = f"{what}: {why[:200]}"
+                    else:
+                        results |= each_alone(crate, chosen, folder, check)
+            left = [it for it in left if it not in results]
+    return results
+
+
+def each_alone(crate, edits, folder, check):
+    results = {}
+    for edit in edits:
+        results |= try_edits(crate, [edit], folder, check)
+    return results
+
+
+def check_round(chosen, texts, folder, room, check):
+    """Copies the crate with these texts, and asks the prover for the edited functions."""
+    copy = room / "crate"
+    shutil.rmtree(copy, ignore_errors=True)
+    for part in ("src", "specs", "proofs"):
+        if (folder / part).is_dir():
+            shutil.copytree(folder / part, copy / part)
+    for path, text in texts.items():
+        (copy / path).write_text(text)
+    places = set().union(*chosen.values())
+    only = [] if is_outside(places) else sorted(path_of(it) for it in places)
+    return check([word for path in only for word in ("--only", path)], copy, room / "kept")
+
+
+def of_crate(repository, crate):
+    """The lines to print of a crate, and how many of its edits were refused and how many weren't."""
+    edits, checks = sorted((repository.crate(crate) / "wrong").glob("*.edit")), []
+
+    def check(only, folder, kept):
+        words = [*repository.check_command(crate), *only, "--incremental", kept]
+        run = subprocess.run(words, cwd=folder, stdin=subprocess.DEVNULL, stdout=subprocess.PIPE, stderr=subprocess.STDOUT, text=True, errors="replace")
+        checks.append(run.returncode)
+        return run.stdout
+
+    results = try_edits(crate, edits, repository.crate(crate), check)
+    lines = [f"{crate}/{edit.stem}: {it}" for edit, it in sorted(results.items()) if it != REFUSED_WELL]
+    refused = len(edits) - len(lines)
+    lines.append(f"{crate}: {refused} of {len(edits)} wrong bodies refused, in {len(checks)} checks")
+    return lines, refused, len(edits) - refused
+
+
+def toolchain():
+    page = subprocess.run(["rt", "doc"], stdout=subprocess.PIPE, text=True, check=True).stdout.strip()
+    return pathlib.Path(page).parent
+
+
+def main():
+    parser = argparse.ArgumentParser(description=__doc__.splitlines()[0])
+    parser.add_argument("--jobs", type=int, default=1, metavar="N", help="how many crates are tried at a time")
+    parser.add_argument("--top", type=pathlib.Path, default=TOP, metavar="FOLDER", help="the repository, by default this one")
+    parser.add_argument("crates", nargs="*", metavar="CRATE")
+    options = parser.parse_args()
+    repository = Repository(options.top.resolve(), toolchain())
+    crates = options.crates or [it for it in repository.dependencies() if (repository.crate(it) / "wrong").is_dir()]
+    passed = failed = 0
+    with concurrent.futures.ThreadPoolExecutor(options.jobs) as pool:
+        for lines, refused, others in pool.map(lambda crate: of_crate(repository, crate), crates):
+            print("\n".join(lines), flush=True)
+            passed, failed = passed + refused, failed + others
+    print(f"{passed} passed, {failed} failed")
+    sys.exit(1 if failed else 0)
+
+
+if __name__ == "__main__":
+    main()

@@ -1,0 +1,156 @@
+#!/usr/bin/env python3
+"""Writes the manual page man/crushedit.1 from the help in crates/crush_options/src/command_line.rt.
+
+The help's paragraphs, lists of two columns and samples become those of the page. END follows them. With --check nothing
+is written, and the status is 1 if the page has other bytes.
+"""
+import pathlib
+import re
+import sys
+
+TOP = pathlib.Path(__file__).resolve().parent.parent
+SOURCE = TOP / "crates/crush_options/src/command_line.rt"
+PAGE = TOP / "man/crushedit.1"
+# What else an operator must know who doesn't have the other pages at hand.
+END = r""".SH "FROM A CLUSTER AND BACK"
+.nf
+ceph osd getcrushmap \-o map.bin
+crushtool \-d map.bin \-o map.txt
+echo 'reweight osd.2 1.0' > alice
+crushedit \-\-in\-turn \-\-strict \-\-no\-make \-\-explain \-s alice map.txt > new.txt
+crushedit \-\-in\-turn \-\-strict \-\-no\-make \-\-explain \-\-since map.txt \-s alice map.txt
+crushtool \-c new.txt \-o raw.bin
+crushtool \-i raw.bin \-\-reweight \-o new.bin
+.fi
+.PP
+The last step is
+.BR "ceph osd setcrushmap \-i new.bin " \fIVERSION\fR,
+with the number that
+.B getcrushmap
+has printed.
+From then on data moves.
+.BR crushedit\-recipe (1)
+does all steps but the last one, and checks each of them.
+.SH WEIGHTS
+Weights are in TiB, as is usual with Ceph.
+They are rounded to 65536ths of 1.0, where Ceph cuts them off.
+.BR 4T ", " .5 " and " \-1
+are no weights.
+.PP
+.B adjusted
+is printed for maps of Ceph 18 in which a bucket above 256 is in another bucket, because
+.BR crushtool (8)
+prints their weights by a float of 32 bits.
+.SH CAVEATS
+.B crushedit
+never contacts a cluster.
+Keep the map that you took from it: it is the way back.
+.PP
+An empty text is a map.
+If a file is empty, or a step before has failed,
+.B crushedit
+prints the empty map and ends with status 0.
+The same happens with
+.BR "crushedit map.txt > map.txt" ,
+because the shell empties the file first.
+.PP
+A text that was cut is a smaller map, and a job that was cut is a shorter job.
+Compare the last lines.
+.PP
+A location creates buckets that aren't in the map, so a mistyped name creates a bucket.
+.B \-\-no\-make
+stops such a run.
+.PP
+A new device has no class, and no rule for a class finds it, until
+.B set\-device\-class
+gives it one.
+.SH "SEE ALSO"
+.BR crushedit\-recipe (1),
+.BR crushtool (8),
+.BR ceph (8)
+"""
+
+
+def constant(source, name):
+    """The text of a constant."""
+    text = re.search(rf'(?s)const {name}: &str =\s+"(.*?)(?<!\\)";', source).group(1)
+    return text.removeprefix("\\\n")
+
+
+def plain(text):
+    """Text as the page writes it: no hyphen is broken, and no line begins with a request."""
+    text = text.replace("\\", "\\e").replace("-", "\\-")
+    return re.sub(r"(?m)^(?=[.'])", r"\\&", text)
+
+
+def marked(text):
+    """What is typed is bold, what stands for something else is italic."""
+    return re.sub(r"\b(?:[A-Z]{3,}|N)\b", r"\\fI\g<0>\\fB", f"\\fB{plain(text)}\\fR").replace("\\fB\\fR", "\\fR")
+
+
+def prose(text):
+    """A paragraph, in which backquotes mark what is typed."""
+    parts = " ".join(text.split()).split("`")
+    return "".join(marked(part) if at % 2 else plain(part) for at, part in enumerate(parts)) + "\n"
+
+
+def item(head, text):
+    return f".TP\n{marked(head)}\n{prose(text)}"
+
+
+def block(text):
+    """A list, a sample or a paragraph of the help, perhaps behind its heading."""
+    heading = re.match(r"([A-Z][A-Za-z ]*)(?:, ([^\n]*))?:\n(?=.)", text)
+    if heading:
+        said = f"They are {heading.group(2)}.\n" if heading.group(2) else ""
+        return f'.SH "{heading.group(1).upper()}"\n{prose(said) if said else ""}{block(text[heading.end() :])}'
+    rows = [re.match(r" {4}(\S.*?) {2,}(\S.*)$", line) for line in text.splitlines()]
+    if all(rows):
+        return "".join(item(row.group(1), row.group(2)) for row in rows)
+    if text.startswith("    "):
+        return f".PP\n.RS\n.nf\n{plain(re.sub(r'(?m)^ {4}', '', text))}\n.fi\n.RE\n"
+    return f".PP\n{prose(text)}"
+
+
+def words_of(source):
+    """The words of the help in its order, as `-s, --script SCRIPT`, each with what it does; all may stand once, but the last but two."""
+    texts = dict(re.findall(r'let (\w+) =\s+"([^"]+)";', source))
+    words = r'\b(?:flag|option)\(\s*alloc,\s*"([a-z-]+)",\s*(?:"([A-Z]+)",\s*)?(\w+),?\s*\)'
+    flags = [(f"--{name} {value}".rstrip(), texts[text]) for name, value, text in re.findall(words, source)]
+    script = re.search(r'Arg::new\(alloc, "([a-z]+)"\).*?\.value_name\("(\w+)"\).*?\.help\("([^"]+)"\)', source, re.S)
+    return [
+        *flags,
+        (f"-s, --{script.group(1)} {script.group(2)}", script.group(3)),
+        ("-h, --help", "Print help, and run nothing"),
+        ("-V, --version", "Print version, and run nothing"),
+    ]
+
+
+def page():
+    source = SOURCE.read_text()
+    version, about = constant(source, "VERSION"), constant(source, "ABOUT")
+    file = re.search(r'Arg::new\(alloc, "([A-Z]+)"\).*?\.help\("([^"]+)"\)', source, re.S)
+    options = words_of(source)
+    *flags, script = [word for word, _ in options[:-2]]
+    synopsis = "".join(f'.RB [ "{marked(word)}" ]\n' for word in flags)
+    synopsis += f'.RB [ "{marked(f"-s {script.split()[-1]}")}" ]..\n'
+    first, *rest = constant(source, "MORE").strip("\n").split("\n\nCommands")
+    return (
+        f'.TH CRUSHEDIT 1 "" "crushedit {version.split()[0]}" "User Commands"\n'
+        f".SH NAME\ncrushedit \\- {plain(about[0].lower() + about[1:])}\n"
+        f".SH SYNOPSIS\n.B crushedit\n{synopsis}.RI [ {file.group(1)} ]\n"
+        f".SH DESCRIPTION\n{''.join(block(text) for text in first.split(chr(10) * 2))}"
+        f".SH OPTIONS\n{item(file.group(1), file.group(2) + '.')}"
+        f"{''.join(item(head, text + '.') for head, text in options)}"
+        f"{''.join(block(text) for text in ('Commands' + rest[0]).split(chr(10) * 2))}{END}"
+    )
+
+
+def main():
+    if sys.argv[1:] == ["--check"]:
+        sys.exit(0 if PAGE.read_text() == page() else "man/crushedit.1 is older than the help: run tools/manual.py")
+    PAGE.write_text(page())
+
+
+if __name__ == "__main__":
+    main()
