@@ -10,8 +10,8 @@ prover still accepts the edited function, then its contract doesn't carry the pr
 `rt must-fail` checks the whole crate for each edit. This script applies all edits of a crate to one copy, at most one for
 each function, and asks for the edited functions alone (`rattle check --only`). A proof cites the contracts of other
 functions and never their bodies, so an edit of one function changes nothing for another. An edit waits for a further
-round if another edit of that round is in the same function or in one that it calls. An edit outside of functions, as of a
-constant, is tried alone, with the whole crate.
+round if another edit of that round is in the same function, or if the prover says of its function only that it calls one
+that isn't proved. An edit outside of functions, as of a constant, is tried alone, with the whole crate.
 
 The script works on copies, over the libraries that `rt ci` or `rt check` built for the crates below, and needs the crate
 itself to be proved. It tries N crates at a time (1 by default), prints a line for each edit that isn't refused for what
@@ -35,9 +35,9 @@ import tempfile
 TOP = pathlib.Path(__file__).resolve().parent.parent
 FUNCTION = re.compile(r"^(\s*)(?:pub(?:\([^)]*\))?\s+)?(?:const\s+|unsafe\s+)*fn\s+(\w+)")
 IMPL = re.compile(r"^impl\b(.*)")
-# What the prover says of a function that it refuses for its own body, and of one that waits for another function.
+# What the prover says of a function that it refuses for its own body, and of one that waits for another function alone.
 REFUSED = re.compile(r"not proved|no proof")
-WAITS = re.compile(r"it calls|it passes|a call of")
+WAITS = re.compile(r"(not proved|no proof): (it calls|it passes|a call of)")
 # A complaint about a proof that names what isn't there any more: it says nothing of the contract.
 NAMES_ALONE = re.compile(r"has no field|is not in scope|has no `|was not admitted")
 LIMIT = re.compile(r"antt ran out of|outgrew the memory limit|stopped at the step limit")
@@ -192,7 +192,7 @@ def verdict(said, crate, places):
     names = {f"{crate}::{path_of(it)}" for it in places}
     found = re.findall(r"(?m)^fn (\S+): (.*)$", said)
     told = [words for name, words in found if is_outside(places) or name in names]
-    own = [words for words in told if REFUSED.match(words) and not WAITS.search(words)]
+    own = [words for words in told if REFUSED.match(words) and not WAITS.match(words)]
     if own:
         complaints = complaints_of(said, places)
         if complaints and all(NAMES_ALONE.search(line) for line in complaints):

@@ -134,10 +134,16 @@ class WrongBodies(unittest.TestCase):
         said, status = self.said_of("two", LARGER, edits)
         self.assertEqual((said, status), (["two: 2 of 2 wrong bodies refused, in 2 checks", "2 passed, 0 failed"], 0))
 
-    def test_an_edited_caller_waits_for_the_edited_function(self):
+    def test_an_edited_caller_is_judged_beside_the_edited_function(self):
         edits = {"next_adds_two": ("    a + 1", "    a + 2"), "second_next_adds_one": ("    next(one)", "    one")}
         said, status = self.said_of("caller", NEXT + SECOND_NEXT, edits)
-        self.assertEqual((said, status), (["caller: 2 of 2 wrong bodies refused, in 2 checks", "2 passed, 0 failed"], 0))
+        self.assertEqual((said, status), (["caller: 2 of 2 wrong bodies refused, in 1 checks", "2 passed, 0 failed"], 0))
+
+    def test_an_edited_caller_without_a_fault_of_its_own_waits(self):
+        edits = {"next_adds_two": ("    a + 1", "    a + 2"), "second_next_in_braces": ("    next(one)", "    { next(one) }")}
+        said, status = self.said_of("waiting", NEXT + SECOND_NEXT, edits)
+        self.assertEqual((said[0], status), ("waiting/second_next_in_braces: it is still proved", 1))
+        self.assertEqual(said[1], "waiting: 1 of 2 wrong bodies refused, in 2 checks")
 
     def test_an_edit_outside_functions_is_tried_with_the_whole_crate(self):
         edits = {"limited_to_eleven": ("u32 = 10;", "u32 = 11;"), "next_adds_two": ("    a + 1", "    a + 2")}
