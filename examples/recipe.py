@@ -275,8 +275,8 @@ def with_exact_weights(text):
 def with_dumped_weights(text, dump):
     """Returns the text of a map that `crushtool -d` printed, with the weights of its items as `crushtool --dump` has them.
 
-    The dump has whole units. The text has rounded ones: version 16 prints three decimals, sums above 256 TiB are floats, and
-    sums of 32,768 TiB and more are negative.
+    The dump has whole units, and the text rounds them: version 16 prints three decimals, and version 18 five decimals of a
+    32-bit float, which is exact up to 256 TiB, and a negative number from 32,768 TiB on.
     """
     names = {item["id"]: item["name"] for item in dump["devices"] + dump["buckets"]}
     units = {(bucket["name"], names.get(item["id"])): item["weight"] % 2**32
