@@ -777,7 +777,8 @@ def show_commands(tools, folder, version, way_back, adjusted):
         say(adjusted)
     say("Nothing has been changed yet. This command sets the new map, and data moves from then on:")
     say("    {} osd setcrushmap -i - {} < {}".format(ceph, version, quoted(folder.path("new.bin"))))
-    say("To hold the data back, run `{0} osd set norebalance` first, and `{0} osd unset norebalance` later.".format(ceph))
+    say("To hold the data back, run `{0} osd set norebalance` first, and `{0} osd unset norebalance` later. PGs with few objects "
+        "move all the same.".format(ceph))
     say("This command goes back to the map as it was. Ceph refuses it (EPERM) if somebody has changed the map in between:")
     say("    {} osd setcrushmap -i - {} < {}".format(ceph, version + 1, quoted(folder.path("map.bin"))))
     say(way_back)
