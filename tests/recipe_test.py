@@ -115,7 +115,6 @@ class Edits(Trial):
         self.assertEqual((asked, given), ("osd setcrushmap -i - 43\n", MAP))
 
     def test_nothing_is_written_by_ceph_itself(self):
-        self.put("ceph-words", "")
         wrapper = self.tools / "contained"
         wrapper.write_text('#!/bin/sh\ncase "$*" in *" -o "* | *"-i /"*) echo "no such folder here" >&2; exit 2 ;; esac\n'
                            'exec "$(dirname "$0")/ceph" "$@"\n')
@@ -224,7 +223,6 @@ class Refusals(Trial):
             self.assertIn(SET.format(42, self.folder), self.try_commands("reweight osd.2 1.0\n"))
 
     def test_a_signal_removes_the_folder(self):
-        self.put("slow", "")
         wrapper = self.tools / "waiting"
         wrapper.write_text('#!/bin/sh\nsleep 20\n')
         wrapper.chmod(0o755)
@@ -275,9 +273,9 @@ class Harm(Trial):
         self.put("cluster", MAP.replace("1.00000", "1.81898").replace("h1 weight 2.00000", "h1 weight 3.63797"))
         printed = self.try_commands("reweight osd.2 14.55269\n")
         self.assertIn("\n0 made, 0 removed, 0 renamed, 0 moved, 3 of other weight, 0 of other class\n", printed)
-        self.assertIn("item osd.0 weight 1.818985\n", (self.folder / "exact.txt").read_text())
         before, after = ((self.folder / name).read_text() for name in ("map.txt", "after.txt"))
         self.assertEqual(re.findall("osd.[01] weight .*", before), re.findall("osd.[01] weight .*", after))
+        self.assertIn("item osd.0 weight 1.818985\n", (self.folder / "exact.txt").read_text())
 
     def test_a_map_that_is_compiled_otherwise(self):
         wrapper = self.tools / "careless"
@@ -411,7 +409,8 @@ class Ways(Trial):
         self.assertIn("item h1 weight 40000.000000\n", (self.folder / "after.txt").read_text())
 
     def test_sums_above_256(self):
-        heavy = MAP.replace("weight 1.00000", "weight 300.00001").replace("h1 weight 2.00000", "h1 weight 600.00003")
+        heavy = MAP.replace("osd.0 weight 1.00000", "osd.0 weight 250.00002").replace("osd.1 weight 1.00000", "osd.1 weight 250.00000")
+        heavy = heavy.replace("h1 weight 2.00000", "h1 weight 500.00002")
         self.put("cluster", heavy)
         self.assertNotIn("/adjusted", self.try_commands("reweight osd.2 1.0\n"))
 

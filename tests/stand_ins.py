@@ -10,13 +10,15 @@ by, and reads and writes files beside itself:
 - broken-WORD: `crushtool WORD` fails; broken-new: `crushtool --test` of 2 replicas is killed at another map than the cluster's.
 - dump: what `crushtool --dump` prints of the cluster's map, in place of what its text says.
 
-As Ceph's own, `crushtool -c` cuts weights to units, and `crushtool -d` prints five decimals and large sums as negative.
+Like Ceph's own, `crushtool -c` cuts weights to units, and `crushtool -d` prints five decimals of a 32-bit float, and a
+negative number from 32768.0 on.
 A rule places replicas on the first devices that weigh anything, for ten inputs.
 """
 import json
 import os
 import re
 import signal
+import struct
 import sys
 from fractions import Fraction
 
@@ -73,9 +75,12 @@ def cut(text):
     return re.sub(r"(?m)^# [0-9].*\n", "", ITEM.sub(units, text))
 
 
-def signed(text):
-    """A text as it is printed: sums from 32768.0 on are negative."""
-    return ITEM.sub(lambda found: "{}{:.5f}".format(found[1], float(found[2]) - (65536 if float(found[2]) >= 32768 else 0)), text)
+def printed(text):
+    """A text as it is printed."""
+    def weight(found):
+        number, = struct.unpack("f", struct.pack("f", float(found[2]) - (65536 if float(found[2]) >= 32768 else 0)))
+        return "{}{:.5f}".format(found[1], number)
+    return ITEM.sub(weight, text)
 
 
 def dump(text):
@@ -124,7 +129,7 @@ def crushtool(words):
         sys.exit(1)
     text = text_of(os.path.abspath(words[1]))
     if words[0] == "-d":
-        return output(signed(text), words)
+        return output(printed(text), words)
     if words[0] == "-c":
         return output(cut(text), words)
     if "--reweight" in words:
