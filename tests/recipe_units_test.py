@@ -209,7 +209,7 @@ class Texts(unittest.TestCase):
             self.assertEqual(recipe.differences(meant, recipe.read_map(MAP.replace(old, new, 1)))[0], line)
 
     def test_any_map_is_read(self):
-        for path in sorted(HERE.glob("maps/*.job")):
+        for path in sorted((TOP / "examples").glob("maps/*.job")):
             text = path.read_text().partition("%")[0]
             read = recipe.read_map(text)
             self.assertEqual(len(read.devices), text.count("\ndevice "), path.name)
