@@ -20,5 +20,5 @@ returns g c =
       found = w.found;
       whole = w.whole;
       told = λ o opening. told_of_end _ _ _ _ _ _ _ _ _ _ (c.in-Ok.ensures _ o (λ on. opening (explained_needs c.args.request.now.mode c.args.request.now.output on))) w.no_make w.whole e.notes;
-      end_notes = λ origin all. noted_of_end _ _ _ [] _ _ _ _ _ _ origin all (λ quiet. c.in-Ok.ensures c.args.completed.now.map.now.setting [] (λ on. absurd (let bad = sym quiet ∙ on in cc))) w.fault w.strict c.requires.plain e.notes;
+      noted = λ origin all. noted_of_end _ _ _ [] _ _ _ _ _ _ origin all (λ quiet. c.in-Ok.ensures c.args.completed.now.map.now.setting [] (λ on. absurd (let bad = sym quiet ∙ on in cc))) w.fault w.strict c.requires.plain e.notes;
     })
