@@ -20,16 +20,16 @@ CRATE = "crush_editor"
 PROGRAM = "crush_two_operators"
 
 # A file, the line before which the lock is tried, how it is tried, and what the compiler has to say.
-NO_FIELD = "no field `desk` on type `LockFreeReader<N>`"
-PRIVATE = "field `desk` of struct `StateLock` is private"
+NO_FIELD = "no field `state` on type `LockFreeReader<N>`"
+PRIVATE = "field `state` of struct `StateLock` is private"
 NO_METHOD = "no method named `try_lock` found for type `StateLock<N, O>`"
 TRIES = [
-    ("lock_free_reader.rt", "        self.gauge.read(&mut seat.reader)", "self.desk.try_lock()", NO_FIELD),
-    ("lock_free_reader.rt", "        let note = self.gauge.note(&mut seat.reader);", "self.desk.try_lock()", NO_FIELD),
-    ("lock_free_reader.rt", "        let Note { note, of: _ } = note;", "self.desk.try_lock()", NO_FIELD),
-    ("editor.rt", "        self.lock_free_reader.reading(seat)", "self.state_lock.desk.try_lock()", PRIVATE),
+    ("lock_free_reader.rt", "        self.gauge.read(&mut seat.reader)", "self.state.try_lock()", NO_FIELD),
+    ("lock_free_reader.rt", "        let note = self.gauge.note(&mut seat.reader);", "self.state.try_lock()", NO_FIELD),
+    ("lock_free_reader.rt", "        let Note { note, of: _ } = note;", "self.state.try_lock()", NO_FIELD),
+    ("editor.rt", "        self.lock_free_reader.reading(seat)", "self.state_lock.state.try_lock()", PRIVATE),
     ("editor.rt", "        self.lock_free_reader.note(seat)", "self.state_lock.try_lock()", NO_METHOD),
-    ("editor.rt", "        self.lock_free_reader.learn(seat, note);", "self.state_lock.desk.try_lock()", PRIVATE),
+    ("editor.rt", "        self.lock_free_reader.learn(seat, note);", "self.state_lock.state.try_lock()", PRIVATE),
 ]
 
 
