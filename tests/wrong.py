@@ -37,7 +37,7 @@ import tempfile
 
 TOP = pathlib.Path(__file__).resolve().parent.parent
 FUNCTION = re.compile(r"^(\s*)(?:pub(?:\([^)]*\))?\s+)?(?:const\s+|unsafe\s+)*fn\s+(\w+)")
-IMPL = re.compile(r"^impl\b(.*)")
+IMPL = re.compile(r"^(?:unsafe\s+)?impl\b(.*)")
 # What the prover says of a function that it refuses for its own body, and of one that waits for another function alone.
 REFUSED = re.compile(r"not proved|no proof")
 WAITS = re.compile(r"(not proved|no proof): (it calls|it passes|a call of)")
