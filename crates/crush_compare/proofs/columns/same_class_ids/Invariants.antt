@@ -1,0 +1,9 @@
+use Rattle.std.proofs.Common.{◌≡◌, true, take}
+use Rattle.crush_nodes.specs.Seen.{shadow_data}
+use Rattle.crush_compare.specs.SameItem.{same_class_id}
+use Rattle.crush_compare.proofs.PairLaws.{same_seen}
+use Rattle.crush_compare.proofs.columns.same_class_ids.Given as goal
+
+-- all pairs so far are the same
+abbrev pub invariant-loop-index : goal.invariant-loop-index
+invariant-loop-index g l = same_seen same_class_id shadow_data shadow_data (take l.index l.before) (take l.index l.after) ≡ true

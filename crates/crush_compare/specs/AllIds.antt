@@ -1,0 +1,25 @@
+-- The ids of the items of two tables.
+use Rattle.std.specs.Prelude.{ℕ, List, [], ◌∷◌, ◌++◌, Option, None, Some, if◌then◌else◌, map, flat_map}
+use Rattle.crush_units.specs.declared.id.ItemId.{ItemId}
+use Rattle.crush_units.specs.declared.id.ItemId.TheVariants.{Device, Bucket}
+use Rattle.crush_model.specs.Table.{Row, bucket_ids}
+use Rattle.crush_items.specs.Order.{ascending, device_number}
+use Rattle.crush_compare.specs.Equal.{same_option}
+
+-- numbers that rise, each once
+abbrev pub once_behind : Option ℕ → List ℕ → List ℕ
+once_behind last [] = []
+once_behind last (x ∷ xs) = if same_option last (Some x) then once_behind (Some x) xs else x ∷ once_behind (Some x) xs
+
+abbrev pub once : List ℕ → List ℕ
+once xs = once_behind None xs
+
+-- the ids of both tables: buckets from -1 downward, and then devices upward
+unfoldable pub all_buckets : List Row → List Row → List ℕ
+all_buckets t u = once (ascending (flat_map (λ (r : Row). bucket_ids r.id) t ++ flat_map (λ (r : Row). bucket_ids r.id) u))
+
+unfoldable pub all_devices : List Row → List Row → List ℕ
+all_devices t u = once (ascending (flat_map (λ (r : Row). device_number r.id) t ++ flat_map (λ (r : Row). device_number r.id) u))
+
+unfoldable pub all_ids : List Row → List Row → List ItemId
+all_ids t u = map Bucket (all_buckets t u) ++ map Device (all_devices t u)

@@ -1,0 +1,34 @@
+-- The columns in which two tables say different things of an item of one id.
+use Rattle.std.specs.Prelude.{◌≡◌, ℕ, ◌==◌, Bool, not, ◌||◌, bytes_eq}
+use Rattle.crush_units.specs.declared.id.ItemId.{ItemId}
+use Rattle.crush_items.specs.ItemData.{ItemData}
+use Rattle.crush_compare.specs.Equal.{same_option, same_text}
+use Rattle.crush_compare.specs.SameItem.{same_algs, same_item}
+use Rattle.crush_compare.specs.Weights.{same_weight}
+use Rattle.crush_compare.specs.declared.difference.Columns.{Columns}
+use Rattle.crush_compare.specs.declared.difference.Report.{Report}
+use Rattle.crush_compare.specs.declared.difference.Report.TheVariants.{Changes, Remaining}
+
+-- whether a report takes two weights of an item as equal
+abbrev pub equal_weights : Report → ItemId → ℕ → ℕ → Bool
+equal_weights Changes i a b = a == b
+equal_weights Remaining i a b = same_weight i a b
+
+-- COLUMNS: those that differ, by what two tables say of the item and whether its class ids are the same
+abbrev pub columns_by_ids : Report → ItemData → ItemData → Bool → Columns
+columns_by_ids report a b same = record {
+  name = not (bytes_eq a.view.name b.view.name);
+  kind = not (a.view.kind == b.view.kind);
+  place = not (same_option a.view.parent b.view.parent);
+  weight = not (equal_weights report a.view.id a.view.weight b.view.weight);
+  class = not (same_text a.view.class b.view.class);
+  alg = not (same_algs a.view.alg b.view.alg);
+  class_ids = not same;
+}
+
+abbrev pub is_some_other : Columns → Bool
+is_some_other c = (((((c.name || c.kind) || c.place) || c.weight) || c.class) || c.alg) || c.class_ids
+
+-- a column differs exactly if two tables don't say the same of the item
+abbrev pub SomeColumnOfOtherItems : Type 0
+SomeColumnOfOtherItems = (a b : ItemData) (same : Bool) → is_some_other (columns_by_ids Changes a b same) ≡ not (same_item a b same)

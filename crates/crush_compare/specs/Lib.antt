@@ -1,0 +1,13 @@
+pub mod AllIds
+pub mod Columns
+pub mod Comparison
+pub mod Difference
+pub mod Equal
+pub mod IdPairs
+pub mod Named
+pub mod NamedColumns
+pub mod NamedPairs
+pub mod PairItems
+pub mod Pairs
+pub mod SameItem
+pub mod Weights

@@ -1,0 +1,112 @@
+//! Items of two maps, matched by their ids.
+
+ghost use Rattle.std.specs.Prelude.{◌≡◌, ◌+◌, ◌<◌, ◌≤◌, ◌^◌, ◌++◌, None, IfOk, length, drop, option_to_list};
+ghost use Rattle.crush_compare.specs.Pairs.{ArePairsOf, Rise, keys, least_pair, position, positions, taken};
+
+use crush_items::Place;
+use std::alloc::{AllocError, Global};
+
+/// Where each of two maps has an item: the item's position in the list of the map's items. At
+/// least one of the maps has the item.
+#[derive(Clone, Copy, Debug, PartialEq, Eq)]
+pub struct Pair {
+    pub before: Option<u32>,
+    pub after: Option<u32>,
+}
+
+/// A pair, with the keys of its items.
+#[derive(Clone, Copy, Debug)]
+pub(crate) struct KeyPair {
+    before: Option<Place>,
+    after: Option<Place>,
+}
+
+/// Returns the pairs of the places of two lists, in the order of the keys. Two places that have
+/// the same key are one pair, and each other place is a pair of its own. The keys of each list
+/// must rise.
+pub(crate) fn pairs_by_key(
+    alloc: Global,
+    old: &[Place],
+    new: &[Place],
+) -> Result<Vec<Pair>, AllocError>
+    ensures { IfOk result (λ pairs. Rise (keys old.now) → Rise (keys new.now)
+        → ArePairsOf old.now new.now pairs.items) }
+{
+    let mut pairs = Vec::new(alloc);
+    let mut before: usize = 0;
+    let mut after: usize = 0;
+    while before < old.len() || after < new.len() {
+        let next = least_pair(place_at(old, before), place_at(new, after));
+        before = behind(before, &next.before);
+        after = behind(after, &next.after);
+        pairs.push(positions(next))?;
+    }
+    Ok(pairs)
+}
+
+fn place_at(places: &[Place], at: usize) -> Option<Place>
+    ensures first { drop at places.now ≡ option_to_list result ++ drop (at + 1) places.now }
+    ensures none { result ≡ None → length places.now ≤ at }
+    ensures within { at ≤ length places.now → at + taken result ≤ length places.now }
+{
+    if at < places.len() {
+        Some(places[at])
+    } else {
+        None
+    }
+}
+
+fn behind(at: usize, place: &Option<Place>) -> usize
+    requires { at + taken place.now < 2 ^ 64 }
+    ensures { result ≡ at + taken place.now }
+{
+    match place {
+        Some(_) => at + 1,
+        None => at,
+    }
+}
+
+/// The place that has the lesser key, or both places if they have the same key.
+fn least_pair(before: Option<Place>, after: Option<Place>) -> KeyPair
+    ensures { result ≡ least_pair before after }
+{
+    match before {
+        None => KeyPair { before, after },
+        Some(here) => match after {
+            None => KeyPair { before, after },
+            Some(there) => {
+                if here.key < there.key {
+                    KeyPair {
+                        before,
+                        after: None,
+                    }
+                } else if there.key < here.key {
+                    KeyPair {
+                        before: None,
+                        after,
+                    }
+                } else {
+                    KeyPair { before, after }
+                }
+            }
+        },
+    }
+}
+
+fn positions(pair: KeyPair) -> Pair
+    ensures { result ≡ positions pair }
+{
+    Pair {
+        before: position(pair.before),
+        after: position(pair.after),
+    }
+}
+
+pub(crate) fn position(place: Option<Place>) -> Option<u32>
+    ensures { result ≡ position place }
+{
+    match place {
+        Some(place) => Some(place.at),
+        None => None,
+    }
+}

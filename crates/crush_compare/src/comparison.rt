@@ -1,0 +1,169 @@
+//! Two maps whose items are matched.
+
+ghost use Rattle.std.specs.Prelude.{◌≡◌, ◌<◌, ◌^◌, List, IfOk, length, map as each, option_and_then};
+ghost use Rattle.std.specs.List.{slice_get};
+ghost use Rattle.std.specs.Option.{option_map};
+ghost use Rattle.crush_model.specs.Lawful.{Lawful};
+ghost use Rattle.crush_model.specs.Stands.{Stands};
+ghost use Rattle.crush_model.specs.Table.{Row};
+ghost use Rattle.crush_nodes.specs.Seen.{shadow_data};
+ghost use Rattle.crush_items.specs.Items.{HasEntries, item_entry};
+ghost use Rattle.crush_items.specs.SeenItem.{seen_data};
+ghost use Rattle.crush_compare.specs.declared.identity.Identity.TheVariants.{Ids, Names};
+ghost use Rattle.crush_compare.specs.AllIds.{all_ids};
+ghost use Rattle.crush_compare.specs.Comparison.{IsOfIds, IsOfNames, pair_entries};
+ghost use Rattle.crush_compare.specs.IdPairs.{class_ids_of, entries_at, id_entries, pair_difference};
+
+use crate::by_id::{Pair, pairs_by_key};
+use crate::by_name::pairs_by_name;
+use crate::columns::same_class_ids;
+use crate::difference::{Difference, Report};
+use crate::identity::{Devices, Identity};
+use crush_items::{Items, Seen};
+use crush_map::CrushMap;
+use crush_tree::ShadowId;
+use std::alloc::{AllocError, Allocator, Global};
+
+/// Two maps, and where each of them has each item of either map.
+#[derive(Drop)]
+pub struct Comparison<'a, A: Allocator, B: Allocator> {
+    pub identity: Identity,
+    pub old: Items<'a, A>,
+    pub new: Items<'a, B>,
+    /// By ids in the order of the ids: buckets from -1 downward, and then devices upward. By names
+    /// first the new map's items in the order of its tree, and then those that only the old map
+    /// has, in the order of its own tree.
+    pub pairs: Vec<Pair>,
+}
+
+impl<'a, A: Allocator, B: Allocator> Comparison<'a, A, B> {
+    /// Returns the comparison of two maps whose items are matched by their ids, as CRUSH does. It
+    /// visits each item of each map once, and sorts the items of each map once. An `Err` says that
+    /// memory ran out.
+    pub fn by_ids(
+        alloc: Global,
+        old: &'a CrushMap<A>,
+        new: &'a CrushMap<B>,
+    ) -> Result<Comparison<'a, A, B>, AllocError>
+        ensures identity { IfOk result (λ both. both.identity ≡ Ids) }
+        ensures old { IfOk result (λ both. both.old.map.now ≡ old.now) }
+        ensures new { IfOk result (λ both. both.new.map.now ≡ new.now) }
+        ensures pairs { IfOk result (λ both. (t u : List Row) → Stands old.now.forest t
+            → Stands new.now.forest u → IsOfIds t u both) }
+    {
+        let before = Items::of(alloc, old)?;
+        let after = Items::of(alloc, new)?;
+        let pairs = pairs_by_id(alloc, &before, &after)?;
+        Ok(Comparison {
+            identity: Identity::Ids,
+            old: before,
+            new: after,
+            pairs,
+        })
+    }
+
+    /// Returns the comparison of two maps whose items are matched by their names: two buckets of
+    /// the same name are one, and two devices of the same name as `devices` says. It visits each
+    /// item of each map once, and looks up its name once in the other map. An `Err` says that
+    /// memory ran out.
+    pub fn by_names(
+        alloc: Global,
+        devices: Devices,
+        old: &'a CrushMap<A>,
+        new: &'a CrushMap<B>,
+    ) -> Result<Comparison<'a, A, B>, AllocError>
+        ensures identity { IfOk result (λ both. both.identity ≡ Names devices) }
+        ensures old { IfOk result (λ both. both.old.map.now ≡ old.now) }
+        ensures new { IfOk result (λ both. both.new.map.now ≡ new.now) }
+        ensures pairs { IfOk result (λ both. (t u : List Row) → Stands old.now.forest t
+            → Stands new.now.forest u → IsOfNames devices t u both) }
+    {
+        let before = Items::of(alloc, old)?;
+        let after = Items::of(alloc, new)?;
+        let pairs = pairs_by_name(alloc, devices, &before, &after)?;
+        Ok(Comparison {
+            identity: Identity::Names(devices),
+            old: before,
+            new: after,
+            pairs,
+        })
+    }
+
+    /// Returns what the old map has of the item of a pair.
+    pub fn before(&self, pair: Pair) -> Option<Seen<'a>>
+        ensures { option_map seen_data result
+            ≡ option_map (λ e. e.item) (pair_entries self.now pair).before }
+    {
+        seen_at(&self.old, pair.before)
+    }
+
+    /// Returns what the new map has of the item of a pair.
+    pub fn after(&self, pair: Pair) -> Option<Seen<'a>>
+        ensures { option_map seen_data result
+            ≡ option_map (λ e. e.item) (pair_entries self.now pair).after }
+    {
+        seen_at(&self.new, pair.after)
+    }
+
+    /// Returns what differs in a pair; `None` if both maps say the same of its item. If items are
+    /// matched by their names, then no ids are compared: an item's type and the bucket that holds
+    /// it are compared by their names.
+    pub fn difference(&self, report: Report, pair: Pair) -> Option<Difference>
+        ensures { result ≡ pair_difference self.now.identity report self.now.old.map.now.setting
+            self.now.new.map.now.setting (pair_entries self.now pair) }
+    {
+        let before = class_ids_at(&self.old, pair.before);
+        let after = class_ids_at(&self.new, pair.after);
+        let same = same_class_ids(before, after);
+        Difference::of(
+            self.identity,
+            report,
+            self.old.map.setting(),
+            self.new.map.setting(),
+            &self.before(pair),
+            &self.after(pair),
+            same,
+        )
+    }
+}
+
+fn pairs_by_id<A: Allocator, B: Allocator>(
+    alloc: Global,
+    old: &Items<'_, A>,
+    new: &Items<'_, B>,
+) -> Result<Vec<Pair>, AllocError>
+    requires old { length old.now.all.items < 2 ^ 32 }
+    requires new { length new.now.all.items < 2 ^ 32 }
+    ensures { IfOk result (λ pairs. (t u : List Row) → Lawful t → Lawful u
+        → HasEntries t (each item_entry old.now.all.items)
+        → HasEntries u (each item_entry new.now.all.items)
+        → each (entries_at (each item_entry old.now.all.items) (each item_entry new.now.all.items))
+        pairs.items ≡ each (id_entries t u) (all_ids t u)) }
+{
+    let before = old.by_id(alloc)?;
+    let after = new.by_id(alloc)?;
+    let old_places = before.places.as_slice();
+    let new_places = after.places.as_slice();
+    let pairs = pairs_by_key(alloc, old_places, new_places)?;
+    Ok(pairs)
+}
+
+fn seen_at<'a, A: Allocator>(items: &Items<'a, A>, at: Option<u32>) -> Option<Seen<'a>>
+    ensures { option_map seen_data result ≡ option_map (λ e. e.item)
+        (option_and_then (slice_get (each item_entry items.now.all.items)) at) }
+{
+    match at {
+        Some(at) => items.seen(at),
+        None => None,
+    }
+}
+
+fn class_ids_at<'a, A: Allocator>(items: &Items<'a, A>, at: Option<u32>) -> &'a [ShadowId<A>]
+    ensures { each shadow_data result.now ≡ class_ids_of
+        (option_and_then (slice_get (each item_entry items.now.all.items)) at) }
+{
+    match at {
+        Some(at) => items.class_ids(at),
+        None => &[],
+    }
+}

@@ -1,0 +1,50 @@
+//! Which items of two maps are one.
+
+ghost use Rattle.std.specs.Prelude.{◌≡◌};
+ghost use Rattle.crush_compare.specs.Named.{are_one, is_one_device};
+
+use crush_units::{DeviceId, ItemId};
+
+/// When two devices of the same name are one.
+#[derive(Clone, Copy, Debug, PartialEq, Eq)]
+pub enum Devices {
+    /// If they have the same id. This is for two maps of one cluster.
+    ById,
+    /// Always. This is for the maps of two clusters.
+    ByName,
+}
+
+/// When an item of one map and an item of another map are one.
+#[derive(Clone, Copy, Debug, PartialEq, Eq)]
+pub enum Identity {
+    /// If they have the same id, as CRUSH sees it.
+    Ids,
+    /// If they have the same name, and both are buckets, or both are devices that are one as
+    /// `Devices` says.
+    Names(Devices),
+}
+
+fn is_one_device(devices: Devices, here: DeviceId, there: DeviceId) -> bool
+    ensures { result ≡ is_one_device devices here there }
+{
+    match devices {
+        Devices::ById => here.number() == there.number(),
+        Devices::ByName => true,
+    }
+}
+
+/// Whether two items of the same name are one, by their ids.
+pub(crate) fn are_one(devices: Devices, here: &ItemId, there: &ItemId) -> bool
+    ensures { result ≡ are_one devices here.now there.now }
+{
+    match here {
+        ItemId::Device(here) => match there {
+            ItemId::Device(there) => is_one_device(devices, *here, *there),
+            ItemId::Bucket(_) => false,
+        },
+        ItemId::Bucket(_) => match there {
+            ItemId::Device(_) => false,
+            ItemId::Bucket(_) => true,
+        },
+    }
+}

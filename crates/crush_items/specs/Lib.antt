@@ -1,0 +1,9 @@
+pub mod ById
+pub mod Entries
+pub mod ItemData
+pub mod Items
+pub mod Order
+pub mod Runs
+pub mod SeenItem
+pub mod SeenPart
+pub mod Tree
