@@ -18,11 +18,8 @@ itself to be proved. It tries N crates at a time (1 by default), prints a line f
 it breaks, a line for each crate, and at the end `N passed, M failed`. It ends with status 1 if an edit
 
 - is still proved, or can't be applied, or can't be read by the prover;
-- is refused only by a limit of the prover;
+- is refused only because a proof names what the edit took away, or only by a limit of the prover;
 - could not be tried.
-
-An edit that is refused only because a proof names what the edit took away shows little. It has a line of its own, so that
-somebody turns it, but it counts as refused, as it does for `rt ci`.
 """
 import argparse
 import collections
@@ -47,7 +44,6 @@ LIMIT = re.compile(r"antt ran out of|outgrew the memory limit|stopped at the ste
 
 REFUSED_WELL = "refused"
 PROVED = "it is still proved"
-SHOWS_LITTLE = "a proof names what it takes away, so its refusal shows nothing"
 
 # Where an edit is: the module, the type of the impl if it is in one, and the function. Without a function it is outside.
 Place = collections.namedtuple("Place", "module owner function")
@@ -200,7 +196,7 @@ def verdict(said, crate, places):
     if own:
         complaints = complaints_of(said, places)
         if complaints and all(NAMES_ALONE.search(line) for line in complaints):
-            return f"{SHOWS_LITTLE}: {complaints[0]}"
+            return f"a proof names what it takes away, so its refusal shows nothing: {complaints[0]}"
         return REFUSED_WELL
     if told and all(words.startswith("proved") for words in told):
         return PROVED
@@ -271,7 +267,7 @@ def of_crate(repository, crate):
 
     results = try_edits(crate, edits, repository.crate(crate), check)
     lines = [f"{crate}/{edit.stem}: {it}" for edit, it in sorted(results.items()) if it != REFUSED_WELL]
-    refused = sum(it == REFUSED_WELL or it.startswith(SHOWS_LITTLE) for it in results.values())
+    refused = len(edits) - len(lines)
     lines.append(f"{crate}: {refused} of {len(edits)} wrong bodies refused, in {len(checks)} checks")
     return lines, refused, len(edits) - refused
 

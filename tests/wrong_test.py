@@ -154,7 +154,7 @@ class WrongBodies(unittest.TestCase):
         edits = {"citing_adds_one_itself": ("    next(a)", "    a + 2")}
         said, status = self.said_of("citing", NEXT + CITING, edits, [("proofs/citing/Answers.antt", CITED)])
         self.assertTrue(said[0].startswith("citing/citing_adds_one_itself: a proof names what it takes away"), said)
-        self.assertEqual((said[-1], status), ("1 passed, 0 failed", 0))
+        self.assertEqual(status, 1)
 
 
 if __name__ == "__main__":
