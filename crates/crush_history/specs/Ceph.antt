@@ -1,5 +1,7 @@
 -- An edit as Ceph's command.
-use Rattle.std.specs.Prelude.{ℕ, List, [], ◌++◌, codes, decimal}
+use Rattle.std.specs.Prelude.{ℕ, ◌==◌, Bool, false, ◌||◌, List, [], ◌∷◌, ◌++◌, codes, decimal, if◌then◌else◌}
+use Rattle.std.specs.List.{list_any}
+use Rattle.crush_edits.specs.declared.location.Pair.{Pair}
 use Rattle.crush_edits.specs.declared.edit.Edit.{Edit}
 use Rattle.crush_edits.specs.declared.edit.Edit.TheVariants.{Insert, CreateOrMove, Update, Move, Swap, Reweight, ReweightSubtree, Remove, AddBucket, Rename, SetClass, RemoveClass}
 use Rattle.crush_history.specs.HistoryText.{edit_text}
@@ -19,9 +21,37 @@ assent (Rename from to) = []
 assent (SetClass name class) = []
 assent (RemoveClass name) = []
 
+-- a word that begins with `-`
+abbrev pub is_dashed : List ℕ → Bool
+is_dashed [] = false
+is_dashed (b ∷ rest) = b == 45
+
+-- a pair of the location is such a word: it begins with the name of its type
+abbrev pub has_dashed_type : List Pair → Bool
+has_dashed_type at = list_any (λ (p : Pair). is_dashed p.kind) at
+
+-- after its first word, a command has a word that begins with `-`, which Ceph would read as an option
+abbrev pub has_dash : Edit → Bool
+has_dash (Insert device name weight at) = is_dashed name || has_dashed_type at
+has_dash (CreateOrMove device name weight at) = is_dashed name || has_dashed_type at
+has_dash (Update device name weight at) = is_dashed name || has_dashed_type at
+has_dash (Move name at) = is_dashed name || has_dashed_type at
+has_dash (Swap a b) = is_dashed a || is_dashed b
+has_dash (Reweight name weight) = is_dashed name
+has_dash (ReweightSubtree name weight) = is_dashed name
+has_dash (Remove name) = is_dashed name
+has_dash (AddBucket name kind) = is_dashed name || is_dashed kind
+has_dash (Rename from to) = is_dashed from || is_dashed to
+has_dash (SetClass name class) = is_dashed class || is_dashed name
+has_dash (RemoveClass name) = is_dashed name
+
+-- the words before a command: if it has a word that begins with `-`, they end in `--`, after which Ceph reads no options
+abbrev pub ceph_head : Edit → List ℕ
+ceph_head e = if has_dash e then codes "ceph osd crush -- " else codes "ceph osd crush "
+
 -- an edit as a line for a shell
 abbrev pub ceph_line : Edit → List ℕ
-ceph_line e = codes "ceph osd crush " ++ edit_text e ++ (assent e ++ codes "\n")
+ceph_line e = ceph_head e ++ edit_text e ++ (assent e ++ codes "\n")
 
 -- how many lines there are
 unfoldable pub ceph_heading : ℕ → List ℕ

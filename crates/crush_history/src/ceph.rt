@@ -1,14 +1,14 @@
 //! An edit as Ceph's command.
 
 ghost use Rattle.std.specs.Prelude.{◌≡◌, ◌++◌, OnOk, codes, flat_map};
-ghost use Rattle.crush_history.specs.Ceph.{assent, ceph_heading, ceph_line};
+ghost use Rattle.crush_history.specs.Ceph.{assent, ceph_head, ceph_heading, ceph_line, has_dash, has_dashed_type, is_dashed};
 ghost use Rattle.crush_history.specs.HistoryText.{edit_text};
 
 use crate::printed::write_edit;
-use crush_edits::Edit;
-use crush_units::put_all;
+use crush_edits::{Edit, Pair};
+use crush_units::{Name, put_all};
 use itoa::Buffer;
-use std::alloc::AllocError;
+use std::alloc::{AllocError, Global};
 
 /// The word that Ceph requires to swap buckets that stand apart.
 fn assent(edit: &Edit) -> &'static [u8]
@@ -17,6 +17,49 @@ fn assent(edit: &Edit) -> &'static [u8]
     match edit {
         Edit::Swap { .. } => b" --yes-i-really-mean-it",
         _ => b"",
+    }
+}
+
+fn is_dashed(word: &Name<Global>) -> bool
+    ensures { result ≡ is_dashed word.now }
+{
+    matches!(word.as_bytes(), [b'-', ..])
+}
+
+fn has_dashed_type(pairs: &[Pair]) -> bool
+    ensures { result ≡ has_dashed_type pairs.now }
+{
+    pairs.iter().any(|pair| is_dashed(&pair.kind))
+}
+
+/// Whether the command of an edit has a word that Ceph would read as an option.
+fn has_dash(edit: &Edit) -> bool
+    ensures { result ≡ has_dash edit.now }
+{
+    match edit {
+        Edit::Insert { name, at, .. }
+        | Edit::CreateOrMove { name, at, .. }
+        | Edit::Update { name, at, .. }
+        | Edit::Move { name, at } => is_dashed(name) || has_dashed_type(at.pairs()),
+        Edit::Swap { a, b } => is_dashed(a) || is_dashed(b),
+        Edit::Rename { from, to } => is_dashed(from) || is_dashed(to),
+        Edit::AddBucket { name, kind } => is_dashed(name) || is_dashed(kind),
+        Edit::SetClass { name, class } => is_dashed(class) || is_dashed(name),
+        Edit::Reweight { name, .. }
+        | Edit::ReweightSubtree { name, .. }
+        | Edit::Remove { name }
+        | Edit::RemoveClass { name } => is_dashed(name),
+    }
+}
+
+/// The words before the command of an edit.
+fn ceph_head(edit: &Edit) -> &'static [u8]
+    ensures { result.now ≡ ceph_head edit.now }
+{
+    if has_dash(edit) {
+        b"ceph osd crush -- "
+    } else {
+        b"ceph osd crush "
     }
 }
 
@@ -33,12 +76,15 @@ fn push_end(edit: &Edit, text: &mut Vec<u8>) -> Result<(), AllocError>
     text.extend_from_slice(b"\n")
 }
 
-/// An edit as a line for a shell: `ceph osd crush`, its command, and of a swap
+/// Appends an edit as a line for a shell: `ceph osd crush`, its command, and for a swap
 /// `--yes-i-really-mean-it`.
+///
+/// If a word of the command begins with `-`, `--` comes before the command, so that Ceph doesn't
+/// read this word as an option. Ceph refuses a word that begins with two dashes.
 pub fn push_ceph_line(edit: &Edit, text: &mut Vec<u8>) -> Result<(), AllocError>
     ensures { OnOk result (text.new.items ≡ text.old.items ++ ceph_line edit.now) }
 {
-    text.extend_from_slice(b"ceph osd crush ")?;
+    text.extend_from_slice(ceph_head(edit))?;
     push_edit(edit, text)?;
     push_end(edit, text)
 }

@@ -6,4 +6,5 @@ pub mod Noted
 pub mod Outcomes
 pub mod Parts
 pub mod Reading
+pub mod ShownBytes
 pub mod Told

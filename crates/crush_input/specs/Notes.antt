@@ -1,5 +1,5 @@
 -- The notes of a run: what standard error gets below its one line.
-use Rattle.std.specs.Prelude.{◌≡◌, ℕ, ◌<◌, Bool, true, false, List, [], ◌++◌, Option, None, Some, Result, Ok, Err, IfSome, codes, if◌then◌else◌}
+use Rattle.std.specs.Prelude.{◌≡◌, ℕ, ◌<◌, Bool, true, false, List, [], ◌++◌, Option, None, Some, Result, Ok, Err, IfSome, codes, if◌then◌else◌, map}
 use Rattle.crush_edits.specs.Setting.{SettingData}
 use Rattle.crush_map.specs.MapData.{MapData, MapStands}
 use Rattle.crush_history.specs.History.{EntryData}
@@ -7,6 +7,7 @@ use Rattle.crush_history.specs.Refused.{refusals, refused_text}
 use Rattle.crush_reasons.specs.Explained.{explained_job}
 use Rattle.crush_reasons.specs.Fault.{fault_line, fault_text}
 use Rattle.crush_reasons.specs.Place.{OriginData}
+use Rattle.crush_reasons.specs.Shown.{shown_byte}
 use Rattle.crush_reasons.specs.Written.{written_text}
 use Rattle.crush_model.specs.Table.{Row}
 use Rattle.crush_script.specs.Lines.{map_part}
@@ -64,9 +65,9 @@ history_notes mode text s t names h = refused_notes mode text s t names h ++ tex
 abbrev pub place_notes : Bool → (ℕ → OriginData) → List ℕ → JobFault → List ℕ
 place_notes explain origin bytes fault = if explain then fault_text (origin (fault_line bytes fault)) bytes fault else []
 
--- the note of a file that can't be opened or read: its name and the system's reason
+-- the note of a file that can't be opened or read: its name, of which each byte is shown as in every message, and the system's reason
 abbrev pub unread_text : List ℕ → List ℕ → List ℕ
-unread_text name reason = codes "  " ++ name ++ codes ": " ++ reason ++ codes "\n"
+unread_text name reason = codes "  " ++ map shown_byte name ++ codes ": " ++ reason ++ codes "\n"
 
 -- the notes are such a note of the file `name`, with any reason
 abbrev pub IsNoteOfUnreadFile : List ℕ → List ℕ → Type 0

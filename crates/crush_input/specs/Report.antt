@@ -1,10 +1,11 @@
 -- What a run writes to standard error, and its status.
-use Rattle.std.specs.Prelude.{ℕ, ◌==◌, Bool, List, [], ◌++◌, Result, Ok, Err, codes, decimal, if◌then◌else◌}
+use Rattle.std.specs.Prelude.{ℕ, ◌==◌, Bool, List, [], ◌++◌, Result, Ok, Err, codes, decimal, if◌then◌else◌, map}
 use Rattle.crush_text.specs.declared.fault.TextFault.{TextFault}
 use Rattle.crush_text.specs.Fault.{fault_name}
 use Rattle.crush_script.specs.declared.fault.JobFault.{JobFault}
 use Rattle.crush_script.specs.declared.fault.JobFault.TheVariants.{BadLine, NoSuchCommand, OpenBatch, TooManyOperators, DuplicateOperator, Text, OutOfMemory, TooLong, TooManyCalls}
 use Rattle.crush_script.specs.Fault.{is_out_of_memory, lacks_memory}
+use Rattle.crush_reasons.specs.Shown.{shown_byte}
 use Rattle.crush_input.specs.declared.fault.RunFault.{RunFault}
 use Rattle.crush_input.specs.declared.fault.RunFault.TheVariants as run
 use Rattle.crush_input.specs.declared.fault.SecondMapFault.{SecondMapFault}
@@ -69,9 +70,9 @@ second_map_fault which (unread.Text f) = if is_out_of_memory f.kind then out_of_
 second_map_fault which unread.TooLong = codes "crushedit: " ++ map_word which ++ codes ": TooLong\n"
 second_map_fault which unread.Read = codes "crushedit: " ++ map_word which ++ codes ": read fault\n"
 
--- the line for an item or a type that the map lacks, with its name from the command line
+-- the line for an item or a type that the map lacks, with its name from the command line, of which each byte is shown as in every message
 abbrev pub lacking_line : List ℕ → List ℕ → List ℕ
-lacking_line what name = codes "crushedit: no " ++ what ++ name ++ codes "\n"
+lacking_line what name = codes "crushedit: no " ++ what ++ map shown_byte name ++ codes "\n"
 
 -- the line for a run that was not done
 abbrev pub run_fault : WordsData → RunFault → List ℕ

@@ -8,6 +8,7 @@ ghost use Rattle.crush_input.specs.Words.{no_words, words_data};
 ghost use Rattle.crush_input.specs.Report.{differs_line, lacking_line, long_reason, map_word, second_map_fault, second_map_reason, second_map_status, second_map_text_fault, unread_reason};
 
 use crate::fault::{RunFault, SecondMap, SecondMapFault};
+use crate::shown::put_shown;
 use crate::summary::Summary;
 use crate::words::Words;
 use crush_options::OptionsFault;
@@ -145,15 +146,9 @@ fn write_lacking<E: Write>(what: &'static [u8], name: &str, err: &mut E) -> Resu
     ensures { Writes result (E.contents err.old) (E.contents err.new)
         (lacking_line what.now name.now) }
 {
-    put_all(
-        err,
-        &[
-            b"crushedit: no ".as_slice(),
-            what,
-            name.as_bytes(),
-            b"\n".as_slice(),
-        ],
-    )
+    put_all(err, &[b"crushedit: no ".as_slice(), what])?;
+    put_shown(name.as_bytes(), err)?;
+    put(err, b"\n")
 }
 
 fn write_run_fault<E: Write>(

@@ -18,6 +18,7 @@ mod notes;
 mod origins;
 mod output;
 mod second_map;
+mod shown;
 mod summary;
 mod words;
 

@@ -17,6 +17,7 @@ ghost use Rattle.crush_units.specs.declared.limits.TheConstants.{LONGEST_JOB, MO
 use crate::aborted::{Aborted, KeptText, ParsedJob};
 use crate::fault::RunFault;
 use crate::origins::Origins;
+use crate::shown::put_shown;
 use crush_history::{Entry, Script, count_refused, refused_text};
 use crush_map::CrushMap;
 use crush_options::Mode;
@@ -188,7 +189,7 @@ fn unread_text(alloc: Global, name: &str, error: &io::Error) -> Result<Vec<u8>, 
     let reason = format!(in alloc; "{error}")?;
     let mut text = Vec::new(alloc);
     text.extend_from_slice(b"  ")?;
-    text.extend_from_slice(name.as_bytes())?;
+    put_shown(name.as_bytes(), &mut text).map_err(|_| AllocError)?;
     text.extend_from_slice(b": ")?;
     text.extend_from_slice(reason.as_bytes())?;
     text.extend_from_slice(b"\n")?;

@@ -28,7 +28,7 @@ use Rattle.crush_reasons.specs.Named.{edit_reason}
 use Rattle.crush_reasons.specs.Near.{is_near}
 use Rattle.crush_reasons.specs.Replay.{table_after_edits}
 use Rattle.crush_reasons.specs.Way.{items_said}
-use Rattle.crush_reasons.specs.Place.{column_line, from_line, number_line}
+use Rattle.crush_reasons.specs.Place.{column_line, command_head, from_line, number_line}
 use Rattle.crush_reasons.specs.Flaws.{begins_at, open_text}
 use Rattle.crush_reasons.specs.Misfit.{misfit_text, with_point}
 use Rattle.crush_reasons.specs.Shown.{reason_line, told}
@@ -161,6 +161,16 @@ line_before : fault_text (record { name = codes "b.txt"; before = 2 }) (codes "%
     ≡ codes "  b.txt line 0\n    %operator a\n" ++ reason_line (job_sentence (job.DuplicateOperator 2))
 unfolding number_line from_line digits
 line_before = refl
+
+-- a file whose name has an escape sequence and a tab: a control character is shown as `?`, and a tab as a space
+escaped : fault_text (record { name = 27 ∷ codes "[31m" ++ 9 ∷ codes "b.txt"; before = 0 }) (codes "%operator a\nfly y\n") (job.NoSuchCommand 2)
+    ≡ codes "  ?[31m b.txt line 2\n    fly y\n  the first word of a line is to be a command: --help has all of them\n"
+unfolding number_line from_line digits
+escaped = refl
+
+escaped_head : command_head (record { name = 27 ∷ codes "[31mb.txt"; before = 2 }) 5 ≡ codes "?[31mb.txt:3: "
+unfolding command_head digits
+escaped_head = refl
 
 -- the line at which a flaw of a text stands
 third_line : fault_line (codes "a\nb\nc\n") (job.Text (record { kind = UnknownType; place = 4 })) ≡ 3

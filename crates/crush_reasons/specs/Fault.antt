@@ -1,4 +1,4 @@
--- Where a fault of a job stands, and what was wanted there.
+-- The place of a fault of a job, and what is wanted there.
 use Rattle.std.specs.Prelude.{ℕ, ◌==◌, List, ◌++◌, codes, if◌then◌else◌, take}
 use Rattle.crush_script.specs.declared.fault.JobFault.{JobFault}
 use Rattle.crush_script.specs.declared.fault.JobFault.TheVariants.{BadLine, NoSuchCommand, OpenBatch, TooManyOperators, DuplicateOperator, Text, OutOfMemory, TooLong, TooManyCalls}
@@ -10,7 +10,7 @@ use Rattle.crush_reasons.specs.Misfit.{line_reason}
 use Rattle.crush_reasons.specs.Place.{OriginData, at_line, first_line, last_line, line_at, own_line, place_text}
 use Rattle.crush_reasons.specs.Sentences.{job_sentence}
 
--- FAULT LINE: the line of a job at which a fault is told, counted from 1, or 0 where it has none
+-- FAULT LINE: the number of the line of a job that has a fault, from 1, or 0 if the fault has no line
 abbrev pub fault_line : List ℕ → JobFault → ℕ
 fault_line bytes (BadLine line) = line
 fault_line bytes (NoSuchCommand line) = line
@@ -22,18 +22,18 @@ fault_line bytes (Text fault) = last_line (take (flaw_place bytes fault.kind fau
 fault_line bytes TooLong = 0
 fault_line bytes OutOfMemory = 0
 
--- OF A LINE THAT ISN'T OF ITS FORM the form, and the first word that doesn't fit; of one that was put before a script, whose file
--- has no operator's name, what to write
+-- the reason for a line that doesn't have the form that it should have: the form, and the first word that doesn't fit. If the line was put before
+-- a script, because the file's name isn't a valid name of an operator: what to write
 abbrev pub bad_line_reason : OriginData → List ℕ → ℕ → List ℕ
 bad_line_reason origin bytes line =
     if own_line origin line == 0 then codes "the file's name is no operator's: begin it with a line %operator NAME"
     else line_reason (line_words (first_line (line_at bytes line)))
 
--- what is told of a flaw of the text
+-- the place of a fault of the map's text, and the reason for it
 abbrev pub flaw_text : OriginData → List ℕ → TextFault → List ℕ
 flaw_text origin bytes fault = place_text origin bytes (flaw_place bytes fault.kind fault.place) ++ reason_line (flaw_reason origin bytes fault.kind fault.place)
 
--- FAULT TEXT: where a fault stands, and what was wanted; of a fault without a place that alone
+-- FAULT TEXT: the place of a fault, and what is wanted; for a fault without a place, only what is wanted
 abbrev pub fault_text : OriginData → List ℕ → JobFault → List ℕ
 fault_text origin bytes (BadLine line) = at_line origin bytes line (bad_line_reason origin bytes line)
 fault_text origin bytes (NoSuchCommand line) = at_line origin bytes line (job_sentence (NoSuchCommand line))

@@ -1,4 +1,4 @@
--- What is told of a flaw of a map's text: what was wanted, by what stands at its place and before it.
+-- What is wanted at a fault of a map's text, which depends on the word at that place and on the words before.
 use Rattle.std.specs.Prelude.{ℕ, ◌-◌, ◌==◌, Bool, true, false, ◌&&◌, List, [], ◌∷◌, ◌++◌, bytes_eq, codes, decimal, drop, if◌then◌else◌, is_some, length, take}
 use Rattle.std.specs.List.{list_all}
 use Rattle.crush_units.specs.Words.{Word, is_blank, words}
@@ -20,7 +20,7 @@ use Rattle.crush_reasons.specs.Place.{OriginData, behind_feed, last_line, own_li
 use Rattle.crush_reasons.specs.Sentences.{text_sentence}
 use Rattle.crush_reasons.specs.Wanted.{going_at}
 
--- the first word of these, or none
+-- the first of these words, or nothing
 abbrev pub first_of : List Word → List ℕ
 first_of [] = []
 first_of (w ∷ ws) = w.text
@@ -29,20 +29,20 @@ first_of (w ∷ ws) = w.text
 abbrev pub word_at : List ℕ → ℕ → List ℕ
 word_at bytes place = first_of (words 0 (drop place bytes)).words
 
--- the first two words of these
+-- the first two of these words, or as many as there are
 abbrev pub two_of : List Word → List ℕ
 two_of [] = []
 two_of (v ∷ []) = v.text
 two_of (v ∷ w ∷ ws) = v.text ++ codes " " ++ w.text
 
--- THE STATEMENT that is open: its first two words, and the line of its own file on which it begins
+-- THE STATEMENT that isn't closed: its first two words, and the number of the line on which it begins in its file
 unfoldable pub begins_at : ℕ → List ℕ
 begins_at line = codes " that begins at line " ++ decimal line
 
 unfoldable pub open_text : OriginData → List ℕ → ℕ → List ℕ
 open_text origin bytes place = codes "the " ++ two_of (words 0 (drop place bytes)).words ++ begins_at (own_line origin (last_line (take place bytes)))
 
--- whether a bucket or a rule is open that has a name
+-- whether the place is inside a bucket or a rule that has a name already
 abbrev pub is_open : Wanted → Bool
 is_open want.Early = false
 is_open want.Late = false
@@ -113,7 +113,7 @@ wanted_text (want.Bucket at) = bucket_wanted at
 wanted_text (want.Rule at) = rule_wanted at
 wanted_text (want.Step at) = step_wanted at
 
--- IN WHICH RANGE a number is wanted
+-- THE RANGE in which a number is wanted
 abbrev pub line_range : InLine → List ℕ
 line_range line.TunableNumber = codes "0 to 4294967295"
 line_range line.TypeNumber = codes "0 to 65535"
@@ -137,56 +137,65 @@ range_text at = codes "0 to 2147483647"
 abbrev pub begins_line : List ℕ → Bool
 begins_line before = list_all is_blank (drop (length before - behind_feed before) before)
 
--- whether it is the first of a line and of a command
+-- whether it is the first word of a line, and the first word of a command
 abbrev pub is_command : List ℕ → ℕ → Bool
 is_command bytes place = begins_line (take place bytes) && is_some (form_of (word_at bytes place))
 
--- A PART OF CEPH'S GRAMMAR that isn't read, by its word
+-- A PART OF CEPH'S GRAMMAR that isn't read: the sentence for its first word
 unfoldable pub left_out : List ℕ → List ℕ
 left_out word =
     if bytes_eq word (codes "choose_args") then codes "a map with weight sets can't be edited here: taking them out moves data"
     else if bytes_eq word (codes "choosemsr") then codes "a map with MSR rules can't be edited here: a step choosemsr isn't read"
     else codes "items stand in the order of their lines: pos and its number are taken out, where they say the same"
 
--- at the first byte
+-- the sentence for a text whose first byte has the fault
 abbrev pub not_begun : List ℕ
 not_begun = codes "no text of a map begins so: is this what crushtool -d prints?"
 
--- another word is wanted
+-- the sentence if another word is wanted
 abbrev pub inside : OriginData → List ℕ → Going → List ℕ
 inside origin bytes g = if is_open g.wanted then codes "; in " ++ open_text origin bytes g.begun else []
 
 abbrev pub unexpected : OriginData → List ℕ → Going → List ℕ
 unexpected origin bytes g = codes "another word is wanted here: " ++ wanted_text g.wanted ++ inside origin bytes g
 
--- the text ends inside a statement
+-- the sentence if the text ends inside a statement
 abbrev pub unclosed : OriginData → List ℕ → Going → List ℕ
 unclosed origin bytes g = if is_open g.wanted then open_text origin bytes g.begun ++ codes " isn't closed" else text_sentence text.Ended
 
 abbrev pub no_word : OriginData → List ℕ → ℕ → List ℕ
 no_word origin bytes place = if place == 0 then not_begun else unexpected origin bytes (going_at bytes place)
 
--- a sentence, by what stands at the place
+-- the sentence for a fault, if it depends on no more than the word at its place
 abbrev pub bad_word : ℕ → List ℕ
 bad_word place = if place == 0 then not_begun else text_sentence text.BadWord
+
+-- a word that isn't a weight and begins with `-`: `crushtool -d` prints the 32 bits of a bucket's weight as a signed number
+abbrev pub begins_with_minus : List ℕ → Bool
+begins_with_minus [] = false
+begins_with_minus (b ∷ rest) = b == 45
+
+abbrev pub bad_weight : List ℕ → List ℕ
+bad_weight word = if begins_with_minus word then codes "crushtool -d prints a bucket's weight from 32768 on as a negative number: write 0, and the sum takes its place" else text_sentence text.BadWeight
 
 abbrev pub unknown_type : List ℕ → ℕ → List ℕ
 unknown_type bytes place = if is_command bytes place then codes "commands stand below a line %operator NAME" else text_sentence text.UnknownType
 
 abbrev pub flaw_sentence : List ℕ → TextFaultKind → ℕ → List ℕ
 flaw_sentence bytes text.BadWord place = bad_word place
+flaw_sentence bytes text.BadWeight place = bad_weight (word_at bytes place)
 flaw_sentence bytes text.UnknownType place = unknown_type bytes place
 flaw_sentence bytes text.LeftOut place = left_out (word_at bytes place)
 flaw_sentence bytes kind place = text_sentence kind
 
--- WHAT WAS WANTED where a text has a flaw
+-- WHAT IS WANTED at a fault of a text
 abbrev pub flaw_reason : OriginData → List ℕ → TextFaultKind → ℕ → List ℕ
 flaw_reason origin bytes text.Ended place = unclosed origin bytes (going_at bytes place)
 flaw_reason origin bytes text.Unexpected place = no_word origin bytes place
 flaw_reason origin bytes text.BadNumber place = codes "a whole number is wanted here: " ++ range_text (going_at bytes place).wanted
 flaw_reason origin bytes kind place = flaw_sentence bytes kind place
 
--- the place that is shown: of a text that ends too early its last word's
+-- the place that is shown for a fault; if the text ends too early, the place of its last word
 abbrev pub flaw_place : List ℕ → TextFaultKind → ℕ → ℕ
 flaw_place bytes text.Ended place = (going_at bytes place).last
 flaw_place bytes kind place = place

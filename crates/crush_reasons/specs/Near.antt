@@ -1,40 +1,40 @@
--- Names that are nearly one another.
+-- Names that are similar to one another.
 use Rattle.std.specs.Prelude.{ℕ, ◌+◌, ◌==◌, ◌||◌, List, [], ◌∷◌, Option, None, Bool, false, bytes_eq, drop, find, if◌then◌else◌}
 use Rattle.std.specs.Option.{option_map}
 use Rattle.std.specs.Str.{str_eq_ignore_ascii_case}
 use Rattle.crush_model.specs.Table.{Row}
 use Rattle.crush_print.specs.Tree.{WalkStepData, tree_rows}
 
--- whether two names begin with the same letter
+-- whether two names begin with the same byte
 abbrev pub same_heads : List ℕ → List ℕ → Bool
 same_heads [] b = false
 same_heads (x ∷ a) [] = false
 same_heads (x ∷ a) (y ∷ b) = x == y
 
--- how many letters they have in common before the first that is another
+-- how many bytes they have in common before the first byte that differs
 abbrev pub shared : List ℕ → List ℕ → ℕ
 shared [] b = 0
 shared (x ∷ a) [] = 0
 shared (x ∷ a) (y ∷ b) = if x == y then 1 + shared a b else 0
 
--- ONE LETTER is another there, or the first or the second has one more: behind it they are the same
+-- ONE BYTE differs there, or one of the names has one more byte there, and the rest of both is the same
 abbrev pub is_one_off : List ℕ → List ℕ → Bool
 is_one_off a b =
     bytes_eq (drop (shared a b + 1) a) (drop (shared a b + 1) b)
     || (bytes_eq (drop (shared a b + 1) a) (drop (shared a b) b) || bytes_eq (drop (shared a b) a) (drop (shared a b + 1) b))
 
--- NEAR: that, or they differ by the case of letters
+-- NEAR: this holds, or they differ only in upper and lower case
 abbrev pub is_near : List ℕ → List ℕ → Bool
 is_near a b = is_one_off a b || str_eq_ignore_ascii_case a b
 
--- the first of several items whose name is near, and that name
+-- the name of the first of these items whose name is similar
 abbrev pub first_near : List ℕ → List WalkStepData → Option (List ℕ)
 first_near n steps = option_map (λ (s : WalkStepData). s.item.name) (find (λ (s : WalkStepData). is_near n s.item.name) steps)
 
--- of a table, in the order of its tree
+-- the same for all items of a table, in the order of its tree
 abbrev pub near_name : List Row → List ℕ → Option (List ℕ)
 near_name t n = first_near n (tree_rows t)
 
--- where it is looked for
+-- the same, if similar names are looked for
 abbrev pub near_if : Bool → List Row → List ℕ → Option (List ℕ)
 near_if looks t n = if looks then near_name t n else None

@@ -1,11 +1,11 @@
--- Lines of a job and places in a text, as they are shown.
+-- How lines of a job, and places in a text, are shown.
 use Rattle.std.specs.Prelude.{ℕ, zero, suc, ◌+◌, ◌-◌, ◌==◌, List, [], ◌∷◌, ◌++◌, codes, decimal, drop, if◌then◌else◌, length, map, min, replicate, reverse, take}
 use Rattle.std.specs.List.{position_or_len}
 use Rattle.crush_script.specs.Lines.{line_feeds}
 use Rattle.crush_reasons.specs.declared.place.Origin.{Origin}
 use Rattle.crush_reasons.specs.Shown.{reason_line, shown_byte}
 
--- where bytes of a job come from: the name of the file, empty where none is told, and how many lines of the job stand before the file's own
+-- the file that a line of a job comes from: its name, which is empty if no file is to be named, and how many lines of the job come before the file's first line
 pub record OriginData : Type 0 where
   pub name : List ℕ
   pub before : ℕ
@@ -13,43 +13,43 @@ pub record OriginData : Type 0 where
 abbrev pub origin_data : Origin → OriginData
 origin_data o = record { name = o.name.now; before = o.before }
 
--- the number of a line of the job in its own file: a line that was put before the first is 0
+-- the number of a line of the job in its file: 0 for a line that was put before the file's first line
 abbrev pub own_line : OriginData → ℕ → ℕ
 own_line origin line = line - origin.before
 
--- the line at which a prefix of a job ends, counted from 1
+-- the number of the line in which a prefix of a job ends, from 1
 abbrev pub last_line : List ℕ → ℕ
 last_line before = line_feeds before + 1
 
--- how many bytes stand before the first line feed
+-- how many bytes come before the first line feed
 abbrev pub to_feed : List ℕ → ℕ
 to_feed bytes = position_or_len (λ b. b == 10) bytes
 
--- how many stand behind the last one
+-- how many bytes come after the last line feed
 abbrev pub behind_feed : List ℕ → ℕ
 behind_feed bytes = to_feed (reverse bytes)
 
--- the rest of a line, of which 72 bytes are shown at most, behind four spaces
+-- the rest of a line after four spaces, of which at most 72 bytes are shown
 abbrev pub shown_line : List ℕ → List ℕ
 shown_line bytes = codes "    " ++ map shown_byte (take (min (to_feed bytes) 72) bytes) ++ codes "\n"
 
--- how many bytes of a line are shown before a place, which these bytes end at
+-- how many bytes of a line are shown before the place at which these bytes end
 abbrev pub shown_before : List ℕ → ℕ
 shown_before before = min (behind_feed before) 40
 
--- the name of a file, where there is one, and a space
+-- the name of a file as it is shown, and a space; nothing if there is no name
 abbrev pub name_head : List ℕ → List ℕ
-name_head name = if length name == 0 then [] else name ++ codes " "
+name_head name = if length name == 0 then [] else map shown_byte name ++ codes " "
 
--- the number of a line in its own file, and the column of a place in it
+-- the number of a line in its file, and the column of a place in this line
 unfoldable pub column_line : OriginData → ℕ → ℕ → List ℕ
 column_line origin line column = codes "  " ++ name_head origin.name ++ codes "line " ++ decimal (own_line origin line) ++ codes ", column " ++ decimal column ++ codes "\n"
 
--- the sign below a place, behind which so many bytes of the line are shown
+-- the sign below a place, if so many bytes of the line are shown before the place
 abbrev pub sign_line : ℕ → List ℕ
 sign_line shown = replicate (shown + 4) 32 ++ codes "^\n"
 
--- A PLACE in a text: lines and columns count from 1; the line is shown from its beginning, or from 40 bytes before the place
+-- A PLACE in a text: lines and columns count from 1, and the line is shown from its beginning or from 40 bytes before the place
 abbrev pub at_place : OriginData → List ℕ → List ℕ → List ℕ
 at_place origin bytes before =
     column_line origin (last_line before) (behind_feed before + 1)
@@ -59,7 +59,7 @@ at_place origin bytes before =
 abbrev pub place_text : OriginData → List ℕ → ℕ → List ℕ
 place_text origin bytes place = at_place origin bytes (take place bytes)
 
--- the first line, what stands behind it, and what stands from a line on, where lines count from 0
+-- the first line, what follows it, and what comes from a line on; these lines count from 0
 abbrev pub first_line : List ℕ → List ℕ
 first_line bytes = take (to_feed bytes) bytes
 
@@ -70,21 +70,21 @@ unfoldable pub from_line : ℕ → List ℕ → List ℕ
 from_line zero bytes = bytes
 from_line (suc n) bytes = behind_line (from_line n bytes)
 
--- the number of a line in its own file
+-- the number of a line in its file
 unfoldable pub number_line : OriginData → ℕ → List ℕ
 number_line origin line = codes "  " ++ name_head origin.name ++ codes "line " ++ decimal (own_line origin line) ++ codes "\n"
 
--- A LINE of a job, counted from 1, and below it what was wanted
+-- A LINE of a job, which counts from 1, and on the next line what is wanted
 abbrev pub line_at : List ℕ → ℕ → List ℕ
 line_at bytes line = from_line (line - 1) bytes
 
 abbrev pub at_line : OriginData → List ℕ → ℕ → List ℕ → List ℕ
 at_line origin bytes line reason = number_line origin line ++ shown_line (line_at bytes line) ++ reason_line reason
 
--- where a command stands, before it: the file and the line there, or the line alone where no file is told
+-- the place of a command, which is shown before it: the name of the file as it is shown, and the line's number there, or only the number if no file is named
 abbrev pub named_head : List ℕ → ℕ → List ℕ
 named_head [] line = codes "line " ++ decimal line ++ codes ": "
-named_head (b ∷ name) line = (b ∷ name) ++ codes ":" ++ decimal line ++ codes ": "
+named_head (b ∷ name) line = map shown_byte (b ∷ name) ++ codes ":" ++ decimal line ++ codes ": "
 
 unfoldable pub command_head : OriginData → ℕ → List ℕ
 command_head origin line = named_head origin.name (own_line origin line)

@@ -1,4 +1,4 @@
--- The edits of a history that changed the map, made once more on a copy of the map before it.
+-- The edits of a history that changed the map, applied once more to a copy of the map before the history.
 use Rattle.std.specs.Prelude.{List, [], ◌∷◌, if◌then◌else◌, flat_map}
 use Rattle.crush_model.specs.Table.{Row}
 use Rattle.crush_edits.specs.declared.edit.Edit.{Edit}
@@ -14,23 +14,23 @@ edits_of (One e) = e ∷ []
 edits_of (Batch es) = es
 edits_of (Guarded seen es) = es
 
--- the edits of an entry that changed the map, all of a batch, and of another entry none
+-- the edits of an entry, which are all edits if the entry is a batch, if it changed the map; no edits of any other entry
 abbrev pub changing_edits : EntryData → List Edit
 changing_edits e = if is_change e.reply then edits_of e.call else []
 
--- those of a history, in its order
+-- these edits of all entries of a history, in their order
 abbrev pub history_edits : List EntryData → List Edit
 history_edits h = flat_map changing_edits h
 
--- the table after an edit, which leaves it where it is refused
+-- the table after an edit; an edit that is refused leaves it as it is
 abbrev pub table_after_edit : SettingData → List Row → Edit → List Row
 table_after_edit s t e = (edit_outcome t (edit s t e)).table
 
--- and after edits that are made one after the other
+-- the table after edits that are applied one after the other
 unfoldable pub table_after_edits : SettingData → List Row → List Edit → List Row
 table_after_edits s t [] = t
 table_after_edits s t (e ∷ es) = table_after_edits s (table_after_edit s t e) es
 
--- and after an entry of a history
+-- the table after an entry of a history
 abbrev pub table_after_entry : SettingData → List Row → EntryData → List Row
 table_after_entry s t e = table_after_edits s t (changing_edits e)

@@ -1,4 +1,4 @@
--- What is told of a fault or a refusal: what was wanted, in an operator's words. RULES.md has the same sentences.
+-- The sentences for faults and refusals, in an operator's words. RULES.md has the same sentences.
 use Rattle.std.specs.Prelude.{ℕ, List, [], codes}
 use Rattle.crush_history.specs.declared.call.Reply.{Reply}
 use Rattle.crush_history.specs.declared.call.Reply.TheVariants.{Done, Dones, Refused, BatchRefused, Stale}
@@ -64,11 +64,11 @@ refusal_sentence refusal.NoRoom = codes "a map has at most 4096 buckets and 6553
 refusal_sentence refusal.SumTooLarge = codes "a bucket weighs at most 65535.99998, and all devices 134217727.99998"
 refusal_sentence refusal.ClassBound = codes "the device has another class: rm-device-class takes it away"
 
--- a guarded batch that came too late
+-- the sentence for a guarded batch that came too late
 abbrev pub stale_sentence : List ℕ
 stale_sentence = codes "the map has changed since: look at it again, and name the number of changes that is told"
 
--- of a reply that is a refusal, and of another nothing
+-- the sentence for a reply that is a refusal; nothing for any other reply
 abbrev pub reply_sentence : Reply → List ℕ
 reply_sentence (Done d) = []
 reply_sentence (Dones d) = []

@@ -1,4 +1,4 @@
--- What the buckets of a map weigh, by one walk.
+-- The weights of all buckets of a map, which one walk finds.
 use Rattle.std.specs.Prelude.{◌≡◌, ℕ, ◌==◌, List, [], ◌∷◌, ◌++◌, Some, All}
 use Rattle.std.specs.List.{count_by, sum_by}
 use Rattle.std.specs.List.Sorted.{IsNonDecreasingBy}
@@ -11,7 +11,7 @@ use Rattle.crush_model.specs.Table.{Row, weight_of}
 use Rattle.crush_reasons.specs.declared.sums.Sum.{Sum}
 use Rattle.crush_reasons.specs.declared.sums.SummedMap.{SummedMap}
 
--- the buckets of items as plain data, each behind those below it, with what they store
+-- the buckets among these items and below them, each after the buckets below it, with the weight that it stores
 abbrev pub sum : ℕ → ℕ → Sum
 sum b w = record { bucket = b; weight = w }
 
@@ -20,13 +20,13 @@ sums_of none = []
 sums_of (device d rest) = sums_of rest
 sums_of (bucket h w m k rest) = sums_of k ++ (sum h.id w ∷ sums_of rest)
 
--- the sums of a table's buckets, one for each, by ids that rise
+-- the sums are those of a table's buckets: one for each bucket, sorted by the distances of their ids from 0
 pub record AreSums (t : List Row) (sums : List Sum) : Type 0 where
   pub told : All (λ (s : Sum). weight_of t (Bucket s.bucket) ≡ Some s.weight) sums
   pub each : (b : ℕ) → sum_by (λ (s : Sum). one_if (s.bucket == b)) sums ≡ count_by (λ (r : Row). same_id r.id (Bucket b)) t
   pub rising : IsNonDecreasingBy (λ (s : Sum). s.bucket) sums
 
--- a map with its sums stands for a table, of which they are the sums
+-- the map represents this table, and the sums are those of the table's buckets
 pub record IsSummed (m : SummedMap) (t : List Row) : Type 0 where
   pub stands : Stands m.map.now.forest t
   pub sums : AreSums t m.sums.items

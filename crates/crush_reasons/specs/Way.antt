@@ -1,4 +1,4 @@
--- What a map says of an item that is in an edit's way.
+-- What a map has of an item that is in the way of an edit.
 use Rattle.std.specs.Prelude.{ℕ, ◌==◌, List, [], ◌++◌, Option, None, Some, Bool, bytes_eq, codes, decimal, find, if◌then◌else◌, length, option_and_then, unwrap_or}
 use Rattle.std.specs.List.{list_any}
 use Rattle.std.specs.Option.{option_map, option_map_or}
@@ -11,7 +11,7 @@ use Rattle.crush_edits.specs.Setting.{RuleData, SettingData, StepData, bucket_ta
 use Rattle.crush_edits.specs.Stops.{bucket_named}
 use Rattle.crush_reasons.specs.Near.{near_if}
 
--- a name that isn't there may be near one that is, where that is looked for
+-- the reason for a name that the map doesn't have, with a similar name of the map if one was looked for and found
 abbrev pub near_asked : Option (List ℕ) → List ℕ
 near_asked None = []
 near_asked (Some near) = codes ": is it " ++ near ++ codes "?"
@@ -32,7 +32,7 @@ items_said count = codes " holds " ++ decimal count ++ codes " items: move or re
 abbrev pub held_said : ℕ → List ℕ
 held_said count = if count == 1 then codes " holds 1 item: move or remove it first" else items_said count
 
--- the first rule with a step that takes a bucket, with or without a class
+-- the first rule that has a step which takes the bucket, with or without a class
 abbrev pub takes_it : ℕ → RuleData → Bool
 takes_it b r = list_any (λ (x : StepData). member b (bucket_taken x)) r.steps
 
@@ -59,14 +59,14 @@ abbrev pub bound_said : Option (List ℕ) → List ℕ
 bound_said None = codes " has another class: rm-device-class takes it away"
 bound_said (Some class) = codes " has the class " ++ class ++ codes ": rm-device-class takes it away"
 
--- IN THE WAY OF AN ITEM THAT IS TO COME TO A LOCATION: the bucket at which the route ends stands below the item, or is the item
+-- THE BUCKET AT WHICH A ROUTE ENDS is below the item that is to be moved there, or is this item
 abbrev pub below_reason : List ℕ → List ℕ → List ℕ
 below_reason n end = end ++ codes " stands below " ++ n ++ codes ": a bucket cannot come below itself"
 
 abbrev pub loop_reason : List ℕ → List ℕ → List ℕ
 loop_reason n end = if bytes_eq n end then n ++ codes " cannot come into itself" else below_reason n end
 
--- it has another type than the pair that names it
+-- this bucket has another type than the pair that names it
 abbrev pub type_of_item : SettingData → List Row → List ℕ → List ℕ
 type_of_item s t n = unwrap_or (option_and_then (kind_name s) (option_and_then (kind_of t) (id_named t n))) []
 
@@ -79,7 +79,7 @@ types_reason end own wanted = end ++ codes " is of type " ++ own ++ codes ", not
 abbrev pub end_reason : SettingData → List Row → List Pair → List ℕ → List ℕ
 end_reason s t l end = types_reason end (type_of_item s t end) (type_of_pair l end)
 
--- where an edit puts an item
+-- the location at which an edit puts an item
 abbrev pub location_of : Edit → Option (List Pair)
 location_of (Insert d n w l) = Some l
 location_of (CreateOrMove d n w l) = Some l
@@ -87,7 +87,7 @@ location_of (Update d n w l) = Some l
 location_of (Move n l) = Some l
 location_of e = None
 
--- of another edit the type of a new bucket is in the way
+-- the reason of any other edit: the type of the new bucket is in the way
 abbrev pub kind_reason : List ℕ → List ℕ
 kind_reason kind = kind ++ codes " is the type of devices"
 
@@ -95,7 +95,7 @@ abbrev pub type_reason : SettingData → List Row → Option (List Pair) → Lis
 type_reason s t (Some l) end = end_reason s t l end
 type_reason s t None kind = kind_reason kind
 
--- a bucket alone comes below another
+-- the name of the bucket that is moved, which only a `move` has
 abbrev pub moved_name : Edit → List ℕ
 moved_name (Move n l) = n
 moved_name e = []

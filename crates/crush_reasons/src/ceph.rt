@@ -1,4 +1,4 @@
-//! The commands that changed a map, as Ceph's own.
+//! Returns the commands that changed a map as Ceph's own commands.
 
 ghost use Rattle.std.specs.Prelude.{◌≡◌, ◌∷◌, [], ◌≤◌, ◌<◌, ◌^◌, ◌++◌, List, IfOk, OnOk, length};
 ghost use Rattle.crush_units.specs.declared.limits.TheConstants.{MOST_EDITS};
@@ -42,7 +42,7 @@ fn sets_unplaced(map: &CrushMap<Global>, edit: &Edit) -> bool
     }
 }
 
-/// A `set` as an `add`.
+/// Returns a `set` as an `add`, and any other edit unchanged.
 fn added(edit: Edit) -> Edit
     ensures { result ≡ added edit }
 {
@@ -62,7 +62,7 @@ fn added(edit: Edit) -> Edit
     }
 }
 
-/// The line that Ceph accepts where its map is this one.
+/// Appends the line of an edit that Ceph accepts if its map is this one.
 fn push_told(
     alloc: Global,
     map: &CrushMap<Global>,
@@ -79,7 +79,7 @@ fn push_told(
     push_ceph_line(edit, text)
 }
 
-/// Pushes the line, then makes the edit.
+/// Appends the line of the edit, and then applies the edit to the map.
 fn push_edit_of(
     alloc: Global,
     map: &mut CrushMap<Global>,
@@ -134,12 +134,18 @@ fn push_entries(
     Ok(())
 }
 
-/// The commands that changed the map, as lines for a shell: first `# N commands`, then for each
-/// `ceph osd crush ` and the command as a history line has it, in the order of the history. A `set`
-/// of a device that no bucket held before it becomes an `add`: Ceph's `set` refuses a device that
-/// its map doesn't hold, and its `add` gives one that is held a second place. A batch that changed
-/// the map shows as all of its edits. A swap ends in ` --yes-i-really-mean-it`, which Ceph requires
-/// where the buckets stand apart.
+/// Returns the commands that changed the map, as lines for a shell.
+///
+/// The first line is `# N commands`. Then comes one line for each command, in the order of the
+/// history: `ceph osd crush `, and the command as it is in a history line. If a batch changed the
+/// map, all edits of the batch are printed.
+///
+/// If no bucket held the device of a `set` before, then the `set` is printed as an `add`. Ceph's
+/// `set` refuses a device that isn't in Ceph's map, and Ceph's `add` gives a device that is in its
+/// map a second place. A swap ends in ` --yes-i-really-mean-it`, because Ceph requires this option
+/// if the two buckets aren't in the same bucket.
+///
+/// `opening` is the map before the first call. Fails if memory runs out.
 pub fn ceph_text(
     alloc: Global,
     opening: CrushMap<Global>,

@@ -1,4 +1,4 @@
-//! Where the edits of a job stand that were refused in their batches.
+//! Finds the line of a job from which the refused edit of a batch comes.
 
 ghost use Rattle.std.specs.Prelude.{◌≡◌, ◌++◌, IfOk, OnOk, drop, map as each, slice_get, slice_index_or, []};
 ghost use Rattle.crush_reasons.specs.EditLines.{line_in};
@@ -13,7 +13,7 @@ use std::alloc::{AllocError, Global};
 #[derive(Clone, Copy)]
 pub(crate) struct EditPlace<'a> {
     pub(crate) origin: Origin<'a>,
-    /// Counted from 1 in the job.
+    /// The line's number in the whole job, from 1.
     pub(crate) line: usize,
 }
 
@@ -38,7 +38,8 @@ fn refused_index(reply: Reply) -> Option<usize>
     }
 }
 
-/// Of each section the lines of the edits that no entry has passed yet.
+/// For each section of a job, the lines of the edits that come after those of the entries seen so
+/// far.
 #[derive(Drop)]
 pub(crate) struct EditsLeft<'a> {
     lines: Vec<&'a [usize]>,
@@ -71,7 +72,7 @@ impl<'a> EditsLeft<'a> {
         }
     }
 
-    /// Counted from 0 among those that are left.
+    /// Returns the line of the edit at `index`, which counts from 0 among the edits that are left.
     fn line(&self, operator: usize, index: usize) -> Option<usize>
         ensures { result ≡ line_in (lines_left self.now) operator index }
     {

@@ -1,4 +1,4 @@
-//! The lines of the entries that were refused, with reasons.
+//! Returns the history lines of refused entries, each with its reason.
 
 ghost use Rattle.std.specs.Prelude.{◌≡◌, ◌<◌, ◌^◌, ◌++◌, List, [], IfOk, OnOk, drop, length, map as each, take};
 ghost use Rattle.crush_model.specs.Stands.{Stands};
@@ -66,7 +66,8 @@ fn before_edit(index: usize, edits: &[Edit]) -> &[Edit]
     }
 }
 
-/// `place` is of the refused edit; `looks` says whether near names are looked for.
+/// What is known of an entry before its reason is looked for. `place` is the place of the refused
+/// edit of a batch. `looks` says whether similar names are looked for.
 #[derive(Clone, Copy)]
 struct EntryHead<'a> {
     number: u32,
@@ -111,7 +112,8 @@ fn push_first(
     }
 }
 
-/// The edits before the refused one are made on a copy of the map.
+/// Appends the reason for a refused batch. Applies the edits before the refused one to a copy of
+/// the map, because the reason depends on the map at that moment.
 fn push_batched(
     alloc: Global,
     map: &CrushMap<Global>,
@@ -152,7 +154,8 @@ fn push_too_high(seen: u32, count: u32, text: &mut Vec<u8>) -> Result<(), AllocE
     push_so_far(count, text)
 }
 
-/// `seen` is the number of changes that the batch names, `count` how many there were.
+/// Appends the reason for a batch that came too late. `seen` is the number of changes that the batch
+/// names, and `count` is the number of changes that there were.
 fn push_stale(seen: u32, count: u32, text: &mut Vec<u8>) -> Result<(), AllocError>
     ensures { OnOk result (text.new.items ≡ text.old.items ++ stale_reason seen count) }
 {
@@ -221,7 +224,7 @@ fn push_explained(
     push_reply(alloc, map, head, &entry.call, entry.reply, text)
 }
 
-/// An entry that changed the map is made once more.
+/// Appends the lines of an entry that was refused, and applies an entry that changed the map.
 fn push_made(
     alloc: Global,
     map: &mut CrushMap<Global>,
@@ -280,12 +283,16 @@ struct Subject<'a, O> {
     origins: &'a O,
 }
 
-/// The lines of the entries that were refused, each as the history has it, with its number there,
-/// and below each two spaces and what was wanted: by the name that was in the way, and by what the
-/// map said of it that refused. Of a batch the place of its refused edit comes first, `FILE:LINE: `
-/// or without a file `line LINE: `, and its command. `scripts` come from the text of `job`, in the
-/// order of its sections. Near names are looked for in the whole map, for the first 256 refused
-/// entries.
+/// Returns the history lines of the refused entries, each with its reason on the next line.
+///
+/// A history line has the number that the entry has in the whole history. The line with the reason
+/// begins with two spaces. The reason says which name is in the way, and what the map has of this
+/// name at that moment. For a batch, the line begins with the place of the refused edit, which is
+/// `FILE:LINE: `, or `line LINE: ` without a file, and with the edit's command. For the first 256
+/// refused entries, the whole map is searched for a name that is similar to a missing one.
+///
+/// `opening` is the map before the first call. `scripts` are the scripts of the text of `job`, in
+/// the order of its sections. Fails if memory runs out.
 pub fn explained_job<O: Locates>(
     alloc: Global,
     job: JobText<'_, O>,
@@ -309,7 +316,8 @@ pub fn explained_job<O: Locates>(
     explained(alloc, opening, &told, entries)
 }
 
-/// The same of the entries of a history of which no text is known: no line of an edit is told.
+/// Returns the same lines as [`explained_job`] for a history whose text isn't known, without the
+/// places of refused edits.
 pub fn explained_text(
     alloc: Global,
     opening: CrushMap<Global>,

@@ -1,4 +1,4 @@
-//! Where a fault of a job stands, and what was wanted there.
+//! Returns the place of a fault of a job, and what is wanted there.
 
 ghost use Rattle.std.specs.Prelude.{◌≡◌, ◌<◌, ◌^◌, ◌++◌, IfOk, OnOk, length};
 ghost use Rattle.crush_text.specs.declared.fault.TextFault.{TextFault};
@@ -101,8 +101,10 @@ fn push_fault(
     }
 }
 
-/// The line of a job where a fault is, counted from 1 in the whole job, or 0 where it has none; of
-/// a map that ends too early the last line with a word.
+/// Returns the number of the line that has a fault, from 1 in the whole job, or 0 if the fault has
+/// no line.
+///
+/// If the map's text ends too early, this is the last line that has a word.
 pub fn fault_line(bytes: &[u8], fault: JobFault) -> usize
     requires { length bytes.now < 2 ^ 32 }
     ensures { result ≡ fault_line bytes.now fault }
@@ -119,14 +121,16 @@ pub fn fault_line(bytes: &[u8], fault: JobFault) -> usize
     }
 }
 
-/// Where a fault of a job stands, and below it what was wanted: of a flaw of the map's text the
-/// line, the column, what the line has there and `^` below the place, of another fault the line
-/// alone. A fault without a place, as of too many bytes, shows what was wanted alone.
+/// Returns the place of a fault of a job, followed by a sentence that says what is wanted.
 ///
-/// `bytes` are the whole job; the line's number counts from 1 in the file of `origin`, and a line
-/// that was put before its first is 0. Columns count from 1. A line is shown from its beginning, or
-/// from 40 bytes before the place, and 72 bytes at most; tabs and carriage returns show as spaces,
-/// other bytes outside 32 to 126 as `?`.
+/// For a fault of the map's text, the text has the line's number, the column, a part of the line,
+/// and `^` below the place. For any other fault, it has the line's number and the line. For a fault
+/// without a place, such as too many bytes, it has the sentence alone.
+///
+/// `bytes` are the whole job. The line's number counts from 1 in the file of `origin`, and is 0 for
+/// a line that was put before the file's first line. Columns count from 1. At most 72 bytes of the
+/// line are shown, from its beginning or from 40 bytes before the place. `shown_byte` says how
+/// each byte of the line and of the file's name is shown. Fails if memory runs out.
 pub fn fault_text(
     alloc: Global,
     origin: Origin<'_>,

@@ -1,9 +1,9 @@
-//! What was wanted at a flaw of a map's text, by what stands there and before it.
+//! Says what is wanted at a fault of a map's text, from the word at that place and the words before.
 
 ghost use Rattle.std.specs.Prelude.{◌≡◌, ◌++◌, ◌<◌, ◌^◌, OnOk, codes, drop, length};
 ghost use Rattle.std.specs.List.{list_all};
 ghost use Rattle.crush_units.specs.Words.{is_blank, words};
-ghost use Rattle.crush_reasons.specs.Flaws.{bad_word, begins_at, begins_line, bucket_wanted, first_of, flaw_place, flaw_reason, flaw_sentence, inside, is_command, is_open, left_out, line_wanted, no_word, open_text, range_text, rule_wanted, step_wanted, two_of, unclosed, unexpected, unknown_type, wanted_text, word_at};
+ghost use Rattle.crush_reasons.specs.Flaws.{bad_weight, bad_word, begins_at, begins_line, bucket_wanted, first_of, flaw_place, flaw_reason, flaw_sentence, inside, is_command, is_open, left_out, line_wanted, no_word, open_text, range_text, rule_wanted, step_wanted, two_of, unclosed, unexpected, unknown_type, wanted_text, word_at};
 ghost use Rattle.crush_reasons.specs.Place.{origin_data};
 
 use crate::forms::form_of;
@@ -17,6 +17,9 @@ use itoa::Buffer;
 use std::alloc::AllocError;
 
 const NOT_BEGUN: &str = "no text of a map begins so: is this what crushtool -d prints?";
+
+const NEGATIVE: &str =
+    "crushtool -d prints a bucket's weight from 32768 on as a negative number: write 0, and the sum takes its place";
 
 const NO_OPERATOR: &str = "commands stand below a line %operator NAME";
 
@@ -75,7 +78,7 @@ fn push_open(
     push_begins_at(line, text)
 }
 
-/// Whether a bucket or a rule with a name is open.
+/// Whether the place is inside a bucket or a rule that has a name already.
 fn is_open(wanted: Wanted) -> bool
     ensures { result ≡ is_open wanted }
 {
@@ -217,7 +220,7 @@ fn is_command(bytes: &[u8], place: usize) -> bool
     begins_line(up_to(place, bytes)) && form_of(word_at(bytes, place)).is_some()
 }
 
-/// Of a part of Ceph's grammar that isn't read.
+/// Returns the sentence for the first word of a part of Ceph's grammar that isn't read.
 #[tactic(auto, unfolding(crate::specs::Flaws::left_out))]
 fn left_out(word: &[u8]) -> &'static str
     ensures { result.now ≡ left_out word.now }
@@ -315,6 +318,15 @@ fn bad_word(place: usize) -> &'static str
     }
 }
 
+fn bad_weight(word: &[u8]) -> &'static str
+    ensures { result.now ≡ bad_weight word.now }
+{
+    match word {
+        [b'-', ..] => NEGATIVE,
+        _ => text_sentence(TextFaultKind::BadWeight),
+    }
+}
+
 fn unknown_type(bytes: &[u8], place: usize) -> &'static str
     requires { length bytes.now < 2 ^ 32 }
     ensures { result.now ≡ unknown_type bytes.now place }
@@ -332,6 +344,7 @@ fn flaw_sentence(bytes: &[u8], fault: TextFault) -> &'static str
 {
     match fault.kind {
         TextFaultKind::BadWord => bad_word(fault.place),
+        TextFaultKind::BadWeight => bad_weight(word_at(bytes, fault.place)),
         TextFaultKind::UnknownType => unknown_type(bytes, fault.place),
         TextFaultKind::LeftOut => left_out(word_at(bytes, fault.place)),
         kind => text_sentence(kind),
@@ -356,7 +369,8 @@ pub(crate) fn push_flaw_reason(
     }
 }
 
-/// Of a text that ends too early its last word's.
+/// Returns the place that is shown for a fault. If the text ends too early, this is the place of its
+/// last word.
 pub(crate) fn flaw_place(bytes: &[u8], fault: TextFault) -> usize
     ensures { result ≡ flaw_place bytes.now fault.kind fault.place }
 {

@@ -1,8 +1,9 @@
-//! Reasons for faults and refusals, and the commands of a history as Ceph's own.
+//! Explains faults and refusals, and returns the commands of a history as Ceph's own commands.
 //!
-//! The sentences stand in `specs/Sentences.antt`; `crush_run` prints them for `--explain`, and the
-//! commands for `--as-ceph`. Functions of a history take the map before it and make its commands on
-//! it once more. An `Err` says that memory ran out.
+//! `specs/Sentences.antt` defines the sentences. `crush_run` prints the reasons for `--explain`, and
+//! the commands for `--as-ceph`. A function that explains a history takes the map before the first
+//! call, and applies the commands of the history to this map once more. All functions fail only if
+//! memory runs out.
 #![tactic(auto)]
 
 mod ceph;
@@ -32,4 +33,5 @@ pub use fault::{fault_line, fault_text};
 pub use locates::{JobText, Locates};
 pub use place::Origin;
 pub use replay::edits_lead_to_the_map_after;
+pub use shown::shown_byte;
 pub use written::written_text;

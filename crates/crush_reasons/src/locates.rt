@@ -1,28 +1,29 @@
-//! Where each line of a job comes from.
+//! Says from which file each line of a job comes.
 
 ghost use Rattle.std.specs.Prelude.{◌≡◌, ℕ};
 ghost use Rattle.crush_reasons.specs.Place.{OriginData, origin_data};
 
 use crate::place::Origin;
 
-/// Tells where each line of a job comes from.
+/// Says from which file each line of a job comes.
 pub trait Locates {
     ghost origin: { Self → ℕ → OriginData };
 
-    /// Lines count from 1.
+    /// Returns the origin of a line of the job. Lines count from 1.
     fn at(&self, line: usize) -> Origin<'_>
         ensures { origin_data result ≡ origin self.now line };
 }
 
-/// The text of a job, and what tells where its lines come from.
+/// The text of a job, and the origins of its lines.
 #[derive(Clone, Copy)]
 pub struct JobText<'a, O> {
-    /// The whole job.
+    /// The bytes of the whole job.
     pub bytes: &'a [u8],
+    /// Says from which file each line comes.
     pub origins: &'a O,
 }
 
-/// Names no file.
+/// Says of each line that it comes from no file.
 #[derive(Clone, Copy, Drop)]
 pub(crate) struct Nowhere;
 

@@ -1,4 +1,4 @@
-//! What was wanted of the name that was in a refused edit's way.
+//! Says why the name that is in the way of a refused edit is in its way.
 
 ghost use Rattle.std.specs.Prelude.{◌≡◌, ◌++◌, List, None, OnOk, Some, MatchOption};
 ghost use Rattle.crush_model.specs.Stands.{Stands};
@@ -16,7 +16,8 @@ use crush_map::CrushMap;
 use crush_units::Name;
 use std::alloc::{AllocError, Global};
 
-/// `None` of a refusal that isn't about an item, or of which the map says more.
+/// Returns what is said after the name, or `None` if the refusal isn't about an item, or if the
+/// reason depends on the map.
 fn said_of(refusal: Refusal) -> Option<&'static str>
     ensures { MatchOption result (said_of refusal ≡ None) (λ said. said_of refusal ≡ Some said.now) }
 {
@@ -101,7 +102,7 @@ fn push_reason_of(
     }
 }
 
-/// `looks` says whether near names are looked for.
+/// Appends the reason for a refused edit. `looks` says whether similar names are looked for.
 pub(crate) fn push_edit_reason(
     alloc: Global,
     looks: bool,

@@ -1,4 +1,4 @@
-//! Names that are nearly there.
+//! Finds a name of the map that is similar to a missing one.
 
 ghost use Rattle.std.specs.Prelude.{◌≡◌, ◌≤◌, ◌<◌, List, IfOk, IsTrue, drop, length, map as each};
 ghost use Rattle.std.specs.Option.{option_map};
@@ -13,8 +13,8 @@ use crush_map::CrushMap;
 use crush_print::{WalkStep, walk};
 use std::alloc::{AllocError, Global};
 
-/// The first refused entries for which near names are looked for: each look is at all names, and up
-/// to 65,536 entries are refused.
+/// For how many refused entries similar names are looked for. Each search goes through all names of
+/// the map, and up to 65,536 entries may be refused.
 pub(crate) const MOST_LOOKS: usize = 256;
 
 fn same_at(a: &[u8], b: &[u8], place: usize) -> bool
@@ -24,7 +24,7 @@ fn same_at(a: &[u8], b: &[u8], place: usize) -> bool
     place < a.len() && place < b.len() && a[place] == b[place]
 }
 
-/// How many bytes stand before the first that differs.
+/// Returns how many bytes the two names have in common before the first byte that differs.
 fn shared(a: &[u8], b: &[u8]) -> usize
     ensures value { result ≡ shared a.now b.now }
     ensures within { result ≤ length a.now }
@@ -36,7 +36,7 @@ fn shared(a: &[u8], b: &[u8]) -> usize
     count
 }
 
-/// One byte differs, or either has one more.
+/// Whether at most one byte differs, or one name has one byte more than the other.
 fn is_one_off(a: &[u8], b: &[u8]) -> bool
     ensures { result ≡ is_one_off a.now b.now }
 {
@@ -76,7 +76,7 @@ fn first_near<'a>(steps: &[WalkStep<'a, Global>], name: &str) -> Option<&'a str>
     None
 }
 
-/// The first in the order of the map's tree.
+/// Returns the first similar name, in the order of the map's tree.
 fn near_name<'a>(
     alloc: Global,
     map: &'a CrushMap<Global>,

@@ -1,4 +1,4 @@
-//! Lines of a job and places in a text, as they are shown.
+//! Shows lines of a job, and places in a text.
 
 ghost use Rattle.std.specs.Prelude.{◌≡◌, ◌≤◌, ◌<◌, ◌^◌, ◌+◌, ◌++◌, ◌==◌, OnOk, if◌then◌else◌, length, replicate};
 ghost use Rattle.crush_reasons.specs.Place.{at_place, behind_feed, behind_line, column_line, command_head, first_line, from_line, last_line, line_at, named_head, name_head, number_line, origin_data, own_line, place_text, shown_line, sign_line, to_feed};
@@ -12,16 +12,18 @@ use std::alloc::AllocError;
 /// The most bytes of a line that are shown before the place.
 const MOST_BEFORE: usize = 40;
 
-/// Where bytes of a job come from: the name of the file, empty where none is told, and how many
-/// lines of the job stand before the file's own.
+/// The file that a line of a job comes from.
 #[derive(Clone, Copy)]
 pub struct Origin<'a> {
+    /// The name of the file, or empty if no file is to be named.
     pub name: &'a [u8],
+    /// How many lines of the job come before the file's first line.
     pub before: usize,
 }
 
 impl<'a> Origin<'a> {
-    /// A line that was put before the first is 0.
+    /// Returns the number of a line of the job in its file, from 1. It is 0 for a line that was put
+    /// before the file's first line.
     pub(crate) fn own_line(self, line: usize) -> usize
         ensures { result ≡ own_line (origin_data self.entry) line }
     {
@@ -29,7 +31,7 @@ impl<'a> Origin<'a> {
     }
 }
 
-/// Bytes before the first line feed.
+/// Returns how many bytes come before the first line feed.
 pub(crate) fn to_feed(bytes: &[u8]) -> usize
     ensures value { result ≡ to_feed bytes.now }
     ensures within { result ≤ length bytes.now }
@@ -50,7 +52,7 @@ fn further(behind: usize, byte: u8) -> usize
     if byte == b'\n' { 0 } else { behind + 1 }
 }
 
-/// Bytes behind the last line feed.
+/// Returns how many bytes come after the last line feed.
 pub(crate) fn behind_feed(bytes: &[u8]) -> usize
     requires { length bytes.now < 2 ^ 32 }
     ensures value { result ≡ behind_feed bytes.now }
@@ -63,7 +65,7 @@ pub(crate) fn behind_feed(bytes: &[u8]) -> usize
     behind
 }
 
-/// Counted from 1.
+/// Returns the number of the line in which these bytes of a job end, from 1.
 pub(crate) fn last_line(before: &[u8]) -> usize
     requires { length before.now < 2 ^ 32 }
     ensures { result ≡ last_line before.now }
@@ -105,7 +107,7 @@ fn push_name(name: &[u8], text: &mut Vec<u8>) -> Result<(), AllocError>
     if name.is_empty() {
         return Ok(());
     }
-    text.extend_from_slice(name)?;
+    push_shown(name, text)?;
     text.extend_from_slice(b" ")
 }
 
@@ -197,7 +199,7 @@ pub(crate) fn behind_line(bytes: &[u8]) -> &[u8]
     }
 }
 
-/// Lines count from 0.
+/// Returns the bytes from the beginning of a line on. Lines count from 0.
 fn from_line(line: usize, bytes: &[u8]) -> &[u8]
     ensures { result.now ≡ from_line line bytes.now }
 {
@@ -208,7 +210,7 @@ fn from_line(line: usize, bytes: &[u8]) -> &[u8]
     rest
 }
 
-/// The line, counted from 1, and all behind it.
+/// Returns the bytes from the beginning of a line on. Lines count from 1.
 pub(crate) fn line_at(bytes: &[u8], line: usize) -> &[u8]
     ensures { result.now ≡ line_at bytes.now line }
 {
@@ -235,11 +237,14 @@ fn push_named_head(name: &[u8], line: usize, text: &mut Vec<u8>) -> Result<(), A
     let line = buffer.format(line).as_bytes();
     match name {
         [] => push_all(&[b"line ".as_slice(), line, b": ".as_slice()], text),
-        [_, ..] => push_all(&[name, b":".as_slice(), line, b": ".as_slice()], text),
+        [_, ..] => {
+            push_shown(name, text)?;
+            push_all(&[b":".as_slice(), line, b": ".as_slice()], text)
+        }
     }
 }
 
-/// The line counts in the job.
+/// Appends the place of a command. `line` is the line's number in the whole job.
 #[tactic(auto, unfolding(crate::specs::Place::command_head))]
 pub(crate) fn push_command_head(
     origin: Origin<'_>,

@@ -1,4 +1,4 @@
-//! The edits of a history that changed the map, made once more.
+//! Applies the edits of a history that changed the map once more.
 
 ghost use Rattle.std.specs.Prelude.{◌≡◌, ◌≤◌, List, OnOk, length};
 ghost use Rattle.crush_units.specs.declared.limits.TheConstants.{MOST_EDITS};
@@ -13,7 +13,8 @@ use crush_map::CrushMap;
 use std::alloc::{AllocError, Global};
 use std::slice;
 
-/// A law: the edits that changed a map lead, one after the other, to the map after its history.
+/// A law: if the edits that changed a map are applied one after the other to the map before its
+/// history, the result is the map after the history.
 pub fn edits_lead_to_the_map_after()
     ensures { LeadsToTableAfter }
 {}
@@ -40,7 +41,7 @@ pub(crate) fn changing_edits(entry: &Entry) -> &[Edit]
     }
 }
 
-/// One that is refused leaves the map as it is.
+/// Applies an edit. An edit that is refused leaves the map as it is.
 pub(crate) fn make_edit(map: &mut CrushMap<Global>, edit: &Edit) -> Result<(), AllocError>
     ensures stands { OnOk result ((t : List Row) → Stands map.old.forest t
         → Stands map.new.forest (table_after_edit map.old.setting t edit.now)) }

@@ -1,4 +1,4 @@
-//! What was wanted at a fault or a refusal, in an operator's words.
+//! The sentences for faults and refusals, in an operator's words.
 
 ghost use Rattle.std.specs.Prelude.{◌≡◌};
 ghost use Rattle.crush_reasons.specs.Sentences.{job_sentence, refusal_sentence, reply_sentence, stale_sentence, text_sentence};
@@ -8,11 +8,11 @@ use crush_history::Reply;
 use crush_script::JobFault;
 use crush_text::TextFaultKind;
 
-/// Of a guarded batch that came too late.
+/// The sentence for a guarded batch that came too late.
 pub(crate) const STALE: &str =
     "the map has changed since: look at it again, and name the number of changes that is told";
 
-/// What was wanted at a fault of a map's text.
+/// Returns the sentence for a fault of a map's text.
 pub fn text_sentence(kind: TextFaultKind) -> &'static str
     ensures { result.now ≡ text_sentence kind }
 {
@@ -48,7 +48,8 @@ pub fn text_sentence(kind: TextFaultKind) -> &'static str
     }
 }
 
-/// What was wanted at a fault of a job; of its map's text, [`text_sentence`].
+/// Returns the sentence for a fault of a job. For a fault of the map's text, it is that of
+/// [`text_sentence`].
 pub fn job_sentence(fault: JobFault) -> &'static str
     ensures { result.now ≡ job_sentence fault }
 {
@@ -69,7 +70,7 @@ pub fn job_sentence(fault: JobFault) -> &'static str
     }
 }
 
-/// What was wanted where an edit was refused.
+/// Returns the sentence for a refusal.
 pub fn refusal_sentence(refusal: Refusal) -> &'static str
     ensures { result.now ≡ refusal_sentence refusal }
 {
@@ -108,7 +109,7 @@ pub fn refusal_sentence(refusal: Refusal) -> &'static str
     }
 }
 
-/// What was wanted where a call was refused; of another reply nothing.
+/// Returns the sentence for a reply that is a refusal, and nothing for any other reply.
 pub fn reply_sentence(reply: Reply) -> &'static str
     ensures { result.now ≡ reply_sentence reply }
 {

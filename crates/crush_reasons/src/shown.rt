@@ -1,4 +1,4 @@
-//! Bytes of a job or a map, as a person sees them.
+//! Shows bytes of a job, of a map or of the command line without control characters.
 
 ghost use Rattle.std.specs.Prelude.{◌≡◌, ◌++◌, OnOk, map};
 ghost use Rattle.crush_reasons.specs.Shown.{shown_byte, told};
@@ -6,10 +6,13 @@ ghost use Rattle.crush_reasons.specs.Shown.{shown_byte, told};
 use crate::words::push_all;
 use std::alloc::AllocError;
 
-/// Of a line or of a word, in bytes.
+/// How many bytes of a line or of a word are shown at most.
 pub(crate) const MOST_SHOWN: usize = 72;
 
-fn shown_byte(byte: u8) -> u8
+/// Returns the byte that a message shows in place of `byte`, so that no message sends a control
+/// character to a terminal. A byte from 32 to 126 is shown as it is, a tab or a carriage return as a
+/// space, and any other byte as `?`.
+pub fn shown_byte(byte: u8) -> u8
     ensures { result ≡ shown_byte byte }
 {
     match byte {
@@ -30,7 +33,7 @@ pub(crate) fn push_shown(bytes: &[u8], text: &mut Vec<u8>) -> Result<(), AllocEr
     Ok(())
 }
 
-/// In backquotes, 72 bytes at most.
+/// Appends a word in backquotes, of which at most 72 bytes are shown.
 #[tactic(auto, unfolding(crate::specs::Shown::told))]
 pub(crate) fn push_told(word: &[u8], text: &mut Vec<u8>) -> Result<(), AllocError>
     ensures { OnOk result (text.new.items ≡ text.old.items ++ told word.now) }

@@ -1,4 +1,4 @@
-//! What the buckets of a map weigh, found by one walk of its tree.
+//! Finds the weights of all buckets of a map, in one walk through its tree.
 
 ghost use Rattle.std.specs.Prelude.{◌≡◌, ◌++◌, ◌∷◌, [], List, IfOk, OnOk};
 ghost use Rattle.crush_nodes.specs.Seen.{items_of};
@@ -12,7 +12,7 @@ use crush_tree::{Bucket, Node};
 use crush_units::{BucketId, Weight};
 use std::alloc::{AllocError, Allocator, Global};
 
-/// A bucket, and the sum over all devices below it.
+/// A bucket, and the sum of the weights of all devices below it.
 #[derive(Clone, Copy)]
 pub(crate) struct Sum {
     pub(crate) bucket: BucketId,
@@ -22,7 +22,7 @@ pub(crate) struct Sum {
 #[derive(Drop)]
 pub(crate) struct SummedMap<'a> {
     pub(crate) map: &'a CrushMap<Global>,
-    /// By the distances of the buckets' ids, which rise.
+    /// The sums, sorted by the distances of the buckets' ids from 0.
     pub(crate) sums: Vec<Sum>,
 }
 

@@ -1,4 +1,4 @@
-//! What a map says of an item that is in an edit's way.
+//! Says what the map has of an item that is in the way of an edit.
 
 ghost use Rattle.std.specs.Prelude.{◌≡◌, ◌++◌, List, OnOk, find, map as each, option_and_then};
 ghost use Rattle.std.specs.List.{list_any};
@@ -126,7 +126,7 @@ fn steps_take(steps: &[KeptStep], bucket: BucketId) -> bool
     steps.iter().any(|step| step_takes(step, bucket))
 }
 
-/// With or without a class.
+/// Whether a step of the rule takes the bucket, with or without a class.
 fn takes_it(rule: &KeptRule, bucket: BucketId) -> bool
     ensures { result ≡ takes_it bucket (rule_data rule.now) }
 {
@@ -271,7 +271,7 @@ pub(crate) fn push_loop(name: &[u8], end: &[u8], text: &mut Vec<u8>) -> Result<(
     }
 }
 
-/// Empty where there is none.
+/// Returns the name of the item's type, or nothing if the map has no such item or type.
 fn type_of_item<'a>(map: &'a CrushMap<Global>, name: &Name<Global>) -> &'a [u8]
     ensures { (t : List Row) → Stands map.now.forest t
         → result.now ≡ type_of_item map.now.setting t name.now }
@@ -291,7 +291,7 @@ fn kind_name_of<'a>(map: &'a CrushMap<Global>, name: &Name<Global>) -> Option<&'
     map.setting().kind_name(map.kind_of(id)?)
 }
 
-/// Empty where no pair names it.
+/// Returns the type in the first pair that names this bucket, or nothing if no pair does.
 fn type_of_pair<'a>(at: &'a Location, name: &Name<Global>) -> &'a [u8]
     ensures { result.now ≡ type_of_pair at.now name.now }
 {

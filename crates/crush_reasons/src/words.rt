@@ -1,4 +1,4 @@
-//! Pushed bytes, and words and parts of a text.
+//! Appends bytes, and finds words and parts of a text.
 
 ghost use Rattle.std.specs.Prelude.{◌≡◌, ◌≤◌, ◌++◌, ◌∷◌, [], MatchOption, OnOk, drop, flat_map, length, take};
 ghost use Rattle.crush_reasons.specs.Shown.{reason_line};
@@ -28,7 +28,7 @@ pub(crate) fn push_reason(sentence: &str, text: &mut Vec<u8>) -> Result<(), Allo
     )
 }
 
-/// All of them where the place is beyond their end.
+/// Returns the bytes before a place, or all bytes if the place is beyond their end.
 pub(crate) fn up_to(place: usize, bytes: &[u8]) -> &[u8]
     ensures value { result.now ≡ take place bytes.now }
     ensures within { length result.now ≤ length bytes.now }
@@ -40,7 +40,7 @@ pub(crate) fn up_to(place: usize, bytes: &[u8]) -> &[u8]
     }
 }
 
-/// None where the place is beyond their end.
+/// Returns the bytes from a place on, or no bytes if the place is beyond their end.
 pub(crate) fn from_place(place: usize, bytes: &[u8]) -> &[u8]
     ensures { result.now ≡ drop place bytes.now }
 {

@@ -1,4 +1,4 @@
-//! Written weights of buckets that aren't their sums.
+//! Lists the weights of buckets in a map's text that aren't the sums.
 
 ghost use Rattle.std.specs.Prelude.{◌≡◌, ◌<◌, ◌==◌, ◌∷◌, ◌++◌, List, [], IfOk, IsTrue, MatchOption, OnOk, bytes_eq, if◌then◌else◌, length};
 ghost use Rattle.std.specs.List.{list_any};
@@ -21,7 +21,7 @@ fn is(word: &[u8], key: &[u8]) -> bool
     word == key
 }
 
-/// Whether what follows a word stands between braces.
+/// Whether what follows a word is between braces.
 fn is_inside(inside: bool, word: &[u8]) -> bool
     ensures { result ≡ is_inside inside word.now }
 {
@@ -142,8 +142,8 @@ fn next_word<'a>(reader: &mut Reader<'a>) -> Option<&'a [u8]>
     }
 }
 
-/// `item`, `name` and `key` are three words, `inside` whether they begin between braces; the reader
-/// has those that follow.
+/// A position in a text. `item`, `name` and `key` are three consecutive words, `inside` says whether
+/// the first of them is between braces, and `reader` has the words that follow.
 #[derive(Drop)]
 struct Scan<'a> {
     inside: bool,
@@ -167,7 +167,8 @@ impl<'a> Scan<'a> {
         }
     }
 
-    /// `weight` follows the three words.
+    /// Appends the line of an item if the three words and `weight`, the word after them, are `item
+    /// NAME weight W` between braces.
     fn push_first(
         &self,
         summed: &SummedMap<'_>,
@@ -184,7 +185,8 @@ impl<'a> Scan<'a> {
         }
     }
 
-    /// False where no word follows the three.
+    /// Moves on by one word, and appends the line of the words that it leaves. Returns `false` if no
+    /// word follows the three.
     fn push_next(&mut self, summed: &SummedMap<'_>, text: &mut Vec<u8>) -> Result<bool, AllocError>
         ensures goes { IfOk result (λ more. (t : List Row) → IsSummed summed.now t
             → text.new.items ++ (if more then lines_left t self.new else [])
@@ -235,11 +237,14 @@ fn push_returns(bytes: &[u8], text: &mut Vec<u8>) -> Result<(), AllocError>
     )
 }
 
-/// A line `NAME: W was written, the sum is W` for each `item NAME weight W` between braces of a
-/// map's text where NAME is a bucket of the map that weighs something else, in the order of the
-/// text. The written weight stands as in the text, the sum with five decimals. Before them comes
-/// the line of a text in which carriage returns stand and no line feed. `map` is that text's, as it
-/// was read.
+/// Returns a line for each bucket whose weight in a map's text isn't the sum.
+///
+/// The line is `NAME: W was written, the sum is SUM`. There is one for each `item NAME weight W`
+/// between braces if NAME is a bucket of the map that weighs something else, in the order of the
+/// text. W is the word of the text, and SUM has five decimals. If the text has carriage returns and
+/// no line feed, a line that says so comes first.
+///
+/// `map` is the map that was read from `bytes`. Fails if memory runs out.
 pub fn written_text(
     alloc: Global,
     map: &CrushMap<Global>,
