@@ -4,27 +4,38 @@ use Rattle.std.specs.Prelude.{◌&&◌, ◌||◌, None, Some, not, filter, flat_
 use Rattle.std.specs.Cmp.Lexicographic.{pointwise}
 use Rattle.std.proofs.lemmas.List.{take_more}
 use Rattle.std.proofs.lemmas.List.Elements.{filter-append}
-use Rattle.crush_edits.specs.Setting.{SettingData}
+use Rattle.crush_edits.specs.Setting.{RuleData, SettingData}
 use Rattle.crush_units.specs.declared.id.ItemId.{ItemId}
 use Rattle.crush_model.specs.Table.{Row}
+use Rattle.crush_since.specs.Rules.{RuleChangeData, lines_or_order, other_order, rule_changes, rule_lines}
 use Rattle.crush_since.specs.Changes.{has_some, is_listed}
 use Rattle.crush_since.specs.Since.{PlainMap, plain_map, all_ids, id_line, item_lines}
 use Rattle.crush_since.specs.SincePart.{is_changed, is_part_changed, part_ids, since_part_text, listed_ids}
 use Rattle.crush_since.specs.Settings.{same_kinds, same_rule, same_tunable, setting_lines, tunables_line, kinds_line, rules_line, listed_if_not}
 
 -- THE SETTINGS
-three_told : (x y z : Bool) → has_some (listed_if_not x (codes "tunables differ\n") ++ listed_if_not y (codes "types differ\n") ++ listed_if_not z (codes "rules differ\n")) ≡ not (x && (y && z))
-three_told true true true = refl
-three_told true true false = refl
-three_told true false z = refl
-three_told false y z = refl
+some_line : (xs : List RuleChangeData) → has_some (lines_or_order xs) ≡ true
+unfolding other_order
+some_line [] = refl
+some_line (x ∷ xs) = refl
+
+rules_listed : (same : RuleData → RuleData → Bool) (a b : List RuleData) → has_some (rule_lines same a b) ≡ not (pointwise same a b)
+rules_listed same a b = at (pointwise same a b) (rule_changes same a b) where
+  at : (z : Bool) (xs : List RuleChangeData) → has_some (if z then [] else lines_or_order xs) ≡ not z
+  at true xs = refl
+  at false xs = some_line xs
+
+three_told : (x y z : Bool) (l : List ℕ) → has_some l ≡ not z → has_some (listed_if_not x (codes "tunables differ\n") ++ listed_if_not y (codes "types differ\n") ++ l) ≡ not (x && (y && z))
+three_told true true z l h = h
+three_told true false z l h = refl
+three_told false y z l h = refl
 
 abbrev are_same : SettingData → SettingData → Bool
 are_same a b = pointwise same_tunable a.tunables b.tunables && (same_kinds a b && pointwise same_rule a.rules b.rules)
 
 settings_told : (a b : SettingData) → has_some (setting_lines a b) ≡ not (are_same a b)
 unfolding setting_lines tunables_line kinds_line rules_line
-settings_told a b = three_told (pointwise same_tunable a.tunables b.tunables) (same_kinds a b) (pointwise same_rule a.rules b.rules)
+settings_told a b = three_told (pointwise same_tunable a.tunables b.tunables) (same_kinds a b) (pointwise same_rule a.rules b.rules) (rule_lines same_rule a.rules b.rules) (rules_listed same_rule a.rules b.rules)
 
 -- one of the three tests fails, or the last decides
 pub tunables_told : (a b : SettingData) → pointwise same_tunable a.tunables b.tunables ≡ false → true ≡ has_some (setting_lines a b)

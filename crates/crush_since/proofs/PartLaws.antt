@@ -7,6 +7,7 @@ use Rattle.std.proofs.lemmas.List.Concat.{flat_map-append}
 use Rattle.crush_units.specs.declared.id.ItemId.{ItemId}
 use Rattle.crush_units.specs.Weight.{weight_text}
 use Rattle.crush_model.specs.Table.{total}
+use Rattle.crush_since.specs.Classes.{class_lines}
 use Rattle.crush_since.specs.Emptied.{emptied_lines}
 use Rattle.crush_since.specs.ItemParts.{behind, line_text, line}
 use Rattle.crush_since.specs.Settings.{setting_lines}
@@ -42,6 +43,10 @@ pub four_sections : (out one two three four a b c d : List ℕ) → one ≡ out 
 four_sections out one two three four a b c d is_one is_two is_three is_four =
     is_four ∙ ap (λ l. l ++ d) (three_sections out one two three a b c is_one is_two is_three) ∙ append_assoc out ((a ++ b) ++ c) d
 
+pub five_sections : (out one two three four five a b c d e : List ℕ) → one ≡ out ++ a → two ≡ one ++ b → three ≡ two ++ c → four ≡ three ++ d → five ≡ four ++ e → five ≡ out ++ ((((a ++ b) ++ c) ++ d) ++ e)
+five_sections out one two three four five a b c d e is_one is_two is_three is_four is_five =
+    is_five ∙ ap (λ l. l ++ e) (four_sections out one two three four a b c d is_one is_two is_three is_four) ∙ append_assoc out (((a ++ b) ++ c) ++ d) e
+
 -- what a test of a length says
 pub some_there : (n : ℕ) (b : Bool) → b ≡ (n == 0) → b ≡ false → 0 < n
 some_there n b is no_way = ⊎_elim (λ q. absurd (let both : false ≡ true = sym no_way ∙ is ∙ q.0 in cc)) (λ q. positive n q.1) (eqb_tells n 0) where
@@ -62,8 +67,9 @@ unfolding last_lines
 last_lines_are_some old new n =
     let settings = setting_lines old.setting new.setting in
     let rules = emptied_lines old.table new.table new.setting in
+    let classes = class_lines old.table new.table new.setting in
     let totals = totals_line (total old.table) (total new.table) in
-    omega (arith, length-append (settings ++ rules ++ totals) (counts_line n), length-append (settings ++ rules) totals, totals_are_some (total old.table) (total new.table))
+    omega (arith, length-append (settings ++ rules ++ classes ++ totals) (counts_line n), length-append (settings ++ rules ++ classes) totals, totals_are_some (total old.table) (total new.table))
 
 pub since_text_is_some : (old new : PlainMap) → 0 < length (since_text old new)
 unfolding since_text

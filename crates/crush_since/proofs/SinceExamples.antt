@@ -9,6 +9,8 @@ use Rattle.crush_model.specs.Items.{LeafData, Items, none, device, bucket}
 use Rattle.crush_model.specs.Forest.{rows_of}
 use Rattle.crush_model.specs.Table.{Row}
 use Rattle.crush_print.specs.RuleLines.{bucket_name}
+use Rattle.crush_since.specs.Classes.{class_lines, classes, class_line, untaken_text}
+use Rattle.crush_since.specs.Rules.{other_order}
 use Rattle.crush_since.specs.Emptied.{emptied_lines, rule_takes, weighs_nothing}
 use Rattle.crush_since.specs.Settings.{tunables_line, kinds_line, rules_line, setting_lines}
 use Rattle.crush_since.specs.Since.{PlainMap, plain_map, id_line, all_ids, all_buckets, all_devices, item_lines, totals_line, last_lines, since_text}
@@ -29,7 +31,7 @@ moved = of_roots (bucket (header 1 11 (codes "default")) 163840 2
 
 since_moved : since_text (of example) (of moved)
     ≡ codes "h1 (-2): weight 2.00000 to 1.00000\nh2 (-3): weight 0.50000 to 1.50000\nosd.0 (0): from h1 (-2) to h2 (-3)\ntotal 2.50000 to 2.50000\n0 made, 0 removed, 0 renamed, 1 moved, 2 of other weight, 0 of other class\n"
-unfolding since_text last_lines emptied_lines rule_takes weighs_nothing item_lines id_line all_ids all_buckets all_devices setting_lines tunables_line kinds_line rules_line totals_line counts_line first_counts last_counts digits
+unfolding since_text last_lines emptied_lines class_lines classes class_line untaken_text other_order rule_takes weighs_nothing item_lines id_line all_ids all_buckets all_devices setting_lines tunables_line kinds_line rules_line totals_line counts_line first_counts last_counts digits
 since_moved = refl
 
 -- a device, its host and the host's rack are new
@@ -41,13 +43,13 @@ grown = of_roots (bucket (header 1 11 (codes "default")) 229376 3
 
 since_grown : since_text (of example) (of grown)
     ≡ codes "default (-1): weight 2.50000 to 3.50000\nh3 (-4): made as host in r1 (-5), weight 1.00000\nr1 (-5): made as rack in default (-1), weight 1.00000\nosd.3 (3): made as osd in h3 (-4), weight 1.00000\ntotal 2.50000 to 3.50000\n3 made, 0 removed, 0 renamed, 0 moved, 1 of other weight, 0 of other class\n"
-unfolding since_text last_lines emptied_lines rule_takes weighs_nothing item_lines id_line all_ids all_buckets all_devices setting_lines tunables_line kinds_line rules_line totals_line counts_line first_counts last_counts digits
+unfolding since_text last_lines emptied_lines class_lines classes class_line untaken_text other_order rule_takes weighs_nothing item_lines id_line all_ids all_buckets all_devices setting_lines tunables_line kinds_line rules_line totals_line counts_line first_counts last_counts digits
 since_grown = refl
 
 -- and are gone
 since_shrunk : since_text (of grown) (of example)
     ≡ codes "default (-1): weight 3.50000 to 2.50000\nh3 (-4): removed, was host in r1 (-5), weight 1.00000\nr1 (-5): removed, was rack in default (-1), weight 1.00000\nosd.3 (3): removed, was osd in h3 (-4), weight 1.00000\ntotal 3.50000 to 2.50000\n0 made, 3 removed, 0 renamed, 0 moved, 1 of other weight, 0 of other class\n"
-unfolding since_text last_lines emptied_lines rule_takes weighs_nothing item_lines id_line all_ids all_buckets all_devices setting_lines tunables_line kinds_line rules_line totals_line counts_line first_counts last_counts digits
+unfolding since_text last_lines emptied_lines class_lines classes class_line untaken_text other_order rule_takes weighs_nothing item_lines id_line all_ids all_buckets all_devices setting_lines tunables_line kinds_line rules_line totals_line counts_line first_counts last_counts digits
 since_shrunk = refl
 
 -- h1 and h2 have exchanged their names and items
@@ -58,12 +60,12 @@ swapped = of_roots (bucket (header 1 11 (codes "default")) 163840 2
 
 since_swapped : since_text (of example) (of swapped)
     ≡ codes "h2 (-2): was h1; weight 2.00000 to 0.50000\nh1 (-3): was h2; weight 0.50000 to 2.00000\nosd.0 (0): from h1 (-2) to h1 (-3)\nosd.1 (1): from h1 (-2) to h1 (-3)\nosd.2 (2): from h2 (-3) to h2 (-2)\ntotal 2.50000 to 2.50000\n0 made, 0 removed, 2 renamed, 3 moved, 2 of other weight, 0 of other class\n"
-unfolding since_text last_lines emptied_lines rule_takes weighs_nothing item_lines id_line all_ids all_buckets all_devices setting_lines tunables_line kinds_line rules_line totals_line counts_line first_counts last_counts digits
+unfolding since_text last_lines emptied_lines class_lines classes class_line untaken_text other_order rule_takes weighs_nothing item_lines id_line all_ids all_buckets all_devices setting_lines tunables_line kinds_line rules_line totals_line counts_line first_counts last_counts digits
 since_swapped = refl
 
 -- a map since itself
 since_itself : since_text (of example) (of example) ≡ codes "total 2.50000 to 2.50000\n0 made, 0 removed, 0 renamed, 0 moved, 0 of other weight, 0 of other class\n"
-unfolding since_text last_lines emptied_lines rule_takes weighs_nothing item_lines id_line all_ids all_buckets all_devices setting_lines tunables_line kinds_line rules_line totals_line counts_line first_counts last_counts digits
+unfolding since_text last_lines emptied_lines class_lines classes class_line untaken_text other_order rule_takes weighs_nothing item_lines id_line all_ids all_buckets all_devices setting_lines tunables_line kinds_line rules_line totals_line counts_line first_counts last_counts digits
 since_itself = refl
 
 -- each column, and each part of a setting: h1 is another type's, has another algorithm and a class id, osd.0 is of a class, osd.2 is unplaced and of none; h2 is a root
@@ -96,15 +98,15 @@ of_rule osd taken tunable = record {
 }
 
 since_each : since_text (plain_map (of_rule (codes "osd") 1 (codes "chooseleaf_stable")) before) (plain_map (of_rule (codes "device") 2 (codes "chooseleaf_vary_r")) after)
-    ≡ codes "default (-1): weight 1.50000 to 1.00000\nh1 (-2): type host to rack; alg straw2 to straw; class ids\nh2 (-3): from default (-1) to (root); weight 0.50000 to 0.00000\nosd.0 (0): class (none) to ssd\nosd.2 (2): from h2 (-3) to (unplaced); weight 0.50000 to 0.00000; class hdd to (none)\ntunables differ\ntypes differ\nrules differ\ntotal 1.50000 to 1.00000\n0 made, 0 removed, 0 renamed, 2 moved, 3 of other weight, 2 of other class\n"
-unfolding since_text last_lines emptied_lines rule_takes weighs_nothing item_lines id_line all_ids all_buckets all_devices setting_lines tunables_line kinds_line rules_line totals_line counts_line first_counts last_counts digits
+    ≡ codes "default (-1): weight 1.50000 to 1.00000\nh1 (-2): type host to rack; alg straw2 to straw; class ids\nh2 (-3): from default (-1) to (root); weight 0.50000 to 0.00000\nosd.0 (0): class (none) to ssd\nosd.2 (2): from h2 (-3) to (unplaced); weight 0.50000 to 0.00000; class hdd to (none)\ntunables differ\ntypes differ\nrule data differs\nclass hdd weighed 0.50000, weighs 0.00000\nclass ssd weighed 0.00000, weighs 1.00000\nclass ssd is new, and no rule takes it\ntotal 1.50000 to 1.00000\n0 made, 0 removed, 0 renamed, 2 moved, 3 of other weight, 2 of other class\n"
+unfolding since_text last_lines emptied_lines class_lines classes class_line untaken_text other_order rule_takes weighs_nothing item_lines id_line all_ids all_buckets all_devices setting_lines tunables_line kinds_line rules_line totals_line counts_line first_counts last_counts digits
 since_each = refl
 
 -- types in another order are the same types
 since_renamed : since_text (plain_map (record { kinds = type 0 (codes "osd") ∷ (type 11 (codes "root") ∷ []); tunables = []; rules = [] }) (of_roots (bucket (header 1 11 (codes "a")) 0 0 none none)))
     (plain_map (record { kinds = type 11 (codes "root") ∷ (type 0 (codes "osd") ∷ []); tunables = []; rules = [] }) (of_roots (bucket (header 1 11 (codes "b")) 0 0 none none)))
     ≡ codes "b (-1): was a\ntotal 0.00000 to 0.00000\n0 made, 0 removed, 1 renamed, 0 moved, 0 of other weight, 0 of other class\n"
-unfolding since_text last_lines emptied_lines rule_takes weighs_nothing item_lines id_line all_ids all_buckets all_devices setting_lines tunables_line kinds_line rules_line totals_line counts_line first_counts last_counts digits
+unfolding since_text last_lines emptied_lines class_lines classes class_line untaken_text other_order rule_takes weighs_nothing item_lines id_line all_ids all_buckets all_devices setting_lines tunables_line kinds_line rules_line totals_line counts_line first_counts last_counts digits
 since_renamed = refl
 
 -- a rule that takes the devices of a class, of which there are none now, a host, which is empty now, and a class that no device had
@@ -121,6 +123,6 @@ of_class c = record { id = 0; name = codes "osd.0"; weight = 65536; class = Some
 since_emptied : since_text
     (plain_map taking (of_roots (bucket (header 1 11 (codes "default")) 65536 2 (bucket (header 2 1 (codes "h1")) 65536 1 (device (of_class (codes "hdd")) none) (bucket (header 3 1 (codes "h2")) 0 0 none none)) none)))
     (plain_map taking (of_roots (bucket (header 1 11 (codes "default")) 65536 2 (bucket (header 2 1 (codes "h1")) 0 1 none (bucket (header 3 1 (codes "h2")) 65536 1 (device (of_class (codes "ssd")) none) none)) none)))
-    ≡ codes "h1 (-2): weight 1.00000 to 0.00000\nh2 (-3): weight 0.00000 to 1.00000\nosd.0 (0): from h1 (-2) to h2 (-3); class hdd to ssd\nrule data takes nothing: default~hdd weighs 0.00000\nrule data takes nothing: h1 weighs 0.00000\ntotal 1.00000 to 1.00000\n0 made, 0 removed, 0 renamed, 1 moved, 2 of other weight, 1 of other class\n"
-unfolding since_text last_lines emptied_lines rule_takes weighs_nothing bucket_name item_lines id_line all_ids all_buckets all_devices setting_lines tunables_line kinds_line rules_line totals_line counts_line first_counts last_counts digits
+    ≡ codes "h1 (-2): weight 1.00000 to 0.00000\nh2 (-3): weight 0.00000 to 1.00000\nosd.0 (0): from h1 (-2) to h2 (-3); class hdd to ssd\nrule data takes nothing: default~hdd weighs 0.00000\nrule data takes nothing: h1 weighs 0.00000\nclass hdd weighed 1.00000, weighs 0.00000\nclass ssd weighed 0.00000, weighs 1.00000\nclass ssd is new, and no rule takes it\ntotal 1.00000 to 1.00000\n0 made, 0 removed, 0 renamed, 1 moved, 2 of other weight, 1 of other class\n"
+unfolding since_text last_lines emptied_lines class_lines classes class_line untaken_text other_order rule_takes weighs_nothing bucket_name item_lines id_line all_ids all_buckets all_devices setting_lines tunables_line kinds_line rules_line totals_line counts_line first_counts last_counts digits
 since_emptied = refl

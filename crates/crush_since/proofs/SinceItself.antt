@@ -20,6 +20,8 @@ use Rattle.crush_since.specs.Equal.{same_option, same_text}
 use Rattle.crush_since.specs.ItemData.{ItemData, item_of, own_class_ids}
 use Rattle.crush_since.specs.ItemWords.{place_word, type_word, class_or_none, alg_word}
 use Rattle.crush_since.specs.ItemParts.{same_algs, same_class_id, part, change, changes, line, item_line}
+use Rattle.crush_since.specs.Rules.{lines_or_order, rule_changes}
+use Rattle.crush_since.proofs.ClassLaws.{no_classes}
 use Rattle.crush_since.specs.Settings.{same_tunable, kind_numbers, agree_on, same_kinds, same_bool, same_step, same_rule, listed_if_not, tunables_line, kinds_line, rules_line, setting_lines}
 use Rattle.crush_since.specs.Since.{plain_map, same_class_ids, id_line, all_ids, item_lines, totals_line, last_lines, since_text}
 use Rattle.crush_since.specs.SinceLaws.{NothingSinceItself, nothing_counted}
@@ -103,7 +105,7 @@ no_settings : (s : SettingData) → setting_lines s s ≡ []
 unfolding setting_lines tunables_line kinds_line rules_line
 no_settings s = λ i.
     listed_if_not (pairs_itself same_tunable tunable_itself s.tunables i) (codes "tunables differ\n") ++ listed_if_not (kinds_itself s i) (codes "types differ\n")
-    ++ listed_if_not (pairs_itself same_rule rule_itself s.rules i) (codes "rules differ\n")
+    ++ (if pairs_itself same_rule rule_itself s.rules i then [] else lines_or_order (rule_changes same_rule s.rules s.rules))
 
 -- COUNTS
 none_meets : (p : ItemId → Bool) → ((i : ItemId) → p i ≡ false) → (ids : List ItemId) → count_by p ids ≡ 0
@@ -147,7 +149,7 @@ no_rules s t = nothing_of (emptied_of t t) (λ r. nothing_of (emptied_by t t r.n
 
 pub last_since_itself : (s : SettingData) (t : List Row) → last_lines (plain_map s t) (plain_map s t) (tally_of t t (all_ids t t)) ≡ totals_line (total t) (total t) ++ counts_line nothing_counted
 unfolding last_lines
-last_since_itself s t = λ i. no_settings s i ++ no_rules s t i ++ totals_line (total t) (total t) ++ counts_line (no_counts t (all_ids t t) i)
+last_since_itself s t = λ i. no_settings s i ++ no_rules s t i ++ no_classes s t i ++ totals_line (total t) (total t) ++ counts_line (no_counts t (all_ids t t) i)
 
 pub nothing_since_itself : NothingSinceItself
 unfolding since_text

@@ -7,6 +7,7 @@ use Rattle.crush_units.specs.Weight.{weight_text}
 use Rattle.crush_model.specs.Table.{Row, bucket_ids, total}
 use Rattle.crush_edits.specs.Setting.{SettingData}
 use Rattle.crush_print.specs.MapText.{ascending, device_number}
+use Rattle.crush_since.specs.Classes.{class_lines}
 use Rattle.crush_since.specs.Emptied.{emptied_lines}
 use Rattle.crush_since.specs.Equal.{same_option}
 use Rattle.crush_since.specs.ItemData.{item_of, own_class_ids}
@@ -56,10 +57,10 @@ item_lines old new = flat_map (id_line old new) (all_ids old.table new.table)
 unfoldable pub totals_line : ℕ → ℕ → List ℕ
 totals_line before after = codes "total " ++ weight_text before ++ codes " to " ++ weight_text after ++ codes "\n"
 
--- what stands behind the items: settings, rules that find nothing, totals and counts
+-- what follows the items: settings, rules that find nothing, classes, totals and counts
 unfoldable pub last_lines : PlainMap → PlainMap → Tally → List ℕ
 last_lines old new counts =
-    setting_lines old.setting new.setting ++ emptied_lines old.table new.table new.setting ++ totals_line (total old.table) (total new.table) ++ counts_line counts
+    setting_lines old.setting new.setting ++ emptied_lines old.table new.table new.setting ++ class_lines old.table new.table new.setting ++ totals_line (total old.table) (total new.table) ++ counts_line counts
 
 -- SINCE TEXT: the items, and what stands behind them
 unfoldable pub since_text : PlainMap → PlainMap → List ℕ

@@ -16,6 +16,8 @@ ghost use Rattle.crush_since.specs.Counted.{IsCounted};
 
 mod below;
 mod changed;
+mod classes;
+mod collected;
 pub(crate) mod columns;
 pub(crate) mod counting;
 mod emptied;
@@ -24,6 +26,7 @@ pub(crate) mod listed;
 pub(crate) mod listing;
 mod part;
 pub(crate) mod parts;
+mod rules;
 pub(crate) mod seen;
 mod settings;
 mod tally;
@@ -32,6 +35,7 @@ mod words;
 
 pub use below::{all_below, is_among};
 pub use changed::{is_changed, is_part_changed};
+use classes::push_classes;
 pub use columns::{same_algs, same_class, same_class_ids};
 pub use counting::count_changes;
 use crush_map::CrushMap;
@@ -117,6 +121,7 @@ pub(crate) fn push_last<A: Allocator, B: Allocator>(
 {
     push_settings(old.setting(), new.setting(), out)?;
     push_emptied(old, new, out)?;
+    push_classes(old, new, out)?;
     push_totals(old.total(), new.total(), out)?;
     push_counts(counts, out)?;
     Ok(())

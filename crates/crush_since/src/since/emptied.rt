@@ -8,10 +8,11 @@ ghost use Rattle.crush_model.specs.Stands.{Stands};
 ghost use Rattle.crush_model.specs.Table.{Row, id_named};
 ghost use Rattle.crush_since.specs.Emptied.{weight_as, taken_weight, taken_word, rule_takes, weighs_nothing, is_emptied, emptied_line, emptied_by, emptied_of, emptied_lines};
 
+use crate::since::classes::class_named;
 use crush_map::{CrushMap, KeptRule, KeptStep};
 use crush_print::words::{bytes_of, push_all};
-use crush_units::{BucketId, ItemId, Name, Weight};
-use std::alloc::{AllocError, Allocator, Global};
+use crush_units::{BucketId, ItemId, Weight};
+use std::alloc::{AllocError, Allocator};
 
 /// A line for each step of the new map's rules whose bucket, or its devices of a class, weighed
 /// something and weighs nothing now. A bucket is the same by its id; for a class each item below it
@@ -93,15 +94,6 @@ fn push_step<A: Allocator, B: Allocator>(
             }
         }
         _ => Ok(()),
-    }
-}
-
-fn class_named(class: &Option<Name<Global>>) -> Option<&str>
-    ensures { option_map (λ c. c.now) result ≡ class.now }
-{
-    match class {
-        Some(class) => Some(class.as_str()),
-        None => None,
     }
 }
 

@@ -3,10 +3,10 @@
 ghost use Rattle.std.specs.Prelude.{◌≡◌, ◌++◌, OnOk, map as each};
 ghost use Rattle.std.specs.Cmp.Lexicographic.{pointwise};
 ghost use Rattle.crush_edits.specs.SettingSeen.{rule_data, step_data};
-ghost use Rattle.crush_since.specs.Settings.{same_tunable, same_kinds, same_step, same_rule, listed_if_not, tunables_line, kinds_line, rules_line, setting_lines};
+ghost use Rattle.crush_since.specs.Settings.{same_tunable, same_kinds, same_step, same_rule, listed_if_not, tunables_line, kinds_line, setting_lines};
 
+use crate::since::rules::push_rules;
 use crush_map::{KeptRule, KeptStep, Setting};
-use crush_print::words::push_all;
 use std::alloc::AllocError;
 
 #[tactic(auto, unfolding(crate::specs::Settings::setting_lines))]
@@ -35,14 +35,6 @@ pub fn push_kinds(old: &Setting, new: &Setting, out: &mut Vec<u8>) -> Result<(),
     ensures { OnOk result (out.new.items ≡ out.old.items ++ kinds_line old.now new.now) }
 {
     tell_unless(same_kinds(old, new), b"types differ\n", out)?;
-    Ok(())
-}
-
-fn push_rules(old: &Setting, new: &Setting, out: &mut Vec<u8>) -> Result<(), AllocError>
-    ensures { OnOk result (out.new.items ≡ out.old.items ++ rules_line old.now new.now) }
-{
-    let same = same_rules(old.rules(), new.rules());
-    tell_unless(same, b"rules differ\n", out)?;
     Ok(())
 }
 
@@ -85,7 +77,7 @@ pub fn same_rules(old: &[KeptRule], new: &[KeptRule]) -> bool
     true
 }
 
-fn same_rule(old: &KeptRule, new: &KeptRule) -> bool
+pub(crate) fn same_rule(old: &KeptRule, new: &KeptRule) -> bool
     ensures { result ≡ same_rule (rule_data old.now) (rule_data new.now) }
 {
     old.name == new.name

@@ -127,13 +127,15 @@ pub(crate) fn push_whole(
     push_with_class(item.view.class, out)
 }
 
+/// Appends the text of a weight of any size.
 #[tactic(auto, unfolding(crush_units::specs::Weight::weight_text))]
-fn push_units(units: u64, out: &mut Vec<u8>) -> Result<(), AllocError>
+pub(crate) fn push_units(units: u128, out: &mut Vec<u8>) -> Result<(), AllocError>
     ensures { OnOk result (out.new.items ≡ out.old.items ++ weight_text units) }
 {
-    let parts = (units as u128 * 200000 + 65536) / 131072;
+    // The parts of all units might not fit: those of a weight below 1.0 do.
+    let parts = (units % 65536 * 200000 + 65536) / 131072;
     let mut buffer = Buffer::new();
-    let whole = buffer.format(parts / 100000).as_bytes();
+    let whole = buffer.format(units / 65536 + parts / 100000).as_bytes();
     let fraction = [
         b'.',
         48 + (parts / 10000 % 10) as u8,
@@ -151,9 +153,9 @@ pub fn push_totals(before: u64, after: u64, out: &mut Vec<u8>) -> Result<(), All
     ensures { OnOk result (out.new.items ≡ out.old.items ++ totals_line before after) }
 {
     push_all(&[b"total ".as_slice()], out)?;
-    push_units(before, out)?;
+    push_units(before as u128, out)?;
     push_all(&[b" to ".as_slice()], out)?;
-    push_units(after, out)?;
+    push_units(after as u128, out)?;
     push_all(&[b"\n".as_slice()], out)
 }
 

@@ -1,0 +1,172 @@
+-- Classes of two maps: those of their items are those of their tables, and a map since itself tells none.
+use Rattle.std.proofs.Common.{◌≡◌, ℕ, ◌+◌, Bool, true, false, List, [], ◌∷◌, ◌++◌, map, ap, sym, ◌∙◌, refl, arith, eq-eqb}
+use Rattle.std.specs.Prelude.{◌==◌, ◌&&◌, not, Option, None, Some, All, flat_map, if◌then◌else◌, bytes_eq}
+use Rattle.std.specs.List.{sum_by}
+use Rattle.std.specs.Option.{option_map, option_map_or}
+use Rattle.std.proofs.lemmas.List.Sums.{sum_by-append, sum_by-cons}
+use Rattle.std.proofs.lemmas.List.Elements.{All-head, All-tail, All-weaker}
+use Rattle.crush_units.specs.declared.id.ItemId.{ItemId}
+use Rattle.crush_model.specs.Lawful.{Lawful}
+use Rattle.crush_model.specs.Table.{Row, row_of}
+use Rattle.crush_model.proofs.Reorder.{sum_by-flat_map}
+use Rattle.crush_model.proofs.Weighs.{All-found}
+use Rattle.crush_edits.specs.Setting.{StepData, take, choose, set, emit, RuleData, SettingData}
+use Rattle.crush_since.specs.Classes.{class_of, row_class, entry_class, step_class, rule_classes, classes, class_line, reweighed_line, is_untaken, untaken_text, untaken_line, class_lines}
+use Rattle.crush_since.specs.Collected.{Amount, old_weight, new_weight, old_devices, new_devices, takes, ClassData, collected}
+use Rattle.crush_since.specs.CollectedSeen.{added}
+use Rattle.crush_since.specs.Entries.{EntryData, row_entry, entry_of}
+use Rattle.crush_since.specs.Listing.{Lists, listed_id, entry_data}
+use Rattle.crush_since.specs.declared.since.collected.Source.{Source}
+use Rattle.crush_since.specs.declared.since.collected.Source.TheVariants.{Old, New, Rule}
+use Rattle.crush_since.specs.declared.since.listing.Listed.{Listed}
+use Rattle.crush_since.proofs.CollectedLaws.{amount_at, amounts, Rising, Counted, first_amount, collected_adds, collected_same, rising_collected}
+use Rattle.crush_since.proofs.SortedItems.{counted_by}
+
+-- COUNTED: each class that something names
+counted_both : (xs ys : List ClassData) → Counted xs → Counted ys → Counted (xs ++ ys)
+counted_both [] ys a b = b
+counted_both (x ∷ xs) ys a b = (a.0, counted_both xs ys a.1 b)
+
+counted_each : {X : Type 0} (f : X → List ClassData) → ((x : X) → Counted (f x)) → (xs : List X) → Counted (flat_map f xs)
+counted_each f each [] = tt
+counted_each f each (x ∷ xs) = counted_both (f x) (flat_map f xs) (each x) (counted_each f each xs)
+
+counted_class : (s : Source) (w : ℕ) (o : Option (List ℕ)) → Counted (class_of (added s w) o)
+counted_class s w None = tt
+counted_class s w (Some c) = (counted_by s w, tt)
+
+counted_step : (x : StepData) → Counted (step_class x)
+counted_step (take b c) = counted_class Rule 0 c
+counted_step (choose l f n k) = tt
+counted_step (set w v) = tt
+counted_step emit = tt
+
+counted_rules : (rules : List RuleData) → Counted (rule_classes rules)
+counted_rules rules = counted_each (λ (r : RuleData). flat_map step_class r.steps) (λ r. counted_each step_class counted_step r.steps) rules
+
+-- SUMS over the items of a table are those over its rows
+sum_same : {X : Type 0} (f g : X → ℕ) (xs : List X) → All (λ x. f x ≡ g x) xs → sum_by f xs ≡ sum_by g xs
+sum_same f g [] a = refl
+sum_same f g (x ∷ xs) a = omega (arith, sum_by-cons f x xs, sum_by-cons g x xs, All-head (λ y. f y ≡ g y) x xs a, sum_same f g xs (All-tail (λ y. f y ≡ g y) x xs a))
+
+abbrev amount_of : (EntryData → ℕ) → List Row → ItemId → ℕ
+amount_of f t i = option_map_or f (entry_of t i) 0
+
+sum_listed : {A : _} (f : EntryData → ℕ) (t : List Row) (ls : List (Listed A)) → Lawful t → Lists t ls → sum_by (λ l. f (entry_data l)) ls ≡ sum_by (λ (r : Row). f (row_entry t r.id r)) t
+sum_listed f t ls lawful lists =
+    sum_same (λ l. f (entry_data l)) (λ l. amount_of f t (listed_id l)) ls
+    (All-weaker (λ l. entry_of t (listed_id l) ≡ Some (entry_data l)) (λ l. f (entry_data l) ≡ amount_of f t (listed_id l)) (λ l e. sym (ap (λ o. option_map_or f o 0) e)) ls lists.told)
+    ∙ lists.ids (amount_of f t)
+    ∙ sum_same (λ (r : Row). amount_of f t r.id) (λ (r : Row). f (row_entry t r.id r)) t
+    (All-weaker (λ (r : Row). row_of t r.id ≡ Some r) (λ (r : Row). amount_of f t r.id ≡ f (row_entry t r.id r)) (λ r e. ap (λ o. option_map_or f (option_map (row_entry t r.id) o) 0) e) t (All-found t lawful.ids))
+
+listed_amounts : {A : _} (s : Source) (c : List ℕ) (k : Amount) (t : List Row) (ls : List (Listed A)) → Lawful t → Lists t ls
+    → amounts c k (flat_map (λ l. entry_class s (entry_data l)) ls) ≡ amounts c k (flat_map (row_class s t) t)
+listed_amounts s c k t ls lawful lists =
+    sum_by-flat_map (amount_at c k) (λ l. entry_class s (entry_data l)) ls
+    ∙ sum_listed (λ e. amounts c k (entry_class s e)) t ls lawful lists
+    ∙ sym (sum_by-flat_map (amount_at c k) (row_class s t) t)
+
+-- THE CLASSES of two maps
+pub classes_listed : {A B : _} (t u : List Row) (xs : List (Listed A)) (ys : List (Listed B)) (rules : List RuleData) → Lawful t → Lawful u → Lists t xs → Lists u ys
+    → collected (flat_map (λ l. entry_class Old (entry_data l)) xs ++ flat_map (λ l. entry_class New (entry_data l)) ys ++ rule_classes rules) ≡ classes t u rules
+unfolding classes
+classes_listed t u xs ys rules lt lu lx ly =
+    let a = flat_map (λ l. entry_class Old (entry_data l)) xs in
+    let b = flat_map (λ l. entry_class New (entry_data l)) ys in
+    let a' = flat_map (row_class Old t) t in
+    let b' = flat_map (row_class New u) u in
+    let r = rule_classes rules in
+    collected_same (a ++ b ++ r) (a' ++ b' ++ r)
+    (counted_both (a ++ b) r (counted_both a b (counted_each _ (λ l. counted_class Old (entry_data l).item.view.weight (entry_data l).item.view.class) xs) (counted_each _ (λ l. counted_class New (entry_data l).item.view.weight (entry_data l).item.view.class) ys)) (counted_rules rules))
+    (counted_both (a' ++ b') r (counted_both a' b' (counted_each _ (λ (x : Row). counted_class Old _ x.class) t) (counted_each _ (λ (x : Row). counted_class New _ x.class) u)) (counted_rules rules))
+    (λ c k. omega (
+      arith,
+      sum_by-append (amount_at c k) (a ++ b) r,
+      sum_by-append (amount_at c k) a b,
+      sum_by-append (amount_at c k) (a' ++ b') r,
+      sum_by-append (amount_at c k) a' b',
+      listed_amounts Old c k t xs lt lx,
+      listed_amounts New c k u ys lu ly,
+    ))
+
+pub three_pushed : {X : Type 0} (start one two three a b c : List X) → start ≡ [] → one ≡ start ++ a → two ≡ one ++ b → three ≡ two ++ c → three ≡ a ++ b ++ c
+three_pushed start one two three a b c none is_one is_two is_three =
+    is_three ∙ ap (λ l. l ++ c) (is_two ∙ ap (λ l. l ++ b) (is_one ∙ ap (λ l. l ++ a) none))
+
+-- ITSELF: amounts of both maps that are the same
+class_even : (f g : Amount → ℕ) (k j : Amount) → f k ≡ g j → (c : List ℕ) (o : Option (List ℕ)) → amounts c k (class_of f o) ≡ amounts c j (class_of g o)
+class_even f g k j same c None = refl
+class_even f g k j same c (Some n) =
+    let x : ClassData = record { name = n; amount = f } in
+    let y : ClassData = record { name = n; amount = g } in
+    let e : amount_at c k x ≡ amount_at c j y = ap (λ m. if bytes_eq n c then m else 0) same in
+    omega (arith, e, sum_by-cons (amount_at c k) x [], sum_by-cons (amount_at c j) y [])
+
+flat_even : {X : Type 0} (c : List ℕ) (k j : Amount) (f g : X → List ClassData) → ((x : X) → amounts c k (f x) ≡ amounts c j (g x)) → (xs : List X) → amounts c k (flat_map f xs) ≡ amounts c j (flat_map g xs)
+flat_even c k j f g each [] = refl
+flat_even c k j f g each (x ∷ xs) =
+    omega (arith, each x, flat_even c k j f g each xs, sum_by-append (amount_at c k) (f x) (flat_map f xs), sum_by-append (amount_at c j) (g x) (flat_map g xs))
+
+-- an amount of the old map and the same of the new one
+pub record AreTurned (k j : Amount) : Type 0 where
+  pub old : (w : ℕ) → added Old w k ≡ added New w j
+  pub new : (w : ℕ) → added New w k ≡ added Old w j
+  pub rule : added Rule 0 k ≡ added Rule 0 j
+
+step_even : (k j : Amount) → added Rule 0 k ≡ added Rule 0 j → (c : List ℕ) (x : StepData) → amounts c k (step_class x) ≡ amounts c j (step_class x)
+step_even k j same c (take b o) = class_even (added Rule 0) (added Rule 0) k j same c o
+step_even k j same c (choose l f n x) = refl
+step_even k j same c (set w v) = refl
+step_even k j same c emit = refl
+
+abbrev entries : List Row → List RuleData → List ClassData
+entries t rules = flat_map (row_class Old t) t ++ flat_map (row_class New t) t ++ rule_classes rules
+
+entries_even : (k j : Amount) → AreTurned k j → (t : List Row) (rules : List RuleData) (c : List ℕ) → amounts c k (entries t rules) ≡ amounts c j (entries t rules)
+entries_even k j turned t rules c =
+    let a = flat_map (row_class Old t) t in
+    let b = flat_map (row_class New t) t in
+    let r = rule_classes rules in
+    let first : amounts c k a ≡ amounts c j b = flat_even c k j (row_class Old t) (row_class New t) (λ x. class_even _ _ k j (turned.old _) c x.class) t in
+    let second : amounts c k b ≡ amounts c j a = flat_even c k j (row_class New t) (row_class Old t) (λ x. class_even _ _ k j (turned.new _) c x.class) t in
+    let third : amounts c k r ≡ amounts c j r = flat_even c k j (λ (x : RuleData). flat_map step_class x.steps) (λ (x : RuleData). flat_map step_class x.steps) (λ x. flat_even c k j step_class step_class (step_even k j turned.rule c) x.steps) rules in
+    omega (arith, first, second, third, sum_by-append (amount_at c k) (a ++ b) r, sum_by-append (amount_at c k) a b, sum_by-append (amount_at c j) (a ++ b) r, sum_by-append (amount_at c j) a b)
+
+abbrev AllEven : Amount → Amount → List ClassData → Type 0
+AllEven k j [] = Unit {0}
+AllEven k j (x ∷ xs) = (x.amount k ≡ x.amount j) × AllEven k j xs
+
+all_even : (k j : Amount) (xs : List ClassData) → Rising xs → ((c : List ℕ) → amounts c k xs ≡ amounts c j xs) → AllEven k j xs
+all_even k j [] up same = tt
+all_even k j (x ∷ xs) up same =
+    let first : x.amount k ≡ x.amount j = sym (first_amount k x xs up.0) ∙ same x.name ∙ first_amount j x xs up.0 in
+    (first, all_even k j xs up.1 (λ c. let here : amount_at c k x ≡ amount_at c j x = ap (λ m. if bytes_eq x.name c then m else 0) first in omega (arith, same c, here, sum_by-cons (amount_at c k) x xs, sum_by-cons (amount_at c j) x xs)))
+
+classes_even : (k j : Amount) → AreTurned k j → (t : List Row) (rules : List RuleData) → AllEven k j (collected (entries t rules))
+classes_even k j turned t rules =
+    all_even k j (collected (entries t rules)) (rising_collected (entries t rules)) (λ c. collected_adds c k (entries t rules) ∙ entries_even k j turned t rules c ∙ sym (collected_adds c j (entries t rules)))
+
+none_reweighed : (xs : List ClassData) → AllEven old_weight new_weight xs → flat_map reweighed_line xs ≡ []
+none_reweighed [] h = refl
+none_reweighed (x ∷ xs) h = λ i. (if not (eq-eqb (x.amount old_weight) (x.amount new_weight) h.0 i) then class_line x else []) ++ none_reweighed xs h.1 i
+
+never : (p q : Bool) → ((p && not p) && q) ≡ false
+never true q = refl
+never false q = refl
+
+none_untaken : (xs : List ClassData) → AllEven old_devices new_devices xs → flat_map untaken_line xs ≡ []
+none_untaken [] h = refl
+none_untaken (x ∷ xs) h =
+    let no : is_untaken x ≡ false = ap (λ n. ((x.amount old_devices == 0) && not (n == 0)) && (x.amount takes == 0)) (sym h.0) ∙ never (x.amount old_devices == 0) (x.amount takes == 0) in
+    λ i. (if no i then untaken_text x.name else []) ++ none_untaken xs h.1 i
+
+weights_turned : AreTurned old_weight new_weight
+weights_turned = record { old = λ w. refl; new = λ w. refl; rule = refl }
+
+devices_turned : AreTurned old_devices new_devices
+devices_turned = record { old = λ w. refl; new = λ w. refl; rule = refl }
+
+pub no_classes : (s : SettingData) (t : List Row) → class_lines t t s ≡ []
+unfolding class_lines classes
+no_classes s t = λ i. none_reweighed (collected (entries t s.rules)) (classes_even old_weight new_weight weights_turned t s.rules) i ++ none_untaken (collected (entries t s.rules)) (classes_even old_devices new_devices devices_turned t s.rules) i

@@ -1,0 +1,5 @@
+-- The text of a weight whose parts might not fit.
+use Rattle.std.proofs.Common.{◌≡◌, ℕ, ◌+◌, ◌*◌, ◌/◌, ◌%◌, arith}
+
+pub parts_split : (u : ℕ) → (u * 200000 + 65536) / 131072 ≡ u / 65536 * 100000 + (u % 65536 * 200000 + 65536) / 131072
+parts_split u = omega arith
