@@ -1,8 +1,8 @@
+pub mod BucketLaws
 pub mod Chains
 pub mod DocumentLaws
 pub mod EntryLaws
-pub mod Finds
-pub mod IdLaws
+pub mod ItemLaws
 pub mod Kids
 pub mod Listed
 pub mod Numbers
@@ -10,7 +10,6 @@ pub mod PlanLaws
 pub mod ReplyLaws
 pub mod SinceLaws
 pub mod StaysLaws
-pub mod Told
 pub mod TreeLaws
 pub mod WeightNumber
 pub mod Written

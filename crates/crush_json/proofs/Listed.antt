@@ -55,9 +55,6 @@ flattened_seen see f xs = flattened (λ x. f (see x)) xs ∙ ap tokens_of_all (s
 pub one_more : {X : Type 0} (old now new first next all : List X) → now ≡ old ++ first → new ≡ now ++ next → all ≡ first ++ next → new ≡ old ++ all
 one_more old now new first next all before after is = after ∙ ap (λ l. l ++ next) before ∙ append_assoc old first next ∙ ap (λ l. old ++ l) (sym is)
 
-pub one_more_below : {X : Type 0} (old now new : List X) (s : X) (first next all : List X) → now ≡ old ++ s ∷ first → new ≡ now ++ next → all ≡ first ++ next → new ≡ old ++ s ∷ all
-one_more_below old now new s first next all before after is = one_more old now new (s ∷ first) next (s ∷ all) before after (ap (λ l. s ∷ l) is)
-
 -- what one element more has
 pub more : {X Z : Type 0} (f : X → List Z) (xs : List X) (i : ℕ) (x : X) → i < length xs → x ≡ get_or xs i x → flat_map f (take (i + 1) xs) ≡ flat_map f (take i xs) ++ f x
 more f xs i x lt is =

@@ -1,6 +1,7 @@
 pub mod Document
 pub mod HistoryDocument
 pub mod Ids
+pub mod ItemDocuments
 pub mod MapDocument
 pub mod PlanDocument
 pub mod RuleDocument

@@ -1,59 +1,45 @@
-//! The devices of a map.
+//! Writes the devices of a map as JSON values.
 
-ghost use Rattle.std.specs.Prelude.{◌≡◌, ◌++◌, List, OnOk, flat_map};
+ghost use Rattle.std.specs.Prelude.{◌≡◌, ◌++◌, OnOk, flat_map, map as each};
+ghost use Rattle.crush_nodes.specs.Seen.{leaf_data};
 ghost use Rattle.crush_nodes.specs.SeenView.{view_data};
-ghost use Rattle.crush_print.specs.MapText.{device_numbers};
-ghost use Rattle.crush_model.specs.Stands.{Stands};
-ghost use Rattle.crush_model.specs.Table.{Row};
-ghost use Rattle.crush_json.specs.MapDocument.{device_document, device_documents, of_view};
-ghost use Rattle.crush_json.specs.Tokens.{tokens_of, tokens_of_all};
+ghost use Rattle.crush_json.specs.ItemDocuments.{leaf_document};
+ghost use Rattle.crush_json.specs.MapDocument.{device_document};
+ghost use Rattle.crush_json.specs.Tokens.{tokens_of};
 ghost use Rattle.crush_json.specs.Values.{list};
 
 use crate::document::Document;
-use crush_map::CrushMap;
-use crush_tree::View;
-use crush_units::{DeviceId, ItemId};
+use crush_tree::{Leaf, View};
 use std::alloc::{AllocError, Allocator};
 
+/// Writes the list of these devices.
 pub(crate) fn push_devices<A: Allocator>(
-    map: &CrushMap<A>,
-    ids: &[DeviceId],
+    devices: &[&Leaf<A>],
     out: &mut Document,
 ) -> Result<(), AllocError>
-    ensures { (t : List Row) → Stands map.now.forest t → ids.now ≡ device_numbers t
-        → OnOk result (out.new ≡ out.old ++ tokens_of (list (device_documents t))) }
+    ensures { OnOk result (out.new ≡ out.old
+        ++ tokens_of (list (each (λ d. leaf_document (leaf_data d.now)) devices.now))) }
 {
     out.begin_array()?;
-    push_each(map, ids, out)?;
+    push_each(devices, out)?;
     out.end_array()
 }
 
-fn push_each<A: Allocator>(
-    map: &CrushMap<A>,
-    ids: &[DeviceId],
-    out: &mut Document,
-) -> Result<(), AllocError>
-    ensures { (t : List Row) → Stands map.now.forest t → OnOk result (out.new ≡ out.old
-        ++ flat_map (λ d. tokens_of_all (of_view t (ItemId.Device d) device_document)) ids.now) }
+fn push_each<A: Allocator>(devices: &[&Leaf<A>], out: &mut Document) -> Result<(), AllocError>
+    ensures { OnOk result (out.new ≡ out.old
+        ++ flat_map (λ d. tokens_of (leaf_document (leaf_data d.now))) devices.now) }
 {
-    for id in ids {
-        push_device(map, *id, out)?;
+    for device in devices {
+        push_device(*device, out)?;
     }
     Ok(())
 }
 
-fn push_device<A: Allocator>(
-    map: &CrushMap<A>,
-    id: DeviceId,
-    out: &mut Document,
-) -> Result<(), AllocError>
-    ensures { (t : List Row) → Stands map.now.forest t → OnOk result (out.new ≡ out.old
-        ++ tokens_of_all (of_view t (ItemId.Device id) device_document)) }
+fn push_device<A: Allocator>(device: &Leaf<A>, out: &mut Document) -> Result<(), AllocError>
+    ensures { OnOk result (out.new ≡ out.old ++ tokens_of (leaf_document (leaf_data device.now))) }
 {
-    match map.find(ItemId::Device(id)) {
-        Some(item) => push_view(&item, out),
-        None => Ok(()),
-    }
+    let view = View::device(device, None);
+    push_view(&view, out)
 }
 
 #[tactic(auto, unfolding(crate::specs::MapDocument::device_document))]

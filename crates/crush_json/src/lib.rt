@@ -10,7 +10,7 @@ mod commands;
 mod devices;
 mod document;
 mod history;
-mod ids;
+mod items;
 mod kinds;
 mod map;
 mod replies;

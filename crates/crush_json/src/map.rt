@@ -1,4 +1,4 @@
-//! A map as a value.
+//! Writes a map as a JSON value.
 
 ghost use Rattle.std.specs.Prelude.{◌≡◌, ◌++◌, List, codes, OnOk};
 ghost use Rattle.crush_model.specs.Stands.{Stands};
@@ -11,13 +11,14 @@ ghost use Rattle.crush_json.specs.Values.{list};
 use crate::buckets::push_buckets;
 use crate::devices::push_devices;
 use crate::document::Document;
-use crate::ids::ids_in_order;
+use crate::items::{buckets_in_order, devices_in_order};
 use crate::kinds::push_kinds;
 use crate::rules::push_rules;
 use crate::tunables::push_tunables;
 use crush_map::CrushMap;
 use std::alloc::{AllocError, Allocator, Global};
 
+/// Writes the map as `crushtool --dump` of Ceph does, with the members of each object by name.
 pub(crate) fn push_map<A: Allocator>(
     alloc: Global,
     map: &CrushMap<A>,
@@ -32,6 +33,7 @@ pub(crate) fn push_map<A: Allocator>(
     out.end_object()
 }
 
+/// Writes the members of the map that are its buckets and its devices.
 fn push_items<A: Allocator>(
     alloc: Global,
     map: &CrushMap<A>,
@@ -41,13 +43,15 @@ fn push_items<A: Allocator>(
         ++ (member_tokens (codes "buckets") (list (bucket_documents map.now.setting t))
         ++ member_tokens (codes "devices") (list (device_documents t)))) }
 {
-    let ids = ids_in_order(alloc, map.forest())?;
+    let buckets = buckets_in_order(alloc, map.forest())?;
+    let devices = devices_in_order(alloc, map.forest())?;
     out.key("buckets")?;
-    push_buckets(map, ids.buckets.as_slice(), out)?;
+    push_buckets(map.setting(), buckets.as_slice(), out)?;
     out.key("devices")?;
-    push_devices(map, ids.devices.as_slice(), out)
+    push_devices(devices.as_slice(), out)
 }
 
+/// Writes the members of the map that are its rules, tunables and types.
 fn push_setting<A: Allocator>(
     alloc: Global,
     map: &CrushMap<A>,

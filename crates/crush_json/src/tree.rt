@@ -1,84 +1,95 @@
-//! The tree of a map as a value.
+//! Writes the tree of a map as a JSON value.
 
 ghost use Rattle.std.specs.Prelude.{◌≡◌, ◌++◌, List, OnOk, flat_map, map as each};
 ghost use Rattle.crush_nodes.specs.Seen.{node_id};
 ghost use Rattle.crush_nodes.specs.SeenView.{view_data};
-ghost use Rattle.crush_model.specs.Stands.{Stands};
 ghost use Rattle.crush_model.specs.Table.{Row};
 ghost use Rattle.crush_units.specs.Id.{item_number};
 ghost use Rattle.crush_print.specs.WalkStep.{walk_step_data};
+ghost use Rattle.crush_json.specs.ItemDocuments.{AreBuckets};
 ghost use Rattle.crush_json.specs.Tokens.{children_tokens, item_tokens, tokens_of, tokens_of_all};
 ghost use Rattle.crush_json.specs.TreeDocument.{is_among, is_stray, node_document, node_documents, node_if, tree_document, type_word};
 ghost use Rattle.crush_json.specs.Values.{list, whole};
 
-use crate::buckets::items_of;
 use crate::document::Document;
-use crush_map::{CrushMap, Setting};
+use crate::items::children_of;
+use crush_map::Setting;
 use crush_print::WalkStep;
-use crush_tree::{Node, View};
+use crush_tree::{Bucket, Node, View};
 use crush_units::{ItemId, TypeId};
 use std::alloc::{AllocError, Allocator};
 
+/// Writes the tree of these steps. The buckets are all those of the map, in the order in which
+/// [`buckets_in_order`](crate::items::buckets_in_order) returns them: a node has all items of its
+/// bucket as its children, also those that have no step.
 #[tactic(auto, unfolding(crate::specs::TreeDocument::tree_document))]
 pub(crate) fn push_tree<A: Allocator>(
-    map: &CrushMap<A>,
+    setting: &Setting,
+    buckets: &[&Bucket<A>],
     steps: &[WalkStep<'_, A>],
     out: &mut Document,
 ) -> Result<(), AllocError>
-    ensures { (t : List Row) → Stands map.now.forest t → OnOk result (out.new ≡ out.old
-        ++ tokens_of (tree_document map.now.setting t (each walk_step_data steps.now))) }
+    ensures { (t : List Row) → AreBuckets (λ b. b.now) t buckets.now
+        → OnOk result (out.new ≡ out.old
+        ++ tokens_of (tree_document setting.now t (each walk_step_data steps.now))) }
 {
     out.begin_object()?;
     out.key("nodes")?;
-    push_nodes(map, false, steps, out)?;
+    push_nodes(setting, buckets, false, steps, out)?;
     out.key("stray")?;
-    push_nodes(map, true, steps, out)?;
+    push_nodes(setting, buckets, true, steps, out)?;
     out.end_object()
 }
 
-/// The stray items, or the others.
+/// Writes the list of the steps whose items are stray, or of all others.
 fn push_nodes<A: Allocator>(
-    map: &CrushMap<A>,
+    setting: &Setting,
+    buckets: &[&Bucket<A>],
     stray: bool,
     steps: &[WalkStep<'_, A>],
     out: &mut Document,
 ) -> Result<(), AllocError>
-    ensures { (t : List Row) → Stands map.now.forest t → OnOk result (out.new ≡ out.old
-        ++ tokens_of (list (node_documents map.now.setting t stray (each walk_step_data steps.now)))) }
+    ensures { (t : List Row) → AreBuckets (λ b. b.now) t buckets.now
+        → OnOk result (out.new ≡ out.old
+        ++ tokens_of (list (node_documents setting.now t stray (each walk_step_data steps.now)))) }
 {
     out.begin_array()?;
-    push_each(map, stray, steps, out)?;
+    push_each(setting, buckets, stray, steps, out)?;
     out.end_array()
 }
 
 fn push_each<A: Allocator>(
-    map: &CrushMap<A>,
+    setting: &Setting,
+    buckets: &[&Bucket<A>],
     stray: bool,
     steps: &[WalkStep<'_, A>],
     out: &mut Document,
 ) -> Result<(), AllocError>
-    ensures { (t : List Row) → Stands map.now.forest t → OnOk result (out.new ≡ out.old
-        ++ flat_map (λ x. tokens_of_all (node_if map.now.setting t stray (walk_step_data x)))
+    ensures { (t : List Row) → AreBuckets (λ b. b.now) t buckets.now
+        → OnOk result (out.new ≡ out.old
+        ++ flat_map (λ x. tokens_of_all (node_if setting.now t stray (walk_step_data x)))
         steps.now) }
 {
     for step in steps {
-        push_step(map, stray, step, out)?;
+        push_step(setting, buckets, stray, step, out)?;
     }
     Ok(())
 }
 
 fn push_step<A: Allocator>(
-    map: &CrushMap<A>,
+    setting: &Setting,
+    buckets: &[&Bucket<A>],
     stray: bool,
     step: &WalkStep<'_, A>,
     out: &mut Document,
 ) -> Result<(), AllocError>
-    ensures { (t : List Row) → Stands map.now.forest t → OnOk result (out.new ≡ out.old
-        ++ tokens_of_all (node_if map.now.setting t stray (walk_step_data step.now))) }
+    ensures { (t : List Row) → AreBuckets (λ b. b.now) t buckets.now
+        → OnOk result (out.new ≡ out.old
+        ++ tokens_of_all (node_if setting.now t stray (walk_step_data step.now))) }
 {
     let item = step.view();
     if is_among(stray, &item) {
-        push_node(map, step.depth, &item, out)
+        push_node(setting, buckets, step.depth, &item, out)
     } else {
         Ok(())
     }
@@ -94,7 +105,7 @@ fn is_among(stray: bool, item: &View<'_>) -> bool
     }
 }
 
-/// A device that no bucket holds.
+/// Whether the item is a device that no bucket holds.
 fn is_stray(item: &View<'_>) -> bool
     ensures { result ≡ is_stray (view_data item.now) }
 {
@@ -105,35 +116,38 @@ fn is_stray(item: &View<'_>) -> bool
 }
 
 fn push_node<A: Allocator>(
-    map: &CrushMap<A>,
+    setting: &Setting,
+    buckets: &[&Bucket<A>],
     depth: u32,
     item: &View<'_>,
     out: &mut Document,
 ) -> Result<(), AllocError>
-    ensures { (t : List Row) → Stands map.now.forest t → OnOk result (out.new ≡ out.old
-        ++ tokens_of (node_document map.now.setting t depth (view_data item.now))) }
+    ensures { (t : List Row) → AreBuckets (λ b. b.now) t buckets.now
+        → OnOk result (out.new ≡ out.old
+        ++ tokens_of (node_document setting.now t depth (view_data item.now))) }
 {
     out.begin_object()?;
-    push_children(map, item.id, out)?;
+    push_children(buckets, item.id, out)?;
     out.natural("depth", depth as u64)?;
     out.text_if("device_class", item.class)?;
-    push_item(map.setting(), item, out)?;
+    push_item(setting, item, out)?;
     out.end_object()
 }
 
 fn push_children<A: Allocator>(
-    map: &CrushMap<A>,
+    buckets: &[&Bucket<A>],
     id: ItemId,
     out: &mut Document,
 ) -> Result<(), AllocError>
-    ensures { (t : List Row) → Stands map.now.forest t → OnOk result (out.new ≡ out.old
+    ensures { (t : List Row) → AreBuckets (λ b. b.now) t buckets.now
+        → OnOk result (out.new ≡ out.old
         ++ children_tokens t id) }
 {
     match id {
         ItemId::Device(_) => Ok(()),
         ItemId::Bucket(bucket) => {
             out.key("children")?;
-            push_ids(items_of(map, bucket), out)
+            push_ids(children_of(buckets, bucket), out)
         }
     }
 }
@@ -168,7 +182,8 @@ fn push_item(setting: &Setting, item: &View<'_>, out: &mut Document) -> Result<(
     out.natural("weight", item.weight.units() as u64)
 }
 
-/// A device is an `osd` where the setting has no type 0.
+/// Returns the name of a type. If the setting doesn't have the type, returns `osd` for a device, and
+/// an empty text for a bucket.
 pub(crate) fn type_name(setting: &Setting, id: ItemId, kind: TypeId) -> &str
     ensures { result.now ≡ type_word setting.now id kind }
 {

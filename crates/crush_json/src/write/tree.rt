@@ -15,6 +15,7 @@ ghost use Rattle.crush_json.specs.TreeDocument.{tree_document};
 
 use crate::document::Document;
 use crate::history::History;
+use crate::items::buckets_in_order;
 use crate::tree::push_tree;
 use crate::write::{bounded, line_of, open};
 use crush_map::CrushMap;
@@ -94,7 +95,8 @@ fn push_document<A: Allocator>(
         ++ tokens_of (document_of_tree (option_map history_data history.entry)
         (tree_document map.now.setting t (each walk_step_data steps.now)))) }
 {
+    let buckets = buckets_in_order(alloc, map.forest())?;
     open(alloc, history, "tree", out)?;
-    push_tree(map, steps, out)?;
+    push_tree(map.setting(), buckets.as_slice(), steps, out)?;
     out.end_object()
 }

@@ -1,10 +1,8 @@
-use Rattle.std.proofs.Common.{◌≡◌, ◌++◌, List, take}
+use Rattle.std.proofs.Common.{◌≡◌, ◌++◌, take}
 use Rattle.std.specs.Prelude.{flat_map}
-use Rattle.crush_model.specs.Stands.{Stands}
-use Rattle.crush_model.specs.Table.{Row}
-use Rattle.crush_json.specs.MapDocument.{buckets_at}
-use Rattle.crush_json.specs.Tokens.{tokens_of_all}
+use Rattle.crush_json.specs.ItemDocuments.{own_document}
+use Rattle.crush_json.specs.Tokens.{tokens_of}
 use Rattle.crush_json.proofs.buckets.push_each.Given as goal
 
-abbrev pub invariant-loop-id : goal.invariant-loop-id
-invariant-loop-id g l = (t : List Row) → Stands l.map.forest t → l.out ≡ l.fn.out ++ flat_map (λ b. tokens_of_all (buckets_at l.map.setting t b)) (take l.id-index l.ids)
+abbrev pub invariant-loop-bucket : goal.invariant-loop-bucket
+invariant-loop-bucket g l = l.out ≡ l.fn.out ++ flat_map (λ b. tokens_of (own_document l.setting b.now)) (take l.bucket-index l.buckets)

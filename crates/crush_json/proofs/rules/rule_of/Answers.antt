@@ -3,7 +3,7 @@ use Rattle.std.specs.Prelude.{find}
 use Rattle.std.proofs.lemmas.List.{take_all}
 use Rattle.crush_edits.specs.Setting.{RuleData}
 use Rattle.crush_edits.specs.SettingSeen.{rule_data}
-use Rattle.crush_json.proofs.Finds.{found_here, not_here, equal, other}
+use Rattle.crush_since.proofs.Finds.{found_here, not_here, equal, other}
 use Rattle.crush_json.proofs.rules.rule_of.Goals as goal
 
 pub returns-then-rule-id : goal.returns-then-rule-id

@@ -1,7 +1,7 @@
 use Rattle.std.proofs.Common.{List, ℕ, [], ◌++◌, ap, ◌∙◌}
 use Rattle.crush_json.specs.PlanDocument.{line_value}
 use Rattle.crush_json.specs.Tokens.{tokens_of}
-use Rattle.crush_json.proofs.Finds.{equal, other}
+use Rattle.crush_since.proofs.Finds.{equal, other}
 use Rattle.crush_json.proofs.StaysLaws.{line_ends, line_goes_on, to_come}
 use Rattle.crush_json.proofs.stays.push_byte.Goals as goal
 

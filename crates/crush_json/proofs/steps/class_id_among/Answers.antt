@@ -3,7 +3,7 @@ use Rattle.std.specs.Prelude.{bytes_eq}
 use Rattle.std.specs.Option.{option_map}
 use Rattle.crush_model.specs.Items.{ShadowData}
 use Rattle.crush_nodes.specs.Seen.{shadow_data}
-use Rattle.crush_json.proofs.Finds.{found_here, not_here}
+use Rattle.crush_since.proofs.Finds.{found_here, not_here}
 use Rattle.crush_json.proofs.steps.class_id_among.Goals as goal
 
 pub returns-then-is : goal.returns-then-is
