@@ -1,32 +1,43 @@
 -- A map on its way to another.
-use Rattle.std.specs.Prelude.{◌≡◌, List, ◌++◌}
+use Rattle.std.specs.Prelude.{◌≡◌, List, [], ◌++◌}
 use Rattle.std.specs.Option.{option_map}
 use Rattle.crush_model.specs.Forest.{ForestData}
 use Rattle.crush_model.specs.Stands.{Stands}
 use Rattle.crush_model.specs.Table.{Row}
 use Rattle.crush_edits.specs.declared.edit.Edit.{Edit}
 use Rattle.crush_edits.specs.Setting.{SettingData}
-use Rattle.crush_plan.specs.declared.aim.Aim.{Aim}
+use Rattle.crush_plan.specs.declared.goal.PlanGoal.{PlanGoal}
 use Rattle.crush_plan.specs.declared.draft.Draft.{Draft}
 use Rattle.crush_plan.specs.Leads.{Leads}
 use Rattle.crush_plan.specs.Part.{IsAllowed}
 
 -- an edit of a table that is allowed between the two maps
-abbrev pub Allows : {A B : _} → Aim A B → List Row → Edit → Type 0
-Allows aim v e = (t u : List Row) → Stands aim.before.now.forest t → Stands aim.wanted.now.forest u → IsAllowed t u (option_map (λ name. name.now) aim.under) v e
+abbrev pub Allows : {A B : _} → PlanGoal A B → List Row → Edit → Type 0
+Allows goal v e = (t u : List Row) → Stands goal.before.now.forest t → Stands goal.wanted.now.forest u → IsAllowed t u (option_map (λ name. name.now) goal.under) v e
 
--- the edits lead to a table for which the forest stands
-abbrev pub LeadsTo : {A B : _} → Aim A B → SettingData → List Row → List Edit → ForestData → Type 0
-LeadsTo aim s t es f = (u : List Row) × Leads (Allows aim) s t es u × Stands f u
+-- the edits lead to a table that the forest represents
+abbrev pub LeadsTo : {A B : _} → PlanGoal A B → SettingData → List Row → List Edit → ForestData → Type 0
+LeadsTo goal s t es f = (u : List Row) × Leads (Allows goal) s t es u × Stands f u
 
--- a draft with more edits, which lead from the map that it had to the one that it has
-pub record GoesOn {A B : _} (aim : Aim A B) (old new : Draft A) : Type 0 where
+-- a draft with more edits, which lead from the map that it had to the map that it has
+pub record GoesOn {A B : _} (goal : PlanGoal A B) (old new : Draft A) : Type 0 where
   pub setting : new.map.setting ≡ old.map.setting
   pub more : List Edit
   pub edits : new.edits.items ≡ old.edits.items ++ more
-  pub leads : (t : List Row) → Stands old.map.forest t → LeadsTo aim old.map.setting t more new.map.forest
+  pub leads : (t : List Row) → Stands old.map.forest t → LeadsTo goal old.map.setting t more new.map.forest
 
--- a draft of the map before: its edits lead from it to the map that it has
-pub record IsDraftOf {A B : _} (aim : Aim A B) (d : Draft A) : Type 0 where
-  pub setting : d.map.setting ≡ aim.before.now.setting
-  pub leads : (t : List Row) → Stands aim.before.now.forest t → LeadsTo aim aim.before.now.setting t d.edits.items d.map.forest
+-- a draft without edits, whose map represents all tables that the map of the other draft represents
+pub record IsFork {A : _} (d fork : Draft A) : Type 0 where
+  pub setting : fork.map.setting ≡ d.map.setting
+  pub none : fork.edits.items ≡ []
+  pub stands : (t : List Row) → Stands d.map.forest t → Stands fork.map.forest t
+
+-- a draft whose edits lead from the map of the other draft to the map that it has
+pub record IsContinued {A B : _} (goal : PlanGoal A B) (d next : Draft A) : Type 0 where
+  pub setting : next.map.setting ≡ d.map.setting
+  pub leads : (t : List Row) → Stands d.map.forest t → LeadsTo goal d.map.setting t next.edits.items next.map.forest
+
+-- a draft of the map before: its edits lead from that map to the map that it has
+pub record IsDraftOf {A B : _} (goal : PlanGoal A B) (d : Draft A) : Type 0 where
+  pub setting : d.map.setting ≡ goal.before.now.setting
+  pub leads : (t : List Row) → Stands goal.before.now.forest t → LeadsTo goal goal.before.now.setting t d.edits.items d.map.forest

@@ -1,4 +1,4 @@
--- Edits of which each is allowed, is done and changes the map.
+-- Edits that can be made one after the other: each is allowed, is done and changes the map.
 use Rattle.std.specs.Prelude.{◌≡◌, ℕ, List, [], ◌∷◌, true}
 use Rattle.crush_model.specs.Table.{Row}
 use Rattle.crush_edits.specs.declared.edit.Edit.{Edit}
@@ -6,7 +6,7 @@ use Rattle.crush_edits.specs.Setting.{SettingData}
 use Rattle.crush_edits.specs.Answer.{done}
 use Rattle.crush_edits.specs.Edit.{edit}
 
--- LEADS: each edit is one that is allowed on the table that those before it made, is done there, and makes another one; the last is u
+-- LEADS: each edit is allowed on the table that the edits before it have made, is done there, and changes it; the edits lead from t to u
 abbrev pub Leads : (List Row → Edit → Type 0) → SettingData → List Row → List Edit → List Row → Type 0
 Leads Allowed s t [] u = t ≡ u
 Leads Allowed s t (e ∷ es) u = Allowed t e × (made : ℕ) × (v : List Row) × (edit s t e ≡ done true made v) × Leads Allowed s v es u

@@ -1,4 +1,4 @@
--- What a plan promises of the two maps, whatever way it was found.
+-- What a plan promises, however it was found.
 use Rattle.std.specs.Prelude.{◌≡◌, ◌⊎◌, ◌<◌, ℕ, ◌==◌, List, [], Option}
 use Rattle.std.specs.List.{count_by}
 use Rattle.crush_model.specs.Table.{Row}
@@ -11,7 +11,7 @@ use Rattle.crush_plan.specs.Leads.{Leads}
 use Rattle.crush_plan.specs.Part.{IsAllowed}
 use Rattle.crush_names.specs.Stays.{stays_part}
 
--- edits, and what is told to stay behind them
+-- the edits, the lines of the differences that remain after them, and the counts of ids that differ
 pub record PlanData : Type 0 where
   pub edits : List Edit
   pub rest : List ℕ
@@ -20,12 +20,12 @@ pub record PlanData : Type 0 where
 abbrev pub plan_data : Plan → PlanData
 plan_data p = record { edits = p.edits.items; rest = p.rest.items; aside = p.aside }
 
--- what a plan tells stays from this map to the wanted one, in the part that is asked for
+-- what a plan tells is what remains between this map and the wanted one, in the part that is selected
 pub record TellsRest (under : Option (List ℕ)) (old new : PlainMap) (plan : PlanData) : Type 0 where
   pub rest : plan.rest ≡ stays_part under old new
   pub aside : CountsAsideOf under old.table new.table plan.aside
 
--- from the one map edits that are allowed lead to a table, and what is told stays from there
+-- the edits are allowed and lead from the old map to a table, and the plan tells what remains from there
 pub record GoesTo (under : Option (List ℕ)) (old new : PlainMap) (plan : PlanData) : Type 0 where
   pub table : List Row
   pub leads : Leads (IsAllowed old.table new.table under) old.setting old.table plan.edits table
@@ -35,19 +35,15 @@ pub record GoesTo (under : Option (List ℕ)) (old new : PlainMap) (plan : PlanD
 abbrev pub line_count : List ℕ → ℕ
 line_count text = count_by (λ b. b == 10) text
 
--- fewer differences stay, or as many and fewer other ids
-abbrev pub IsBetter : PlanData → PlanData → Type 0
-IsBetter a b = (line_count a.rest < line_count b.rest) ⊎ ((line_count a.rest ≡ line_count b.rest) × (a.aside.ids < b.aside.ids))
-
--- a plan without edits, and one that is better
+-- BETTER: without edits, more differences remain than after the edits of the plan. Ids are no differences, and count for nothing
 pub record IsBetterThanNone (under : Option (List ℕ)) (old new : PlainMap) (plan : PlanData) : Type 0 where
-  pub other : PlanData
-  pub none : other.edits ≡ []
-  pub tells : TellsRest under old new other
-  pub better : IsBetter plan other
+  pub none : PlanData
+  pub edits : none.edits ≡ []
+  pub tells : TellsRest under old new none
+  pub fewer : line_count plan.rest < line_count none.rest
 
--- PLAN: the edits, all of the part that is asked for, lead to a table, what is told stays from there, and either there are none, or
--- with them it is better than without
+-- PLAN: the edits, all of which are allowed, lead to a table; the plan tells exactly what remains from there; and either it has no edits,
+-- or fewer differences remain than without them
 pub record IsPlan (under : Option (List ℕ)) (old new : PlainMap) (plan : PlanData) : Type 0 where
   pub goes : GoesTo under old new plan
   pub better : (plan.edits ≡ []) ⊎ IsBetterThanNone under old new plan

@@ -8,12 +8,12 @@ use Rattle.crush_plan.specs.Plan.{PlanData, line_count}
 use Rattle.crush_plan.specs.declared.text.PlanWords.{PlanWords}
 use Rattle.crush_plan.specs.declared.text.PlanWords.TheVariants.{Script, Ceph}
 
--- an edit as a line of a script, or of a shell
+-- an edit as a line of a script, or as a command of Ceph for a shell
 abbrev pub plan_line : PlanWords → Edit → List ℕ
 plan_line Script e = edit_text e ++ codes "\n"
 plan_line Ceph e = ceph_line e
 
--- lines, each behind `# `; at the head of one, or within
+-- the bytes of lines, with `# ` before each line; the first argument says whether a line begins here
 abbrev pub mark : Bool → List ℕ
 mark at_head = if at_head then codes "# " else []
 
@@ -21,7 +21,7 @@ abbrev pub commented : Bool → List ℕ → List ℕ
 commented at_head [] = []
 commented at_head (b ∷ bs) = mark at_head ++ b ∷ commented (b == 10) bs
 
--- what stays, as comments, where anything does
+-- the differences that remain, as comments, if there are any
 unfoldable pub stay_heading : ℕ → List ℕ
 stay_heading count = codes "# " ++ decimal count ++ codes " differences stay\n"
 
@@ -29,7 +29,7 @@ abbrev pub stay_text : List ℕ → List ℕ
 stay_text [] = []
 stay_text (b ∷ bs) = stay_heading (line_count (b ∷ bs)) ++ commented true (b ∷ bs)
 
--- PLAN TEXT: how many edits, a line for each, what stays, and which ids differ
+-- PLAN TEXT: how many edits there are, a line for each edit, the differences that remain, and how many ids differ
 unfoldable pub plan_text : PlanWords → PlanData → List ℕ
 plan_text words plan =
     ceph_heading (length plan.edits) ++ flat_map (plan_line words) plan.edits ++ stay_text plan.rest ++ commented true (aside_text plan.aside)

@@ -1,74 +1,59 @@
-//! Buckets that the map lacks.
+//! Creates the buckets that the map doesn't have.
 
 ghost use Rattle.std.specs.Prelude.{OnOk};
 ghost use Rattle.crush_plan.specs.Draft.{GoesOn};
 
-use crate::aim::Aim;
-use crate::compare::{Identity, loses_bucket};
 use crate::draft::Draft;
-use crate::names::free_of_lost;
-use crate::walked::{Known, Walked};
-use crush_map::{CrushMap, Setting};
-use crush_units::{BucketId, ItemId, Name, TypeId};
+use crate::goal::PlanGoal;
+use crush_units::{BucketId, ItemId};
 use std::alloc::{AllocError, Allocator, Global};
 
-/// From -1 downward, each with the free id that is nearest to 0.
+/// Creates the buckets in the order of their ids in the wanted map, from -1 downward. Each new
+/// bucket gets the free id that is nearest to 0.
 pub(crate) fn make_buckets<A: Allocator + Clone, B: Allocator>(
     draft: &mut Draft<A>,
-    aim: &Aim<'_, A, B>,
+    goal: &PlanGoal<'_, A, B>,
     buckets: &[BucketId],
 ) -> Result<(), AllocError>
-    ensures { OnOk result (GoesOn aim.now draft.old draft.new) }
+    ensures { OnOk result (GoesOn goal.now draft.old draft.new) }
 {
-    let coming = coming_buckets(draft.alloc, aim.identity, &draft.map, &aim.there, buckets)?;
-    for bucket in &coming {
-        make_bucket(draft, aim, *bucket)?;
+    let ordered = by_id(draft.alloc, buckets)?;
+    make_each(draft, goal, ordered.as_slice())
+}
+
+fn by_id(alloc: Global, buckets: &[BucketId]) -> Result<Vec<BucketId>, AllocError> {
+    let mut ordered = Vec::new(alloc);
+    ordered.extend_from_slice(buckets)?;
+    ordered.sort_unstable_by_key(|bucket| bucket.distance());
+    Ok(ordered)
+}
+
+fn make_each<A: Allocator + Clone, B: Allocator>(
+    draft: &mut Draft<A>,
+    goal: &PlanGoal<'_, A, B>,
+    buckets: &[BucketId],
+) -> Result<(), AllocError>
+    ensures { OnOk result (GoesOn goal.now draft.old draft.new) }
+{
+    for bucket in buckets {
+        make_bucket(draft, goal, *bucket)?;
     }
     Ok(())
 }
 
-fn coming_buckets<A: Allocator, B: Allocator>(
-    alloc: Global,
-    identity: Identity,
-    map: &CrushMap<A>,
-    wanted: &Walked<'_, B>,
-    buckets: &[BucketId],
-) -> Result<Vec<BucketId>, AllocError> {
-    let mut coming = Vec::new(alloc);
-    for bucket in buckets {
-        if loses_bucket(identity, wanted, map, *bucket) {
-            coming.push(*bucket)?;
-        }
-    }
-    coming.sort_unstable_by_key(|bucket| bucket.distance());
-    Ok(coming)
-}
-
-/// Frees its name before, where the map has its type.
+/// Gives the bucket the type of the same name, whose number may differ in the two maps.
 fn make_bucket<A: Allocator + Clone, B: Allocator>(
     draft: &mut Draft<A>,
-    aim: &Aim<'_, A, B>,
+    goal: &PlanGoal<'_, A, B>,
     bucket: BucketId,
 ) -> Result<(), AllocError>
-    ensures { OnOk result (GoesOn aim.now draft.old draft.new) }
+    ensures { OnOk result (GoesOn goal.now draft.old draft.new) }
 {
-    let Some(there) = aim.there.view(ItemId::Bucket(bucket)) else {
+    let Some(there) = goal.there.view(ItemId::Bucket(bucket)) else {
         return Ok(());
     };
-    let Some(kind) = kind_name(draft.alloc, draft.map.setting(), there.kind)? else {
-        return Ok(());
-    };
-    free_of_lost(draft, aim, Some(there.name))?;
-    draft.add_bucket(aim, there.name.as_bytes(), kind)
-}
-
-fn kind_name(
-    alloc: Global,
-    setting: &Setting,
-    kind: TypeId,
-) -> Result<Option<Name<Global>>, AllocError> {
-    match setting.kind_name(kind) {
-        Some(name) => Ok(Some(name.try_copy(alloc)?)),
-        None => Ok(None),
+    match goal.there.setting().kind_name(there.kind) {
+        Some(kind) => draft.add_bucket(goal, there.name.as_bytes(), kind.as_bytes()),
+        None => Ok(()),
     }
 }

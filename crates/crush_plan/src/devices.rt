@@ -1,68 +1,106 @@
-//! Devices that the map lacks, and classes.
+//! Adds the devices that the map doesn't have, and sets classes.
 
 ghost use Rattle.std.specs.Prelude.{OnOk};
 ghost use Rattle.crush_plan.specs.Draft.{GoesOn};
 
-use crate::aim::Aim;
-use crate::compare::{destination, have_device};
-use crate::draft::Draft;
-use crate::walked::Known;
-use crush_map::CrushMap;
-use crush_units::{DeviceId, ItemId};
+use crate::draft::{Draft, NewDevice};
+use crate::goal::PlanGoal;
+use crate::item_table::bucket_named;
+use crate::items::SetDevice;
+use crush_tree::View;
+use crush_units::ItemId;
 use std::alloc::{AllocError, Allocator};
 
 pub(crate) fn set_devices<A: Allocator + Clone, B: Allocator>(
     draft: &mut Draft<A>,
-    aim: &Aim<'_, A, B>,
-    devices: &[DeviceId],
+    goal: &PlanGoal<'_, A, B>,
+    devices: &[SetDevice],
 ) -> Result<(), AllocError>
-    ensures { OnOk result (GoesOn aim.now draft.old draft.new) }
+    ensures { OnOk result (GoesOn goal.now draft.old draft.new) }
 {
     for device in devices {
-        put_device(draft, aim, *device)?;
-        set_class(draft, aim, *device)?;
+        set_device(draft, goal, device)?;
     }
     Ok(())
 }
 
-fn put_device<A: Allocator + Clone, B: Allocator>(
+fn set_device<A: Allocator + Clone, B: Allocator>(
     draft: &mut Draft<A>,
-    aim: &Aim<'_, A, B>,
-    device: DeviceId,
+    goal: &PlanGoal<'_, A, B>,
+    device: &SetDevice,
 ) -> Result<(), AllocError>
-    ensures { OnOk result (GoesOn aim.now draft.old draft.new) }
+    ensures { OnOk result (GoesOn goal.now draft.old draft.new) }
 {
-    if draft.map.name_of(ItemId::Device(device)).is_some() {
-        return Ok(());
-    }
-    let Some(there) = aim.there.view(ItemId::Device(device)) else {
+    let Some(there) = goal.there.view(ItemId::Device(device.id)) else {
         return Ok(());
     };
-    match destination(&draft.map, &aim.there, ItemId::Device(device)) {
-        Some(place) => draft.insert(aim, device, there.name.as_bytes(), there.weight, place),
+    put_device(draft, goal, device, &there)?;
+    set_class(draft, goal, device, &there)
+}
+
+/// Adds the device below the bucket that holds it in the wanted map, unless its name is in use.
+fn put_device<A: Allocator + Clone, B: Allocator>(
+    draft: &mut Draft<A>,
+    goal: &PlanGoal<'_, A, B>,
+    device: &SetDevice,
+    there: &View<'_>,
+) -> Result<(), AllocError>
+    ensures { OnOk result (GoesOn goal.now draft.old draft.new) }
+{
+    if draft.map.locate(there.name).is_some() {
+        return Ok(());
+    }
+    let Some(place_name) = place_name(goal, there) else {
+        return Ok(());
+    };
+    let new = NewDevice {
+        id: device.id,
+        name: there.name,
+        weight: there.weight,
+    };
+    match bucket_named(&draft.map, place_name) {
+        Some(place) => draft.insert(goal, new, place, place_name),
         None => Ok(()),
     }
 }
 
+fn place_name<'a, A: Allocator, B: Allocator>(
+    goal: &'a PlanGoal<'_, A, B>,
+    there: &View<'_>,
+) -> Option<&'a str> {
+    goal.there.name_of(ItemId::Bucket(there.parent?))
+}
+
 fn set_class<A: Allocator + Clone, B: Allocator>(
     draft: &mut Draft<A>,
-    aim: &Aim<'_, A, B>,
-    device: DeviceId,
+    goal: &PlanGoal<'_, A, B>,
+    device: &SetDevice,
+    there: &View<'_>,
 ) -> Result<(), AllocError>
-    ensures { OnOk result (GoesOn aim.now draft.old draft.new) }
+    ensures { OnOk result (GoesOn goal.now draft.old draft.new) }
 {
-    if !have_device(&draft.map, &aim.there, device) {
+    if !device.differs || !draft.has_item(ItemId::Device(device.id), there.name) {
         return Ok(());
     }
-    let Some(there) = aim.there.view(ItemId::Device(device)) else {
-        return Ok(());
-    };
-    if draft.map.class_of(ItemId::Device(device)) == there.class {
-        return Ok(());
-    }
-    draft.remove_class(aim, there.name.as_bytes())?;
+    remove_class(draft, goal, device, there.name)?;
     match there.class {
-        Some(class) => draft.set_class(aim, there.name.as_bytes(), class.as_bytes()),
+        Some(class) => draft.set_class(goal, there.name.as_bytes(), class.as_bytes()),
         None => Ok(()),
+    }
+}
+
+/// Removes the old class, because a device that has a class can't get another one.
+fn remove_class<A: Allocator + Clone, B: Allocator>(
+    draft: &mut Draft<A>,
+    goal: &PlanGoal<'_, A, B>,
+    device: &SetDevice,
+    name: &str,
+) -> Result<(), AllocError>
+    ensures { OnOk result (GoesOn goal.now draft.old draft.new) }
+{
+    if device.has_class {
+        draft.remove_class(goal, name.as_bytes())
+    } else {
+        Ok(())
     }
 }

@@ -1,12 +1,13 @@
-//! A map on its way to another.
+//! A map on its way to another map, with the edits that have been made so far.
 
-ghost use Rattle.std.specs.Prelude.{◌≡◌, ◌++◌, ◌∷◌, [], List, OnOk, if◌then◌else◌, true};
+ghost use Rattle.std.specs.Prelude.{◌≡◌, ◌++◌, ◌∷◌, [], List, OnOk, IfOk, if◌then◌else◌, true};
 ghost use Rattle.crush_model.specs.Stands.{Stands};
 ghost use Rattle.crush_model.specs.Table.{Row};
-ghost use Rattle.crush_plan.specs.Draft.{Allows, GoesOn};
+ghost use Rattle.crush_plan.specs.Draft.{Allows, GoesOn, IsFork};
+ghost use Rattle.crush_plan.specs.Part.{are_there, location_of};
 
-use crate::aim::Aim;
-use crate::said::is_said;
+use crate::expressible::is_expressible;
+use crate::goal::PlanGoal;
 use crush_map::{CrushMap, Edit, EditFault, Location};
 use crush_units::{BucketId, DeviceId, ItemId, Name, Weight};
 use std::alloc::{AllocError, Allocator, Global};
@@ -16,11 +17,11 @@ pub(crate) struct Draft<A: Allocator> {
     pub alloc: Global,
     /// The map after the edits.
     pub map: CrushMap<A>,
-    /// Each was done, and changed the map.
+    /// Each of these edits was allowed and done, and changed the map.
     pub edits: Vec<Edit>,
 }
 
-/// Of a name that an item has.
+/// Copies the name of an item, so the only possible fault is that memory runs out.
 pub(crate) fn copy_name(alloc: Global, name: &[u8]) -> Result<Name<Global>, AllocError> {
     match Name::read(alloc, name) {
         Ok(name) => Ok(name),
@@ -29,32 +30,75 @@ pub(crate) fn copy_name(alloc: Global, name: &[u8]) -> Result<Name<Global>, Allo
 }
 
 impl<A: Allocator + Clone> Draft<A> {
-    /// Keeps the edit where it is allowed, done, and has changed the map.
+    /// Returns a draft without edits that starts from this draft's map.
+    pub(crate) fn fork(&self) -> Result<Draft<A>, AllocError>
+        ensures { IfOk result (IsFork self.now) }
+    {
+        Ok(Draft {
+            alloc: self.alloc,
+            map: self.map.try_copy()?,
+            edits: Vec::new(self.alloc),
+        })
+    }
+
+    /// Takes over the map of a draft that was forked off, and appends its edits.
+    pub(crate) fn adopt(&mut self, fork: Draft<A>) -> Result<(), AllocError>
+        ensures map { OnOk result (self.new.map ≡ fork.map) }
+        ensures edits { OnOk result (self.new.edits.items
+            ≡ self.old.edits.items ++ fork.edits.items) }
+    {
+        let Draft { map, mut edits, .. } = fork;
+        self.edits.append(&mut edits)?;
+        self.map = map;
+        Ok(())
+    }
+
+    /// Applies the edit if it is allowed, and adds it to the edits if it is done and changes the
+    /// map.
     pub(crate) fn give<B: Allocator>(
         &mut self,
-        aim: &Aim<'_, A, B>,
+        goal: &PlanGoal<'_, A, B>,
         edit: Edit,
     ) -> Result<(), AllocError>
-        ensures { OnOk result (GoesOn aim.now self.old self.new) }
+        ensures { OnOk result (GoesOn goal.now self.old self.new) }
     {
-        if self.allows(aim, &edit) {
-            self.make(aim, edit)
+        let is_below = goal.sets_below(self.alloc, &self.map, &edit)?;
+        if is_below {
+            self.give_allowed(goal, edit)
         } else {
             Ok(())
         }
     }
 
-    /// A script can say the edit, and it is of the part.
-    fn allows<B: Allocator>(&self, aim: &Aim<'_, A, B>, edit: &Edit) -> bool
-        ensures { result ≡ true → (v : List Row) → Stands self.now.map.forest v
-            → Allows aim.now v edit.now }
+    fn give_allowed<B: Allocator>(
+        &mut self,
+        goal: &PlanGoal<'_, A, B>,
+        edit: Edit,
+    ) -> Result<(), AllocError>
+        ensures { OnOk result (GoesOn goal.now self.old self.new) }
     {
-        is_said(edit) && aim.concerns(&self.map, edit)
+        if self.allows(goal, &edit) {
+            self.make(goal, edit)
+        } else {
+            Ok(())
+        }
     }
 
-    fn make<B: Allocator>(&mut self, aim: &Aim<'_, A, B>, edit: Edit) -> Result<(), AllocError>
-        requires allowed { (v : List Row) → Stands self.old.map.forest v → Allows aim.now v edit }
-        ensures { OnOk result (GoesOn aim.now self.old self.new) }
+    /// Whether the plan may have the edit.
+    fn allows<B: Allocator>(&self, goal: &PlanGoal<'_, A, B>, edit: &Edit) -> bool
+        ensures { result ≡ true → (v : List Row) → Stands self.now.map.forest v
+            → Allows goal.now v edit.now }
+    {
+        is_expressible(edit) && is_located(&self.map, edit) && goal.concerns(&self.map, edit)
+    }
+
+    fn make<B: Allocator>(
+        &mut self,
+        goal: &PlanGoal<'_, A, B>,
+        edit: Edit,
+    ) -> Result<(), AllocError>
+        requires allowed { (v : List Row) → Stands self.old.map.forest v → Allows goal.now v edit }
+        ensures { OnOk result (GoesOn goal.now self.old self.new) }
     {
         match self.map.apply(&edit) {
             Ok(done) => self.keep(edit, done.changed),
@@ -74,22 +118,21 @@ impl<A: Allocator + Clone> Draft<A> {
         Ok(())
     }
 
-    pub(crate) fn name_of(&self, id: ItemId) -> Result<Option<Name<Global>>, AllocError> {
-        match self.map.name_of(id) {
-            Some(name) => Ok(Some(copy_name(self.alloc, name.as_bytes())?)),
-            None => Ok(None),
-        }
+    /// Whether the map has the item of this id under this name.
+    pub(crate) fn has_item(&self, id: ItemId, name: &str) -> bool {
+        self.map.locate(name) == Some(id)
     }
 
-    fn place(&self, bucket: BucketId) -> Result<Location, AllocError> {
+    /// Returns a location that consists of this bucket only.
+    fn place(&self, bucket: BucketId, name: &str) -> Result<Location, AllocError> {
         let mut at = Location::new(self.alloc);
-        let Some(view) = self.map.find(ItemId::Bucket(bucket)) else {
+        let Some(kind) = self.map.kind_of(ItemId::Bucket(bucket)) else {
             return Ok(at);
         };
-        let Some(kind) = self.map.setting().kind_name(view.kind) else {
+        let Some(kind) = self.map.setting().kind_name(kind) else {
             return Ok(at);
         };
-        match at.push(kind.as_bytes(), view.name.as_bytes()) {
+        match at.push(kind.as_bytes(), name.as_bytes()) {
             Ok(()) => Ok(at),
             Err(_) => Err(AllocError),
         }
@@ -97,147 +140,178 @@ impl<A: Allocator + Clone> Draft<A> {
 
     pub(crate) fn remove<B: Allocator>(
         &mut self,
-        aim: &Aim<'_, A, B>,
-        id: ItemId,
+        goal: &PlanGoal<'_, A, B>,
+        name: &[u8],
     ) -> Result<(), AllocError>
-        ensures { OnOk result (GoesOn aim.now self.old self.new) }
+        ensures { OnOk result (GoesOn goal.now self.old self.new) }
     {
-        match self.name_of(id)? {
-            Some(name) => self.give(aim, Edit::Remove { name }),
-            None => Ok(()),
-        }
+        let name = copy_name(self.alloc, name)?;
+        self.give(goal, Edit::Remove { name })
     }
 
     pub(crate) fn swap<B: Allocator>(
         &mut self,
-        aim: &Aim<'_, A, B>,
-        a: BucketId,
-        b: BucketId,
+        goal: &PlanGoal<'_, A, B>,
+        a: &[u8],
+        b: &[u8],
     ) -> Result<(), AllocError>
-        ensures { OnOk result (GoesOn aim.now self.old self.new) }
+        ensures { OnOk result (GoesOn goal.now self.old self.new) }
     {
-        let a = self.name_of(ItemId::Bucket(a))?;
-        let b = self.name_of(ItemId::Bucket(b))?;
-        match (a, b) {
-            (Some(a), Some(b)) => self.give(aim, Edit::Swap { a, b }),
-            _ => Ok(()),
-        }
+        let a = copy_name(self.alloc, a)?;
+        let b = copy_name(self.alloc, b)?;
+        self.give(goal, Edit::Swap { a, b })
     }
 
     pub(crate) fn rename_bucket<B: Allocator>(
         &mut self,
-        aim: &Aim<'_, A, B>,
-        bucket: BucketId,
+        goal: &PlanGoal<'_, A, B>,
+        from: &[u8],
         to: &[u8],
     ) -> Result<(), AllocError>
-        ensures { OnOk result (GoesOn aim.now self.old self.new) }
+        ensures { OnOk result (GoesOn goal.now self.old self.new) }
     {
+        let from = copy_name(self.alloc, from)?;
         let to = copy_name(self.alloc, to)?;
-        match self.name_of(ItemId::Bucket(bucket))? {
-            Some(from) => self.give(aim, Edit::Rename { from, to }),
-            None => Ok(()),
-        }
+        self.give(goal, Edit::Rename { from, to })
     }
 
     pub(crate) fn add_bucket<B: Allocator>(
         &mut self,
-        aim: &Aim<'_, A, B>,
+        goal: &PlanGoal<'_, A, B>,
         name: &[u8],
-        kind: Name<Global>,
+        kind: &[u8],
     ) -> Result<(), AllocError>
-        ensures { OnOk result (GoesOn aim.now self.old self.new) }
+        ensures { OnOk result (GoesOn goal.now self.old self.new) }
     {
         let name = copy_name(self.alloc, name)?;
-        self.give(aim, Edit::AddBucket { name, kind })
+        let kind = copy_name(self.alloc, kind)?;
+        self.give(goal, Edit::AddBucket { name, kind })
     }
 
+    /// Moves the item of this name below the bucket, which has the second name.
     pub(crate) fn relocate<B: Allocator>(
         &mut self,
-        aim: &Aim<'_, A, B>,
-        id: ItemId,
+        goal: &PlanGoal<'_, A, B>,
+        name: &[u8],
         bucket: BucketId,
+        bucket_name: &str,
     ) -> Result<(), AllocError>
-        ensures { OnOk result (GoesOn aim.now self.old self.new) }
+        ensures { OnOk result (GoesOn goal.now self.old self.new) }
     {
-        let Some(name) = self.name_of(id)? else {
-            return Ok(());
-        };
-        let at = self.place(bucket)?;
-        self.give(aim, Edit::Move { name, at })
+        let name = copy_name(self.alloc, name)?;
+        let at = self.place(bucket, bucket_name)?;
+        self.give(goal, Edit::Move { name, at })
     }
 
     pub(crate) fn reweight<B: Allocator>(
         &mut self,
-        aim: &Aim<'_, A, B>,
-        device: DeviceId,
+        goal: &PlanGoal<'_, A, B>,
+        name: &[u8],
         weight: Weight,
     ) -> Result<(), AllocError>
-        ensures { OnOk result (GoesOn aim.now self.old self.new) }
+        ensures { OnOk result (GoesOn goal.now self.old self.new) }
     {
-        match self.name_of(ItemId::Device(device))? {
-            Some(name) => self.give(aim, Edit::Reweight { name, weight }),
-            None => Ok(()),
-        }
+        let name = copy_name(self.alloc, name)?;
+        self.give(goal, Edit::Reweight { name, weight })
     }
 
     pub(crate) fn reweight_below<B: Allocator>(
         &mut self,
-        aim: &Aim<'_, A, B>,
+        goal: &PlanGoal<'_, A, B>,
         bucket: BucketId,
         weight: Weight,
     ) -> Result<(), AllocError>
-        ensures { OnOk result (GoesOn aim.now self.old self.new) }
+        ensures { OnOk result (GoesOn goal.now self.old self.new) }
     {
-        match self.name_of(ItemId::Bucket(bucket))? {
-            Some(name) => self.give(aim, Edit::ReweightSubtree { name, weight }),
-            None => Ok(()),
-        }
+        let Some(name) = self.map.name_of(ItemId::Bucket(bucket)) else {
+            return Ok(());
+        };
+        let name = copy_name(self.alloc, name.as_bytes())?;
+        self.give(goal, Edit::ReweightSubtree { name, weight })
     }
 
+    /// Adds a device below the bucket, which has the second name.
     pub(crate) fn insert<B: Allocator>(
         &mut self,
-        aim: &Aim<'_, A, B>,
-        device: DeviceId,
-        name: &[u8],
-        weight: Weight,
+        goal: &PlanGoal<'_, A, B>,
+        device: NewDevice<'_>,
         bucket: BucketId,
+        bucket_name: &str,
     ) -> Result<(), AllocError>
-        ensures { OnOk result (GoesOn aim.now self.old self.new) }
+        ensures { OnOk result (GoesOn goal.now self.old self.new) }
     {
-        let name = copy_name(self.alloc, name)?;
-        let at = self.place(bucket)?;
-        self.give(
-            aim,
-            Edit::Insert {
-                device,
-                name,
-                weight,
-                at,
-            },
-        )
+        let name = copy_name(self.alloc, device.name.as_bytes())?;
+        let at = self.place(bucket, bucket_name)?;
+        let edit = Edit::Insert {
+            device: device.id,
+            name,
+            weight: device.weight,
+            at,
+        };
+        self.give(goal, edit)
     }
 
     pub(crate) fn remove_class<B: Allocator>(
         &mut self,
-        aim: &Aim<'_, A, B>,
+        goal: &PlanGoal<'_, A, B>,
         name: &[u8],
     ) -> Result<(), AllocError>
-        ensures { OnOk result (GoesOn aim.now self.old self.new) }
+        ensures { OnOk result (GoesOn goal.now self.old self.new) }
     {
         let name = copy_name(self.alloc, name)?;
-        self.give(aim, Edit::RemoveClass { name })
+        self.give(goal, Edit::RemoveClass { name })
     }
 
     pub(crate) fn set_class<B: Allocator>(
         &mut self,
-        aim: &Aim<'_, A, B>,
+        goal: &PlanGoal<'_, A, B>,
         name: &[u8],
         class: &[u8],
     ) -> Result<(), AllocError>
-        ensures { OnOk result (GoesOn aim.now self.old self.new) }
+        ensures { OnOk result (GoesOn goal.now self.old self.new) }
     {
         let name = copy_name(self.alloc, name)?;
         let class = copy_name(self.alloc, class)?;
-        self.give(aim, Edit::SetClass { name, class })
+        self.give(goal, Edit::SetClass { name, class })
+    }
+}
+
+/// A device that an edit adds to the map.
+#[derive(Drop)]
+pub(crate) struct NewDevice<'a> {
+    pub id: DeviceId,
+    pub name: &'a str,
+    pub weight: Weight,
+}
+
+/// Whether the edit creates no bucket by its location.
+fn is_located<A: Allocator>(map: &CrushMap<A>, edit: &Edit) -> bool
+    ensures { result ≡ true → (v : List Row) → Stands map.now.forest v
+        → are_there v (location_of edit.now) ≡ true }
+{
+    match edit {
+        Edit::Insert { at, .. } => is_there(map, at),
+        Edit::CreateOrMove { at, .. } => is_there(map, at),
+        Edit::Update { at, .. } => is_there(map, at),
+        Edit::Move { at, .. } => is_there(map, at),
+        Edit::Swap { .. } => true,
+        Edit::Reweight { .. } => true,
+        Edit::ReweightSubtree { .. } => true,
+        Edit::Remove { .. } => true,
+        Edit::AddBucket { .. } => true,
+        Edit::Rename { .. } => true,
+        Edit::SetClass { .. } => true,
+        Edit::RemoveClass { .. } => true,
+    }
+}
+
+/// Whether the location is one bucket that the map has.
+fn is_there<A: Allocator>(map: &CrushMap<A>, at: &Location) -> bool
+    ensures { result ≡ true → (v : List Row) → Stands map.now.forest v
+        → are_there v at.now ≡ true }
+{
+    match at.pairs() {
+        [pair] => map.locate(pair.name.as_str()).is_some(),
+        _ => false,
     }
 }

@@ -1,26 +1,29 @@
-//! Plans: the edits that lead from one map to another, and what stays that no edit changes.
+//! Plans: the edits that lead from one map to another map, and the differences that remain because
+//! no edit can remove them.
 //!
-//! [`find_plan`] finds a [`Plan`], [`plan_text`] prints it. Each edit is made on a copy of the map
-//! and kept only where it is done and has changed the copy, so that any plan is true of the two
-//! maps. An `Err` says that memory ran out.
+//! [`find_plan`] finds a [`Plan`], and [`plan_text`] prints it. Each edit is made on a copy of the
+//! map, and is kept only if it is done and changes the copy. So what a plan says is true of the two
+//! maps, however the plan was found.
 #![tactic(auto)]
 
-mod aim;
 mod buckets;
-mod changing;
-mod clearing;
-mod compare;
 mod devices;
 mod draft;
+mod expressible;
+mod goal;
+mod identity;
+mod item_table;
+mod items;
 mod moves;
-mod names;
 mod plan;
-mod said;
+mod removals;
+mod renames;
+mod search;
 mod swaps;
 mod text;
-mod walked;
+mod way;
 mod weights;
 
-pub use compare::Identity;
+pub use identity::Identity;
 pub use plan::{Plan, find_plan};
 pub use text::{PlanWords, plan_text};

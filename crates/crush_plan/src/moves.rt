@@ -1,106 +1,108 @@
-//! Items that come to stand elsewhere.
+//! Moves items to the places that they have in the wanted map.
 
 ghost use Rattle.std.specs.Prelude.{OnOk};
 ghost use Rattle.crush_plan.specs.Draft.{GoesOn};
 
-use crate::aim::Aim;
-use crate::changing::{Placed, There};
-use crate::compare::{counterpart, destination};
 use crate::draft::Draft;
-use crate::walked::Walked;
-use crush_map::CrushMap;
-use crush_units::{BucketId, DeviceId, ItemId};
+use crate::goal::PlanGoal;
+use crate::item_table::bucket_named;
+use crate::items::{Placed, TargetItems};
+use crush_units::{BucketId, ItemId};
 use std::alloc::{AllocError, Allocator};
 
-/// A bucket comes behind what is above it, so that what is above its place is in place already.
+/// Moves buckets from the roots downward, and then devices. When an item is moved, all that is above
+/// its destination has its place already, so nothing is moved below itself.
 pub(crate) fn move_all<A: Allocator + Clone, B: Allocator>(
     draft: &mut Draft<A>,
-    aim: &Aim<'_, A, B>,
-    there: &There,
+    goal: &PlanGoal<'_, A, B>,
+    target: &TargetItems,
 ) -> Result<(), AllocError>
-    ensures { OnOk result (GoesOn aim.now draft.old draft.new) }
+    ensures { OnOk result (GoesOn goal.now draft.old draft.new) }
 {
-    move_buckets(draft, aim, there.buckets.as_slice())?;
-    move_devices(draft, aim, there.placed.as_slice())
+    move_buckets(draft, goal, target.buckets.as_slice())?;
+    move_devices(draft, goal, target.placed.as_slice())
 }
 
 fn move_buckets<A: Allocator + Clone, B: Allocator>(
     draft: &mut Draft<A>,
-    aim: &Aim<'_, A, B>,
+    goal: &PlanGoal<'_, A, B>,
     buckets: &[BucketId],
 ) -> Result<(), AllocError>
-    ensures { OnOk result (GoesOn aim.now draft.old draft.new) }
+    ensures { OnOk result (GoesOn goal.now draft.old draft.new) }
 {
     for bucket in buckets {
-        move_bucket(draft, aim, *bucket)?;
+        move_bucket(draft, goal, *bucket)?;
     }
     Ok(())
 }
 
-/// The bucket is the wanted map's.
+/// Moves the bucket that has the name of this bucket of the wanted map.
 fn move_bucket<A: Allocator + Clone, B: Allocator>(
     draft: &mut Draft<A>,
-    aim: &Aim<'_, A, B>,
+    goal: &PlanGoal<'_, A, B>,
     bucket: BucketId,
 ) -> Result<(), AllocError>
-    ensures { OnOk result (GoesOn aim.now draft.old draft.new) }
+    ensures { OnOk result (GoesOn goal.now draft.old draft.new) }
 {
-    let Some(item) = counterpart(&draft.map, &aim.there, bucket) else {
+    let Some(there) = goal.there.view(ItemId::Bucket(bucket)) else {
         return Ok(());
     };
-    let Some(place) = destination(&draft.map, &aim.there, ItemId::Bucket(bucket)) else {
-        return Ok(());
-    };
-    if draft.map.parent(ItemId::Bucket(item)) == Some(place) {
-        return Ok(());
+    match (bucket_named(&draft.map, there.name), there.parent) {
+        (Some(item), Some(parent)) => {
+            move_below(draft, goal, ItemId::Bucket(item), there.name, parent)
+        }
+        _ => Ok(()),
     }
-    draft.relocate(aim, ItemId::Bucket(item), place)
 }
 
 fn move_devices<A: Allocator + Clone, B: Allocator>(
     draft: &mut Draft<A>,
-    aim: &Aim<'_, A, B>,
+    goal: &PlanGoal<'_, A, B>,
     devices: &[Placed],
 ) -> Result<(), AllocError>
-    ensures { OnOk result (GoesOn aim.now draft.old draft.new) }
+    ensures { OnOk result (GoesOn goal.now draft.old draft.new) }
 {
     for device in devices {
-        move_device(draft, aim, device)?;
+        move_device(draft, goal, device)?;
     }
     Ok(())
 }
 
 fn move_device<A: Allocator + Clone, B: Allocator>(
     draft: &mut Draft<A>,
-    aim: &Aim<'_, A, B>,
+    goal: &PlanGoal<'_, A, B>,
     device: &Placed,
 ) -> Result<(), AllocError>
-    ensures { OnOk result (GoesOn aim.now draft.old draft.new) }
+    ensures { OnOk result (GoesOn goal.now draft.old draft.new) }
 {
-    match place_of(&draft.map, &aim.there, device) {
-        Some(place) => put_device(draft, aim, device.id, place),
-        None => Ok(()),
-    }
-}
-
-fn put_device<A: Allocator + Clone, B: Allocator>(
-    draft: &mut Draft<A>,
-    aim: &Aim<'_, A, B>,
-    device: DeviceId,
-    place: BucketId,
-) -> Result<(), AllocError>
-    ensures { OnOk result (GoesOn aim.now draft.old draft.new) }
-{
-    if draft.map.parent(ItemId::Device(device)) == Some(place) {
+    let Some(name) = goal.there.name_of(ItemId::Device(device.id)) else {
         return Ok(());
+    };
+    if draft.has_item(ItemId::Device(device.id), name) {
+        move_below(draft, goal, ItemId::Device(device.id), name, device.parent)
+    } else {
+        Ok(())
     }
-    draft.relocate(aim, ItemId::Device(device), place)
 }
 
-fn place_of<A: Allocator, B: Allocator>(
-    map: &CrushMap<A>,
-    wanted: &Walked<'_, B>,
-    device: &Placed,
-) -> Option<BucketId> {
-    counterpart(map, wanted, device.parent?)
+/// Moves the item, which has this name, below the bucket that has the name of `parent`, a bucket of
+/// the wanted map.
+fn move_below<A: Allocator + Clone, B: Allocator>(
+    draft: &mut Draft<A>,
+    goal: &PlanGoal<'_, A, B>,
+    id: ItemId,
+    name: &str,
+    parent: BucketId,
+) -> Result<(), AllocError>
+    ensures { OnOk result (GoesOn goal.now draft.old draft.new) }
+{
+    let Some(place_name) = goal.there.name_of(ItemId::Bucket(parent)) else {
+        return Ok(());
+    };
+    match bucket_named(&draft.map, place_name) {
+        Some(place) if draft.map.parent(id) != Some(place) => {
+            draft.relocate(goal, name.as_bytes(), place, place_name)
+        }
+        _ => Ok(()),
+    }
 }

@@ -1,45 +1,43 @@
 //! The plan from one map to another.
 
-ghost use Rattle.std.specs.Prelude.{◌≡◌, [], IfOk, List, OnOk, true};
+ghost use Rattle.std.specs.Prelude.{◌≡◌, ◌<◌, [], IfOk, List, true};
 ghost use Rattle.std.specs.Option.{option_map};
 ghost use Rattle.crush_model.specs.Stands.{Stands};
 ghost use Rattle.crush_model.specs.Table.{Row};
 ghost use Rattle.crush_since.specs.Since.{plain_map};
-ghost use Rattle.crush_plan.specs.Draft.{GoesOn, IsDraftOf};
-ghost use Rattle.crush_plan.specs.Plan.{GoesTo, IsBetter, IsPlan, TellsRest, line_count, plan_data};
+ghost use Rattle.crush_plan.specs.Draft.{IsDraftOf};
+ghost use Rattle.crush_plan.specs.Plan.{GoesTo, IsPlan, TellsRest, line_count, plan_data};
 
-use crate::aim::{Aim, Extent};
-use crate::buckets::make_buckets;
-use crate::changing::{Items, items_of_both};
-use crate::clearing::clear;
-use crate::compare::Identity;
-use crate::devices::set_devices;
 use crate::draft::Draft;
-use crate::moves::move_all;
-use crate::names::rename_all;
-use crate::swaps::swap_all;
-use crate::walked::Walked;
-use crate::weights::{Which, set_weights};
+use crate::goal::PlanGoal;
+use crate::identity::Identity;
+use crate::item_table::ItemTable;
+use crate::search::improve;
 use crush_map::{CrushMap, Edit};
 use crush_names::{Counts, count_aside, stays_part};
-use crush_units::BucketId;
 use std::alloc::{AllocError, Allocator, Global};
 
-/// The edits that lead from one map towards another, and what differs then.
+/// Edits that lead from one map to another, and what still differs after them.
 #[derive(Debug, Drop)]
 pub struct Plan {
-    /// Each is done and changes the map that those before it made.
+    /// Each edit is done, and changes the map that the edits before it have made.
     pub edits: Vec<Edit>,
-    /// What differs by names behind the edits, a line each.
+    /// A line for each difference by names that remains after the edits.
     pub rest: Vec<u8>,
-    /// How many buckets of one name have other ids, which no edit sets.
+    /// How many buckets of the same name have different ids after the edits. No edit can set an id,
+    /// so ids are no differences.
     pub aside: Counts,
 }
 
-/// Finds the edits that lead from a map to another, each of which a script can say; of a part,
-/// those of items that stand or shall stand there: the item of its name, and what is below it.
-/// Where all of these leave no fewer differences than none, nor as many and fewer other ids, those
-/// are taken that leave all buckets as they are, or none.
+/// Finds edits that lead from a map to the wanted map.
+///
+/// With a name, the plan is for a part of the map: the item of this name, and what is below it.
+/// Then the edits change only items that are in the part, or that will be there.
+///
+/// Each edit can be expressed as a line of a script, is done, and changes the map. Either the plan
+/// has no edits, or fewer differences remain than without its edits.
+///
+/// Fails if memory runs out.
 pub fn find_plan<A: Allocator + Clone, B: Allocator>(
     alloc: Global,
     identity: Identity,
@@ -52,19 +50,15 @@ pub fn find_plan<A: Allocator + Clone, B: Allocator>(
         → IsPlan (option_map (λ name. name.now) under.entry) (plain_map map.now.setting t)
         (plain_map wanted.now.setting u) (plan_data plan)) }
 {
-    let whole = with_edits(alloc, Extent::Whole, identity, under, map, wanted)?;
-    if whole.has_no_edits() {
-        return Ok(whole);
+    let none = without_edits(alloc, under, map, wanted)?;
+    if none.rest.is_empty() {
+        return Ok(none);
     }
-    let before = without_edits(alloc, under, map, wanted)?;
-    if is_better(&whole, &before) {
-        return Ok(whole);
+    let found = with_edits(alloc, identity, under, map, wanted)?;
+    if is_better(&found, &none) {
+        return Ok(found);
     }
-    let lesser = with_edits(alloc, Extent::SameBuckets, identity, under, map, wanted)?;
-    if is_better(&lesser, &before) {
-        return Ok(lesser);
-    }
-    Ok(before)
+    Ok(none)
 }
 
 fn without_edits<A: Allocator, B: Allocator>(
@@ -90,7 +84,6 @@ fn without_edits<A: Allocator, B: Allocator>(
 
 fn with_edits<A: Allocator + Clone, B: Allocator>(
     alloc: Global,
-    extent: Extent,
     identity: Identity,
     under: Option<&str>,
     map: &CrushMap<A>,
@@ -101,49 +94,41 @@ fn with_edits<A: Allocator + Clone, B: Allocator>(
         → GoesTo (option_map (λ name. name.now) under.entry) (plain_map map.now.setting t)
         (plain_map wanted.now.setting u) (plan_data plan)) }
 {
-    let aim = Aim {
+    let goal = PlanGoal {
         identity,
-        extent,
         under,
         before: map,
         wanted,
-        there: Walked::new(alloc, wanted)?,
+        there: ItemTable::new(alloc, wanted)?,
     };
-    to_aim(alloc, &aim)
+    to_goal(alloc, &goal)
 }
 
-fn to_aim<A: Allocator + Clone, B: Allocator>(
+fn to_goal<A: Allocator + Clone, B: Allocator>(
     alloc: Global,
-    aim: &Aim<'_, A, B>,
+    goal: &PlanGoal<'_, A, B>,
 ) -> Result<Plan, AllocError>
     ensures { IfOk result (λ plan. (t u : List Row)
-        → Stands aim.now.before.now.forest t → Stands aim.now.wanted.now.forest u
-        → GoesTo (option_map (λ name. name.now) aim.now.under)
-        (plain_map aim.now.before.now.setting t) (plain_map aim.now.wanted.now.setting u) (plan_data plan)) }
+        → Stands goal.now.before.now.forest t → Stands goal.now.wanted.now.forest u
+        → GoesTo (option_map (λ name. name.now) goal.now.under)
+        (plain_map goal.now.before.now.setting t) (plain_map goal.now.wanted.now.setting u) (plan_data plan)) }
 {
-    let draft = drafted(alloc, aim)?;
-    let rest = stays_part(alloc, aim.under, &draft.map, aim.wanted)?;
-    let aside = count_aside(alloc, aim.under, &draft.map, aim.wanted)?;
+    let draft = drafted(alloc, goal)?;
+    let rest = stays_part(alloc, goal.under, &draft.map, goal.wanted)?;
+    let aside = count_aside(alloc, goal.under, &draft.map, goal.wanted)?;
     let Draft { edits, .. } = draft;
     Ok(Plan { edits, rest, aside })
 }
 
-/// Fewer differences stay, or as many and fewer other ids.
-fn is_better(after: &Plan, before: &Plan) -> bool
-    ensures { result ≡ true → IsBetter (plan_data after.now) (plan_data before.now) }
+/// Whether fewer differences remain after the one plan than after the other.
+fn is_better(plan: &Plan, other: &Plan) -> bool
+    ensures { result ≡ true → line_count plan.now.rest.items < line_count other.now.rest.items }
 {
-    let (more, fewer) = (before.count_differences(), after.count_differences());
-    fewer < more || (fewer == more && after.aside.ids < before.aside.ids)
+    plan.count_differences() < other.count_differences()
 }
 
 impl Plan {
-    fn has_no_edits(&self) -> bool
-        ensures { result ≡ true → self.now.edits.items ≡ [] }
-    {
-        self.edits.is_empty()
-    }
-
-    /// How many differences stay.
+    /// Returns how many differences remain after the edits.
     pub fn count_differences(&self) -> usize
         ensures { result ≡ line_count self.now.rest.items }
     {
@@ -165,51 +150,15 @@ pub(crate) fn count_lines(text: &[u8]) -> usize
 
 fn drafted<A: Allocator + Clone, B: Allocator>(
     alloc: Global,
-    aim: &Aim<'_, A, B>,
+    goal: &PlanGoal<'_, A, B>,
 ) -> Result<Draft<A>, AllocError>
-    ensures { IfOk result (IsDraftOf aim.now) }
+    ensures { IfOk result (IsDraftOf goal.now) }
 {
-    let items = items_of_both(alloc, aim)?;
     let mut draft = Draft {
         alloc,
-        map: aim.before.try_copy()?,
+        map: goal.before.try_copy()?,
         edits: Vec::new(alloc),
     };
-    go(&mut draft, aim, &items)?;
+    improve(&mut draft, goal)?;
     Ok(draft)
-}
-
-/// What goes makes room first, and weights that get less are set before anything comes together, so
-/// that no sum is in the way.
-fn go<A: Allocator + Clone, B: Allocator>(
-    draft: &mut Draft<A>,
-    aim: &Aim<'_, A, B>,
-    items: &Items,
-) -> Result<(), AllocError>
-    ensures { OnOk result (GoesOn aim.now draft.old draft.new) }
-{
-    let (here, there) = (&items.here, &items.there);
-    clear(draft, aim, here)?;
-    set_weights(draft, aim, here.reweighed.as_slice(), Which::Less)?;
-    give_names(draft, aim, here.buckets.as_slice())?;
-    make_buckets(draft, aim, there.coming.as_slice())?;
-    move_all(draft, aim, there)?;
-    clear(draft, aim, here)?;
-    set_weights(draft, aim, here.reweighed.as_slice(), Which::Other)?;
-    set_devices(draft, aim, there.set.as_slice())
-}
-
-/// With [`Identity::Names`] each bucket has its own.
-fn give_names<A: Allocator + Clone, B: Allocator>(
-    draft: &mut Draft<A>,
-    aim: &Aim<'_, A, B>,
-    buckets: &[BucketId],
-) -> Result<(), AllocError>
-    ensures { OnOk result (GoesOn aim.now draft.old draft.new) }
-{
-    if aim.identity == Identity::Names {
-        return Ok(());
-    }
-    swap_all(draft, aim, buckets)?;
-    rename_all(draft, aim, buckets)
 }

@@ -1,58 +1,67 @@
-//! Buckets that exchange their names and most of their items.
+//! Swaps buckets that exchange their names and most of their items.
 
 ghost use Rattle.std.specs.Prelude.{OnOk};
 ghost use Rattle.crush_plan.specs.Draft.{GoesOn};
 
-use crate::aim::Aim;
-use crate::compare::{counterpart, have_bucket};
 use crate::draft::Draft;
-use crate::walked::{Known, Walked};
+use crate::goal::PlanGoal;
+use crate::identity::BucketPair;
+use crate::item_table::ItemTable;
+use crate::way::Way;
 use crush_map::CrushMap;
 use crush_tree::Node;
-use crush_units::BucketId;
+use crush_units::{BucketId, ItemId};
 use std::alloc::{AllocError, Allocator};
 
-/// Each two that are to have one another's names, where more of their items change sides than stay.
+/// Swaps each two buckets that are to have each other's names, if more of their items change sides
+/// than stay.
 pub(crate) fn swap_all<A: Allocator + Clone, B: Allocator>(
     draft: &mut Draft<A>,
-    aim: &Aim<'_, A, B>,
-    buckets: &[BucketId],
+    goal: &PlanGoal<'_, A, B>,
+    way: &Way<'_, A>,
 ) -> Result<(), AllocError>
-    ensures { OnOk result (GoesOn aim.now draft.old draft.new) }
+    ensures { OnOk result (GoesOn goal.now draft.old draft.new) }
 {
-    for bucket in buckets {
-        swap_one(draft, aim, *bucket)?;
+    for pair in way.pairs.renamed.as_slice() {
+        swap_one(draft, goal, way, pair)?;
     }
     Ok(())
 }
 
 fn swap_one<A: Allocator + Clone, B: Allocator>(
     draft: &mut Draft<A>,
-    aim: &Aim<'_, A, B>,
-    bucket: BucketId,
+    goal: &PlanGoal<'_, A, B>,
+    way: &Way<'_, A>,
+    pair: &BucketPair,
 ) -> Result<(), AllocError>
-    ensures { OnOk result (GoesOn aim.now draft.old draft.new) }
+    ensures { OnOk result (GoesOn goal.now draft.old draft.new) }
 {
-    match partner(&draft.map, &aim.there, bucket) {
-        Some(other) => draft.swap(aim, bucket, other),
-        None => Ok(()),
+    let (Some(name), Some(other)) = (way.name_at_start(pair), partner(goal, way, pair)) else {
+        return Ok(());
+    };
+    let Some(other_name) = way.name_at_start(&other) else {
+        return Ok(());
+    };
+    if draft.has_item(ItemId::Bucket(pair.current), name)
+        && is_worth(&draft.map, &goal.there, pair, &other)
+    {
+        draft.swap(goal, name.as_bytes(), other_name.as_bytes())
+    } else {
+        Ok(())
     }
 }
 
+/// Returns the bucket that has the name which this bucket is to get, if that bucket is to get this
+/// bucket's name.
 fn partner<A: Allocator, B: Allocator>(
-    map: &CrushMap<A>,
-    wanted: &Walked<'_, B>,
-    bucket: BucketId,
-) -> Option<BucketId> {
-    let other = counterpart(map, wanted, bucket)?;
-    let back = counterpart(map, wanted, other)?;
-    if back != bucket || other == bucket {
-        return None;
-    }
-    if have_bucket(map, wanted, bucket)
-        && have_bucket(map, wanted, other)
-        && is_worth(map, wanted, bucket, other)
-    {
+    goal: &PlanGoal<'_, A, B>,
+    way: &Way<'_, A>,
+    pair: &BucketPair,
+) -> Option<BucketPair> {
+    let to = goal.there.name_of(ItemId::Bucket(pair.target))?;
+    let other = way.renamed(goal, way.start.bucket_named(to)?)?;
+    let back = goal.there.name_of(ItemId::Bucket(other.target))?;
+    if way.start.bucket_named(back)? == pair.current {
         Some(other)
     } else {
         None
@@ -61,21 +70,21 @@ fn partner<A: Allocator, B: Allocator>(
 
 fn is_worth<A: Allocator, B: Allocator>(
     map: &CrushMap<A>,
-    wanted: &Walked<'_, B>,
-    a: BucketId,
-    b: BucketId,
+    wanted: &ItemTable<'_, B>,
+    a: &BucketPair,
+    b: &BucketPair,
 ) -> bool {
-    let a_stay = u64::from(count_below(map, wanted, a, a));
-    let b_stay = u64::from(count_below(map, wanted, b, b));
-    let a_leave = u64::from(count_below(map, wanted, a, b));
-    let b_leave = u64::from(count_below(map, wanted, b, a));
+    let a_stay = u64::from(count_below(map, wanted, a.current, a.target));
+    let b_stay = u64::from(count_below(map, wanted, b.current, b.target));
+    let a_leave = u64::from(count_below(map, wanted, a.current, b.target));
+    let b_leave = u64::from(count_below(map, wanted, b.current, a.target));
     a_stay + b_stay < a_leave + b_leave
 }
 
-/// How many items of `from` are to stand in `to`.
+/// Counts the items of a bucket that the wanted map has in this bucket of its own.
 fn count_below<A: Allocator, B: Allocator>(
     map: &CrushMap<A>,
-    wanted: &Walked<'_, B>,
+    wanted: &ItemTable<'_, B>,
     from: BucketId,
     to: BucketId,
 ) -> u32 {
@@ -87,12 +96,12 @@ fn count_below<A: Allocator, B: Allocator>(
 
 fn count_in<A: Allocator, B: Allocator>(
     items: &[Node<A>],
-    wanted: &Walked<'_, B>,
+    wanted: &ItemTable<'_, B>,
     bucket: BucketId,
 ) -> u32 {
     let mut count: u32 = 0;
     for item in items {
-        if wanted.holder(item.id()) == Some(bucket) {
+        if wanted.parent(item.id()) == Some(bucket) {
             count = count.saturating_add(1);
         }
     }

@@ -1,4 +1,4 @@
-//! The text of a plan.
+//! Prints a plan.
 
 ghost use Rattle.std.specs.Prelude.{◌≡◌, ◌∷◌, [], ◌++◌, IfOk, OnOk, codes, flat_map, true};
 ghost use Rattle.crush_history.specs.HistoryText.{edit_text};
@@ -14,15 +14,18 @@ use crush_units::put_all;
 use itoa::Buffer;
 use std::alloc::{AllocError, Global};
 
-/// In which words the edits of a plan are printed.
+/// The form in which the edits of a plan are printed.
 #[derive(Clone, Copy, Debug, PartialEq, Eq)]
 pub enum PlanWords {
+    /// Lines of a script.
     Script,
+    /// Ceph's own commands.
     Ceph,
 }
 
-/// Prints a plan: `# N commands`, each edit as a line; where anything differs then `# N differences
-/// stay` and a line for each, as a comment; and as comments how many buckets have other ids.
+/// Returns the text of a plan: the line `# N commands`, and a line for each edit. If differences
+/// remain, the line `# N differences stay` follows, and a comment for each of them. Last come comments
+/// that say how many buckets have different ids. Fails if memory runs out.
 pub fn plan_text(alloc: Global, plan: &Plan, words: PlanWords) -> Result<Vec<u8>, AllocError>
     ensures { IfOk result (λ text. text.items ≡ plan_text words (plan_data plan.now)) }
 {
@@ -102,7 +105,7 @@ fn push_comments(lines: &[u8], text: &mut Vec<u8>) -> Result<(), AllocError>
     Ok(())
 }
 
-/// Behind `# ` at the head of a line.
+/// Appends the byte, with `# ` before it if a line begins with it.
 fn push_marked(at_head: bool, byte: u8, text: &mut Vec<u8>) -> Result<(), AllocError>
     ensures { OnOk result (text.new.items ≡ text.old.items ++ (mark at_head ++ byte ∷ [])) }
 {

@@ -1,23 +1,26 @@
-//! Weights of devices.
+//! Sets the weights of devices.
 
 ghost use Rattle.std.specs.Prelude.{OnOk};
 ghost use Rattle.crush_plan.specs.Draft.{GoesOn};
 
 mod common;
 
-use crate::aim::Aim;
-use crate::compare::have_device;
 use crate::draft::Draft;
-use crate::walked::{Known, Walked};
+use crate::goal::PlanGoal;
+use crate::item_table::ItemTable;
+use crate::items::same_item;
 use common::{Subtree, subtrees};
 use crush_map::CrushMap;
 use crush_names::are_near;
 use crush_units::{DeviceId, ItemId, Weight};
-use std::alloc::{AllocError, Allocator};
+use std::alloc::{AllocError, Allocator, Global};
 
+/// Which weights are set.
 #[derive(Clone, Copy, PartialEq, Eq)]
 pub(crate) enum Which {
+    /// Those that become less.
     Less,
+    /// Those that change in either direction.
     Other,
 }
 
@@ -30,87 +33,110 @@ impl Which {
     }
 }
 
-/// All below a bucket at once, where all are to weigh the same and two or more don't yet, then one
-/// by one.
+/// A device with the weight that it is to get.
+#[derive(Clone, Copy)]
+struct NewWeight {
+    device: DeviceId,
+    weight: Weight,
+}
+
+/// Sets the weights of all devices below a bucket with one edit, if all of them are to have the same
+/// weight and at least two have another weight. Sets the other weights one by one.
 pub(crate) fn set_weights<A: Allocator + Clone, B: Allocator>(
     draft: &mut Draft<A>,
-    aim: &Aim<'_, A, B>,
+    goal: &PlanGoal<'_, A, B>,
     devices: &[DeviceId],
     which: Which,
 ) -> Result<(), AllocError>
-    ensures { OnOk result (GoesOn aim.now draft.old draft.new) }
+    ensures { OnOk result (GoesOn goal.now draft.old draft.new) }
 {
     if devices.is_empty() {
         return Ok(());
     }
-    let found = subtrees(draft.alloc, &draft.map, aim, which)?;
-    set_below(draft, aim, found.as_slice())?;
-    set_one_by_one(draft, aim, devices, which)
+    let found = subtrees(draft.alloc, &draft.map, goal, which)?;
+    set_below(draft, goal, found.as_slice())?;
+    let changes = new_weights(draft.alloc, &draft.map, goal, devices, which)?;
+    set_one_by_one(draft, goal, changes.as_slice())
 }
 
 fn set_below<A: Allocator + Clone, B: Allocator>(
     draft: &mut Draft<A>,
-    aim: &Aim<'_, A, B>,
+    goal: &PlanGoal<'_, A, B>,
     found: &[Subtree],
 ) -> Result<(), AllocError>
-    ensures { OnOk result (GoesOn aim.now draft.old draft.new) }
+    ensures { OnOk result (GoesOn goal.now draft.old draft.new) }
 {
     for subtree in found {
-        draft.reweight_below(aim, subtree.bucket, subtree.weight)?;
+        draft.reweight_below(goal, subtree.bucket, subtree.weight)?;
     }
     Ok(())
 }
 
 fn set_one_by_one<A: Allocator + Clone, B: Allocator>(
     draft: &mut Draft<A>,
-    aim: &Aim<'_, A, B>,
-    devices: &[DeviceId],
-    which: Which,
+    goal: &PlanGoal<'_, A, B>,
+    changes: &[NewWeight],
 ) -> Result<(), AllocError>
-    ensures { OnOk result (GoesOn aim.now draft.old draft.new) }
+    ensures { OnOk result (GoesOn goal.now draft.old draft.new) }
 {
-    for device in devices {
-        set_weight(draft, aim, *device, which)?;
+    for change in changes {
+        set_weight(draft, goal, change)?;
     }
     Ok(())
 }
 
 fn set_weight<A: Allocator + Clone, B: Allocator>(
     draft: &mut Draft<A>,
-    aim: &Aim<'_, A, B>,
-    device: DeviceId,
-    which: Which,
+    goal: &PlanGoal<'_, A, B>,
+    change: &NewWeight,
 ) -> Result<(), AllocError>
-    ensures { OnOk result (GoesOn aim.now draft.old draft.new) }
+    ensures { OnOk result (GoesOn goal.now draft.old draft.new) }
 {
-    match other_weight(&draft.map, &aim.there, device, which) {
-        Some(weight) => draft.reweight(aim, device, weight),
+    match goal.there.name_of(ItemId::Device(change.device)) {
+        Some(name) => draft.reweight(goal, name.as_bytes(), change.weight),
         None => Ok(()),
     }
 }
 
-fn other_weight<A: Allocator, B: Allocator>(
+fn new_weights<A: Allocator, B: Allocator>(
+    alloc: Global,
     map: &CrushMap<A>,
-    wanted: &Walked<'_, B>,
+    goal: &PlanGoal<'_, A, B>,
+    devices: &[DeviceId],
+    which: Which,
+) -> Result<Vec<NewWeight>, AllocError> {
+    let now = ItemTable::new(alloc, map)?;
+    let mut changes = Vec::new(alloc);
+    for device in devices {
+        if let Some(weight) = new_weight(&now, &goal.there, *device, which) {
+            changes.push(NewWeight {
+                device: *device,
+                weight,
+            })?;
+        }
+    }
+    Ok(changes)
+}
+
+/// Returns the weight that a device of both maps is to get, if both maps place it.
+fn new_weight<A: Allocator, B: Allocator>(
+    map: &ItemTable<'_, A>,
+    wanted: &ItemTable<'_, B>,
     device: DeviceId,
     which: Which,
 ) -> Option<Weight> {
-    if !have_device(map, wanted, device) {
+    let Some(current) = map.view(ItemId::Device(device)) else {
+        return None;
+    };
+    let Some(target) = same_item(wanted, &current) else {
+        return None;
+    };
+    if current.parent.is_none() || target.parent.is_none() {
         return None;
     }
-    let here = placed_weight(map, device)?;
-    let there = placed_weight(wanted, device)?;
-    if which.sets(here, there) {
-        Some(there)
+    if which.sets(current.weight, target.weight) {
+        Some(target.weight)
     } else {
         None
-    }
-}
-
-/// Where a bucket holds it.
-fn placed_weight<M: Known>(map: &M, device: DeviceId) -> Option<Weight> {
-    match map.view(ItemId::Device(device)) {
-        Some(view) if view.parent.is_some() => Some(view.weight),
-        _ => None,
     }
 }

@@ -5,4 +5,4 @@ pub loop-device-init : goal.loop-device-init
 loop-device-init g c = stays_here _
 
 pub loop-device-preserved : goal.loop-device-preserved
-loop-device-preserved g c = goes_then _ _ _ c.loop-device.invariant (goes_then _ _ _ c.in_ok-put_device.ensures c.in_ok-set_class.ensures)
+loop-device-preserved g c = goes_then _ _ _ c.loop-device.invariant c.in_ok-set_device.ensures

@@ -2,4 +2,4 @@ use Rattle.crush_plan.specs.Draft.{GoesOn}
 use Rattle.crush_plan.proofs.moves.move_devices.Given as goal
 
 abbrev pub invariant-loop-device : goal.invariant-loop-device
-invariant-loop-device g l = GoesOn l.aim l.fn.draft l.draft
+invariant-loop-device g l = GoesOn l.goal l.fn.draft l.draft

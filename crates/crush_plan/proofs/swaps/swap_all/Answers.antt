@@ -1,8 +1,8 @@
 use Rattle.crush_plan.proofs.Going.{stays_here, goes_then}
 use Rattle.crush_plan.proofs.swaps.swap_all.Goals as goal
 
-pub loop-bucket-init : goal.loop-bucket-init
-loop-bucket-init g c = stays_here _
+pub loop-pair-init : goal.loop-pair-init
+loop-pair-init g c = stays_here _
 
-pub loop-bucket-preserved : goal.loop-bucket-preserved
-loop-bucket-preserved g c = goes_then _ _ _ c.loop-bucket.invariant c.in_ok-swap_one.ensures
+pub loop-pair-preserved : goal.loop-pair-preserved
+loop-pair-preserved g c = goes_then _ _ _ c.loop-pair.invariant c.in_ok-swap_one.ensures

@@ -1,8 +1,5 @@
 use Rattle.crush_plan.proofs.Going.{stays_here}
 use Rattle.crush_plan.proofs.draft.Draft.give.Goals as goal
 
-pub make-requires : goal.make-requires
-make-requires g c = record { allowed = c.allows.ensures c.if-allows.true }
-
-pub returns-else-allows : goal.returns-else-allows
-returns-else-allows g c = stays_here c.args.self.now
+pub returns-else-is_below : goal.returns-else-is_below
+returns-else-is_below g c = stays_here c.args.self.now

@@ -1,5 +1,0 @@
-use Rattle.crush_plan.specs.Draft.{GoesOn}
-use Rattle.crush_plan.proofs.names.rename_rings.Given as goal
-
-abbrev pub invariant-loop-bucket : goal.invariant-loop-bucket
-invariant-loop-bucket g l = GoesOn l.aim l.fn.draft l.draft

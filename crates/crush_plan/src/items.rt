@@ -1,0 +1,182 @@
+//! The items of two maps for which a plan may need a command.
+
+use crate::identity::BucketPairs;
+use crate::item_table::ItemTable;
+use crush_names::are_near;
+use crush_tree::View;
+use crush_units::{BucketId, DeviceId, ItemId};
+use std::alloc::{AllocError, Allocator, Global};
+
+/// Items of the map, in the order of its tree: a bucket comes before the items below it.
+#[derive(Drop)]
+pub(crate) struct CurrentItems {
+    /// The buckets that the wanted map doesn't have.
+    pub removed_buckets: Vec<BucketId>,
+    /// The devices that the wanted map doesn't have.
+    pub removed_devices: Vec<DeviceId>,
+    /// The devices of both maps, unless both maps place them with the same weight.
+    pub reweighed: Vec<DeviceId>,
+}
+
+/// Items of the wanted map, in the order of its tree.
+#[derive(Drop)]
+pub(crate) struct TargetItems {
+    /// All buckets. A bucket that has its place already is listed too, because a command for
+    /// another bucket may move it away.
+    pub buckets: Vec<BucketId>,
+    /// The buckets that the map doesn't have.
+    pub new_buckets: Vec<BucketId>,
+    /// The devices that a bucket holds.
+    pub placed: Vec<Placed>,
+    /// The devices that the map doesn't have, or that have another class there.
+    pub set: Vec<SetDevice>,
+}
+
+/// A device with the bucket of the wanted map that holds it.
+#[derive(Clone, Copy)]
+pub(crate) struct Placed {
+    pub id: DeviceId,
+    pub parent: BucketId,
+}
+
+#[derive(Clone, Copy)]
+pub(crate) struct SetDevice {
+    pub id: DeviceId,
+    /// Whether the device has a class in the map.
+    pub has_class: bool,
+    /// Whether the class differs.
+    pub differs: bool,
+}
+
+#[derive(Drop)]
+pub(crate) struct Items {
+    pub current: CurrentItems,
+    pub target: TargetItems,
+}
+
+pub(crate) fn items_of_both<A: Allocator, B: Allocator>(
+    alloc: Global,
+    pairs: &BucketPairs,
+    map: &ItemTable<'_, A>,
+    wanted: &ItemTable<'_, B>,
+) -> Result<Items, AllocError> {
+    let current = current_items(alloc, pairs, map, wanted)?;
+    let target = target_items(alloc, pairs, map, wanted)?;
+    Ok(Items { current, target })
+}
+
+fn current_items<A: Allocator, B: Allocator>(
+    alloc: Global,
+    pairs: &BucketPairs,
+    map: &ItemTable<'_, A>,
+    wanted: &ItemTable<'_, B>,
+) -> Result<CurrentItems, AllocError> {
+    let mut items = CurrentItems {
+        removed_buckets: Vec::new(alloc),
+        removed_devices: Vec::new(alloc),
+        reweighed: Vec::new(alloc),
+    };
+    for step in &map.steps {
+        items.push(pairs, wanted, &step.view())?;
+    }
+    Ok(items)
+}
+
+fn target_items<A: Allocator, B: Allocator>(
+    alloc: Global,
+    pairs: &BucketPairs,
+    map: &ItemTable<'_, A>,
+    wanted: &ItemTable<'_, B>,
+) -> Result<TargetItems, AllocError> {
+    let mut items = TargetItems {
+        buckets: Vec::new(alloc),
+        new_buckets: Vec::new(alloc),
+        placed: Vec::new(alloc),
+        set: Vec::new(alloc),
+    };
+    for step in &wanted.steps {
+        items.push(pairs, map, &step.view())?;
+    }
+    Ok(items)
+}
+
+/// Returns the other map's item with the same id and the same name.
+pub(crate) fn same_item<'a, A: Allocator>(
+    map: &'a ItemTable<'_, A>,
+    item: &View<'_>,
+) -> Option<View<'a>> {
+    match map.view(item.id) {
+        Some(view) if view.name.as_bytes() == item.name.as_bytes() => Some(view),
+        _ => None,
+    }
+}
+
+fn weigh_alike(current: &View<'_>, target: &View<'_>) -> bool {
+    current.parent.is_some() && target.parent.is_some() && are_near(current.weight, target.weight)
+}
+
+impl CurrentItems {
+    fn push<B: Allocator>(
+        &mut self,
+        pairs: &BucketPairs,
+        wanted: &ItemTable<'_, B>,
+        item: &View<'_>,
+    ) -> Result<(), AllocError> {
+        match item.id {
+            ItemId::Bucket(bucket) if pairs.target_of(bucket).is_some() => {}
+            ItemId::Bucket(bucket) => self.removed_buckets.push(bucket)?,
+            ItemId::Device(device) => match same_item(wanted, item) {
+                None => self.removed_devices.push(device)?,
+                Some(target) if weigh_alike(item, &target) => {}
+                Some(_) => self.reweighed.push(device)?,
+            },
+        }
+        Ok(())
+    }
+}
+
+impl TargetItems {
+    fn push<A: Allocator>(
+        &mut self,
+        pairs: &BucketPairs,
+        map: &ItemTable<'_, A>,
+        item: &View<'_>,
+    ) -> Result<(), AllocError> {
+        match item.id {
+            ItemId::Bucket(bucket) => self.push_bucket(pairs, bucket),
+            ItemId::Device(device) => self.push_device(map, device, item),
+        }
+    }
+
+    fn push_bucket(&mut self, pairs: &BucketPairs, bucket: BucketId) -> Result<(), AllocError> {
+        self.buckets.push(bucket)?;
+        if pairs.current_of(bucket).is_none() {
+            self.new_buckets.push(bucket)?;
+        }
+        Ok(())
+    }
+
+    fn push_device<A: Allocator>(
+        &mut self,
+        map: &ItemTable<'_, A>,
+        id: DeviceId,
+        item: &View<'_>,
+    ) -> Result<(), AllocError> {
+        if let Some(parent) = item.parent {
+            self.placed.push(Placed { id, parent })?;
+        }
+        let (is_new, class) = match same_item(map, item) {
+            Some(current) => (false, current.class),
+            None => (true, None),
+        };
+        let (has_class, differs) = (class.is_some(), class != item.class);
+        if is_new || differs {
+            self.set.push(SetDevice {
+                id,
+                has_class,
+                differs,
+            })?;
+        }
+        Ok(())
+    }
+}

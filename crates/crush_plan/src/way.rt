@@ -1,0 +1,56 @@
+//! One way to look for a plan: which bucket of the map is which, and what has to be done.
+
+use crate::goal::PlanGoal;
+use crate::identity::{BucketPair, BucketPairs, Identity};
+use crate::item_table::ItemTable;
+use crate::items::{Items, items_of_both};
+use crush_map::CrushMap;
+use crush_units::{BucketId, ItemId};
+use std::alloc::{AllocError, Allocator, Global};
+
+#[derive(Drop)]
+pub(crate) struct Way<'a, A: Allocator> {
+    /// The items of the map from which this way starts.
+    pub start: ItemTable<'a, A>,
+    pub pairs: BucketPairs,
+    pub items: Items,
+}
+
+impl<'a, A: Allocator> Way<'a, A> {
+    pub(crate) fn new<B: Allocator>(
+        alloc: Global,
+        identity: Identity,
+        goal: &PlanGoal<'_, A, B>,
+        map: &'a CrushMap<A>,
+    ) -> Result<Way<'a, A>, AllocError> {
+        let start = ItemTable::new(alloc, map)?;
+        let pairs = BucketPairs::new(alloc, identity, &start, &goal.there)?;
+        let items = items_of_both(alloc, &pairs, &start, &goal.there)?;
+        Ok(Way {
+            start,
+            pairs,
+            items,
+        })
+    }
+
+    /// The name with which the search starts.
+    pub(crate) fn name_at_start(&self, pair: &BucketPair) -> Option<&str> {
+        self.start.name_of(ItemId::Bucket(pair.current))
+    }
+
+    /// Returns this bucket of the map with the bucket of the wanted map that it is, if the two have
+    /// different names.
+    pub(crate) fn renamed<B: Allocator>(
+        &self,
+        goal: &PlanGoal<'_, A, B>,
+        current: BucketId,
+    ) -> Option<BucketPair> {
+        let target = self.pairs.target_of(current)?;
+        let from = self.start.name_of(ItemId::Bucket(current))?;
+        let to = goal.there.name_of(ItemId::Bucket(target))?;
+        if from.as_bytes() == to.as_bytes() {
+            return None;
+        }
+        Some(BucketPair { current, target })
+    }
+}
