@@ -6,7 +6,12 @@
 Each input has at most so many bytes, a megabyte being 1,000,000. Printed are its name, its bytes, the seconds,
 the status and standard error. The bound is 5 seconds for an input of 1 MB, 60 for one of 16 MB: a limit for each of
 the sizes. A run that takes longer is ended, and `> LIMIT` is printed; then, and where another signal ended a run,
-the status is 1. With --write the inputs are written into the folder and nothing is run.
+the status is 1. With --write the inputs are written into the folder and nothing is run. An input of a plan has two files:
+a map, and the wanted map, whose name ends in `.wanted`. Both files together have the size.
+
+The inputs `documents_..` are one map, whose devices are in the innermost of nested buckets. They are run with the
+options of WORDS. The JSON documents of this map may take three times as long as its tree. If one takes longer,
+`> 3 x TREE` is printed behind its line, and the status is 1.
 """
 
 import argparse
@@ -57,13 +62,13 @@ def flat(devices, hosts=1, weight=0.5):
     return lines + bucket("root", "default", 1, names)
 
 
-def nest(depth=MOST_BUCKETS, first_id=1):
-    """A map of buckets in one another, the innermost of which holds a device. Their ids begin at that."""
-    lines = ["device 0 osd.0"] + TYPES
-    below = "osd.0"
+def nest(depth=MOST_BUCKETS, first_id=1, devices=1):
+    """A map of buckets in one another, the innermost of which holds the devices. Their ids begin at that."""
+    lines = [f"device {number} osd.{number}" for number in range(devices)] + TYPES
+    items = [(f"osd.{number}", 1) for number in range(devices)]
     for number in range(depth, 0, -1):
-        lines += bucket("rack", f"b{number}", first_id + number - 1, [(below, 1)])
-        below = f"b{number}"
+        lines += bucket("rack", f"b{number}", first_id + number - 1, items)
+        items = [(f"b{number}", devices)]
     return lines
 
 
@@ -459,7 +464,93 @@ def spaces_of_operators(size):
     return filled([], size, lambda n: f"%operator o{n}", 10**7)
 
 
+def documents_of_a_nest(size):
+    """A nest of 4,000 buckets, and at its foot as many devices as there is room for."""
+    room = size - bytes_of(nest(4000))
+    return nest(4000, devices=min(MOST_DEVICES // 2, room // 50))
+
+
+# Inputs that are run with options
+WORDS = {"documents_tree": ["--tree"], "documents_map_as_json": ["--json"], "documents_tree_as_json": ["--json", "--tree"]}
+
+# How many times as long as the tree the documents may take
+MOST_TREES = 3
+
+
+def planned(words, make):
+    """An input of `--to`: the lines of a map, those of the wanted map, and more words of the command line."""
+    return lambda size: (words, *make(size))
+
+
+def other_names_of_a_nest(size):
+    """Each bucket of a nest is to have the name of the next one inside it, and the innermost that of the outermost."""
+    depth = min(MOST_BUCKETS, size // 2 // 70)
+    lines = nest(depth)
+    names = {f"b{number}": f"b{number % depth + 1}" for number in range(1, depth + 1)}
+    return lines, [" ".join(names.get(word, word) for word in line.split(" ")) for line in lines]
+
+
+def other_weights_at_the_foot(size, depth=4000):
+    """Each device at the foot of a nest is to have a weight of its own."""
+    depth = min(depth, size // 4 // 70)
+    count = min(MOST_DEVICES, (size - 2 * 70 * depth) // 2 // 60)
+    head = [f"device {number} osd.{number}" for number in range(count)] + TYPES
+
+    def lines(weight):
+        items, made = [(f"osd.{number}", weight(number)) for number in range(count)], list(head)
+        for number in range(depth, 0, -1):
+            made += bucket("rack", f"b{number}", number, items)
+            items = [(f"b{number}", 0)]
+        return made
+    return lines(lambda number: 0.001), lines(lambda number: round(0.01 + number / 100000, 5))
+
+
+def other_places_at_the_foot(size):
+    """Each device of one of two hosts at the foot of a nest is to be in the other."""
+    depth = min(4000, size // 4 // 70)
+    count = min(MOST_DEVICES, (size - 2 * 70 * depth) // 2 // 60)
+    head = [f"device {number} osd.{number}" for number in range(count)] + TYPES
+
+    def lines(full):
+        items = [(f"osd.{number}", 0.01) for number in range(count)]
+        made = list(head)
+        for side in range(2):
+            made += bucket("host", f"h{side}", depth + 1 + side, items if side == full else [])
+        items = [("h0", 0), ("h1", 0)]
+        for number in range(depth, 0, -1):
+            made += bucket("rack", f"b{number}", number, items)
+            items = [(f"b{number}", 0)]
+        return made
+    return lines(0), lines(1)
+
+
+def names_that_help_nothing(size):
+    """By their ids, hosts at the foot of a nest are to exchange their names. By their names alone, only their algorithms
+    differ, which no command sets."""
+    half = min(MOST_BUCKETS // 2, size // 4 // 70)
+
+    def lines(turn, alg):
+        made = list(TYPES)
+        for number in range(half):
+            made += [line.replace("straw2", alg) for line in bucket("host", f"h{(number + turn) % half}", half + 1 + number, [])]
+        items = [(f"h{number}", 0) for number in range(half)]
+        for number in range(half, 0, -1):
+            made += bucket("rack", f"b{number}", number, items)
+            items = [(f"b{number}", 0)]
+        return made
+    return lines(0, "straw2"), lines(1, "list")
+
+
+PLANS = {
+    "other_names_of_a_nest": planned([], other_names_of_a_nest),
+    "other_names_under_a_nest": planned(["--under", "b1"], other_names_of_a_nest),
+    "other_weights_at_the_foot": planned([], other_weights_at_the_foot),
+    "other_weights_under_a_nest": planned(["--under", "b1"], other_weights_at_the_foot),
+    "other_places_at_the_foot": planned([], other_places_at_the_foot),
+    "names_that_help_nothing": planned([], names_that_help_nothing)}
+
 INPUTS = {
+    **{name: documents_of_a_nest for name in WORDS},
     "batches_of_a_far_class": batches_of_a_far_class, "batches_of_near_and_far_classes": batches_of_near_and_far_classes,
     "batches_of_far_roots": batches_of_far_roots, "batches_of_a_far_device_and_a_far_bucket": batches_of_a_far_device_and_a_far_bucket,
     **{function.__name__: function for function in (
@@ -475,20 +566,30 @@ INPUTS = {
     batches_of_new_names, batches_of_long_names, a_wide_level_over_a_nest, batches_of_sixteen_operators)}}
 
 
-def timed(program, job, limit):
-    """The processor seconds that the job takes, or None past the limit, the status, and standard error."""
+def timed(program, job, limit, words=()):
+    """The processor seconds that the job takes with these words, or None past the limit, the status, and standard error."""
 
     def limited():
         resource.setrlimit(resource.RLIMIT_CPU, (limit, limit + 1))
 
     with open(job, "rb") as stdin, tempfile.TemporaryFile() as told:
-        run = subprocess.Popen([program], stdin=stdin, stdout=subprocess.DEVNULL, stderr=told, preexec_fn=limited)
+        run = subprocess.Popen([program, *words], stdin=stdin, stdout=subprocess.DEVNULL, stderr=told, preexec_fn=limited)
         _, how, used = os.wait4(run.pid, 0)
         run.returncode = os.waitstatus_to_exitcode(how)
         told.seek(0)
         if run.returncode in (-signal.SIGXCPU, -signal.SIGKILL):
             return None, 0, ""
         return used.ru_utime + used.ru_stime, run.returncode, told.read().decode().strip()
+
+
+def written(folder, name, made):
+    """Writes an input into a folder. Returns its files, of which the first is the job, and the words to run it with."""
+    words, *texts = made if isinstance(made, tuple) else ([], made)
+    files = [os.path.join(folder, name + end) for end, _ in zip(("", ".wanted"), texts)]
+    for file, lines in zip(files, texts):
+        with open(file, "w") as out:
+            out.write("\n".join(lines) + "\n")
+    return files, words + ["--to", files[1]] * (len(files) - 1)
 
 
 def main():
@@ -505,22 +606,26 @@ def main():
     if len(limits) != len(options.megabytes):
         parser.error("a limit for each of the sizes")
     failed = False
+    tree = None
     with tempfile.TemporaryDirectory() as own:
         folder = options.write or own
         os.makedirs(folder, exist_ok=True)
-        for (megabytes, limit), (name, make) in itertools.product(zip(options.megabytes, limits), INPUTS.items()):
+        for (megabytes, limit), (name, make) in itertools.product(zip(options.megabytes, limits), {**INPUTS, **PLANS}.items()):
             if options.only and not any(word in name for word in options.only):
                 continue
-            job = os.path.join(folder, f"{name}.{megabytes:g}")
-            with open(job, "w") as out:
-                out.write("\n".join(make(int(megabytes * 1_000_000))) + "\n")
+            files, words = written(folder, f"{name}.{megabytes:g}", make(int(megabytes * 1_000_000)))
             if options.write:
                 continue
-            size = os.path.getsize(job)
-            seconds, status, told = timed(os.path.abspath(options.program), job, limit)
-            os.remove(job)
+            size = sum(os.path.getsize(file) for file in files)
+            seconds, status, told = timed(os.path.abspath(options.program), files[0], limit, [*words, *WORDS.get(name, ())])
+            for file in files:
+                os.remove(file)
             failed |= status < 0 or seconds is None
             shown = f"> {limit}" if seconds is None else f"{seconds:.2f}"
+            if name == "documents_tree":
+                tree = seconds
+            elif name in WORDS and tree is not None and seconds is not None and seconds > MOST_TREES * tree:
+                failed, told = True, f"> {MOST_TREES} x {tree:.2f} {told}"
             print(f"{name:26} {size:>9} {shown:>7} {status:>3} {told}".rstrip(), flush=True)
     sys.exit(1 if failed else 0)
 

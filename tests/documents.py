@@ -120,7 +120,8 @@ def since_value(old, new, under):
     if under is not None:
         return {"items": items}
     counts = {words.removeprefix("of other "): int(count) for count, words in re.findall(r"(\d+) ([a-z ]+)", text.splitlines()[-1])}
-    differ = {what: f"\n{what} differ\n" in f"\n{text}" for what in ("rules", "tunables", "types")}
+    differ = {what: f"\n{what} differ\n" in f"\n{text}" for what in ("tunables", "types")}
+    differ["rules"] = bool(re.search(r"(?m)^rule \S+ (is new|differs|is gone)$|^rules stand in another order$", text))
     return {"counts": counts, "items": items, "total": [total(old), total(new)], **differ}
 
 

@@ -18,7 +18,7 @@ def sentences(heading, name):
     section = RULES.read_text().partition(f"\n## {heading}\n")[2].partition("\n## ")[0]
     rows = [re.split(r" ?\| ?", line)[1:-1] for line in re.findall(r"(?m)^\|.*\|$", section)]
     own, said = rows[0].index(name), rows[0].index("Sentence")
-    return {row[own].split("`")[1]: row[said] for row in rows[2:]}
+    return {row[own].split("`")[1]: row[said].strip("`") for row in rows[2:]}
 
 
 OF_TEXTS, OF_JOBS = sentences("Faults of a text", "Fault"), sentences("Faults of a job", "Fault")
@@ -46,8 +46,13 @@ STEP_WORDS = "take, choose, chooseleaf, emit or a word that begins with set_"
 LARGE, NEGATIVE = "0 to 2147483647", "-1 to -2147483648"
 
 
-def shown(line):
-    return "".join(" " if byte in "\t\r" else byte if " " <= byte <= "~" else "?" for byte in line[:MOST_SHOWN])
+def shown(text):
+    """A text as messages show it, of which each character is a byte: none of them can control a terminal."""
+    return "".join(" " if byte in "\t\r" else byte if " " <= byte <= "~" else "?" for byte in text)
+
+
+def shown_line(line):
+    return shown(line[:MOST_SHOWN])
 
 
 def is_name(word):
@@ -84,7 +89,7 @@ def weight_meant(word):
 
 def wrong(slot, word, count):
     """What is told of a word that doesn't fit, behind so many pairs."""
-    told = f"`{shown(word)}`"
+    told = f"`{shown_line(word)}`"
     if slot == "device":
         digits = re.sub("^osd\\.", "", bare(word))
         is_number = re.fullmatch("[0-9]{1,10}", digits) and int(digits) < 2**31
@@ -242,6 +247,8 @@ def flaw_told(text, kind, at, files):
         return at, "no text of a map begins so: is this what crushtool -d prints?"
     if kind == "UnknownType" and word in FORMS and not text[:at].rpartition("\n")[2].strip(" \t\r"):
         return at, "commands stand below a line %operator NAME"
+    if kind == "BadWeight" and word.startswith("-"):
+        return at, "crushtool -d prints a bucket's weight from 32768 on as a negative number: write 0, and the sum takes its place"
     if kind == "LeftOut":
         return at, {"choose_args": "a map with weight sets can't be edited here: taking them out moves data",
                     "choosemsr": "a map with MSR rules can't be edited here: a step choosemsr isn't read",
@@ -273,13 +280,13 @@ def own_line(line, files):
 
 def line_told(line, files):
     name, number = own_line(line, files)
-    return f"{name} line {number}" if name else f"line {number}"
+    return f"{shown(name)} line {number}" if name else f"line {number}"
 
 
 def command_head(line, files):
     """What stands before a command of a batch that was refused."""
     name, number = own_line(line, files)
-    return f"{name}:{number}: " if name else f"line {number}: "
+    return f"{shown(name)}:{number}: " if name else f"line {number}: "
 
 
 def edit_lines(text):
@@ -301,7 +308,7 @@ def place(text, at, files):
     kept = min(behind, MOST_BEFORE)
     line = text[at - kept :].split("\n", 1)[0]
     told = line_told(before.count("\n") + 1, files)
-    return f"{told}, column {behind + 1}\n    {shown(line)}\n    {' ' * kept}^\n"
+    return f"{told}, column {behind + 1}\n    {shown_line(line)}\n    {' ' * kept}^\n"
 
 
 def fault_text(text, fault, files=(("", 1, 1),), of_runs=""):
@@ -319,14 +326,14 @@ def fault_text(text, fault, files=(("", 1, 1),), of_runs=""):
             put = told.endswith("line 0")
             reason = ("the file's name is no operator's: begin it with a line %operator NAME" if put
                       else line_reason(line))
-        return f"  {told}\n    {shown(line)}\n  {reason}\n"
+        return f"  {told}\n    {shown_line(line)}\n  {reason}\n"
     return f"  {OF_RUNS[of_runs + kind] if of_runs else OF_JOBS[kind]}\n"
 
 
 def unread_text(line, name="", reason=""):
     """What is told of a run that ends with this line, where a file can't be opened or read for this reason; without one,
     standard input can't be read."""
-    return f"crushedit: {line}\n  {OF_RUNS[line]}\n" + (f"  {name}: {reason}\n" if reason else "")
+    return f"crushedit: {line}\n  {OF_RUNS[line]}\n" + (f"  {shown(name)}: {reason}\n" if reason else "")
 
 
 def written_text(written, text):

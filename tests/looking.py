@@ -86,6 +86,40 @@ def emptied(old, new):
                     yield f"rule {rule['name']} takes nothing: {taken} weighs {text_of(0)}"
 
 
+def changed_rules(old, new):
+    """The lines of the rules that differ, by what each map says of its rules: their names with all else."""
+    if old == new:
+        return []
+    before, after = dict(old), dict(new)
+    lines = [f"rule {name} {'differs' if name in before else 'is new'}" for name, rest in new if before.get(name) != rest]
+    lines += [f"rule {name} is gone" for name, _ in old if name not in after]
+    return lines or ["rules stand in another order"]
+
+
+def class_weights(map):
+    """What the devices of each class weigh, of the classes that a device has."""
+    weights = {}
+    for name, item in map.items.items():
+        if map.is_device(name) and item.get("class"):
+            weights[item["class"]] = weights.get(item["class"], 0) + item["weight"]
+    return weights
+
+
+def classes_taken(map):
+    steps = [step for rule in map.rules for step, number in rule["lines"] if number is not None]
+    return {step.split(" class ")[1].strip() for step in steps if " class " in step}
+
+
+def class_lines(old, new):
+    """The lines of the classes that weigh another sum, and of those that are new though no rule takes them."""
+    was, now = class_weights(old), class_weights(new)
+    for kind in sorted({*was, *now}):
+        if was.get(kind, 0) != now.get(kind, 0):
+            yield f"class {kind} weighed {text_of(was.get(kind, 0))}, weighs {text_of(now.get(kind, 0))}"
+    for kind in sorted({*now} - {*was} - classes_taken(new)):
+        yield f"class {kind} is new, and no rule takes it"
+
+
 def since_text(old, new):
     before, after = by_id(old), by_id(new)
     counts = dict.fromkeys(["made", "removed", "renamed", "moved", "of other weight", "of other class"], 0)
@@ -110,9 +144,9 @@ def since_text(old, new):
         lines.append("tunables differ")
     if old.types != new.types:
         lines.append("types differ")
-    if [rule["lines"] for rule in old.rules] != [rule["lines"] for rule in new.rules]:
-        lines.append("rules differ")
+    lines += changed_rules(*([(rule["name"], rule["lines"]) for rule in map.rules] for map in (old, new)))
     lines += emptied(old, new)
+    lines += class_lines(old, new)
     lines.append(f"total {text_of(total(old))} to {text_of(total(new))}")
     lines.append(", ".join(f"{count} {heading}" for heading, count in counts.items()))
     return "".join(line + "\n" for line in lines)
@@ -130,7 +164,8 @@ def ceph_text(map, made):
     for words in commands:
         added = words[0] == "set" and not is_placed(map, words[1])
         sure = " --yes-i-really-mean-it" if words[0] == "swap-bucket" else ""
-        lines.append(f"ceph osd crush {shown(['add', *words[1:]] if added else words)}{sure}")
+        end = "-- " if any(word.startswith("-") for word in words[1:]) else ""
+        lines.append(f"ceph osd crush {end}{shown(['add', *words[1:]] if added else words)}{sure}")
         map = run_one(map, words)[0]
     return "".join(line + "\n" for line in lines)
 

@@ -10,8 +10,8 @@ in common but names, it is looked whether
 - `--since MAP --by-name`, with `--under NAME` and without, has the lines of docs/dev/names.md, which this page has too (`changed_lines`)
 - `--to MAP --under NAME`, by ids and by names, has only commands of items of the part: each item that a command names stood
   there in the map, or has behind it a name that stands there in MAP. The model makes the commands, each has to change its map,
-  and what is told to stay is of the model's lines those of the part. With commands fewer stay than without, or as many
-  and fewer other ids. A second run prints the same, and with `--strict`, of the map alone, what stays ends it
+  and what is told to stay is of the model's lines those of the part. With commands fewer stay than without. No command
+  creates a bucket outside of the part. A second run prints the same, and with `--strict`, of the map alone, what stays ends it
 
 Each is run with `--exit-code`: the status is 6 where something is told, of trees where the scripts changed the map, and else 0.
 A NAME or TYPE that isn't there ends by `no item` or `no type`, which is counted as missing. The status is 1 where anything
@@ -163,11 +163,6 @@ def aside_part(map, wanted, under):
     return aside(kept(map, names), kept(wanted, names))
 
 
-def other_ids(map, wanted, under):
-    lines = [line for line in aside_part(map, wanted, under) if line.startswith("ids of ")]
-    return int(lines[0].split()[2]) if lines else 0
-
-
 def called(words):
     """The names by which a command calls items, each with the name that the item has behind it, if it is there then."""
     first, *names = words
@@ -188,6 +183,11 @@ def strangers(map, wanted, under, commands):
         now = made_by(now, [words])
 
 
+def spare_names(commands):
+    """The names that a plan gives to buckets for a time, or to buckets that it can't remove."""
+    return {words[2] for words in commands if words[0] == "rename-bucket"}
+
+
 def check_plan(ran, map, wanted, under, words):
     """How many commands a plan of a part has, and how many lines stay behind it."""
     status, text, told = ran(words)
@@ -197,8 +197,9 @@ def check_plan(ran, map, wanted, under, words):
     due = [f"# {len(commands)} commands", *(" ".join(words) for words in commands)] + [f"# {len(rest)} differences stay"] * bool(rest)
     expect("a plan", text, "".join(f"{line}\n" for line in due + [f"# {line}" for line in rest + aside_part(made, wanted, under)]))
     expect("its end", (status, told), (6 if commands or rest else 0, ""))
+    expect("buckets created elsewhere", sorted(set(made.items) - set(map.items) - names_at(wanted, under) - spare_names(commands)), [])
     expect("commands of other items", list(strangers(map, wanted, under, commands)), [])
-    if commands and (len(rest), other_ids(made, wanted, under)) >= (len(before), other_ids(map, wanted, under)):
+    if commands and len(rest) >= len(before):
         raise ValueError("the commands help nothing")
     expect("a second run", ran(words)[1], text)
     strict = (5, "", "".join(f"{line}\n" for line in [f"crushedit: differs {len(rest)}", *rest]))

@@ -1,4 +1,4 @@
-"""What stays between a map and the one that is wanted, told by names, and the text of a plan, by the plain model."""
+"""The differences by names between a map and the wanted map, and the text of a plan, by the plain model."""
 
 from looking import place_of, tree_rows, type_name
 from model import is_change, run_one, shown, text_of
@@ -70,6 +70,15 @@ def made_by(map, commands):
         if shown(words) != " ".join(words):
             raise ValueError(f"a command of a plan reads as another: {shown(words)}")
     return map
+
+
+def remade(map, wanted, made, commands):
+    """The names of buckets of both maps that the commands create, although no bucket of the map has left its name: the
+    old bucket isn't in the map after the commands."""
+    created = [words[1] for words in commands if words[0] == "add-bucket"]
+    for name in created:
+        if counterpart(map, wanted, name) and made.with_id(map.items[name]["id"]) in [None, *created]:
+            yield name
 
 
 def plan_text(commands, map, wanted):

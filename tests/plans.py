@@ -1,18 +1,19 @@
-"""Plans between maps of chance, there and back: each command is done, and what is told to stay is what does.
+"""Plans between random maps, there and back: each command is done, and the differences that remain are those that are printed.
 
     python3 tests/plans.py crates/crushedit/out/crushedit [PAIRS [SEED]]
 
 Of each four pairs three are a map, and the same after a random script; the fourth has two maps that have nothing in
 common but names. The plan from the one map to the other (`--to`), and the one back, are made by the plain model: each
 command has to be done and to change the map, and the text has to be that which the model prints of these commands and
-of the maps (`planned.py`). A plan without commands is as good as any; another has to leave fewer differences than
-there are without it, or as many and fewer other ids. A second run has to print the same, with `--as-ceph` the same
-commands as Ceph's own, and with `--strict` what stays has to end it. Of every other pair buckets are told by names
-(`--by-name`).
+of the maps (`planned.py`). If a plan has commands, fewer differences have to remain after them than without them; ids
+are no differences. No bucket that both maps have by name may be removed and created again. After the commands of a plan,
+a second plan has to have no commands. A second run has to print the same plan, `--as-ceph` has to print the same commands
+as Ceph's own, and with `--strict` a difference that remains has to end the run. For every other pair the program matches
+buckets by names only (`--by-name`).
 
-The status is 1 where a plan is wrong, or where of pairs made by a script more than 4 in 100, rounded up, leave a
-difference on the way there; how often that was, and which differences, is told. The seed may be any word; without one
-it is drawn.
+The status is 1 if a plan is wrong, or if a difference remains on the way there for more than 4 in 100 of the pairs made by
+a script, rounded up. The test prints how often that was, and which differences remained. The seed may be any word; without
+one it is drawn.
 """
 
 import collections
@@ -26,7 +27,7 @@ import tempfile
 
 from chance import Dice, random_command, random_map
 from model import run_one
-from planned import aside, commands_of, made_by, plan_text, stays
+from planned import commands_of, made_by, plan_text, remade, stays
 from reading import read_map
 
 # Of how many hundred pairs made by scripts so many may leave a difference.
@@ -70,12 +71,20 @@ def run(program, folder, words):
 
 
 def as_ceph(words):
-    return f"ceph osd crush {' '.join(words)}{' --yes-i-really-mean-it' if words[0] == 'swap-bucket' else ''}"
+    end = "-- " if any(word.startswith("-") for word in words[1:]) else ""
+    return f"ceph osd crush {end}{' '.join(words)}{' --yes-i-really-mean-it' if words[0] == 'swap-bucket' else ''}"
 
 
 def expect(what, got, due):
     if got != due:
         raise ValueError(f"{what}: {got!r} in the place of {due!r}")
+
+
+def plan_after(program, folder, words, made):
+    """The commands of the plan from the map after a plan to the same wanted map."""
+    with open(os.path.join(folder, "made"), "w") as out:
+        out.write(made.text())
+    return commands_of(run(program, folder, [*words, "made"])[1])
 
 
 def check(program, folder, map, wanted, identity):
@@ -88,9 +97,10 @@ def check(program, folder, map, wanted, identity):
     made = made_by(map, commands)
     expect("the text", text, plan_text(commands, made, wanted))
     rest, before = stays(made, wanted), stays(map, wanted)
-    ids = [re.findall(r"(?m)^ids of (\d+)", "\n".join(aside(at, wanted))) or ["0"] for at in (made, map)]
-    if commands and (len(rest), int(ids[0][0])) >= (len(before), int(ids[1][0])):
+    if commands and len(rest) >= len(before):
         raise ValueError("the commands help nothing")
+    expect("buckets removed and created again", list(remade(map, wanted, made, commands)), [])
+    expect("a second plan, after the first", plan_after(program, folder, words, made), [])
     ceph = run(program, folder, [*words, "--as-ceph", "map"])[1]
     lines = [line if line.startswith("#") else as_ceph(line.split()) for line in text.splitlines()]
     expect("Ceph's words", ceph, "".join(line + "\n" for line in lines))

@@ -133,9 +133,9 @@ def told_of(head):
 
 def call_faults():
     """Which calls have no clause that says which of several faults is told, or what is left, and aren't told of in PROVED.md."""
-    section = sections_of("PROVED.md")["Each public call"]
+    section = sections_of("PROVED.md")["Each public function"]
     sources, named, waiting = "".join(path.read_text() for path in crate_files()), set(quoted(section)), set()
-    without, records = set(quoted(section.partition("### Calls without such a clause")[2])), fields_of_records()
+    without, records = set(quoted(section.partition("### Functions without such a clause")[2])), fields_of_records()
     for _, name, text in contracts():
         fault, head = told_of(text), re.split(r"\bensures\b|\brequires\b", text)[0]
         body = re.search(rf"pub enum {fault}(?:Kind)?\b[^{{]*\{{(.*?)\n\}}", sources, re.S) if fault else None
@@ -148,7 +148,7 @@ def call_faults():
         if re.search(r"\bWait\b", head):
             waiting.add(name)
     for clause in sorted((TOLD | LEFT) - named):
-        yield f"Each public call doesn't tell of the clause {clause}"
+        yield f"Each public function doesn't tell of the clause {clause}"
     told = {call for line in section.splitlines() if "`Wait`" in line for call in quoted(line) if call != "Wait"}
     for call in sorted(waiting ^ told):
         yield f"{call} {'may wait' if call in waiting else 'does not wait'}"

@@ -31,6 +31,8 @@ OFFERED = {
     "crush_map": {
         "CrushMap::culprit", "CrushMap::class_of", "CrushMap::contains", "CrushMap::kind_of", "CrushMap::weight_of_class",
     },
+    "crush_items": {"ById::find", "Item::class_ids", "Item::seen", "Item::view", "Items::by_id", "Items::class_ids", "Items::of", "Items::run", "Items::seen"},
+    "crush_compare": {"Comparison::after", "Comparison::before", "Comparison::by_ids", "Comparison::by_names", "Comparison::difference"},
     "crush_print": {"buckets", "devices", "TreePart::whole", "WalkStep::view", "walk", "walk_below", "walk_part", "write_tree"},
     "crush_since": {"count_changes", "is_changed", "is_part_changed", "same_kinds", "same_rules", "same_tunables", "since_part_text", "listed_ids"},
     "crush_json": {"write_map_document", "write_plan_document", "write_since_document", "write_tree_document"},

@@ -20,11 +20,13 @@ PAGE = TOP / "docs/dev/SIGNATURES.md"
 HEAD = """\
 # Signatures
 
-This page is for a programmer who calls the library. It lists the types, calls and constants that a caller needs, crate by crate, lowest first. [CALLING](CALLING.md) shows how to use them, and the contract of each call stands in its source. `tools/signatures.py` writes this page from the sources.
+This page is for a programmer who calls the library. It lists the types, functions and constants that a caller needs. The page goes crate by crate, and the lowest crate comes first. Read [CALLING](CALLING.md) first, which shows how to use the library. The contract of each function is in the sources, above the function's body. The script `tools/signatures.py` writes this page from the sources.
 
-- A line `// requires a; ensures b, c` has the names of a call's clauses. `requires` without a name is a condition that has none.
-- A line `// traits: ..` has the traits of the type below it.
-- The type parameter `A` is the allocator of a map's memory, `N` is the name of an editor, and `O` is what an editor keeps of its opening map.
+For example, the method `finish` of a `MapBuilder` has the comment `// requires; ensures stands, shrunk`. So the contract of `finish` has one condition for the caller, and two promises, which have the names `stands` and `shrunk`.
+
+- A comment `// requires a; ensures b, c` has the names of the clauses in a function's contract. If no name follows `requires`, then the contract has a condition without a name.
+- A comment `// traits: ..` has the traits that the type below it implements.
+- The type parameter `A` is the allocator of a map's memory. The type parameter `N` is the name of an editor. The type parameter `O` says whether an editor keeps a copy of its opening map, the map before the first call.
 """
 # Types of which no caller has a value, so that no call that asks for one is shown: a map comes of a reader or a builder.
 INSIDE = {"Hierarchy", "Guide"}

@@ -42,7 +42,7 @@ def sentence_faults():
     for word, title in SAID.items():
         wanted = {name or other.capitalize(): sentence for other, name, sentence in said if other in word}
         for head, rows in tables(sections.get(title, "")):
-            told = {quoted(row[head.index(title.split(" ")[0].rstrip("s"))])[0]: row[head.index("Sentence")] for row in rows}
+            told = {quoted(row[head.index(title.split(" ")[0].rstrip("s"))])[0]: row[head.index("Sentence")].strip("`") for row in rows}
             for name in sorted(wanted | told):
                 if name not in NO_SENTENCE and wanted.get(name) != told.get(name):
                     yield f"{title} has another sentence of {name} than {SENTENCES}"
@@ -55,7 +55,7 @@ def run_sentence_faults():
     """Which sentences of runs RULES.md hasn't, or has another of."""
     report = (TOP / "crates/crush_input/specs/Report.antt").read_text()
     said = {sentence for sentence in re.findall(r'codes "  (.*?)\\n"', report)}
-    told = {row[1] for _, rows in tables(sections_of("RULES.md")["Sentences of runs"]) for row in rows}
+    told = {row[1].strip("`") for _, rows in tables(sections_of("RULES.md")["Sentences of runs"]) for row in rows}
     for sentence in sorted(said ^ told):
         yield f"Sentences of runs: {'no row' if sentence in said else 'no run'} has {sentence}"
 
@@ -63,7 +63,7 @@ def run_sentence_faults():
 def named_sentence_faults():
     """Which sentences with a name RULES.md hasn't, and which of its it has that nothing in crush_reasons tells."""
     specs = "\n".join(path.read_text() for path in sorted((TOP / "crates/crush_reasons/specs").glob("*.antt")))
-    told = {quoted(row[0])[0]: row[1] for _, rows in tables(sections_of("RULES.md")["Refusals that name what is in the way"]) for row in rows}
+    told = {quoted(row[0])[0]: row[1].strip("`") for _, rows in tables(sections_of("RULES.md")["Refusals that name what is in the way"]) for row in rows}
     for name, said in re.findall(r'(?m)^said_of refusal\.(\w+) = Some \(codes "(.*)"\)$', specs):
         if told.get(name) != f"NAME{said}":
             yield f"Refusals that name what is in the way has no row of {name} with {said!r}"
@@ -207,7 +207,7 @@ def caller_faults():
             traits += re.findall(r"\w+", line)
         elif found := re.match(r"pub (?:enum|struct) (\w+)", line):
             name = found[1]
-            for trait, has in (("Error", "Fault" in name or name == "Refusal"), ("Display", name in {"Weight", "Name"} or re.search("[a-z]Id$", name))):
+            for trait, has in (("Error", "Fault" in name or name == "Refusal"), ("Display", name in {"Weight", "Name"} or name != "ById" and re.search("[a-z]Id$", name))):
                 if has and trait not in traits and name not in {"ShadowId", "TypeId"}:
                     yield f"CALLING.md: {name} has no {trait}"
             traits = []

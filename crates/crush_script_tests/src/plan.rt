@@ -68,12 +68,69 @@ fn an_item_is_moved(rt: HostRuntime) {
 }
 
 #[test]
-fn exchanged_buckets_are_swapped_back(rt: HostRuntime) {
+fn exchanged_ids_are_no_reason_for_a_command(rt: HostRuntime) {
     assert!(rt;
         is_planned(
             &rt,
             [SWAPPED, EXAMPLE_MAP],
+            b"# 0 commands\n# ids of 2 buckets differ\n"
+        )
+    );
+}
+
+#[test]
+fn exchanged_buckets_are_swapped_back(rt: HostRuntime) {
+    assert!(rt;
+        is_planned(
+            &rt,
+            [TWO_ROOTS_SWAPPED, TWO_ROOTS],
             b"# 1 commands\nswap-bucket h2 h1\n"
+        )
+    );
+}
+
+#[test]
+fn a_bucket_of_another_type_keeps_its_type(rt: HostRuntime) {
+    assert!(rt;
+        is_planned(
+            &rt,
+            [EXAMPLE_MAP, RETYPED],
+            b"# 0 commands\n# 1 differences stay\n# h1: type host, wanted rack\n"
+        )
+    );
+}
+
+#[test]
+fn a_type_is_found_by_its_name(rt: HostRuntime) {
+    assert!(rt;
+        is_planned(
+            &rt,
+            [REGION_9, REGION_10],
+            b"# 3 commands\nadd-bucket eu region\nmove eu root=default\nmove h1 region=eu\n# 1 differences stay\n# types differ\n"
+        )
+    );
+}
+
+#[test]
+fn other_ids_of_hosts_are_told_aside(rt: HostRuntime) {
+    assert!(rt;
+        is_planned(
+            &rt,
+            [HOSTS_OF_CEPH, HOSTS],
+            b"# 0 commands\n# ids of 2 buckets differ\n"
+        )
+    );
+}
+
+#[test]
+fn of_a_part_no_device_outside_is_weighed(rt: HostRuntime) {
+    // h1 comes into r1, but osd.1, which is below h1 now, is to be in h2, outside of r1.
+    assert!(rt;
+        is_planned_under(
+            &rt,
+            "r1",
+            [STRANGER_BELOW, STRANGER_OUTSIDE],
+            b"# 2 commands\nmove h1 rack=r1\nreweight osd.0 2.00000\n# 1 differences stay\n# osd.1: in h1, wanted in h2; weight 1.00000, wanted 2.00000\n"
         )
     );
 }

@@ -9,7 +9,7 @@ use crush_history::{Entry, Script};
 use crush_map::{CrushMap, Hashing};
 use crush_reasons::{
     JobText, Locates, Origin, ceph_text, explained_job, explained_text, fault_line, fault_text,
-    written_text,
+    shown_byte, written_text,
 };
 use crush_script::{Job, JobFault, read_job};
 use std::alloc::Global;
@@ -94,6 +94,54 @@ fn what_does_not_fit_is_told(rt: HostRuntime) {
             origin,
             ALGO,
             b"  line 4, column 2\n     algo straw2\n     ^\n  another word is wanted here: id or alg; in the host h1 that begins at line 2\n"
+        )
+    );
+}
+
+const NEGATIVE: &[u8] =
+    b"type 1 host\ntype 2 rack\nhost h1 {\nid -1\nalg straw2\n}\nrack r1 {\nid -2\nalg straw2\nitem h1 weight -32767.00000\n}\n";
+
+#[test]
+fn a_negative_weight_is_told_as_that_of_a_heavy_bucket(rt: HostRuntime) {
+    let origin = Origin {
+        name: b"",
+        before: 0,
+    };
+    assert!(rt;
+        is_listed(
+            &rt,
+            origin,
+            NEGATIVE,
+            b"  line 10, column 16\n    item h1 weight -32767.00000\n                   ^\n  crushtool -d prints a bucket's weight from 32768 on as a negative number: write 0, and the sum takes its place\n"
+        )
+    );
+}
+
+#[test]
+fn control_characters_are_not_shown(rt: HostRuntime) {
+    assert!(rt;
+        shown_byte(b' ') == b' '
+            && shown_byte(b'~') == b'~'
+            && shown_byte(b'\t') == b' '
+            && shown_byte(b'\r') == b' '
+            && shown_byte(27) == b'?'
+            && shown_byte(127) == b'?'
+            && shown_byte(255) == b'?'
+    );
+}
+
+#[test]
+fn a_name_with_an_escape_is_told_without_it(rt: HostRuntime) {
+    let origin = Origin {
+        name: b"a\x1b[31m\t.txt",
+        before: 0,
+    };
+    assert!(rt;
+        is_listed(
+            &rt,
+            origin,
+            b"%operator a\nfly x\n",
+            b"  a?[31m .txt line 2\n    fly x\n  the first word of a line is to be a command: --help has all of them\n"
         )
     );
 }

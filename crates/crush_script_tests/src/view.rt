@@ -1,9 +1,11 @@
-//! Trees, and what has changed between two maps, as text. Expected values follow the forms in
-//! docs/user/FORMATS.md.
+//! Trees, lists of items, pairs of items, and what has changed between two maps, as text. Expected
+//! values follow the forms in docs/user/FORMATS.md.
 
 mod change_trees;
 mod changed_parts;
 mod changes;
+mod comparisons;
+mod items;
 mod listings;
 mod parts;
 mod trees;

@@ -199,6 +199,9 @@ fn roots_and_unplaced_devices_have_their_rows(rt: HostRuntime) {
         1               -  0.00000  osd.1 (from b)\n \
         2         0.00000        -  osd.2\n\
         rule data takes nothing: a~hdd weighs 0.00000\n\
+        class hdd weighed 1.00000, weighs 0.00000\n\
+        class ssd weighed 0.00000, weighs 1.00000\n\
+        class ssd is new, and no rule takes it\n\
         total 2.00000 to 3.00000\n\
         0 made, 0 removed, 0 renamed, 3 moved, 4 of other weight, 1 of other class\n";
     assert!(rt; is_tree(&rt, TOPS, TOPS_MOVED, tree));

@@ -78,7 +78,53 @@ fn a_rule_that_finds_nothing_now_is_told(rt: HostRuntime) {
         osd.0 (0): from h1 (-2) to h2 (-3); class hdd to ssd\n\
         rule data takes nothing: default~hdd weighs 0.00000\n\
         rule data takes nothing: h1 weighs 0.00000\n\
+        class hdd weighed 1.00000, weighs 0.00000\n\
+        class ssd weighed 0.00000, weighs 1.00000\n\
+        class ssd is new, and no rule takes it\n\
         total 1.00000 to 1.00000\n\
         0 made, 0 removed, 0 renamed, 1 moved, 2 of other weight, 1 of other class\n";
     assert!(rt; is_since(&rt, RULE, RULE_EMPTIED, changes));
+}
+
+/// With another rule of the name data, a new rule, and without the rule gone.
+const THREE_RULES: &[u8] = b"\
+    type 11 root\n\
+    root a { id -1 alg straw2 hash 0 }\n\
+    rule gone { id 0 type replicated step take a step emit }\n\
+    rule kept { id 1 type replicated step take a step emit }\n\
+    rule data { id 2 type replicated step take a step emit }\n";
+
+const OTHER_RULES: &[u8] = b"\
+    type 11 root\n\
+    root a { id -1 alg straw2 hash 0 }\n\
+    rule data { id 2 type erasure step take a step emit }\n\
+    rule kept { id 1 type replicated step take a step emit }\n\
+    rule fast { id 3 type replicated step take a class ssd step emit }\n";
+
+/// The rules of `THREE_RULES` in another order.
+const TURNED_RULES: &[u8] = b"\
+    type 11 root\n\
+    root a { id -1 alg straw2 hash 0 }\n\
+    rule data { id 2 type replicated step take a step emit }\n\
+    rule gone { id 0 type replicated step take a step emit }\n\
+    rule kept { id 1 type replicated step take a step emit }\n";
+
+#[test]
+fn rules_that_differ_are_told_by_name(rt: HostRuntime) {
+    let changes = b"\
+        rule data differs\n\
+        rule fast is new\n\
+        rule gone is gone\n\
+        total 0.00000 to 0.00000\n\
+        0 made, 0 removed, 0 renamed, 0 moved, 0 of other weight, 0 of other class\n";
+    assert!(rt; is_since(&rt, THREE_RULES, OTHER_RULES, changes));
+}
+
+#[test]
+fn rules_in_another_order_are_told(rt: HostRuntime) {
+    let changes = b"\
+        rules stand in another order\n\
+        total 0.00000 to 0.00000\n\
+        0 made, 0 removed, 0 renamed, 0 moved, 0 of other weight, 0 of other class\n";
+    assert!(rt; is_since(&rt, THREE_RULES, TURNED_RULES, changes));
 }
