@@ -589,7 +589,8 @@ def written(folder, name, made):
     for file, lines in zip(files, texts):
         with open(file, "w") as out:
             out.write("\n".join(lines) + "\n")
-    return files, words + ["--to", files[1]] * (len(files) - 1)
+    wanted = files[1:]
+    return files, [*words, "--to", *wanted] if wanted else words
 
 
 def main():
