@@ -4,6 +4,7 @@ pub mod Names
 pub mod Parts
 pub mod Weights
 pub mod ReadBack
+pub mod ExactWeights
 pub mod Appending
 pub mod Forms
 pub mod Printed

@@ -20,7 +20,7 @@ digit_byte : (d : ℕ) → 48 ≤ d → d ≤ 57 → (is_ascii_digit d ≡ true)
 digit_byte d lo hi = (grind (arith, nat_tests), grind (arith, nat_tests))
 
 -- what is made of digits passes the test of them
-all_digits : (ds : List ℕ) → AllDigits 10 ds → list_all is_ascii_digit ds ≡ true
+pub all_digits : (ds : List ℕ) → AllDigits 10 ds → list_all is_ascii_digit ds ≡ true
 all_digits [] h = refl
 all_digits (d ∷ ds) h = let r = digit_from_value d h.0 in rw ((digit_byte d r.0 r.1).0, all_digits ds h.1) refl
 
@@ -30,15 +30,15 @@ to_point [] rest h = refl
 to_point (d ∷ ds) rest h = let r = digit_from_value d h.0 in rw ((digit_byte d r.0 r.1).1, to_point ds rest h.1) (omega arith)
 
 -- the value of a last digit
-digit_is : (n : ℕ) → digit_value (digit n) ≡ n % 10
+pub digit_is : (n : ℕ) → digit_value (digit n) ≡ n % 10
 digit_is n = let v = digit_value_digit (digit n) (omega arith, omega arith) in omega (arith, v)
 
 -- a last digit is a digit
-digit_passes : (n : ℕ) → is_ascii_digit (digit n) ≡ true
+pub digit_passes : (n : ℕ) → is_ascii_digit (digit n) ≡ true
 digit_passes n = (digit_byte (digit n) (omega arith) (omega arith)).0
 
 -- the whole part passes
-passes : (most : ℕ) (ds : List ℕ) → 0 < length ds → length ds ≤ most → list_all is_ascii_digit ds ≡ true → are_digits most ds ≡ true
+pub passes : (most : ℕ) (ds : List ℕ) → 0 < length ds → length ds ≤ most → list_all is_ascii_digit ds ≡ true → are_digits most ds ≡ true
 passes most ds some few all =
     let a : eqb (length ds) 0 ≡ false = ne_eqb _ _ (omega arith) in
     let b : leb (length ds) most ≡ true = grind (arith, nat_tests) in
@@ -48,36 +48,42 @@ passes most ds some few all =
 five : (a b c d e : ℕ) → is_ascii_digit a ≡ true → is_ascii_digit b ≡ true → is_ascii_digit c ≡ true → is_ascii_digit d ≡ true → is_ascii_digit e ≡ true → are_digits 18 (a ∷ b ∷ c ∷ d ∷ e ∷ []) ≡ true
 five a b c d e ha hb hc hd he = rw (ha, hb, hc, hd, he) refl
 
--- digits, a point and five digits
-module _ (ds : List ℕ) (a b c d e : ℕ) (all : AllDigits 10 ds) where
+-- digits, a point and more digits
+module _ (ds rest : List ℕ) (all : AllDigits 10 ds) where
   -- the place of the point
-  place : position_or_len is_point (ds ++ 46 ∷ a ∷ b ∷ c ∷ d ∷ e ∷ []) ≡ length ds
-  place = to_point ds (a ∷ b ∷ c ∷ d ∷ e ∷ []) all
+  place : position_or_len is_point (ds ++ 46 ∷ rest) ≡ length ds
+  place = to_point ds rest all
 
-  -- what stands before it
-  front : whole_of (ds ++ 46 ∷ a ∷ b ∷ c ∷ d ∷ e ∷ []) ≡ ds
-  front = ap (λ (n : ℕ). take n (ds ++ 46 ∷ a ∷ b ∷ c ∷ d ∷ e ∷ [])) place ∙ take_at ds _ (length ds) refl
+  -- the bytes before the point
+  front : whole_of (ds ++ 46 ∷ rest) ≡ ds
+  front = ap (λ (n : ℕ). take n (ds ++ 46 ∷ rest)) place ∙ take_at ds _ (length ds) refl
 
-  -- what stands from it on
-  behind : tail_of (ds ++ 46 ∷ a ∷ b ∷ c ∷ d ∷ e ∷ []) ≡ 46 ∷ a ∷ b ∷ c ∷ d ∷ e ∷ []
-  behind = ap (λ (n : ℕ). drop n (ds ++ 46 ∷ a ∷ b ∷ c ∷ d ∷ e ∷ [])) place ∙ drop_at ds _ (length ds) refl
+  -- the point and the bytes after it
+  behind : tail_of (ds ++ 46 ∷ rest) ≡ 46 ∷ rest
+  behind = ap (λ (n : ℕ). drop n (ds ++ 46 ∷ rest)) place ∙ drop_at ds _ (length ds) refl
 
-  -- the units that they say
-  weight_is : (n u : ℕ) → are_digits 10 ds ≡ true → are_digits 18 (a ∷ b ∷ c ∷ d ∷ e ∷ []) ≡ true → digits_value_after 10 (digits_value 10 ds) (a ∷ b ∷ c ∷ d ∷ e ∷ []) ≡ n → units_of n 5 ≡ u → u ≤ 4294967295 → weight_of_text (ds ++ 46 ∷ a ∷ b ∷ c ∷ d ∷ e ∷ []) ≡ Ok u
+  -- what holds of the two parts holds of the parts of the text
+  pub of_parts : (P : List ℕ → List ℕ → Type 0) → P ds (46 ∷ rest) → P (whole_of (ds ++ 46 ∷ rest)) (tail_of (ds ++ 46 ∷ rest))
+  of_parts P plain = subst (λ (w : List ℕ). P w (tail_of (ds ++ 46 ∷ rest))) (sym front) (subst (P ds) (sym behind) plain)
+
+  -- the weight that the text is read as
+  pub weight_is : (n u : ℕ) → are_digits 10 ds ≡ true → are_digits 18 rest ≡ true → digits_value_after 10 (digits_value 10 ds) rest ≡ n → units_of n (length rest) ≡ u → u ≤ 4294967295 → weight_of_text (ds ++ 46 ∷ rest) ≡ Ok u
   weight_is n u whole part value units fits =
       let P : List ℕ → List ℕ → Type 0 = λ w t. cond (are_digits 10 w && ((length t == 0) || are_digits 18 (drop 1 t))) (weight_of_units (units_of (digits_value_after 10 (digits_value 10 w) (drop 1 t)) (length (drop 1 t)))) (Err Syntax) ≡ Ok u in
       let small : leb u 4294967295 ≡ true = grind (arith, nat_tests) in
-      let plain : P ds (46 ∷ a ∷ b ∷ c ∷ d ∷ e ∷ []) =
-      ap (λ (v : Bool). cond v (weight_of_units (units_of (digits_value_after 10 (digits_value 10 ds) (a ∷ b ∷ c ∷ d ∷ e ∷ [])) 5)) (Err Syntax)) (ap (λ (v : Bool). v && are_digits 18 (a ∷ b ∷ c ∷ d ∷ e ∷ [])) whole ∙ part)
-      ∙ ap (λ (v : ℕ). weight_of_units (units_of v 5)) value ∙ ap weight_of_units units ∙ ap (λ (v : Bool). cond v (Ok u) (Err TooLarge)) small in
-      subst (λ (w : List ℕ). P w (tail_of (ds ++ 46 ∷ a ∷ b ∷ c ∷ d ∷ e ∷ []))) (sym front) (subst (P ds) (sym behind) plain)
+      let some : (length (46 ∷ rest) == 0) ≡ false = ne_eqb _ _ (omega arith) in
+      let plain : P ds (46 ∷ rest) =
+      ap (λ (v : Bool). cond (are_digits 10 ds && (v || are_digits 18 rest)) (weight_of_units (units_of (digits_value_after 10 (digits_value 10 ds) rest) (length rest))) (Err Syntax)) some
+      ∙ ap (λ (v : Bool). cond v (weight_of_units (units_of (digits_value_after 10 (digits_value 10 ds) rest) (length rest))) (Err Syntax)) (ap (λ (v : Bool). v && are_digits 18 rest) whole ∙ part)
+      ∙ ap (λ (v : ℕ). weight_of_units (units_of v (length rest))) value ∙ ap weight_of_units units ∙ ap (λ (v : Bool). cond v (Ok u) (Err TooLarge)) small in
+      of_parts P plain
 
 -- the law
 pub read_again : (w : ℕ) → w < 2 ^ 32 → weight_of_text (weight_text w) ≡ Ok w
 read_again w h =
     let d = decimal_is_IsNumeral (parts_of w / 100000) (omega arith) in
     let few : length (decimal (parts_of w / 100000)) ≤ 5 = whole_part_short w h in
-    weight_is (decimal (parts_of w / 100000)) (digit (parts_of w / 10000)) (digit (parts_of w / 1000)) (digit (parts_of w / 100)) (digit (parts_of w / 10)) (digit (parts_of w)) d.0.1 (parts_of w) w
+    weight_is (decimal (parts_of w / 100000)) (digit (parts_of w / 10000) ∷ digit (parts_of w / 1000) ∷ digit (parts_of w / 100) ∷ digit (parts_of w / 10) ∷ digit (parts_of w) ∷ []) d.0.1 (parts_of w) w
     (passes 10 (decimal (parts_of w / 100000)) d.0.0 (omega arith) (all_digits _ d.0.1))
     (five (digit (parts_of w / 10000)) (digit (parts_of w / 1000)) (digit (parts_of w / 100)) (digit (parts_of w / 10)) (digit (parts_of w)) (digit_passes (parts_of w / 10000)) (digit_passes (parts_of w / 1000)) (digit_passes (parts_of w / 100)) (digit_passes (parts_of w / 10)) (digit_passes (parts_of w)))
     (rw (d.1, digit_is (parts_of w / 10000), digit_is (parts_of w / 1000), digit_is (parts_of w / 100), digit_is (parts_of w / 10), digit_is (parts_of w)) (six_parts (parts_of w)))

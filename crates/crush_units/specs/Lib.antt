@@ -3,6 +3,7 @@ pub mod Alg
 pub mod Name
 pub mod Text
 pub mod Weight
+pub mod ExactWeight
 pub mod Display
 pub mod Lexer
 pub mod Numbers

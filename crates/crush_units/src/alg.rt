@@ -4,8 +4,8 @@ ghost use Rattle.std.specs.Prelude.{◌≡◌, IsTrue, ◌↔◌, IfSome, Some};
 ghost use Rattle.crush_units.specs.Alg.{alg_text, alg_of_text, same_alg};
 
 /// The algorithm by which a bucket chooses among its items. Ceph knows others too; a map here can
-/// have these three.
-#[derive(Clone, Copy, Debug, PartialEq, Eq)]
+/// have these three. They are ordered as they are listed here.
+#[derive(Clone, Copy, Debug, PartialEq, Eq, PartialOrd, Ord, Hash)]
 pub enum Alg {
     /// Draws straws whose lengths are computed from the weights of all items.
     Straw,

@@ -1,10 +1,14 @@
-//! Prints names, ids and weights with `{}`, as they are written in a map's text.
+//! Prints names, ids, types, weights and algorithms with `{}`, as they are written in a map's text.
+//! `{:?}` prints a name as it prints the name's text.
 
-ghost use Rattle.std.specs.Prelude.{Some};
+ghost use Rattle.std.specs.Prelude.{Some, decimal};
+ghost use Rattle.std.specs.Fmt.{debug_str};
+ghost use Rattle.crush_units.specs.Alg.{alg_text};
 ghost use Rattle.crush_units.specs.Display.{bucket_text, device_text, item_text};
 ghost use Rattle.crush_units.specs.Weight.{weight_text};
 
-use crate::id::{BucketId, DeviceId, ItemId};
+use crate::alg::Alg;
+use crate::id::{BucketId, DeviceId, ItemId, TypeId};
 use crate::name::Name;
 use crate::weight::Weight;
 use std::alloc::Allocator;
@@ -15,6 +19,15 @@ impl<A: Allocator> fmt::Display for Name<A> {
 
     fn fmt<W: fmt::Write>(&self, f: &mut fmt::Formatter<W>) -> fmt::Result {
         f.write_str(self.as_str())
+    }
+}
+
+impl<A: Allocator> fmt::Debug for Name<A> {
+    ghost debug_output = { λ name. debug_str name };
+
+    fn fmt<W: fmt::Write>(&self, f: &mut fmt::Formatter<W>) -> fmt::Result {
+        let text = self.as_str();
+        fmt::Debug::fmt(&text, f)
     }
 }
 
@@ -44,6 +57,23 @@ impl fmt::Display for ItemId {
             ItemId::Device(device) => write!(f, "{device}"),
             ItemId::Bucket(bucket) => write!(f, "{bucket}"),
         }
+    }
+}
+
+impl fmt::Display for TypeId {
+    ghost output = { λ kind. Some (decimal kind) };
+
+    fn fmt<W: fmt::Write>(&self, f: &mut fmt::Formatter<W>) -> fmt::Result {
+        let number = self.number();
+        write!(f, "{number}")
+    }
+}
+
+impl fmt::Display for Alg {
+    ghost output = { λ alg. Some (alg_text alg) };
+
+    fn fmt<W: fmt::Write>(&self, f: &mut fmt::Formatter<W>) -> fmt::Result {
+        f.write_str(self.name())
     }
 }
 

@@ -1,14 +1,19 @@
 //! The ids of devices and buckets, and the numbers of types.
 
 ghost use Rattle.std.specs.Prelude.{◌≡◌, ◌≤◌, ◌<◌, ◌^◌, IsTrue, ◌↔◌};
+ghost use Rattle.std.specs.Cmp.{partial_order_from_own_ties};
+ghost use Rattle.std.specs.Cmp.Rules.{comparing};
+ghost use Rattle.std.specs.Ordering.{nat_cmp, flip_args, as_partial_cmp};
+ghost use Rattle.std.proofs.Common.{rules};
 ghost use Rattle.crush_units.specs.Id.{device_of, device_from, bucket_of, bucket_below, bucket_number, item_number, same_id, IsItemId};
 ghost use Rattle.crush_units.specs.declared.limits.TheConstants.{DEVICE_IDS, FARTHEST_BUCKET_ID};
 
 use crate::limits::{FARTHEST_BUCKET_ID, LAST_DEVICE_ID};
+use std::cmp::Ordering;
 use std::marker::Model;
 
-/// A device's id: a number from 0 to 2147483647.
-#[derive(Clone, Copy, Debug, PartialEq, Eq)]
+/// A device's id: a number from 0 to 2147483647. Ids of devices are ordered by their numbers.
+#[derive(Clone, Copy, Debug, PartialEq, Eq, PartialOrd, Ord, Hash)]
 pub struct DeviceId {
     raw: u32,
 }
@@ -27,8 +32,9 @@ impl Model for DeviceId {
 }
 
 /// A bucket's id: a number from -1 down to -2147483648. In contracts its value is its distance
-/// below 0, which is 1 for the id -1.
-#[derive(Clone, Copy, Debug, PartialEq, Eq)]
+/// below 0, which is 1 for the id -1. Ids of buckets are ordered by their numbers below 0: the id -2
+/// is less than the id -1.
+#[derive(Clone, Copy, Debug, PartialEq, Eq, Hash)]
 pub struct BucketId {
     below: u32,
 }
@@ -46,8 +52,35 @@ impl Model for BucketId {
     ghost inverse = { λ n. record { below = n } };
 }
 
-/// The id of an item of the hierarchy, which is a device or a bucket.
-#[derive(Clone, Copy, Debug, PartialEq, Eq)]
+impl Ord for BucketId {
+    ghost cmp = { flip_args nat_cmp };
+
+    ghost total = { Prim.search (comparing, rules) };
+
+    ghost matches_partial_cmp = { Prim.search (comparing, rules) };
+
+    ghost matches_eq = { Prim.search (comparing, rules) };
+
+    fn cmp(&self, other: &BucketId) -> Ordering {
+        other.below.cmp(&self.below)
+    }
+}
+
+impl PartialOrd for BucketId {
+    ghost partial_cmp = { as_partial_cmp (flip_args nat_cmp) };
+
+    ghost laws = { partial_order_from_own_ties (Prim.search (comparing, rules))
+        (Prim.search (comparing, rules)) };
+
+    fn partial_cmp(&self, other: &BucketId) -> Option<Ordering> {
+        Some(self.cmp(other))
+    }
+}
+
+/// The id of an item of the hierarchy, which is a device or a bucket. Each device is less than each
+/// bucket. Two devices, and two buckets, are ordered as [`DeviceId`] and [`BucketId`] are. So the
+/// order isn't that of the numbers, which are below 0 for buckets.
+#[derive(Clone, Copy, Debug, PartialEq, Eq, PartialOrd, Ord, Hash)]
 pub enum ItemId {
     /// The item is a device.
     Device(DeviceId),
@@ -56,8 +89,8 @@ pub enum ItemId {
 }
 
 /// The number of a type of items, from 0 to 65535. Devices have type 0, and every bucket has
-/// another type.
-#[derive(Clone, Copy, Debug, PartialEq, Eq, Hash)]
+/// another type. Types are ordered by their numbers.
+#[derive(Clone, Copy, Debug, PartialEq, Eq, PartialOrd, Ord, Hash)]
 pub struct TypeId {
     kind: u16,
 }

@@ -7,7 +7,9 @@
 #![tactic(auto)]
 
 mod alg;
+mod convert;
 mod display;
+mod exact;
 mod id;
 pub mod limits;
 mod name;
@@ -18,6 +20,8 @@ mod words;
 mod write;
 
 pub use alg::Alg;
+pub use convert::{AlgFault, IdFault};
+pub use exact::{exact_is_cut_back, exact_is_read_back};
 pub use id::{BucketId, DeviceId, ItemId, TypeId};
 pub use name::{Name, NameFault, is_name, is_name_byte};
 pub use weight::{Weight, WeightFault, printed_is_read_back};

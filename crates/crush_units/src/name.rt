@@ -49,7 +49,7 @@ impl NameFault {
 
 /// A name: 1 to 255 bytes, each an ASCII letter, a digit, `-`, `_` or `.`. Memory is allocated only
 /// for a name of more than 30 bytes. In contracts its value is its bytes.
-#[derive(Debug, Drop)]
+#[derive(Drop)]
 pub struct Name<A: Allocator> {
     text: Text<A>,
 }

@@ -11,7 +11,7 @@ use std::marker::Model;
 use std::str;
 
 /// A text of at most 30 bytes: the first `count` of `bytes`.
-#[derive(Debug, Drop)]
+#[derive(Drop)]
 pub(crate) struct Short {
     count: u8,
     bytes: [u8; LONGEST_SHORT_NAME],
@@ -59,7 +59,7 @@ impl Short {
 }
 
 /// A text that is stored in the value or, if it is longer than 30 bytes, in allocated memory.
-#[derive(Debug, Drop)]
+#[derive(Drop)]
 pub(crate) enum Text<A: Allocator> {
     Short(Short),
     Long(String<A>),

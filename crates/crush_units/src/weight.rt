@@ -38,8 +38,8 @@ impl WeightFault {
 
 /// A weight, from 0 to 4294967295 units. 65536 units are 1.0, as in Ceph: its weights are
 /// fixed-point numbers with 16 bits before the point and 16 bits after it. In contracts a weight's
-/// value is its number of units.
-#[derive(Clone, Copy, Debug, PartialEq, Eq)]
+/// value is its number of units. Weights are ordered by their units, and the default is 0.
+#[derive(Clone, Copy, Debug, PartialEq, Eq, PartialOrd, Ord, Hash)]
 pub struct Weight {
     units: u32,
 }
@@ -52,6 +52,14 @@ impl Model for Weight {
     ghost view = { λ weight. weight.units };
 
     ghost inverse = { λ n. record { units = n } };
+}
+
+impl Default for Weight {
+    ghost is_default = { λ weight. weight ≡ 0 };
+
+    fn default() -> Weight {
+        Weight { units: 0 }
+    }
 }
 
 impl Weight {

@@ -1,0 +1,28 @@
+-- The exact text of a weight, with six digits after the point, which programs that round a weight down read as the same weight.
+use Rattle.std.specs.Prelude.{◌≡◌, ℕ, ◌+◌, ◌*◌, ◌/◌, ◌^◌, ◌<◌, List, ◌∷◌, [], ◌++◌, length, Ok, decimal}
+use Rattle.crush_units.specs.Weight.{weight_of_text, number_in, fraction_of, digit}
+
+-- the least number of millionths of 1.0 that isn't below a weight in units
+abbrev pub exact_parts : ℕ → ℕ
+exact_parts units = (units * 1000000 + 65535) / 65536
+
+-- the exact text of a weight: the whole part, a point and six digits
+abbrev pub exact_text : ℕ → List ℕ
+exact_text units =
+    decimal (exact_parts units / 1000000) ++ 46 ∷ digit (exact_parts units / 100000)
+    ∷ digit (exact_parts units / 10000) ∷ digit (exact_parts units / 1000)
+    ∷ digit (exact_parts units / 100) ∷ digit (exact_parts units / 10) ∷ digit (exact_parts units)
+    ∷ []
+
+-- the number of units, rounded down, in a decimal number that is given by all its digits as one number, and by how many of them are after the point
+abbrev pub cut_of : ℕ → ℕ → ℕ
+cut_of number places = number * 65536 / 10 ^ places
+
+-- the exact text of any weight is read as the same weight
+abbrev pub ExactIsReadBack : Type 0
+ExactIsReadBack = (units : ℕ) → units < 2 ^ 32 → weight_of_text (exact_text units) ≡ Ok units
+
+-- the number in the exact text of any weight, rounded down to units, is the same weight
+abbrev pub ExactIsCutBack : Type 0
+ExactIsCutBack = (units : ℕ) → units < 2 ^ 32 →
+    cut_of (number_in (exact_text units)) (length (fraction_of (exact_text units))) ≡ units
