@@ -36,10 +36,11 @@ use std::alloc::Allocator;
 /// The setting must fit the hierarchy: it is valid and has the types of all buckets, and the
 /// hierarchy has all buckets that its rules take. It still fits afterwards.
 ///
-/// Fails with `Refused` if the edit is refused; of several refusals it reports the one with the
-/// lowest number. Fails with `OutOfMemory` only if no refusal holds and the edit would change
-/// something, and never for `Reweight`, `ReweightSubtree`, `Swap`, `Remove` and `RemoveClass`. The
-/// hierarchy is unchanged after an error, and if the edit changes nothing.
+/// Fails with `Refused` if there is a reason to refuse the edit; if there are several, the error
+/// has the one with the lowest number. Fails with `OutOfMemory` only if there is no reason to
+/// refuse the edit and the edit would change something, and never for `Reweight`,
+/// `ReweightSubtree`, `Swap`, `Remove` and `RemoveClass`. The hierarchy is unchanged after an
+/// error, and if the edit changes nothing.
 pub fn apply_edit<A: Allocator + Clone>(
     hierarchy: &mut Hierarchy<A>,
     setting: &Setting,

@@ -60,7 +60,7 @@ has-beyond k [] = and_no (nat_le (2 ^ 32) k)
 has-beyond k (d ∷ ds) = (λ i. beyond_is k d i || has-beyond k ds i) ∙ and_or (nat_le (2 ^ 32) k) ((k - 2 ^ 32) == d) (has (k - 2 ^ 32) ds)
 
 -- a list that is kept in order, each number once, has the same numbers beyond
-has-kept : (k : ℕ) (xs : List ℕ) → has k (once (ascending xs)) ≡ has k xs
+pub has-kept : (k : ℕ) (xs : List ℕ) → has k (once (ascending xs)) ≡ has k xs
 has-kept k xs = has-once k (ascending xs) ∙ has-ascending k xs
 
 -- the keys of ids of both kinds

@@ -107,7 +107,7 @@ look t es (p ∷ ps) i rows short placed told =
     of_one t es p ps i (entry_at es p) (id_key i == p.key) rows short refl (All-head (IsPlaceIn es) p ps placed) told refl
     (look t es ps i rows short (All-tail (IsPlaceIn es) p ps placed) (All-rest t (entry_at es p) (found es ps) told))
 
-looked_up : (t : List Row) (es : List EntryData) (ps : List Place) (i : ItemId) → Lawful t → AreById t es ps → IsShort i → option_and_then (entry_at es) (place_of (id_key i) ps) ≡ entry_of t i
+pub looked_up : (t : List Row) (es : List EntryData) (ps : List Place) (i : ItemId) → Lawful t → AreById t es ps → IsShort i → option_and_then (entry_at es) (place_of (id_key i) ps) ≡ entry_of t i
 looked_up t es ps i lawful by_id short = ⊎_elim
     (λ h. h)
     (λ h. ap (option_and_then (entry_at es)) h.0 ∙ sym (ap (option_map (row_entry t i)) (row_of-absent t i (sym (by_id.lists.ids (λ j. one_if (same_id j i))) ∙ h.1))))
@@ -159,7 +159,7 @@ has_sum_by : (k x : ℕ) (xs : List ℕ) (b : Bool) → (k == x) ≡ b → has k
 has_sum_by k x xs true is rest = let one : one_if (k == x) ≡ 1 = ap one_if is in less (sum_by (λ y. one_if (k == y)) (x ∷ xs)) (omega (arith, one, sum_by-cons (λ y. one_if (k == y)) x xs))
 has_sum_by k x xs false is rest = let none : one_if (k == x) ≡ 0 = ap one_if is in rest ∙ ap (nat_lt 0) (omega (arith, none, sum_by-cons (λ y. one_if (k == y)) x xs))
 
-has-sum : (k : ℕ) (xs : List ℕ) → has k xs ≡ nat_lt 0 (sum_by (λ x. one_if (k == x)) xs)
+pub has-sum : (k : ℕ) (xs : List ℕ) → has k xs ≡ nat_lt 0 (sum_by (λ x. one_if (k == x)) xs)
 has-sum k [] = refl
 has-sum k (x ∷ xs) = has_sum_by k x xs (k == x) refl (has-sum k xs)
 
@@ -176,7 +176,7 @@ keys_of_all_ids t u es fs old new ps both are =
     (λ k. has-all_ids k t u ∙ (λ i. sym (has_by_id k t es old both.before) i || sym (has_by_id k u fs new both.after) i))
 
 -- EACH ID ONCE
-at_position : (es : List EntryData) (o : Option Place) → option_and_then (slice_get es) (position o) ≡ option_and_then (entry_at es) o
+pub at_position : (es : List EntryData) (o : Option Place) → option_and_then (slice_get es) (position o) ≡ option_and_then (entry_at es) o
 at_position es None = refl
 at_position es (Some p) = refl
 

@@ -5,4 +5,10 @@ pub mod IdPairs
 pub mod KeyLaws
 pub mod Merging
 pub mod NamedLaws
+pub mod OnceLaws
 pub mod PairLaws
+pub mod PartLaws
+pub mod PartPairs
+pub mod PositionLaws
+pub mod RunPairs
+pub mod WithinLaws

@@ -14,18 +14,19 @@ use Rattle.crush_nodes.specs.Views.{ViewData}
 use Rattle.crush_items.specs.ById.{entry_at}
 use Rattle.crush_items.specs.Entries.{EntryData, entry_of, row_entry}
 use Rattle.crush_items.specs.ItemData.{ItemData, item_of, row_item, with_holder}
-use Rattle.crush_items.specs.Items.{entry_id, item_entry, item_step}
+use Rattle.crush_items.specs.Items.{HasEntries, entry_id, item_entry, item_step}
 use Rattle.crush_items.specs.declared.by_id.Place.{Place}
 use Rattle.crush_items.specs.declared.items.Item.{Item}
 use Rattle.crush_items.proofs.EntryLaws.{entry_item}
 use Rattle.crush_compare.specs.Named.{are_one, counterpart, if_one}
-use Rattle.crush_compare.specs.NamedPairs.{step_item}
+use Rattle.crush_items.specs.Tree.{tree_rows}
+use Rattle.crush_compare.specs.NamedPairs.{new_pair, new_pairs, old_pair, old_pairs, pairs, step_item}
 use Rattle.crush_compare.specs.PairItems.{item_at}
 use Rattle.crush_compare.specs.Pairs.{position}
 use Rattle.crush_compare.specs.declared.identity.Devices.{Devices}
 
 -- the id of a name is in the table
-named_there : (t : List Row) (n : List ℕ) (i : ItemId) → Distinct t → id_named t n ≡ Some i → is_there t i ≡ true
+pub named_there : (t : List Row) (n : List ℕ) (i : ItemId) → Distinct t → id_named t n ≡ Some i → is_there t i ≡ true
 named_there t n i d e = by_row (row_of t i) refl (name_of-found t i n d e) where
   by_row : (o : Option Row) → row_of t i ≡ o → option_map (λ (r : Row). r.name) o ≡ Some n → is_some (row_of t i) ≡ true
   by_row None q h = absurd cc
@@ -86,3 +87,11 @@ item_here xs i at x lt is same =
 pub more_if : {P Q : Type 0} (f : P → Q) (b : Bool) (ps : List P) (p : P) (q : Q) → f p ≡ q → map f (ps ++ (if b then p ∷ [] else [])) ≡ map f ps ++ (if b then q ∷ [] else [])
 more_if f true ps p q is = map_push f ps p ∙ ap (λ z. map f ps ++ z ∷ []) is
 more_if f false ps p q is = ap (map f) (append-nil ps) ∙ sym (append-nil (map f ps))
+
+-- the pairs of two lists of items, each in the order of its table's tree
+pub pairs_listed : {A B : _} (by : Devices) (t u : List Row) (old : List (Item A)) (new : List (Item B)) → HasEntries t (map item_entry old) → HasEntries u (map item_entry new) → map item_step old ≡ tree_rows t → map item_step new ≡ tree_rows u
+    → flat_map (λ x. new_pair by None t u (item_entry x).item) new ++ flat_map (λ x. old_pair by None t u (item_entry x).item) old ≡ pairs by None t u
+unfolding pairs new_pairs old_pairs
+pairs_listed by t u old new has_t has_u tree_t tree_u =
+    λ i. (of_tree u (new_pair by None t u) new has_u.told ∙ ap (flat_map (λ s. new_pair by None t u (step_item u s))) tree_u) i
+    ++ (of_tree t (old_pair by None t u) old has_t.told ∙ ap (flat_map (λ s. old_pair by None t u (step_item t s))) tree_t) i

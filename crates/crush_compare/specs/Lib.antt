@@ -6,8 +6,13 @@ pub mod Equal
 pub mod IdPairs
 pub mod Named
 pub mod NamedColumns
+pub mod NamedItems
 pub mod NamedPairs
+pub mod NamedPart
 pub mod PairItems
 pub mod Pairs
+pub mod PartIds
+pub mod Parts
 pub mod SameItem
 pub mod Weights
+pub mod Within

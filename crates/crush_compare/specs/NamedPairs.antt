@@ -1,5 +1,5 @@
 -- What two tables have of each item, if items are matched by their names.
-use Rattle.std.specs.Prelude.{ℕ, Bool, false, not, ◌&&◌, ◌||◌, List, [], ◌∷◌, ◌++◌, Option, None, Some, is_some, if◌then◌else◌, flat_map}
+use Rattle.std.specs.Prelude.{◌≡◌, ℕ, filter, Bool, false, not, ◌&&◌, ◌||◌, List, [], ◌∷◌, ◌++◌, Option, None, Some, is_some, if◌then◌else◌, flat_map}
 use Rattle.std.specs.Option.{option_map_or}
 use Rattle.crush_model.specs.Table.{Row}
 use Rattle.crush_items.specs.ItemData.{ItemData, with_holder}
@@ -46,3 +46,11 @@ old_pairs by under t u = flat_map (λ step. old_pair by under t u (step_item t s
 
 unfoldable pub pairs : Devices → Option (List ℕ) → List Row → List Row → List PairData
 pairs by under t u = new_pairs by under t u ++ old_pairs by under t u
+
+-- whether a pair is in the part below the name n: its item is in the part of the new table, or in the part of the old one
+abbrev pub is_in_part : List ℕ → List Row → List Row → PairData → Bool
+is_in_part n t u p = is_found_in (Some n) u p.after || is_found_in (Some n) t p.before
+
+-- PART: the pairs of a part are those of all pairs that are in the part, in the same order
+abbrev pub PartOfPairs : Type 0
+PartOfPairs = (by : Devices) (n : List ℕ) (t u : List Row) → pairs by (Some n) t u ≡ filter (is_in_part n t u) (pairs by None t u)

@@ -14,8 +14,8 @@ use crush_tree::{ShadowId, View};
 use crush_units::{Alg, BucketId, ItemId, TypeId};
 use std::alloc::Allocator;
 
-/// Whether both have one parent, or none.
-pub(crate) fn same_parent(before: Option<BucketId>, after: Option<BucketId>) -> bool
+/// Whether both have the same parent, or none.
+pub fn same_parent(before: Option<BucketId>, after: Option<BucketId>) -> bool
     ensures { result ≡ same_option before after }
 {
     match (before, after) {
@@ -25,8 +25,8 @@ pub(crate) fn same_parent(before: Option<BucketId>, after: Option<BucketId>) -> 
     }
 }
 
-/// Whether both have one text, or none.
-pub(crate) fn same_text(before: Option<&str>, after: Option<&str>) -> bool
+/// Whether both have the same text, or none.
+pub fn same_text(before: Option<&str>, after: Option<&str>) -> bool
     ensures { result ≡ same_text (option_map (λ x. x.now) before.entry)
         (option_map (λ x. x.now) after.entry) }
 {
@@ -62,8 +62,8 @@ pub(crate) fn same_type(old: &Setting, new: &Setting, before: &View<'_>, after: 
     }
 }
 
-/// Whether both have one algorithm, or none.
-pub(crate) fn same_algs(before: Option<Alg>, after: Option<Alg>) -> bool
+/// Whether both have the same algorithm, or none.
+pub fn same_algs(before: Option<Alg>, after: Option<Alg>) -> bool
     ensures { result ≡ same_algs before after }
 {
     match (before, after) {
@@ -73,8 +73,8 @@ pub(crate) fn same_algs(before: Option<Alg>, after: Option<Alg>) -> bool
     }
 }
 
-/// Whether both have the same class ids, in order.
-pub(crate) fn same_class_ids<A: Allocator, B: Allocator>(
+/// Whether both have the same class ids, in the same order.
+pub fn same_class_ids<A: Allocator, B: Allocator>(
     before: &[ShadowId<A>],
     after: &[ShadowId<B>],
 ) -> bool

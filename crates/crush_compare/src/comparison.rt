@@ -1,6 +1,7 @@
 //! Two maps whose items are matched.
 
 ghost use Rattle.std.specs.Prelude.{◌≡◌, ◌<◌, ◌^◌, List, IfOk, length, map as each, option_and_then};
+ghost use Rattle.std.specs.Cmp.Lexicographic.{pointwise};
 ghost use Rattle.std.specs.List.{slice_get};
 ghost use Rattle.std.specs.Option.{option_map};
 ghost use Rattle.crush_model.specs.Lawful.{Lawful};
@@ -11,17 +12,21 @@ ghost use Rattle.crush_items.specs.Items.{HasEntries, item_entry};
 ghost use Rattle.crush_items.specs.SeenItem.{seen_data};
 ghost use Rattle.crush_compare.specs.declared.identity.Identity.TheVariants.{Ids, Names};
 ghost use Rattle.crush_compare.specs.AllIds.{all_ids};
-ghost use Rattle.crush_compare.specs.Comparison.{IsOfIds, IsOfNames, pair_entries};
+ghost use Rattle.crush_compare.specs.Comparison.{IsOfIds, IsOfIdsBelow, IsOfNames, IsPartOfNames, pair_entries};
 ghost use Rattle.crush_compare.specs.IdPairs.{class_ids_of, entries_at, id_entries, pair_difference};
+ghost use Rattle.crush_compare.specs.SameItem.{same_class_id};
 
+use crate::below::pairs_below;
 use crate::by_id::{Pair, pairs_by_key};
 use crate::by_name::pairs_by_name;
 use crate::columns::same_class_ids;
 use crate::difference::{Difference, Report};
 use crate::identity::{Devices, Identity};
+use crate::part::pairs_by_name_under;
 use crush_items::{Items, Seen};
 use crush_map::CrushMap;
 use crush_tree::ShadowId;
+use crush_units::ItemId;
 use std::alloc::{AllocError, Allocator, Global};
 
 /// Two maps, and where each of them has each item of either map.
@@ -62,6 +67,33 @@ impl<'a, A: Allocator, B: Allocator> Comparison<'a, A, B> {
         })
     }
 
+    /// Returns the comparison of two maps whose items are matched by their ids, but only with the
+    /// pairs of a part: the item with the id `under`, and all items that are below it in either
+    /// map. If no map has this item, then there are no pairs. It visits each item of each map once,
+    /// and sorts the items of each map once. An `Err` says that memory ran out.
+    pub fn by_ids_below(
+        alloc: Global,
+        old: &'a CrushMap<A>,
+        new: &'a CrushMap<B>,
+        under: ItemId,
+    ) -> Result<Comparison<'a, A, B>, AllocError>
+        ensures identity { IfOk result (λ both. both.identity ≡ Ids) }
+        ensures old { IfOk result (λ both. both.old.map.now ≡ old.now) }
+        ensures new { IfOk result (λ both. both.new.map.now ≡ new.now) }
+        ensures pairs { IfOk result (λ both. (t u : List Row) → Stands old.now.forest t
+            → Stands new.now.forest u → IsOfIdsBelow under t u both) }
+    {
+        let before = Items::of(alloc, old)?;
+        let after = Items::of(alloc, new)?;
+        let pairs = pairs_below(alloc, &before, &after, under)?;
+        Ok(Comparison {
+            identity: Identity::Ids,
+            old: before,
+            new: after,
+            pairs,
+        })
+    }
+
     /// Returns the comparison of two maps whose items are matched by their names: two buckets of
     /// the same name are one, and two devices of the same name as `devices` says. It visits each
     /// item of each map once, and looks up its name once in the other map. An `Err` says that
@@ -89,6 +121,34 @@ impl<'a, A: Allocator, B: Allocator> Comparison<'a, A, B> {
         })
     }
 
+    /// Returns the comparison by names of a part of two maps. The pairs are those of
+    /// [`Comparison::by_names`] whose item is, in either map, the item that has the name `under` or
+    /// an item below it. Without a name, they are the pairs of all items.
+    pub fn by_names_part(
+        alloc: Global,
+        devices: Devices,
+        under: Option<&str>,
+        old: &'a CrushMap<A>,
+        new: &'a CrushMap<B>,
+    ) -> Result<Comparison<'a, A, B>, AllocError>
+        ensures identity { IfOk result (λ both. both.identity ≡ Names devices) }
+        ensures old { IfOk result (λ both. both.old.map.now ≡ old.now) }
+        ensures new { IfOk result (λ both. both.new.map.now ≡ new.now) }
+        ensures pairs { IfOk result (λ both. (t u : List Row) → Stands old.now.forest t
+            → Stands new.now.forest u
+            → IsPartOfNames devices (option_map (λ n. n.now) under.entry) t u both) }
+    {
+        let before = Items::of(alloc, old)?;
+        let after = Items::of(alloc, new)?;
+        let pairs = pairs_by_name_under(alloc, devices, under, &before, &after)?;
+        Ok(Comparison {
+            identity: Identity::Names(devices),
+            old: before,
+            new: after,
+            pairs,
+        })
+    }
+
     /// Returns what the old map has of the item of a pair.
     pub fn before(&self, pair: Pair) -> Option<Seen<'a>>
         ensures { option_map seen_data result
@@ -105,6 +165,18 @@ impl<'a, A: Allocator, B: Allocator> Comparison<'a, A, B> {
         seen_at(&self.new, pair.after)
     }
 
+    /// Returns whether both maps have the same class ids of the item of a pair, in the same order.
+    /// A map that doesn't have the item has no class ids of it.
+    pub fn same_class_ids(&self, pair: Pair) -> bool
+        ensures { result
+            ≡ pointwise same_class_id (class_ids_of (pair_entries self.now pair).before)
+            (class_ids_of (pair_entries self.now pair).after) }
+    {
+        let before = class_ids_at(&self.old, pair.before);
+        let after = class_ids_at(&self.new, pair.after);
+        same_class_ids(before, after)
+    }
+
     /// Returns what differs in a pair; `None` if both maps say the same of its item. If items are
     /// matched by their names, then no ids are compared: an item's type and the bucket that holds
     /// it are compared by their names.
@@ -112,9 +184,7 @@ impl<'a, A: Allocator, B: Allocator> Comparison<'a, A, B> {
         ensures { result ≡ pair_difference self.now.identity report self.now.old.map.now.setting
             self.now.new.map.now.setting (pair_entries self.now pair) }
     {
-        let before = class_ids_at(&self.old, pair.before);
-        let after = class_ids_at(&self.new, pair.after);
-        let same = same_class_ids(before, after);
+        let same = self.same_class_ids(pair);
         Difference::of(
             self.identity,
             report,

@@ -195,16 +195,18 @@ fn equal_weights(report: Report, id: ItemId, before: Weight, after: Weight) -> b
     }
 }
 
-/// Whether two weights are at most one unit apart, which is what Ceph's own tool cuts of one.
-pub(crate) fn are_near(here: Weight, there: Weight) -> bool
+/// Whether two weights are at most one unit (1/65536 TiB) apart, which is what Ceph's own tool cuts
+/// of a weight.
+pub fn are_near(here: Weight, there: Weight) -> bool
     ensures { result ≡ are_near here there }
 {
     !((here.units() as u64) + 1 < there.units() as u64
         || (there.units() as u64) + 1 < here.units() as u64)
 }
 
-/// That of a bucket is what is in it.
-fn same_weight(id: ItemId, here: Weight, there: Weight) -> bool
+/// Whether the weights of an item count as equal if only what a command could set is a difference.
+/// The weights of a bucket always do, because a bucket weighs what is in it.
+pub fn same_weight(id: ItemId, here: Weight, there: Weight) -> bool
     ensures { result ≡ same_weight id here there }
 {
     match id {

@@ -24,7 +24,8 @@ use std::alloc::{Allocator, Global};
 use std::marker::Model;
 use thiserror::Error;
 
-/// Why a call was not answered. A refused edit is no fault: the refusal is the call's reply.
+/// Why a call was not answered. A refused edit is not a fault, because the refusal is the reply to
+/// the call.
 #[derive(Clone, Copy, Debug, PartialEq, Eq, Error)]
 pub enum SubmitFault {
     /// The history has 65,536 entries, which is the most.
@@ -35,8 +36,8 @@ pub enum SubmitFault {
     OutOfMemory,
 }
 
-/// A map, with the history of the calls made on it since its opening. `A` is the allocator of its
-/// maps; the history is in the machine's memory. `O` is what the book keeps of the opening.
+/// A map, with the history of the calls made on it since its opening. `A` allocates the book's
+/// maps, and `Global` allocates the history. `O` is what the book keeps of the opening.
 #[derive(Drop)]
 pub struct Book<A: Allocator, O: KeptOpening = CrushMap<A>> {
     opening: O,
@@ -63,9 +64,9 @@ impl<A: Allocator, O: KeptOpening> Model for Book<A, O> {
 }
 
 impl<A: Allocator + Clone> Book<A> {
-    /// Creates a book whose opening is this map and whose history is empty. It publishes with
-    /// `seat`, the book's seat of a gauge that was created for this map. It copies the map once; if
-    /// memory runs out, it returns the map.
+    /// Creates a book whose opening is this map and whose history is empty. The book publishes with
+    /// `seat`, the book's seat of a gauge that was created for this map. The call copies the map
+    /// once. If memory runs out, the error gives the map back.
     pub fn new(map: CrushMap<A>, seat: MapBookSeat, alloc: Global) -> Result<Book<A>, CrushMap<A>>
         requires { seat.view ≡ BookSees (known map []) }
         ensures opening { IfOk result (λ b. b.opening ≡ map) }
@@ -113,7 +114,7 @@ impl<A: Allocator> Book<A, WithoutSnapshot> {
         }
     }
 
-    /// Returns the map of a book without entries, which is still the opening.
+    /// Returns the map of a book whose history is empty. This map is still the opening.
     pub(crate) fn into_map(self) -> CrushMap<A>
         requires { self.history ≡ [] }
         ensures { result ≡ self.opening }
@@ -168,7 +169,7 @@ impl<A: Allocator + Clone, O: KeptOpening> Book<A, O> {
     }
 
     /// Makes a call as [`Book::commit`] does, but moves the call into its entry instead of copying
-    /// it. An error returns the call.
+    /// it. If it fails, the error gives the call back.
     pub fn commit_copied(
         &mut self,
         gauge: &MapGauge,
@@ -212,8 +213,8 @@ impl<A: Allocator + Clone, O: KeptOpening> Book<A, O> {
         Ok(reply)
     }
 
-    /// Joins a note into the book's seat. It is for the contract alone: the note's history is a
-    /// prefix of the book's history.
+    /// Joins a note into the book's seat, which leaves the book unchanged. It is called for its
+    /// contract, which proves that the note's history is a prefix of the book's history.
     pub(crate) fn merge_note(&mut self, gauge: &MapGauge, note: MapNote)
         requires gauge { self.old.table ≡ gauge.now.table.shared.table_id }
         requires note { (note.table ≡ self.old.table)
@@ -235,7 +236,7 @@ impl<A: Allocator + Clone, O: KeptOpening> Book<A, O> {
     }
 
     /// Makes a call as [`Book::commit_copied`] does. The reader has then seen the whole history,
-    /// also after an error.
+    /// even after an error.
     pub(crate) fn execute(
         &mut self,
         gauge: &MapGauge,
@@ -301,7 +302,7 @@ impl<A: Allocator + Clone, O: KeptOpening> Book<A, O> {
 }
 
 impl<A: Allocator> Book<A> {
-    /// The opening: the map from which the book was created, as it was then.
+    /// Returns the opening: the map from which the book was created, as it was then.
     pub fn opening(&self) -> &CrushMap<A>
         ensures { result.now ≡ self.now.opening }
     {
@@ -324,14 +325,15 @@ impl<A: Allocator> Book<A> {
 }
 
 impl<A: Allocator, O: KeptOpening> Book<A, O> {
-    /// The map now, after all entries of the history.
+    /// Returns the map as it is now, after all entries of the history.
     pub fn map(&self) -> &CrushMap<A>
         ensures { result.now ≡ self.now.map }
     {
         &self.map
     }
 
-    /// The history: an entry for each answered call, in the order in which the calls were made.
+    /// Returns the history: an entry for each answered call, in the order in which the calls were
+    /// made.
     pub fn history(&self) -> &[Entry]
         ensures { result.now ≡ self.now.history }
     {
@@ -350,8 +352,8 @@ impl<A: Allocator, O: KeptOpening> Book<A, O> {
         let _changes = &self.changes;
     }
 
-    /// Returns what the book keeps of its opening, its map and its history, and consumes the book.
-    /// It allocates no memory.
+    /// Consumes the book, and returns its map, its history, and what it keeps of its opening. It
+    /// allocates no memory.
     pub fn into_closed(self) -> Closed<A, O>
         ensures opening { IfSome (O.kept result.opening) (λ m. m ≡ self.opening) }
         ensures map { result.map ≡ self.map }

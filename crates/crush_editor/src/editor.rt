@@ -76,8 +76,8 @@ impl<A: Allocator, O: KeptOpening> Model for Started<A, O> {
 
 impl<A: Allocator + Clone> Started<A> {
     /// Creates the gauge, the book and the readers for this number of operators, from 1 to 16. It
-    /// copies the map once, so that the editor can return its opening. If memory runs out, it
-    /// returns the map.
+    /// copies the map once, so that the editor can return its opening. If memory runs out, the
+    /// error gives the map back.
     pub fn new(map: CrushMap<A>, operators: usize, alloc: Global) -> Result<Started<A>, CrushMap<A>>
         requires some { 0 < operators }
         requires few { operators ≤ MOST_OPERATORS }
@@ -100,7 +100,8 @@ impl<A: Allocator + Clone> Started<A> {
 
 impl<A: Allocator> Started<A, WithoutSnapshot> {
     /// Creates what [`Started::new`] does, but without a copy of the map. Calls change the map
-    /// itself, and [`Editor::close`] returns no opening. If memory runs out, it returns the map.
+    /// itself, and [`Editor::close`] returns no opening. If memory runs out, the error gives the
+    /// map back.
     pub fn without_opening(
         map: CrushMap<A>,
         operators: usize,
@@ -145,8 +146,8 @@ impl<A: Allocator, O: KeptOpening> Started<A, O> {
     }
 }
 
-/// The opening map, for contracts alone: a gauge is created with only its weight. The proof of each
-/// call picks the map.
+/// The opening map of a gauge, for contracts alone: when it runs, the program creates a gauge from
+/// the weight of the map alone. The proof of each call chooses the map.
 trait GhostOpening {
     ghost use Rattle.crush_map.specs.MapData.{MapData};
 
@@ -176,7 +177,8 @@ fn make_gauge<M: GhostOpening, A: Allocator>(
     new_gauge::<M>(map.total(), operators, alloc)
 }
 
-/// Creates a gauge for the opening map `M`, whose weight this is.
+/// Creates a gauge for the opening map that `M` chooses, with the book's seat and a reader for each
+/// operator. `weight` is the weight of all placed devices of that map, in units.
 fn new_gauge<M: GhostOpening>(
     weight: u64,
     operators: usize,
@@ -207,7 +209,7 @@ impl<N: Desk, O: KeptOpening> Editor<N, O> {
     /// The call's copies and room for the slip are allocated before the lock is acquired. After a
     /// reply the seat has one more slip, and it has seen the history up to and including this call.
     /// If a guarded batch names the number of changes that the seat had seen before the call, then
-    /// the reply is `Stale`, or the batch was made on the table that the seat had seen.
+    /// the reply is `Stale`, or the batch was applied to the table that the seat had seen.
     ///
     /// An error is `Full` if and only if the history is full, otherwise it is `OutOfMemory`. After
     /// an error the call was not made and the slips are unchanged; the seat may have seen more of
@@ -237,7 +239,7 @@ impl<N: Desk, O: KeptOpening> Editor<N, O> {
     }
 
     /// Makes a call as [`Editor::submit`] does, but moves the call into its entry. It is copied
-    /// only once, for its slip. An error returns the call.
+    /// only once, for its slip. If it fails, the error gives the call back.
     pub fn submit_copied(
         &self,
         rt: &impl Wait,
@@ -285,7 +287,7 @@ impl<N: Desk, O: KeptOpening> Editor<N, O> {
         self.state_lock.refuse(rt, gauge, &mut seat.reader)
     }
 
-    /// The part of the editor that takes readings without the lock.
+    /// Returns the part of the editor that takes readings without the lock.
     pub fn lock_free_reader(&self) -> &LockFreeReader<N> {
         &self.lock_free_reader
     }
@@ -319,8 +321,8 @@ impl<N: Desk, O: KeptOpening> Editor<N, O> {
 }
 
 impl<N: Desk> Editor<N> {
-    /// Creates the editor with the name `N`, and a seat for each operator: seat k, from 0, is
-    /// operator k's. If memory runs out, it returns the opening map.
+    /// Creates the editor with the name `N`, and a seat for each operator: seat k, from 0, is the
+    /// seat of operator k. If memory runs out, the error gives the opening map back.
     pub fn open(
         started: Started,
         alloc: Global,
@@ -342,7 +344,7 @@ impl<N: Desk> Editor<N> {
 }
 
 impl<N: Desk> Editor<N, WithoutSnapshot> {
-    /// Creates an editor as [`Editor::open`] does, but one that keeps nothing of its opening.
+    /// Creates an editor as [`Editor::open`] does, but the editor keeps nothing of its opening.
     pub fn open_unkept(
         started: Started<Global, WithoutSnapshot>,
         alloc: Global,
@@ -364,7 +366,8 @@ impl<N: Desk> Editor<N, WithoutSnapshot> {
 }
 
 impl<N: Desk, O: KeptOpening> Editor<N, O> {
-    /// Creates the editor and its seats. If memory runs out, it returns the book, without entries.
+    /// Creates the editor and its seats. If memory runs out, the error gives back the book, whose
+    /// history is empty.
     fn begin(
         started: Started<Global, O>,
         alloc: Global,
@@ -413,7 +416,7 @@ impl<N: Desk, O: KeptOpening> Editor<N, O> {
         ))
     }
 
-    /// Closes the editor, and returns what it keeps of its opening, its map and its history.
+    /// Closes the editor, and returns its map, its history, and what it keeps of its opening.
     /// `seats` must be all seats, in the order in which [`Editor::open`] returned them.
     ///
     /// The history is one that a single thread could have made: it has each answered call exactly

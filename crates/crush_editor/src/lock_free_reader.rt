@@ -1,4 +1,4 @@
-//! Readings of an editor, which don't acquire its lock.
+//! Readings of an editor that don't acquire the editor's lock.
 
 ghost use Rattle.std.specs.Prelude.{◌≡◌, ◌≤◌};
 ghost use mathlib.Core.List.{IsPrefix};
@@ -85,7 +85,7 @@ impl<N: Desk> LockFreeReader<N> {
     }
 
     /// Joins a note into the seat: the seat has then also seen what the note's seat had seen when
-    /// the note was made. So the seat's next reading is no older than what either of them had seen.
+    /// the note was made. So the seat's next reading is no older than what either seat had seen.
     pub fn learn(&self, seat: &mut Seat<N>, note: Note<N>)
         ensures seat { Sees N.opening seat.old seat.new }
         ensures note { IsPrefix note seat.new.seen }

@@ -37,8 +37,9 @@ impl Desk for Brand {
     ghost opening = { no_map };
 }
 
-/// An operator's place at an editor: its number, a slip for each of its calls that was answered, in
-/// order, and, for contracts alone, the history that it has seen.
+/// An operator's place at an editor. It has the operator's number, and a slip for each of the
+/// operator's answered calls, in order. For contracts alone it also has the history that the
+/// operator has seen.
 #[derive(Drop)]
 pub struct Seat<N: Desk> {
     pub(crate) operator: usize,
@@ -61,8 +62,9 @@ impl<N: Desk> Model for Seat<N> {
         × IsSeat N.opening s.operator s.slips.items (seen_of s.reader.view) };
 }
 
-/// What the lock protects: the book; the length of its history, `count`, of which each seat has its
-/// share; and the share that is left after each seat has taken its own.
+/// What the lock protects. `count` is, for contracts alone, the length of the book's history; each
+/// seat has a share of it, the number of its answered calls. `spare` is the empty share that is
+/// left after each seat has taken its own.
 #[derive(Drop)]
 pub(crate) struct Locked<N: Desk, O: KeptOpening> {
     pub(crate) book: Book<Global, O>,
@@ -89,8 +91,8 @@ impl<N: Desk, O: KeptOpening> Model for Locked<N, O> {
 
 impl<N: Desk, O: KeptOpening> Locked<N, O> {
     /// Executes a call of operator `k`, and counts it in the seat's share if it is answered. The
-    /// reader has then seen the whole history, also after an error. An error returns the call, and
-    /// leaves the book and the share unchanged.
+    /// reader has then seen the whole history, even after an error. If the call fails, the error
+    /// gives it back, and the book and the share are unchanged.
     pub(crate) fn submit(
         &mut self,
         gauge: &MapGauge,
@@ -149,14 +151,14 @@ impl<N: Desk, O: KeptOpening> Locked<N, O> {
 }
 
 impl<N: Desk> Seat<N> {
-    /// The operator's number, from 0.
+    /// Returns the operator's number, from 0.
     pub fn operator(&self) -> usize
         ensures { result ≡ self.now.operator }
     {
         self.operator
     }
 
-    /// The operator's calls that were answered, with their replies, in order.
+    /// Returns the operator's answered calls with their replies, in order.
     pub fn slips(&self) -> &[Slip]
         ensures { result.now ≡ self.now.slips }
     {

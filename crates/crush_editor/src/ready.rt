@@ -6,8 +6,8 @@ ghost use Rattle.crush_editor.specs.History.{slip};
 use crush_history::{Call, Reply, Slip};
 use std::alloc::{AllocError, Global};
 
-/// A copy of a call for its slip. Only this file creates one, and it makes room for the slip first;
-/// so whoever has a `Ready` has both.
+/// A copy of a call, for the call's slip. Only this file creates a `Ready`, and it makes room for
+/// the slip first, so that a caller with a `Ready` has both the copy and the room.
 #[derive(Drop)]
 pub(crate) struct Ready {
     for_slip: Call,

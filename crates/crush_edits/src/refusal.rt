@@ -7,7 +7,8 @@ use std::alloc::AllocError;
 use std::fmt::{self, Display, Formatter};
 use thiserror::Error;
 
-/// Why an edit is refused. If several reasons hold, the one with the lowest number is reported.
+/// Why an edit is refused. If there are several reasons, the edit is refused with the one that is
+/// listed first here, which has the lowest [`number`](Refusal::number).
 ///
 /// A refused edit changes nothing. The numbers and their order are this editor's own, not Ceph's.
 #[derive(Clone, Copy, Debug, PartialEq, Eq)]

@@ -1,4 +1,5 @@
-//! The gauge: one shared word that encodes the pair of a history.
+//! The gauge: one shared word that encodes two numbers of a history, its number of changes and its
+//! weight.
 
 ghost use Rattle.std.specs.Prelude.{◌≡◌, ℕ, ◌<◌, ◌≤◌, ◌++◌, ◌∷◌, [], IfOk, vec_len, length};
 ghost use Rattle.std.specs.List.{All};
@@ -21,7 +22,7 @@ use std::marker::Brand;
 /// order (sequential consistency).
 #[derive(Drop)]
 pub struct Gauge<O, E, P: Law<O, E>> {
-    /// The table of the word and of the views of all seats.
+    /// The table that has the shared word and, for contracts alone, what each seat has seen.
     pub table: Table<(), View<O, E>, u64, Rule<P>, Global>,
     pub ghost one_word: { (table.shared.table_id.words ≡ 1) × (table.shared.table_id.slots ≡ 0) },
 }
@@ -37,12 +38,12 @@ pub struct Reading {
 }
 
 impl<O, E, P: Law<O, E>> Gauge<O, E, P> {
-    /// Creates a gauge with the seat that publishes and with `readers` seats that read.
+    /// Creates a gauge with one seat that publishes and `readers` seats that read.
     ///
-    /// `weight` is the weight at the opening, below 2^43, in the units of the law. The proof of the
-    /// call picks the opening, after which the empty history must be legal and have no change and
-    /// this weight. All seats have then seen the opening and no entry. Returns an error if memory
-    /// runs out.
+    /// `weight` is the weight at the opening, below 2^43, in the units of the law. The caller's
+    /// proof chooses the opening. After this opening, the empty history must be legal, have no
+    /// changes, and have the weight `weight`. Each new seat has seen the opening and no entry.
+    /// Returns an error if memory runs out.
     pub fn new(
         alloc: Global,
         weight: u64,
@@ -65,7 +66,7 @@ impl<O, E, P: Law<O, E>> Gauge<O, E, P> {
         Ok((gauge, book, seats))
     }
 
-    /// Turns the first seat of the table into the book's seat, with the opening that `M` picks.
+    /// Turns the first seat of the table into the book's seat, with the opening that `M` chooses.
     fn begin<M: ChoosesGhost<O>>(&self, first: Seat<(), View<O, E>>, weight: u64) -> BookSeat<O, E>
         requires gauge { first.table_id ≡ self.now.table.shared.table_id }
         requires key { self.now.table.shared.key ≡ weight }
@@ -78,7 +79,8 @@ impl<O, E, P: Law<O, E>> Gauge<O, E, P> {
         BookSeat { seat }
     }
 
-    /// Creates seats that have seen what the book's seat has seen.
+    /// Creates `readers` seats that read. Each of them has seen what the book's seat has seen.
+    /// Returns an error if memory runs out.
     fn readers(
         &self,
         alloc: Global,
@@ -98,7 +100,7 @@ impl<O, E, P: Law<O, E>> Gauge<O, E, P> {
         Ok(seats)
     }
 
-    /// Splits a note from a seat of either kind.
+    /// Returns a note of what a seat of either kind has seen. The seat has seen the same as before.
     pub(crate) fn note_of(&self, seat: &mut Seat<(), View<O, E>>) -> Note<O, E>
         requires gauge { seat.old.table_id ≡ self.now.table.shared.table_id }
         requires either { IsEither seat.old.me.0 }
@@ -111,10 +113,10 @@ impl<O, E, P: Law<O, E>> Gauge<O, E, P> {
         }
     }
 
-    /// Publishes one entry by one store, so that all seats of the gauge can read the new pair.
+    /// Publishes one entry by one store, after which all seats of the gauge can read the new pair.
     ///
-    /// The proof of the call picks the entry. The history with this entry must be legal and have
-    /// this pair: `changes` changes, at most [`MOST_CHANGES`](crate::limits::MOST_CHANGES), and the
+    /// The caller's proof chooses the entry. The history with this entry appended must be legal. It
+    /// must have `changes` changes, at most [`MOST_CHANGES`](crate::limits::MOST_CHANGES), and the
     /// weight `weight`, below 2^43, in the units of the law. The book's seat has then seen the
     /// entry.
     pub fn publish(&self, book: &mut BookSeat<O, E>, changes: u64, weight: u64)
@@ -139,8 +141,8 @@ impl<O, E, P: Law<O, E>> Gauge<O, E, P> {
             .store::<Publish<M>>(&mut book.seat, 0, word)
     }
 
-    /// Reads the pair of the history at this moment, by one load, which waits for nobody and
-    /// allocates nothing.
+    /// Returns the pair of the history at this moment. It reads the word by one load, which waits
+    /// for nobody and allocates nothing.
     ///
     /// The seat has then seen this history, which begins with what the seat had seen before.
     pub fn read(&self, seat: &mut ReadSeat<O, E>) -> Reading
@@ -168,9 +170,11 @@ impl<O, E, P: Law<O, E>> Gauge<O, E, P> {
 
     /// Joins a note into a seat of either kind, so that the seat has also seen the note's history.
     ///
-    /// Both must be of this gauge. A seat that reads has then seen the longer of the two histories;
-    /// the other is a prefix of it. The book's seat has already seen the whole history, and the
-    /// note proves to be a prefix of it. Makes two steps on the table: a join and a load.
+    /// The seat and the note must be of this gauge. A seat that reads has then seen the longer of
+    /// the two histories, and the shorter is a prefix of it. The book's seat has already seen the
+    /// whole history, so it learns only that the note's history is a prefix of its own. The call
+    /// takes two steps on the gauge's table: it joins the note's seat into this seat, and then
+    /// loads the word.
     pub fn learn<S: Watcher<O, E>>(&self, seat: &mut S, note: Note<O, E>)
         requires seat { (S.knows seat.old).table ≡ self.now.table.shared.table_id }
         requires note { note.table ≡ self.now.table.shared.table_id }
@@ -181,8 +185,8 @@ impl<O, E, P: Law<O, E>> Gauge<O, E, P> {
         seat.learn_from(self, note);
     }
 
-    /// Joins a note into a seat, then loads the word to prove that both histories are prefixes of
-    /// one.
+    /// Joins a note into a seat, and then loads the word. The load proves that the seat's history
+    /// and the note's history are prefixes of one history.
     pub(crate) fn join_note(&self, seat: &mut Seat<(), View<O, E>>, note: Note<O, E>)
         requires gauge { seat.old.table_id ≡ self.now.table.shared.table_id }
         requires either { IsEither seat.old.me.0 }

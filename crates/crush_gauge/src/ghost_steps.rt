@@ -1,12 +1,13 @@
 //! The rule that every step on the word keeps, and what each kind of step does to a seat's view.
-//! The types here have no data: the code of a step names one of them for the step's contract.
+//! The types here have no data. The code that takes a step names one of them, which gives the step
+//! its contract.
 
 use crate::view::{Law, View};
 use atomic_table::{Join, Play, Split, TableRule};
 use std::marker::{Brand, PhantomData};
 
-/// The rule of the word: there is one history, and the word encodes its pair. The key of the table
-/// is the weight at the opening.
+/// The rule of the word: there is one history, and the word encodes its number of changes and its
+/// weight. The key of the table is the weight at the opening.
 pub struct Rule<P> {
     of: PhantomData<P>,
 }
@@ -20,8 +21,8 @@ impl<O, E, P: Law<O, E>> TableRule<(), View<O, E>, u64> for Rule<P> {
     ghost first = { λ weight. Fresh };
 }
 
-/// The opening or the entries of a step, which exist in contracts alone. The proof of the call
-/// picks them.
+/// Chooses the opening or the entries of a step, which exist in contracts alone. The proof of the
+/// call says what is chosen.
 pub(crate) trait ChoosesGhost<T> {
     ghost use Rattle.std.specs.Prelude.{List};
 
@@ -45,7 +46,7 @@ impl<O, E, M: ChoosesGhost<O>> Play<(), View<O, E>> for Begin<M> {
     ghost then = { begun M.chosen };
 }
 
-/// A store: the book's history gets more entries.
+/// A store by the book's seat: the chosen entries are appended to its history.
 pub(crate) struct Publish<M> {
     of: PhantomData<M>,
 }
@@ -56,7 +57,8 @@ impl<O, E, M: ChoosesGhost<E>> Play<(), View<O, E>> for Publish<M> {
     ghost then = { published M.chosen };
 }
 
-/// A load that reads: the seat has then seen the whole history, and the word encodes its pair.
+/// A load by a seat that reads: the seat has then seen the history at that moment, and the loaded
+/// word encodes this history's number of changes and its weight.
 pub(crate) struct Load<P> {
     of: PhantomData<P>,
 }
@@ -78,7 +80,8 @@ impl<O, E, P: Law<O, E>> Play<(), View<O, E>> for Compare<P> {
     ghost then = { learned P.legal P.changes P.weight };
 }
 
-/// A split of a seat: a new seat that reads gets a copy of the history.
+/// A split of a seat: creates a new seat that reads, which has seen the same history as the seat
+/// that is split.
 pub(crate) struct SplitOff;
 
 impl<O, E> Split<View<O, E>> for SplitOff {
@@ -89,7 +92,8 @@ impl<O, E> Split<View<O, E>> for SplitOff {
     ghost right = { copied };
 }
 
-/// A join of two seats: the first keeps the longer history, or the book's, and the second is spent.
+/// A join of two seats: the first has then seen the longer of the two histories, or, if it is the
+/// book's seat, the same as before. The second seat is used up.
 pub(crate) struct Merge;
 
 impl<O, E> Join<View<O, E>> for Merge {

@@ -3,7 +3,8 @@
 use std::collections::LinkedList;
 
 /// The law of a gauge: which histories of entries are legal after an opening, and which pair each
-/// has. The pair is how many entries are changes, and the weight after the history.
+/// history has. The pair is the number of entries that are changes, and the weight after the
+/// history.
 pub trait Law<O, E> {
     ghost use Rattle.std.specs.Prelude.{ℕ, List};
 

@@ -1,4 +1,5 @@
-//! A linked list for entries that are restored to a table when no memory is left for it to grow.
+//! A linked list for entries that are restored to a table when no memory is left for the table to
+//! grow.
 
 ghost use Rattle.std.specs.Prelude.{◌≡◌, Bool, IfOk, is_some};
 ghost use Rattle.std.specs.Option.{option_map};
@@ -62,7 +63,7 @@ pub(crate) fn spare<K: Drop, V: Drop>(alloc: Global) -> Result<Spare<K, V>, Allo
 }
 
 impl<K: Drop, V: Copy + Drop> Chain<K, V> {
-    /// Returns the value of the first key that matches.
+    /// Returns the value of the first key that matches, or `None` if none does.
     pub(crate) fn get<Q: KeyMatch<K>>(&self, lookup: &Q) -> Option<V>
         ensures { result ≡ chain_answer (Q.matches lookup.now) self.now }
     {
@@ -100,7 +101,7 @@ impl<K: Drop, V: Copy + Drop> Chain<K, V> {
         }
     }
 
-    /// Replaces the value of the first key that matches, and returns whether there is one.
+    /// Replaces the value of the first key that matches, and returns whether a key matches.
     pub(crate) fn set<Q: KeyMatch<K>>(&mut self, lookup: &Q, value: V) -> bool
         ensures there { result ≡ is_some (chain_answer (Q.matches lookup.now) self.old) }
         ensures with { self.new ≡ chain_with (Q.matches lookup.now) value self.old }

@@ -6,7 +6,7 @@ use std::hash::{BuildHasher, Hasher};
 #[derive(Clone, Copy)]
 pub(crate) struct IdentityHashing;
 
-/// Returns the digest that was written to it last as its hash, or 0 if there was none.
+/// A hasher whose hash is the digest that was written to it last, or 0 if none was written.
 #[derive(Clone, Copy)]
 pub(crate) struct IdentityHasher {
     digest: u64,

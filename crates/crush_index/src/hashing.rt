@@ -1,10 +1,10 @@
-//! The choice of keys with which an index hashes.
+//! The choice whether an index hashes with random keys.
 
 ghost use Rattle.std.specs.Prelude.{◌≡◌, Some, None};
 
 use std::hash::{BuildHasher, DefaultHasher, RandomState};
 
-/// How the keys of an index are hashed: by SipHash, with random keys or without.
+/// How an index hashes names and ids: by SipHash, with random keys or without them.
 ///
 /// Without random keys, the author of a map can choose names that all have the same hash, so that
 /// each look-up compares many names. With keys that are drawn at random at the start, this attack
@@ -22,7 +22,7 @@ impl Hashing {
         Hashing { keys: None }
     }
 
-    /// Returns a hashing with these keys.
+    /// Returns a hashing with these random keys.
     pub fn keyed(keys: RandomState) -> Hashing
         ensures { result.keys ≡ Some keys }
     {

@@ -3,8 +3,8 @@
 //!
 //! An [`Index`] is updated after each edit by the owner of the hierarchy, `crush_hierarchy`. The
 //! contracts describe what an index answers, as a function of the table of the hierarchy's rows.
-//! They don't depend on the order of its entries, on its memory or on hash values. [`law`] says
-//! which changes of the table need which update.
+//! The answers don't depend on the order of the index's entries, on its memory or on hash values.
+//! [`law`] says which changes of the table need which update.
 #![tactic(auto)]
 
 mod chain;

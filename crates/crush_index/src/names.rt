@@ -1,4 +1,4 @@
-//! The table of names: which item has a name.
+//! The table of names: which item has which name.
 
 ghost use Rattle.std.specs.Prelude.{◌≡◌, true, false, Some, None, List, ℕ, ◌++◌, ◌∷◌, [], bytes_eq, IfOk, IsSome};
 ghost use Rattle.crush_model.specs.Table.{Row, is_named, name_of};
@@ -14,7 +14,7 @@ use crush_units::{ItemId, Name};
 use indexmap::IndexMap;
 use std::alloc::{AllocError, Global};
 
-/// The id of the item that has each name.
+/// A table that maps each name to the id of the item that has it.
 #[derive(Drop)]
 pub(crate) struct Names {
     global: Global,
@@ -90,8 +90,8 @@ impl Names {
         }
     }
 
-    /// Exchanges the ids of two names: `first` is that of `a` before the call, `second` that of
-    /// `b`.
+    /// Exchanges the ids of the names `a` and `b`. Before the call, `first` must be the id of `a`,
+    /// and `second` the id of `b`.
     pub(crate) fn exchange(&mut self, a: &[u8], b: &[u8], first: ItemId, second: ItemId)
         requires first { id_answer self.old a.now ≡ Some first }
         requires second { id_answer self.old b.now ≡ Some second }

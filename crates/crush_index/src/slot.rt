@@ -1,5 +1,5 @@
-//! Entries of items. An entry names the item's bucket by its slot instead of its id; `slots` says
-//! which bucket has which slot.
+//! Entries of items. An entry names the bucket that holds the item by the bucket's slot instead of
+//! the bucket's id. The module `slots` knows which bucket has which slot.
 
 use crush_units::BucketId;
 
@@ -18,13 +18,15 @@ pub(crate) enum SlotParent {
 #[derive(Clone, Copy)]
 pub(crate) struct Entry {
     pub(crate) parent: SlotParent,
-    /// Where the slot in `parent` is probably stored: looked at first and never trusted.
+    /// Where the slot in `parent` is probably stored. A look-up tries it first and never trusts it.
     pub(crate) slot_hint: u32,
-    /// The item's probable index among its siblings, from 0: looked at first and never trusted.
+    /// The item's probable index among its siblings, from 0. A walk tries it first and never trusts
+    /// it.
     pub(crate) hint: u32,
 }
 
-/// The bucket that has a slot, and its entry, which a removed bucket lacks.
+/// The bucket that has a slot, and the entry of this bucket, which is `None` if the bucket was
+/// removed.
 #[derive(Clone, Copy)]
 pub(crate) struct Slot {
     pub(crate) bucket: BucketId,

@@ -12,15 +12,15 @@ use crush_units::limits::FARTHEST_BUCKET_ID;
 use indexmap::IndexSet;
 use std::alloc::{AllocError, Global};
 
-/// How many ids have a bit, counted from 0. They are enough to include the free ids that are
+/// How many ids, from 0 downward, have a bit. They are enough to include the free ids that are
 /// nearest to 0: a map uses at most 17 ids for each of its 4,096 buckets, and an edit needs at most
 /// 16 more.
 const DENSE_END: u32 = 69696;
 
 /// The set of used ids, as distances below 0.
 ///
-/// Ids below [`DENSE_END`] are bits of words, so that the first free id is found word by word. Other ids
-/// are in a hash set. The words are never removed.
+/// Ids below [`DENSE_END`] are bits of words, so that the first free id is found word by word.
+/// Other ids are in a hash set. The words are never removed.
 #[derive(Drop)]
 pub(crate) struct UsedIds {
     words: Vec<u64>,
@@ -109,8 +109,8 @@ impl UsedIds {
         self.overflow.remove(&id);
     }
 
-    /// Returns the least id from `least` on that isn't used, or `None` if all that a bucket can
-    /// have are used.
+    /// Returns the least id that is at least `least` and isn't used, or `None` if all such ids that
+    /// a bucket can have are used.
     pub(crate) fn first_free(&self, least: u32) -> Option<u32>
         ensures some { IfSome result (IsFirstFree self.now least) }
         ensures none { IfNone result (AreAllUsed self.now least) }
@@ -123,8 +123,8 @@ impl UsedIds {
         None
     }
 
-    /// Returns an id from `least` on such that all ids between are used: usually the first free
-    /// one.
+    /// Returns an id that is at least `least`, such that all ids from `least` to the one before it
+    /// are used. It is usually the first free id.
     fn first_clear(&self, least: u32) -> u32
         ensures least { least ≤ result }
         ensures used { (k : ℕ) → least ≤ k → k < result → used_answer self.now k ≡ true }
@@ -168,7 +168,7 @@ fn copy_sparse(sparse: &IndexSet<u32, Hashing>) -> Result<IndexSet<u32, Hashing>
     Ok(copy)
 }
 
-/// Returns a word, or 0 past the last one.
+/// Returns the word at `place`, or 0 if `place` is past the last word.
 fn word_at(words: &[u64], place: usize) -> u64
     ensures { result ≡ slice_index words.now place }
 {
@@ -178,7 +178,7 @@ fn word_at(words: &[u64], place: usize) -> u64
     }
 }
 
-/// Appends words without bits until there is one at `place`.
+/// Appends words that are 0 until there is a word at `place`. Returns an error if memory runs out.
 fn grow_to(words: &mut Vec<u64>, place: usize) -> Result<(), AllocError>
     requires within { place < 1089 }
     requires few { length words.old.items ≤ 1089 }

@@ -70,4 +70,5 @@ noted_of_all explain o p all bytes (run.Made n) notes input h told = absurd h
 noted_of_all explain o p all bytes (run.Differs n) notes input h told = absurd h
 noted_of_all explain o p all bytes run.NoItem notes input h told = absurd h
 noted_of_all explain o p all bytes run.NoType notes input h told = absurd h
+noted_of_all explain o p all bytes run.NoClass notes input h told = absurd h
 noted_of_all explain o p all bytes (run.SecondMap w s) notes input h told = absurd h

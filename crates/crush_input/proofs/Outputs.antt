@@ -52,6 +52,7 @@ map_noted_of_all explain why name all bytes (run.Made n) notes input h told = to
 map_noted_of_all explain why name all bytes (run.Differs n) notes input h told = told
 map_noted_of_all explain why name all bytes run.NoItem notes input h told = told
 map_noted_of_all explain why name all bytes run.NoType notes input h told = told
+map_noted_of_all explain why name all bytes run.NoClass notes input h told = told
 map_noted_of_all explain why name all bytes (run.SecondMap w f) notes input h told = other_of_all explain name all bytes f notes input h.1 told
 
 -- what holds of the bytes that were read also holds of all bytes of a file
@@ -80,6 +81,7 @@ map_fault_of_all why all bytes (run.Made n) input h = absurd h
 map_fault_of_all why all bytes (run.Differs n) input h = absurd h
 map_fault_of_all why all bytes run.NoItem input h = absurd h
 map_fault_of_all why all bytes run.NoType input h = absurd h
+map_fault_of_all why all bytes run.NoClass input h = absurd h
 map_fault_of_all why all bytes (run.SecondMap w s) input h = (h.0, other_fault_of_all all bytes s input h.1)
 
 -- a failed read is a fault of the map, whatever bytes its file has
@@ -99,6 +101,7 @@ other_map why (run.Made n) all h other = absurd h
 other_map why (run.Differs n) all h other = absurd h
 other_map why run.NoItem all h other = absurd h
 other_map why run.NoType all h other = absurd h
+other_map why run.NoClass all h other = absurd h
 other_map why (run.SecondMap w s) all h other = absurd h
 
 pub other_noted : (explain : Bool) (name : List ℕ) (all : Option (List ℕ)) (f : RunFault) (notes : List ℕ) → IsInputFault f → (f ≡ run.Read → ⊥) → AreNotesOfFile explain name f notes → AreNotesOfSecondMap explain name all f notes
@@ -112,6 +115,7 @@ other_noted explain name all (run.Made n) notes h other told = absurd h
 other_noted explain name all (run.Differs n) notes h other told = absurd h
 other_noted explain name all run.NoItem notes h other told = absurd h
 other_noted explain name all run.NoType notes h other told = absurd h
+other_noted explain name all run.NoClass notes h other told = absurd h
 other_noted explain name all (run.SecondMap w s) notes h other told = absurd h
 
 -- the notes of a job that couldn't be read, or of bytes that aren't a job, are those of a run with these options
@@ -126,6 +130,7 @@ part_as_wanted content options input (run.Made n) notes h told = absurd h
 part_as_wanted content options input (run.Differs n) notes h told = absurd h
 part_as_wanted content options input run.NoItem notes h told = absurd h
 part_as_wanted content options input run.NoType notes h told = absurd h
+part_as_wanted content options input run.NoClass notes h told = absurd h
 part_as_wanted content options input (run.SecondMap w s) notes h told = absurd h
 
 pub no_job_as_wanted : (content : List ℕ → Option (List ℕ)) (options : Options) (input all : Option (List ℕ)) (f : RunFault) (notes : List ℕ) → IsNoJob all f
@@ -140,4 +145,5 @@ no_job_as_wanted content options input all (run.Made n) notes h told = absurd h
 no_job_as_wanted content options input all (run.Differs n) notes h told = absurd h
 no_job_as_wanted content options input all run.NoItem notes h told = absurd h
 no_job_as_wanted content options input all run.NoType notes h told = absurd h
+no_job_as_wanted content options input all run.NoClass notes h told = absurd h
 no_job_as_wanted content options input all (run.SecondMap w s) notes h told = absurd h

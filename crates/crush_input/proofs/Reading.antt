@@ -25,6 +25,7 @@ part_noted options name (run.Made n) notes named told = told
 part_noted options name (run.Differs n) notes named told = told
 part_noted options name run.NoItem notes named told = told
 part_noted options name run.NoType notes named told = told
+part_noted options name run.NoClass notes named told = told
 part_noted options name (run.SecondMap w s) notes named told = told
 
 -- no notes are right for each fault
@@ -39,4 +40,5 @@ quiet_part options (run.Made n) notes none = none
 quiet_part options (run.Differs n) notes none = none
 quiet_part options run.NoItem notes none = none
 quiet_part options run.NoType notes none = none
+quiet_part options run.NoClass notes none = none
 quiet_part options (run.SecondMap w s) notes none = none

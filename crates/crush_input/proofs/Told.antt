@@ -84,6 +84,7 @@ no_job_of_all (run.Made n) all bytes input h = absurd h
 no_job_of_all (run.Differs n) all bytes input h = absurd h
 no_job_of_all run.NoItem all bytes input h = absurd h
 no_job_of_all run.NoType all bytes input h = absurd h
+no_job_of_all run.NoClass all bytes input h = absurd h
 no_job_of_all (run.SecondMap w s) all bytes input h = absurd h
 
 pub read_fault_of_input : (f : RunFault) (all : Option (List ℕ)) → IsInputFault f → IsReadFault all f
@@ -97,6 +98,7 @@ read_fault_of_input (run.Made n) all h = absurd h
 read_fault_of_input (run.Differs n) all h = absurd h
 read_fault_of_input run.NoItem all h = absurd h
 read_fault_of_input run.NoType all h = absurd h
+read_fault_of_input run.NoClass all h = absurd h
 read_fault_of_input (run.SecondMap w s) all h = absurd h
 
 -- what is kept of the bytes that were read is what is kept of all bytes, if these are a job, since their lines come from the same files

@@ -104,6 +104,7 @@ AreNotesOfHistory mode text s t names h rest (Err (run.Made n)) notes = notes �
 AreNotesOfHistory mode text s t names h rest (Err (run.Differs n)) notes = notes ≡ history_notes mode text s t names h ++ rest
 AreNotesOfHistory mode text s t names h rest (Err run.NoItem) notes = notes ≡ history_notes mode text s t names h
 AreNotesOfHistory mode text s t names h rest (Err run.NoType) notes = notes ≡ history_notes mode text s t names h
+AreNotesOfHistory mode text s t names h rest (Err run.NoClass) notes = notes ≡ history_notes mode text s t names h
 AreNotesOfHistory mode text s t names h rest (Err fault) notes = Unit {0}
 
 -- NOTES WITHOUT A HISTORY: what holds of the notes of a fault, whatever the history is. For a fault of the bytes, the notes have its place if the bytes are known, and there
@@ -117,6 +118,7 @@ AreNotesOfFault explain origin all (run.Made n) notes = Unit {0}
 AreNotesOfFault explain origin all (run.Differs n) notes = Unit {0}
 AreNotesOfFault explain origin all run.NoItem notes = explain ≡ false → notes ≡ []
 AreNotesOfFault explain origin all run.NoType notes = explain ≡ false → notes ≡ []
+AreNotesOfFault explain origin all run.NoClass notes = explain ≡ false → notes ≡ []
 AreNotesOfFault explain origin all fault notes = notes ≡ []
 
 -- the same for the result of a run: a run that was done has no notes without `--explain`
@@ -135,6 +137,7 @@ IsStrict strict h (Err (run.Made n)) = strict ≡ true → refusals h ≡ 0
 IsStrict strict h (Err (run.Differs n)) = (strict ≡ true) × (refusals h ≡ 0)
 IsStrict strict h (Err run.NoItem) = strict ≡ true → refusals h ≡ 0
 IsStrict strict h (Err run.NoType) = strict ≡ true → refusals h ≡ 0
+IsStrict strict h (Err run.NoClass) = strict ≡ true → refusals h ≡ 0
 IsStrict strict h (Err fault) = Unit {0}
 
 -- NO MAKE: with `--no-make`, no entry of the history made more buckets than its call has `add-bucket` commands when the run is done, or when it ends by a failed write,
@@ -147,4 +150,5 @@ IsNoMake no_make h (Err (run.Made n)) = (no_make ≡ true) × (n ≡ makings h) 
 IsNoMake no_make h (Err (run.Differs n)) = no_make ≡ true → makings h ≡ 0
 IsNoMake no_make h (Err run.NoItem) = no_make ≡ true → makings h ≡ 0
 IsNoMake no_make h (Err run.NoType) = no_make ≡ true → makings h ≡ 0
+IsNoMake no_make h (Err run.NoClass) = no_make ≡ true → makings h ≡ 0
 IsNoMake no_make h (Err fault) = Unit {0}

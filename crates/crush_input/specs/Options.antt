@@ -10,11 +10,13 @@ use Rattle.crush_options.specs.declared.parsed_options.OutputSpec.{OutputSpec}
 use Rattle.crush_options.specs.declared.parsed_options.OutputSpec.TheVariants as output_spec
 use Rattle.crush_options.specs.declared.parsed_options.TreePartSpec.{TreePartSpec}
 use Rattle.crush_options.specs.declared.parsed_options.Since.{Since}
+use Rattle.crush_options.specs.declared.parsed_options.ChangeTree.{ChangeTree}
 use Rattle.crush_options.specs.declared.parsed_options.Target.{Target}
 use Rattle.crush_units.specs.declared.limits.TheConstants.{LONGEST_JOB}
 use Rattle.crush_input.specs.declared.output.Output.{Output}
 use Rattle.crush_input.specs.declared.output.Output.TheVariants as output
 use Rattle.crush_input.specs.declared.output.OldMap.{OldMap}
+use Rattle.crush_input.specs.declared.output.OldTree.{OldTree}
 use Rattle.crush_input.specs.declared.output.TargetMap.{TargetMap}
 use Rattle.crush_input.specs.declared.fault.RunFault.{RunFault}
 use Rattle.crush_input.specs.declared.fault.RunFault.TheVariants as run
@@ -43,6 +45,7 @@ name_text name = option_map (λ n. n.bytes.items) name
 pub record IsPartOf (words part : TreePartSpec) : Type 0 where
   pub under : name_text part.under ≡ name_text words.under
   pub down_to : name_text part.down_to ≡ name_text words.down_to
+  pub class : name_text part.class ≡ name_text words.class
 
 -- the output is the tree of such a part
 abbrev pub IsTreeOf : TreePartSpec → Output → Type 0
@@ -54,6 +57,11 @@ pub record IsOldOf (content : List ℕ → Option (List ℕ)) (words : Since) (o
   pub map : IfSome (content words.map.bytes.items) (IsTextOf old.map)
   pub by_name : old.by_name ≡ words.by_name
   pub under : name_text old.under ≡ name_text words.under
+
+-- the same of a tree of changes, whose part is the one that the words name
+pub record IsOldTreeOf (content : List ℕ → Option (List ℕ)) (words : ChangeTree) (old : OldTree) : Type 0 where
+  pub map : IfSome (content words.map.bytes.items) (IsTextOf old.map)
+  pub part : IsPartOf words.part old.part
 
 -- the wanted map is that of the file which the words name, if the file's bytes are known, and the rest is as the words say
 pub record IsTargetOf (content : List ℕ → Option (List ℕ)) (words : Target) (target : TargetMap) : Type 0 where
@@ -69,8 +77,8 @@ IsOutputOf content (output_spec.Tree part) what = IsTreeOf part what
 IsOutputOf content output_spec.AsCeph what = what ≡ output.AsCeph
 IsOutputOf content (output_spec.Since words) (output.Since old) = IsOldOf content words old
 IsOutputOf content (output_spec.Since words) what = ⊥
-IsOutputOf content (output_spec.Changes name) (output.Changes m) = IfSome (content name.bytes.items) (IsTextOf m)
-IsOutputOf content (output_spec.Changes name) what = ⊥
+IsOutputOf content (output_spec.Changes words) (output.Changes old) = IsOldTreeOf content words old
+IsOutputOf content (output_spec.Changes words) what = ⊥
 IsOutputOf content (output_spec.To words) (output.To target) = IsTargetOf content words target
 IsOutputOf content (output_spec.To words) what = ⊥
 
@@ -90,7 +98,7 @@ IsMapFault why all fault = ⊥
 abbrev pub IsOutputFault : (List ℕ → Option (List ℕ)) → OutputSpec → RunFault → Type 0
 IsOutputFault content (output_spec.Tree part) fault = fault ≡ run.Memory
 IsOutputFault content (output_spec.Since words) fault = IsMapFault second.Since (content words.map.bytes.items) fault
-IsOutputFault content (output_spec.Changes name) fault = IsMapFault second.Since (content name.bytes.items) fault
+IsOutputFault content (output_spec.Changes words) fault = IsMapFault second.Since (content words.map.bytes.items) fault
 IsOutputFault content (output_spec.To words) fault = IsMapFault second.To (content words.map.bytes.items) fault
 IsOutputFault content what fault = ⊥
 
@@ -98,7 +106,7 @@ IsOutputFault content what fault = ⊥
 abbrev pub AreNotesOfOutputFault : (List ℕ → Option (List ℕ)) → Bool → OutputSpec → RunFault → List ℕ → Type 0
 AreNotesOfOutputFault content explain (output_spec.Tree part) fault notes = notes ≡ []
 AreNotesOfOutputFault content explain (output_spec.Since words) fault notes = AreNotesOfSecondMap explain words.map.bytes.items (content words.map.bytes.items) fault notes
-AreNotesOfOutputFault content explain (output_spec.Changes name) fault notes = AreNotesOfSecondMap explain name.bytes.items (content name.bytes.items) fault notes
+AreNotesOfOutputFault content explain (output_spec.Changes words) fault notes = AreNotesOfSecondMap explain words.map.bytes.items (content words.map.bytes.items) fault notes
 AreNotesOfOutputFault content explain (output_spec.To words) fault notes = AreNotesOfSecondMap explain words.map.bytes.items (content words.map.bytes.items) fault notes
 AreNotesOfOutputFault content explain what fault notes = ⊥
 

@@ -70,7 +70,7 @@ second_map_fault which (unread.Text f) = if is_out_of_memory f.kind then out_of_
 second_map_fault which unread.TooLong = codes "crushedit: " ++ map_word which ++ codes ": TooLong\n"
 second_map_fault which unread.Read = codes "crushedit: " ++ map_word which ++ codes ": read fault\n"
 
--- the line for an item or a type that the map lacks, with its name from the command line, of which each byte is shown as in every message
+-- the line for an item, a type or a class that the map lacks, with its name from the command line, of which each byte is shown as in every message
 abbrev pub lacking_line : List ℕ → List ℕ → List ℕ
 lacking_line what name = codes "crushedit: no " ++ what ++ map shown_byte name ++ codes "\n"
 
@@ -86,6 +86,7 @@ run_fault w (run.Made count) = made_line count
 run_fault w (run.Differs count) = differs_line count
 run_fault w run.NoItem = lacking_line (codes "item ") w.under
 run_fault w run.NoType = lacking_line (codes "type ") w.down_to
+run_fault w run.NoClass = lacking_line (codes "class ") w.class
 run_fault w (run.SecondMap which f) = second_map_fault which f
 
 -- the one line for the result of a run; nothing if the run was done and no weight was replaced
@@ -125,6 +126,7 @@ fault_reason (run.Made count) = []
 fault_reason (run.Differs count) = []
 fault_reason run.NoItem = codes "  --under wants the name of an item of the map after the scripts\n"
 fault_reason run.NoType = codes "  --down-to wants the name of a type of the map\n"
+fault_reason run.NoClass = codes "  --class wants the class of a device of the map after the scripts\n"
 fault_reason (run.SecondMap which f) = second_map_reason which f
 
 -- the reason for the result of a run; nothing if the run was done
@@ -158,6 +160,7 @@ fault_status (run.Made count) = 5
 fault_status (run.Differs count) = 5
 fault_status run.NoItem = 1
 fault_status run.NoType = 1
+fault_status run.NoClass = 1
 fault_status (run.SecondMap which f) = second_map_status f
 
 -- STATUS: 0 if the run was done, or 6 if its summary says that there is something to report. If it was not done: 1 if the bytes aren't a job or another map isn't a map, or

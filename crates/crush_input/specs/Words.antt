@@ -4,19 +4,20 @@ use Rattle.crush_options.specs.declared.parsed_options.Options.{Options}
 use Rattle.crush_options.specs.OutputFlags.{flags_by}
 use Rattle.crush_input.specs.declared.words.Words.{Words}
 
--- whether `--explain` is given, and the names that `--under` and `--down-to` give, each empty if it isn't given
+-- whether `--explain` is given, and the names that `--under`, `--down-to` and `--class` give, each empty if it isn't given
 pub record WordsData : Type 0 where
   pub explain : Bool
   pub under : List ℕ
   pub down_to : List ℕ
+  pub class : List ℕ
 
 -- these words as the program holds them, as data
 abbrev pub words_data : Words → WordsData
-words_data w = record { explain = w.explain; under = w.under.now; down_to = w.down_to.now }
+words_data w = record { explain = w.explain; under = w.under.now; down_to = w.down_to.now; class = w.class.now }
 
 -- none of these words
 abbrev pub no_words : WordsData
-no_words = record { explain = false; under = []; down_to = [] }
+no_words = record { explain = false; under = []; down_to = []; class = [] }
 
 -- these words of the command line that has the options
 abbrev pub words_of : Options → WordsData
@@ -24,4 +25,5 @@ words_of options = record {
   explain = options.mode.explain;
   under = unwrap_or (flags_by options.mode.json options.output_spec).under [];
   down_to = unwrap_or (flags_by options.mode.json options.output_spec).down_to [];
+  class = unwrap_or (flags_by options.mode.json options.output_spec).class [];
 }

@@ -171,6 +171,7 @@ fn write_run_fault<E: Write>(
         RunFault::Differs(count) => write_differs(count, err),
         RunFault::NoItem => write_lacking(b"item ", words.under, err),
         RunFault::NoType => write_lacking(b"type ", words.down_to, err),
+        RunFault::NoClass => write_lacking(b"class ", words.class, err),
         RunFault::SecondMap(which, fault) => write_second_map_fault(which, fault, err),
     }
 }
@@ -295,6 +296,9 @@ fn fault_reason(fault: RunFault) -> &'static [u8]
         RunFault::Refused(_) | RunFault::Made(_) | RunFault::Differs(_) => b"",
         RunFault::NoItem => b"  --under wants the name of an item of the map after the scripts\n",
         RunFault::NoType => b"  --down-to wants the name of a type of the map\n",
+        RunFault::NoClass => {
+            b"  --class wants the class of a device of the map after the scripts\n"
+        }
         RunFault::SecondMap(which, fault) => second_map_reason(which, fault),
     }
 }
@@ -368,7 +372,7 @@ fn status_of(outcome: &Result<Summary, RunFault>) -> u8
         Err(RunFault::Memory | RunFault::Thread) => 4,
         Err(RunFault::Refused(_) | RunFault::Made(_) | RunFault::Differs(_)) => 5,
         Err(RunFault::Job(fault)) if fault.lacks_memory() => 4,
-        Err(RunFault::Job(_) | RunFault::NoItem | RunFault::NoType) => 1,
+        Err(RunFault::Job(_) | RunFault::NoItem | RunFault::NoType | RunFault::NoClass) => 1,
         Err(RunFault::SecondMap(_, fault)) => second_map_status(*fault),
         Err(RunFault::Read | RunFault::Write) => 3,
     }
@@ -391,7 +395,7 @@ pub struct ReportOutcome {
 /// - 0: The run was done.
 /// - 6: The run was done, and with `--exit-code` there is something to report.
 /// - 1: The input isn't a job, the file of `--since` or `--to` isn't a map, or the map after the
-///   scripts lacks the item of `--under` or the type of `--down-to`.
+///   scripts lacks the item of `--under`, the type of `--down-to` or the class of `--class`.
 /// - 3: Reading or writing failed.
 /// - 4: Memory ran out, or a thread couldn't be started.
 /// - 5: Refused calls, made buckets or remaining differences ended the run. The notes have their

@@ -65,6 +65,9 @@ pub enum RunFault {
     /// `--down-to` names no type of the map.
     #[error("no type")]
     NoType,
+    /// `--class` names a class that no device of the map after the scripts has.
+    #[error("no class")]
+    NoClass,
 }
 
 impl<T: Drop> From<AllocFailed<T>> for RunFault {

@@ -31,6 +31,6 @@ pub use job::{job_of, read_whole};
 pub use made::{check_made, made_notes};
 pub use notes::{History, check_strict, history_notes};
 pub use origins::Origins;
-pub use output::{OldMap, Output, Request, TargetMap, output_of};
+pub use output::{OldMap, OldTree, Output, Request, TargetMap, output_of};
 pub use summary::Summary;
 pub use words::Words;

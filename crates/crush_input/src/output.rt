@@ -2,14 +2,14 @@
 
 ghost use Rattle.std.specs.Prelude.{◌≡◌, IfErr, IfOk, []};
 ghost use Rattle.crush_input.specs.Notes.{AreNotesOfSecondMap};
-ghost use Rattle.crush_input.specs.Options.{IsOutputFault, AreNotesOfOutputFault, IsOutputOf, IsMapFault, IsOldOf, IsPartOf, IsTreeOf, IsTargetOf, name_text};
+ghost use Rattle.crush_input.specs.Options.{IsOutputFault, AreNotesOfOutputFault, IsOutputOf, IsMapFault, IsOldOf, IsOldTreeOf, IsPartOf, IsTreeOf, IsTargetOf, name_text};
 
 use crate::aborted::Aborted;
 use crate::fault::{RunFault, SecondMap};
 use crate::files::Opens;
 use crate::second_map::read_second_map;
 use crush_map::CrushMap;
-use crush_options::{Mode, OutputSpec, Since, Target, TreePartSpec};
+use crush_options::{ChangeTree, Mode, OutputSpec, Since, Target, TreePartSpec};
 use std::alloc::{AllocError, Global};
 use std::random::RandomSource;
 
@@ -22,6 +22,14 @@ pub struct OldMap {
     /// The name of the item whose changes are printed, with the changes of all items that are or
     /// were below it; `None` for all items.
     pub under: Option<String>,
+}
+
+/// The old map, since which changes are printed as a tree, and the part of this tree that is
+/// printed.
+#[derive(Drop)]
+pub struct OldTree {
+    pub map: CrushMap<Global>,
+    pub part: TreePartSpec,
 }
 
 /// The map that commands are to lead to, and how they are found and printed.
@@ -46,8 +54,8 @@ pub enum Output {
     Tree(TreePartSpec),
     /// What has changed since this old map, item by item.
     Since(OldMap),
-    /// What has changed since this old map, as a tree.
-    Changes(CrushMap<Global>),
+    /// What has changed since this old map, as a tree, or a part of it.
+    Changes(OldTree),
     /// The commands that changed the map, as Ceph's own.
     AsCeph,
     /// The commands that lead from the map to this wanted map.
@@ -75,7 +83,12 @@ fn part_of(alloc: Global, part: &TreePartSpec) -> Result<TreePartSpec, AllocErro
 {
     let under = name_of(alloc, &part.under)?;
     let down_to = name_of(alloc, &part.down_to)?;
-    Ok(TreePartSpec { under, down_to })
+    let class = name_of(alloc, &part.class)?;
+    Ok(TreePartSpec {
+        under,
+        down_to,
+        class,
+    })
 }
 
 fn tree_of(alloc: Global, part: &TreePartSpec) -> Result<Output, Aborted>
@@ -111,6 +124,28 @@ fn old_of<H: AllocGlobal + RandomSource, F: Opens>(
             by_name: since.by_name,
             under,
         }),
+        Err(aborted) => Err(aborted),
+    }
+}
+
+fn old_tree_of<H: AllocGlobal + RandomSource, F: Opens>(
+    rt: &H,
+    files: &F,
+    explain: bool,
+    tree: &ChangeTree,
+) -> Result<OldTree, Aborted>
+    ensures old { IfOk result (IsOldTreeOf (F.content files.now) tree.now) }
+    ensures fault { IfErr result (λ aborted.
+        IsMapFault SecondMap.Since (F.content files.now tree.now.map.bytes.items) aborted.fault) }
+    ensures noted { IfErr result (λ aborted.
+        AreNotesOfSecondMap explain tree.now.map.bytes.items
+        (F.content files.now tree.now.map.bytes.items) aborted.fault aborted.notes.items) }
+{
+    let Ok(part) = part_of(rt.alloc(), &tree.part) else {
+        return Err(Aborted::without_notes(rt.alloc(), RunFault::Memory));
+    };
+    match read_second_map(rt, files, explain, SecondMap::Since, tree.map.as_str()) {
+        Ok(map) => Ok(OldTree { map, part }),
         Err(aborted) => Err(aborted),
     }
 }
@@ -166,12 +201,10 @@ pub fn output_of<H: AllocGlobal + RandomSource, F: Opens>(
             Ok(old) => Ok(Output::Since(old)),
             Err(aborted) => Err(aborted),
         },
-        OutputSpec::Changes(name) => {
-            match read_second_map(rt, files, explain, SecondMap::Since, name.as_str()) {
-                Ok(map) => Ok(Output::Changes(map)),
-                Err(aborted) => Err(aborted),
-            }
-        }
+        OutputSpec::Changes(tree) => match old_tree_of(rt, files, explain, tree) {
+            Ok(old) => Ok(Output::Changes(old)),
+            Err(aborted) => Err(aborted),
+        },
         OutputSpec::AsCeph => Ok(Output::AsCeph),
         OutputSpec::To(target) => match target_of(rt, files, explain, target) {
             Ok(target) => Ok(Output::To(target)),

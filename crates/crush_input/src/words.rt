@@ -15,6 +15,8 @@ pub struct Words<'a> {
     pub under: &'a str,
     /// The name that `--down-to` gives; empty if it isn't given.
     pub down_to: &'a str,
+    /// The name that `--class` gives; empty if it isn't given.
+    pub class: &'a str,
 }
 
 impl<'a> Words<'a> {
@@ -26,6 +28,7 @@ impl<'a> Words<'a> {
             explain: false,
             under: "",
             down_to: "",
+            class: "",
         }
     }
 
@@ -37,6 +40,7 @@ impl<'a> Words<'a> {
             explain: options.mode.explain,
             under: under_of(&options.output_spec),
             down_to: down_to_of(&options.output_spec),
+            class: class_of(&options.output_spec),
         }
     }
 }
@@ -57,7 +61,8 @@ fn under_of(output_spec: &OutputSpec) -> &str
         OutputSpec::Tree(part) => name_or_empty(&part.under),
         OutputSpec::Since(since) => name_or_empty(&since.under),
         OutputSpec::To(target) => name_or_empty(&target.under),
-        OutputSpec::Map | OutputSpec::Changes(_) | OutputSpec::AsCeph => "",
+        OutputSpec::Changes(tree) => name_or_empty(&tree.part.under),
+        OutputSpec::Map | OutputSpec::AsCeph => "",
     }
 }
 
@@ -66,6 +71,17 @@ fn down_to_of(output_spec: &OutputSpec) -> &str
 {
     match output_spec {
         OutputSpec::Tree(part) => name_or_empty(&part.down_to),
+        OutputSpec::Changes(tree) => name_or_empty(&tree.part.down_to),
+        _ => "",
+    }
+}
+
+fn class_of(output_spec: &OutputSpec) -> &str
+    ensures { (json : Bool) → result.now ≡ unwrap_or (flags_by json output_spec.now).class [] }
+{
+    match output_spec {
+        OutputSpec::Tree(part) => name_or_empty(&part.class),
+        OutputSpec::Changes(tree) => name_or_empty(&tree.part.class),
         _ => "",
     }
 }

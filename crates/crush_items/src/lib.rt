@@ -18,5 +18,6 @@ mod seen;
 
 pub use by_id::{ById, Place};
 pub use items::{Item, Items};
+pub use order::nodes_in_order;
 pub use run::Run;
 pub use seen::Seen;

@@ -11,7 +11,7 @@ use std::alloc::{AllocError, Allocator, Global};
 
 /// Returns references to the nodes, in the order of the distances of their ids from 0: devices by
 /// ascending id, buckets from -1 downward. An `Err` says that memory ran out.
-pub(crate) fn nodes_in_order<A: Allocator>(
+pub fn nodes_in_order<A: Allocator>(
     alloc: Global,
     nodes: &[Node<A>],
 ) -> Result<Vec<&Node<A>>, AllocError>

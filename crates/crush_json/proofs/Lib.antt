@@ -12,4 +12,5 @@ pub mod SinceLaws
 pub mod StaysLaws
 pub mod TreeLaws
 pub mod WeightNumber
+pub mod WholeNumber
 pub mod Written

@@ -7,8 +7,8 @@ use Rattle.json.specs.Token.{Token, begin_object, end_object, begin_array, end_a
 use Rattle.json.specs.Tree.{json_tokens, items_tokens, members_tokens}
 use Rattle.serde_json.specs.Data.{Data}
 use Rattle.crush_edits.specs.declared.edit.Edit.{Edit}
-use Rattle.crush_json.specs.PlanDocument.{all_of, behind_history, command, plan_document, plan_document_text, stays_document, told}
-use Rattle.crush_json.specs.Tokens.{history_tokens_if, tokens_of}
+use Rattle.crush_json.specs.PlanDocument.{all_of, aside_document, behind_history, command, plan_document, plan_document_text, stays_document, told}
+use Rattle.crush_json.specs.Tokens.{history_tokens_if, member_tokens, tokens_of}
 
 -- the commands of edits, with the closing bracket
 commands_listed : (es : List Edit) → items_tokens (all_of (map command es)) ≡ flat_map (λ e. json_tokens (command e)) es ++ end_array ∷ []
@@ -32,15 +32,14 @@ history_before None ms = refl
 history_before (Some h) ms = refl
 
 -- the whole
-pub plan_told : (h : Option Data) (edits : List Edit) (rest : List ℕ)
-    → (begin_object ∷ (history_tokens_if h ++ key (codes "plan") ∷ [])) ++ (json_tokens (json.array (all_of (map command edits))) ++ (key (codes "stays") ∷ [] ++ (tokens_of (stays_document rest) ++ end_object ∷ [])))
-    ≡ json_tokens (plan_document h edits rest)
+pub plan_told : (h : Option Data) (edits : List Edit) (rest : List ℕ) (ids class_ids : ℕ)
+    → begin_object ∷ (member_tokens (codes "aside") (aside_document ids class_ids) ++ (history_tokens_if h ++ (key (codes "plan") ∷ (json_tokens (json.array (all_of (map command edits)))
+    ++ (key (codes "stays") ∷ (tokens_of (stays_document rest) ++ end_object ∷ []))))))
+    ≡ json_tokens (plan_document h edits rest ids class_ids)
 unfolding plan_document
-plan_told h edits rest =
-    ap (λ (l : List Token). begin_object ∷ l)
-    (append_assoc (history_tokens_if h) (key (codes "plan") ∷ [])
-    (json_tokens (json.array (all_of (map command edits))) ++ (key (codes "stays") ∷ [] ++ (tokens_of (stays_document rest) ++ end_object ∷ [])))
-    ∙ sym (history_before h (json.member (codes "plan") (json.array (all_of (map command edits))) (told (codes "stays") (stays_document rest) json.no_members))))
+plan_told h edits rest ids class_ids =
+    ap (λ (l : List Token). begin_object ∷ (member_tokens (codes "aside") (aside_document ids class_ids) ++ l))
+    (sym (history_before h (json.member (codes "plan") (json.array (all_of (map command edits))) (told (codes "stays") (stays_document rest) json.no_members))))
 
 -- its text isn't empty
 pub some_plan_text : (j : json.Json) → 0 < length (plan_document_text j)

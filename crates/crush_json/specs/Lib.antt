@@ -1,9 +1,13 @@
+pub mod ChangeDocument
+pub mod ClassIds
 pub mod Document
 pub mod HistoryDocument
 pub mod Ids
 pub mod ItemDocuments
 pub mod MapDocument
+pub mod PairDocument
 pub mod PlanDocument
+pub mod RuleChanges
 pub mod RuleDocument
 pub mod Seen
 pub mod SinceDocument

@@ -8,7 +8,7 @@ use Rattle.crush_edits.specs.declared.edit.Edit.TheVariants.{Insert, CreateOrMov
 use Rattle.json.specs.Json as json
 use Rattle.json.specs.Print.{print}
 use Rattle.json.specs.Tree.{json_tokens}
-use Rattle.serde_json.specs.Data.{Data, boolean, string}
+use Rattle.serde_json.specs.Data.{Data, boolean, string, object, member, no_members}
 use Rattle.serde_json.specs.Written.{outline}
 use Rattle.crush_json.specs.Values.{natural, list}
 
@@ -112,11 +112,15 @@ abbrev pub behind_history : Option Data → json.Members → json.Members
 behind_history None ms = ms
 behind_history (Some h) ms = told (codes "history") h ms
 
--- PLAN DOCUMENT: the commands of edits, and what stays, with the history before them
-unfoldable pub plan_document : Option Data → List Edit → List ℕ → json.Json
-plan_document history edits rest =
-    json.object (behind_history history (json.member (codes "plan") (json.array (all_of (map command edits)))
-    (told (codes "stays") (stays_document rest) json.no_members)))
+-- how many buckets that both maps have by their names have other class ids, and how many have another id
+unfoldable pub aside_document : ℕ → ℕ → Data
+aside_document ids class_ids = object (member (codes "class_ids") (natural class_ids) (member (codes "ids") (natural ids) no_members))
+
+-- PLAN DOCUMENT: the counts of ids that differ, the commands of edits, and what stays, with the history before the commands
+unfoldable pub plan_document : Option Data → List Edit → List ℕ → ℕ → ℕ → json.Json
+plan_document history edits rest ids class_ids =
+    json.object (told (codes "aside") (aside_document ids class_ids) (behind_history history (json.member (codes "plan") (json.array (all_of (map command edits)))
+    (told (codes "stays") (stays_document rest) json.no_members))))
 
 -- the bytes: the value without a space, and a line feed
 unfoldable pub plan_document_text : json.Json → List ℕ

@@ -10,6 +10,7 @@ ghost use Rattle.crush_json.specs.Tokens.{member_tokens, text_tokens_if, tokens_
 ghost use Rattle.crush_json.specs.Values.{natural, whole};
 
 use crush_units::{ItemId, Weight};
+use itoa::Buffer;
 use json::Writer;
 use std::alloc::{AllocError, Global};
 use std::marker::Model;
@@ -103,6 +104,16 @@ impl Document {
     {
         self.writer.key(name)?;
         self.writer.u64(number)
+    }
+
+    /// A number that may be 2^64 or greater.
+    pub(crate) fn large(&mut self, name: &str, number: u128) -> Result<(), AllocError>
+        ensures { OnOk result (self.new ≡ self.old ++ member_tokens name.now (natural number)) }
+    {
+        let mut buffer = Buffer::new();
+        let text = buffer.format(number);
+        self.writer.key(name)?;
+        self.writer.number(text)
     }
 
     /// In an array, as `push_id` and `push_text`.

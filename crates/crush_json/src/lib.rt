@@ -6,6 +6,9 @@
 
 mod buckets;
 mod calls;
+mod changes;
+mod class_changes;
+mod class_ids;
 mod commands;
 mod devices;
 mod document;
@@ -14,6 +17,7 @@ mod items;
 mod kinds;
 mod map;
 mod replies;
+mod rule_changes;
 mod rules;
 mod since;
 mod stays;

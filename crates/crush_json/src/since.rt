@@ -1,24 +1,23 @@
 //! What has changed between two maps, as a value.
 
-ghost use Rattle.std.specs.Prelude.{◌≡◌, ◌++◌, List, OnOk, None, Some, codes, flat_map, map as each};
-ghost use Rattle.std.specs.Cmp.Lexicographic.{pointwise};
-ghost use Rattle.std.specs.Option.{option_map};
+ghost use Rattle.std.specs.Prelude.{◌≡◌, ◌++◌, List, OnOk, None, Some, codes};
 ghost use Rattle.crush_model.specs.Stands.{Stands};
 ghost use Rattle.crush_model.specs.Table.{Row};
-ghost use Rattle.crush_since.specs.SeenItem.{seen_data};
-ghost use Rattle.crush_since.specs.Settings.{same_rule};
 ghost use Rattle.crush_since.specs.Since.{plain_map};
-ghost use Rattle.crush_json.specs.SinceDocument.{change_at, change_documents, counts_document, seen_document, since_document, totals_document};
-ghost use Rattle.crush_json.specs.SinceTokens.{last_since_tokens, seen_tokens_if};
+ghost use Rattle.crush_json.specs.PairDocument.{pair_changes};
+ghost use Rattle.crush_json.specs.RuleChanges.{class_change_documents, rule_change_documents};
+ghost use Rattle.crush_json.specs.SinceDocument.{counts_document, since_document, totals_document};
+ghost use Rattle.crush_json.specs.SinceTokens.{last_since_tokens};
 ghost use Rattle.crush_json.specs.Tokens.{member_tokens, tokens_of};
 ghost use Rattle.crush_json.specs.Values.{list};
 
+use crate::changes::push_changes;
+use crate::class_changes::push_class_changes;
 use crate::document::Document;
-use crate::tree::type_name;
-use crush_map::{CrushMap, Setting};
-use crush_since::{
-    Seen, Tally, count_changes, listed_ids, look_up, same_kinds, same_rules, same_tunables,
-};
+use crate::rule_changes::push_rule_changes;
+use crush_compare::Comparison;
+use crush_map::CrushMap;
+use crush_since::{Tally, same_kinds, same_tunables};
 use crush_units::ItemId;
 use std::alloc::{AllocError, Allocator, Global};
 
@@ -51,8 +50,9 @@ fn push_part<A: Allocator, B: Allocator>(
         → OnOk result (out.new ≡ out.old ++ tokens_of
         (since_document (Some under) (plain_map old.now.setting t) (plain_map new.now.setting u))) }
 {
+    let both = Comparison::by_ids_below(alloc, old, new, under)?;
     out.begin_object()?;
-    push_items(alloc, old, new, Some(under), out)?;
+    push_items(&both, out)?;
     out.end_object()
 }
 
@@ -66,11 +66,13 @@ fn push_whole<A: Allocator, B: Allocator>(
         → OnOk result (out.new ≡ out.old ++ tokens_of
         (since_document None (plain_map old.now.setting t) (plain_map new.now.setting u))) }
 {
-    let counts = count_changes(alloc, old, new)?;
+    let both = Comparison::by_ids(alloc, old, new)?;
+    let counts = Tally::of(&both);
     out.begin_object()?;
+    push_classes(alloc, old, new, out)?;
     push_counts(&counts, out)?;
-    push_items(alloc, old, new, None, out)?;
-    push_last(old, new, out)?;
+    push_items(&both, out)?;
+    push_last(alloc, old, new, out)?;
     out.end_object()
 }
 
@@ -90,103 +92,32 @@ fn push_counts(counts: &Tally, out: &mut Document) -> Result<(), AllocError>
 }
 
 fn push_items<A: Allocator, B: Allocator>(
+    both: &Comparison<'_, A, B>,
+    out: &mut Document,
+) -> Result<(), AllocError>
+    ensures { OnOk result (out.new ≡ out.old
+        ++ member_tokens (codes "items") (list (pair_changes both.now))) }
+{
+    out.key("items")?;
+    push_changes(both, out)
+}
+
+fn push_classes<A: Allocator, B: Allocator>(
     alloc: Global,
     old: &CrushMap<A>,
     new: &CrushMap<B>,
-    under: Option<ItemId>,
     out: &mut Document,
 ) -> Result<(), AllocError>
     ensures { (t u : List Row) → Stands old.now.forest t → Stands new.now.forest u
-        → OnOk result (out.new ≡ out.old ++ member_tokens (codes "items") (list
-        (change_documents under (plain_map old.now.setting t) (plain_map new.now.setting u)))) }
+        → OnOk result (out.new ≡ out.old ++ member_tokens (codes "classes") (list
+        (class_change_documents (plain_map old.now.setting t) (plain_map new.now.setting u)))) }
 {
-    let ids = listed_ids(alloc, old, new, under)?;
-    out.key("items")?;
-    push_list(old, new, ids.as_slice(), out)
-}
-
-fn push_list<A: Allocator, B: Allocator>(
-    old: &CrushMap<A>,
-    new: &CrushMap<B>,
-    ids: &[ItemId],
-    out: &mut Document,
-) -> Result<(), AllocError>
-    ensures { (t u : List Row) → Stands old.now.forest t → Stands new.now.forest u
-        → OnOk result (out.new ≡ out.old ++ tokens_of (list
-        (each (change_at (plain_map old.now.setting t) (plain_map new.now.setting u)) ids.now))) }
-{
-    out.begin_array()?;
-    push_each(old, new, ids, out)?;
-    out.end_array()
-}
-
-fn push_each<A: Allocator, B: Allocator>(
-    old: &CrushMap<A>,
-    new: &CrushMap<B>,
-    ids: &[ItemId],
-    out: &mut Document,
-) -> Result<(), AllocError>
-    ensures { (t u : List Row) → Stands old.now.forest t → Stands new.now.forest u
-        → OnOk result (out.new ≡ out.old ++ flat_map (λ i. tokens_of
-        (change_at (plain_map old.now.setting t) (plain_map new.now.setting u) i)) ids.now) }
-{
-    for id in ids {
-        push_change(old, new, id, out)?;
-    }
-    Ok(())
-}
-
-fn push_change<A: Allocator, B: Allocator>(
-    old: &CrushMap<A>,
-    new: &CrushMap<B>,
-    id: &ItemId,
-    out: &mut Document,
-) -> Result<(), AllocError>
-    ensures { (t u : List Row) → Stands old.now.forest t → Stands new.now.forest u
-        → OnOk result (out.new ≡ out.old ++ tokens_of
-        (change_at (plain_map old.now.setting t) (plain_map new.now.setting u) id.now)) }
-{
-    let before = look_up(old, *id);
-    let after = look_up(new, *id);
-    out.begin_object()?;
-    out.id("id", *id)?;
-    push_seen_if("is", new.setting(), &after, out)?;
-    push_seen_if("was", old.setting(), &before, out)?;
-    out.end_object()
-}
-
-fn push_seen_if(
-    name: &str,
-    setting: &Setting,
-    item: &Option<Seen<'_>>,
-    out: &mut Document,
-) -> Result<(), AllocError>
-    ensures { OnOk result (out.new ≡ out.old
-        ++ seen_tokens_if name.now setting.now (option_map seen_data item.now)) }
-{
-    match item {
-        Some(item) => {
-            out.key(name)?;
-            push_seen(setting, item, out)
-        }
-        None => Ok(()),
-    }
-}
-
-fn push_seen(setting: &Setting, item: &Seen<'_>, out: &mut Document) -> Result<(), AllocError>
-    ensures { OnOk result (out.new ≡ out.old
-        ++ tokens_of (seen_document setting.now (seen_data item.now))) }
-{
-    out.begin_object()?;
-    out.text_if("class", item.view.class)?;
-    out.text("name", item.view.name)?;
-    out.text_if("parent", item.holder)?;
-    out.text("type", type_name(setting, item.view.id, item.view.kind))?;
-    out.natural("weight", item.view.weight.units() as u64)?;
-    out.end_object()
+    out.key("classes")?;
+    push_class_changes(alloc, old, new, out)
 }
 
 fn push_last<A: Allocator, B: Allocator>(
+    alloc: Global,
     old: &CrushMap<A>,
     new: &CrushMap<B>,
     out: &mut Document,
@@ -197,16 +128,24 @@ fn push_last<A: Allocator, B: Allocator>(
 {
     let before = old.setting();
     let after = new.setting();
-    out.truth("rules", !have_same_rules(before, after))?;
+    push_rules(alloc, old, new, out)?;
     push_totals(old.total(), new.total(), out)?;
     out.truth("tunables", !same_tunables(before, after))?;
     out.truth("types", !same_kinds(before, after))
 }
 
-fn have_same_rules(old: &Setting, new: &Setting) -> bool
-    ensures { result ≡ pointwise same_rule old.now.rules new.now.rules }
+fn push_rules<A: Allocator, B: Allocator>(
+    alloc: Global,
+    old: &CrushMap<A>,
+    new: &CrushMap<B>,
+    out: &mut Document,
+) -> Result<(), AllocError>
+    ensures { (t u : List Row) → Stands old.now.forest t → Stands new.now.forest u
+        → OnOk result (out.new ≡ out.old ++ member_tokens (codes "rules") (list
+        (rule_change_documents (plain_map old.now.setting t) (plain_map new.now.setting u)))) }
 {
-    same_rules(old.rules(), new.rules())
+    out.key("rules")?;
+    push_rule_changes(alloc, old, new, out)
 }
 
 /// Before and after.

@@ -28,7 +28,7 @@ use Rattle.crush_script.proofs.MapTexts.{map_texts_have_no_section}
 use Rattle.crush_script.proofs.PrintedLaws.{name_word, printed_is_read}
 use Rattle.crush_script.proofs.PrintedWords.{IsWord, line_words-joined}
 use Rattle.crush_history.specs.Ceph.{ceph_heading}
-use Rattle.crush_names.specs.Aside.{aside_text}
+use Rattle.crush_since.specs.Aside.{aside_text}
 use Rattle.crush_plan.specs.Leads.{Leads}
 use Rattle.crush_plan.specs.Part.{IsAllowed}
 use Rattle.crush_plan.specs.Plan.{PlanData, line_count}

@@ -24,11 +24,12 @@ impl<A: Allocator> CrushMap<A> {
     /// Applies one edit to the map, and returns whether it changed the map and how many buckets it
     /// made.
     ///
-    /// Returns [`EditFault::Refused`] if a rule of the editor forbids the edit; if several do, the
-    /// refusal with the least number. Returns [`EditFault::OutOfMemory`] only if no rule forbids
-    /// the edit and it would change the map. Edits that set weights, swap two buckets, or remove an
-    /// item or a class never run out of memory. After an error the map is exactly as before,
-    /// including the spare capacity of its vectors.
+    /// Returns [`EditFault::Refused`] if there is a reason to refuse the edit; if there are
+    /// several, the error has the one that [`Refusal`] lists first. Returns
+    /// [`EditFault::OutOfMemory`] only if there is no reason to refuse the edit and it would change
+    /// the map. Edits that set weights, swap two buckets, or remove an item or a class never run
+    /// out of memory. After an error the map is exactly as before, including the spare capacity of
+    /// its vectors.
     pub fn apply(&mut self, requested: &Edit) -> Result<Done, EditFault>
     where
         A: Clone,

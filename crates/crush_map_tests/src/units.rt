@@ -3,6 +3,8 @@
 use crush_units::limits::*;
 use crush_units::*;
 use std::alloc::{AllocGlobal, Allocator};
+use std::collections::HashSet;
+use std::fmt::Display;
 
 const _: () = prove!(UNITS_OF_ONE == 1 << 16);
 
@@ -207,6 +209,32 @@ fn weights(rt: HostRuntime) {
     printed_is_read_back();
 }
 
+/// A weight's number of units, and its exact text.
+const EXACT_WEIGHTS: &[(u32, &str)] = &[
+    (0, "0.000000"),
+    (1, "0.000016"),
+    (65536, "1.000000"),
+    (119208, "1.818970"),
+    (238465, "3.638688"),
+    (4294967295, "65535.999985"),
+];
+
+fn is_exact(units: u32, exact: &str) -> bool {
+    let weight = Weight::from_units(units);
+    let mut buffer = [0; 16];
+    let length = weight.exact_text(&mut buffer);
+    length <= 16 && &buffer[..length] == exact.as_bytes() && Weight::read(exact) == Ok(weight)
+}
+
+#[test]
+fn exact_weights(rt: HostRuntime) {
+    for (units, exact) in EXACT_WEIGHTS {
+        assert!(rt; is_exact(*units, *exact));
+    }
+    exact_is_read_back();
+    exact_is_cut_back();
+}
+
 const NO_WEIGHTS: &[&str] = &[
     "",
     ".",
@@ -240,4 +268,78 @@ fn weights_refused(rt: HostRuntime) {
             && WeightFault::Syntax.number() == 1
             && WeightFault::TooLarge.number() == 2
     );
+}
+
+fn device(number: u32) -> Option<DeviceId> {
+    number.try_into().ok()
+}
+
+fn bucket(number: i32) -> Option<BucketId> {
+    number.try_into().ok()
+}
+
+#[test]
+fn conversions(rt: HostRuntime) {
+    assert!(rt;
+        device(3) == DeviceId::new(3)
+            && device(2147483648).is_none()
+            && DeviceId::try_from(0_i32).ok() == DeviceId::new(0)
+            && DeviceId::try_from(-1_i32) == Err(IdFault::NotDevice)
+            && bucket(-3) == BucketId::new(-3)
+            && BucketId::try_from(0) == Err(IdFault::NotBucket)
+            && TypeId::from(65535) == TypeId::new(65535)
+            && Weight::default() == Weight::from_units(0)
+            && "1.5".parse::<Weight>() == Ok(Weight::from_units(98304))
+            && "1.".parse::<Weight>() == Err(WeightFault::Syntax)
+            && "list".parse::<Alg>() == Ok(Alg::List)
+            && "tree".parse::<Alg>() == Err(AlgFault)
+    );
+}
+
+#[test]
+fn orders(rt: HostRuntime) {
+    let low = device(3).expect(&rt, "a device");
+    let high = device(10).expect(&rt, "a device");
+    let near = bucket(-1).expect(&rt, "a bucket");
+    let far = bucket(-2).expect(&rt, "a bucket");
+    assert!(rt;
+        low < high
+            && far < near
+            && ItemId::from(low) < ItemId::from(high)
+            && ItemId::from(high) < ItemId::from(far)
+            && ItemId::from(far) < ItemId::from(near)
+            && TypeId::new(1) < TypeId::new(11)
+            && Weight::from_units(9) < Weight::from_units(10)
+            && Alg::Straw < Alg::Straw2
+            && Alg::Straw2 < Alg::List
+    );
+}
+
+fn is_shown(rt: &impl AllocGlobal, value: impl Display + Drop, shown: &str) -> bool {
+    format!(in rt.alloc(); "{value}").is_ok_and(|text| text.as_str() == shown)
+}
+
+#[test]
+fn shown(rt: HostRuntime) {
+    let name = Name::read(rt.alloc(), b"osd.3").expect(&rt, "a name");
+    let quoted = format!(in rt.alloc(); "{name:?}").is_ok_and(|text| text.as_str() == "\"osd.3\"");
+    drop(name);
+    assert!(rt;
+        quoted
+            && is_shown(&rt, Alg::Straw2, "straw2")
+            && is_shown(&rt, TypeId::new(11), "11")
+            && is_shown(&rt, Weight::from_units(98304), "1.50000")
+    );
+}
+
+#[test]
+fn values_are_keys(rt: HostRuntime) {
+    let mut keys = HashSet::new(rt.alloc());
+    let device = device(1).expect(&rt, "a device");
+    let bucket = bucket(-1).expect(&rt, "a bucket");
+    let first = keys.insert(ItemId::from(device)).expect(&rt, "memory");
+    let second = keys.insert(ItemId::from(bucket)).expect(&rt, "memory");
+    let again = keys.insert(ItemId::from(device)).expect(&rt, "memory");
+    drop(keys);
+    assert!(rt; first && second && !again);
 }

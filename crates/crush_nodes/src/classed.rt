@@ -11,8 +11,8 @@ use crate::sums::with_more;
 use crush_units::{Name, Weight};
 use std::alloc::Allocator;
 
-/// Returns the sum of the weights of the item's devices that have the class, at any depth. The cost
-/// is linear in the number of items.
+/// Returns the sum of the weights of the devices that have the class, among the item and all that
+/// is below it. The cost is linear in the number of items.
 pub fn class_weight_in<A: Allocator>(node: &Node<A>, class: &[u8]) -> Weight
     requires { class_sum_in class.now (items_of (node.now ∷ [])) ≤ HEAVIEST_BUCKET }
     ensures { result ≡ class_sum_in class.now (items_of (node.now ∷ [])) }
@@ -47,8 +47,8 @@ fn leaf_class_weight<A: Allocator>(leaf: &Leaf<A>, class: &[u8]) -> Weight
     }
 }
 
-/// Gives the fact that a class is in the form of a name, which follows from its type's invariant.
-/// It is called for the proof and changes nothing.
+/// Proves that a class, if there is one, has the form of a name, which is the invariant of its
+/// type. Does nothing at run time.
 pub fn recall_class<A: Allocator>(class: &Option<Name<A>>)
     ensures { IfSome class.now IsName }
 {

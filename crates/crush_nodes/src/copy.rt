@@ -39,7 +39,8 @@ pub fn copy_items<A: Allocator + Clone>(
     Ok(copies)
 }
 
-/// Appends a copy of a device to the copies, which have room.
+/// Appends a copy of a device to `copies`, which must have room for it. Fails if memory can't be
+/// allocated.
 #[inline(never)]
 fn push_leaf<A: Allocator + Clone>(
     copies: &mut Vec<Node<A>, A>,
@@ -57,7 +58,8 @@ fn push_leaf<A: Allocator + Clone>(
     Ok(())
 }
 
-/// Appends a copy of a bucket to the copies, which have room. `below` are the copies of its items.
+/// Appends a copy of a bucket to `copies`, which must have room for it. `below` are the copies of
+/// the bucket's items. Fails if memory can't be allocated.
 #[inline(never)]
 fn push_bucket<A: Allocator + Clone>(
     copies: &mut Vec<Node<A>, A>,

@@ -15,8 +15,9 @@ use crate::node::{Bucket, Header, Leaf, Node, ShadowId};
 use crush_units::limits::{HEAVIEST_DEVICE, MOST_CLASS_IDS};
 use std::alloc::Allocator;
 
-/// Whether each item, at any depth, is well formed: a device's weight is in range, and a bucket has
-/// a type above 0 and at most 16 class ids, of distinct classes.
+/// Whether the item and each item below it, at any depth, is well formed. The weight of a device
+/// must be at most 2147483647 units. A bucket must have a type above 0 and at most 16 class ids, of
+/// distinct classes.
 pub fn is_formed_node<A: Allocator>(node: &Node<A>) -> bool
     ensures tested { result ≡ are_formed (items_of (node.now ∷ [])) }
     ensures typed { OnTrue result (AreTyped (items_of (node.now ∷ []))) }
@@ -40,8 +41,8 @@ pub fn is_formed_node<A: Allocator>(node: &Node<A>) -> bool
     }
 }
 
-/// Whether a device's weight is in range. Reads the other fields only because their types'
-/// invariants give the rest of the contract.
+/// Whether a device's weight is at most 2147483647 units. Reads the other fields only because their
+/// types' invariants prove the rest of the contract.
 fn is_formed_leaf<A: Allocator>(leaf: &Leaf<A>) -> bool
     ensures tested { result ≡ nat_le leaf.now.weight HEAVIEST_DEVICE }
     ensures id { leaf.now.id < DEVICE_IDS }
@@ -92,7 +93,8 @@ fn has_class_of<A: Allocator>(class_ids: &[ShadowId<A>], class_id: &ShadowId<A>)
     has_class(class_ids, class_id.class.as_bytes())
 }
 
-/// Gives the contract's facts, which follow from the types' invariants; changes nothing.
+/// Proves that the number of each class id is in range and that its class is a name, as the types'
+/// invariants say. Does nothing at run time.
 fn recall_shadow_ids<A: Allocator>(class_ids: &[ShadowId<A>])
     ensures { All IsShadowId (map shadow_data class_ids.now) }
 {
@@ -101,7 +103,7 @@ fn recall_shadow_ids<A: Allocator>(class_ids: &[ShadowId<A>])
     }
 }
 
-/// Gives the facts for one class id; changes nothing.
+/// Proves the same of one class id. Does nothing at run time.
 fn recall_shadow_id<A: Allocator>(class_id: &ShadowId<A>)
     ensures { IsShadowId (shadow_data class_id.now) }
 {

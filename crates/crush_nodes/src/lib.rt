@@ -1,8 +1,8 @@
 //! The items of the hierarchy, which are devices and buckets, and functions that read, test or copy
 //! items and all that is below them.
 //!
-//! Read [`node`] first: it has the types. [`descent`] defines how a walk finds its way down to an item,
-//! and [`path`] is the way that is found by a [`guide`]. The crate `crush_walks` changes items, and
+//! Read [`node`] first: it has the types. [`descent`] defines how a walk finds its way down to an
+//! item, and [`path`] is the way that a [`guide`] finds. The crate `crush_walks` changes items, and
 //! `crush_tree` has the forest of all items.
 #![tactic(auto)]
 

@@ -31,8 +31,8 @@ impl<A: Allocator> Node<A> {
     }
 }
 
-/// Whether `sum` is the sum of the weights that the items store. Subtracts instead of adding, so
-/// that nothing can overflow.
+/// Whether `sum` is the sum of the weights that the items store. It subtracts the weights from
+/// `sum` instead of adding them, so that nothing can overflow.
 fn is_sum_of<A: Allocator>(sum: Weight, items: &[Node<A>]) -> bool
     ensures { result ≡ (weight_sum (items_of items.now) == sum) }
 {

@@ -24,7 +24,7 @@ pub struct View<'a> {
     pub alg: Option<Alg>,
 }
 
-/// How many items there are.
+/// How many devices and how many buckets there are.
 #[derive(Clone, Copy, Debug, PartialEq, Eq)]
 pub struct Counts {
     pub devices: u32,

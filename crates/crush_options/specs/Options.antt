@@ -44,9 +44,9 @@ abbrev pub with_parts : App
 with_parts = with_rule (with_rule (with_rule (with_rule with_output_flags (flag (codes "by-name"))) (flag (codes "json"))) (option (codes "under"))) (option (codes "down-to"))
 
 -- THE COMMAND LINE: `[--in-turn] [--no-history] [--strict] [--no-make] [--tree] [--since MAP] [--as-ceph] [--to MAP] [--by-name] [--json]
--- [--under NAME] [--down-to TYPE] [--exit-code] [--explain] [-s SCRIPT].. [FILE]`
+-- [--under NAME] [--down-to TYPE] [--class CLASS] [--exit-code] [--explain] [-s SCRIPT].. [FILE]`
 abbrev pub program : App
-program = with_rule (with_rule (with_rule (with_rule with_parts (flag (codes "exit-code"))) (flag (codes "explain"))) scripts) file
+program = with_rule (with_rule (with_rule (with_rule (with_rule with_parts (option (codes "class"))) (flag (codes "exit-code"))) (flag (codes "explain"))) scripts) file
 
 -- the bytes of each of some strings
 abbrev pub names_text : {Z : Type 0} → List (String Z) → List Text

@@ -12,7 +12,7 @@ pub record IsFlag (text : Option Text) (flag : Bool) : Type 0 where
   pub absent : text ≡ Some (codes "false") → flag ≡ false
   pub none : text ≡ None → flag ≡ false
 
--- the words that decide what is printed: whether `--tree`, `--as-ceph`, `--by-name` and `--json` are given, and the values of `--since`, `--to`, `--under` and `--down-to` that are given
+-- the words that decide what is printed: whether `--tree`, `--as-ceph`, `--by-name` and `--json` are given, and the values of `--since`, `--to`, `--under`, `--down-to` and `--class` that are given
 pub record OutputFlagsData : Type 0 where
   pub tree : Bool
   pub since : Option Text
@@ -22,6 +22,7 @@ pub record OutputFlagsData : Type 0 where
   pub json : Bool
   pub under : Option Text
   pub down_to : Option Text
+  pub class : Option Text
 
 -- the parsed words have exactly these flags and values
 pub record AreOutputFlags (rows : List Row) (flags : OutputFlagsData) : Type 0 where
@@ -33,6 +34,7 @@ pub record AreOutputFlags (rows : List Row) (flags : OutputFlagsData) : Type 0 w
   pub json : IsFlag (one_of (codes "json") rows) flags.json
   pub under : first_of (codes "under") rows ≡ flags.under
   pub down_to : first_of (codes "down-to") rows ≡ flags.down_to
+  pub class : first_of (codes "class") rows ≡ flags.class
 
 -- the bytes of a string, if there is one
 abbrev pub name_text : {Z : Type 0} → Option (String Z) → Option Text
@@ -49,18 +51,19 @@ flags_data s = record {
   json = s.json;
   under = option_map (λ name. name.now) s.under;
   down_to = option_map (λ name. name.now) s.down_to;
+  class = option_map (λ name. name.now) s.class;
 }
 
 -- none of these words is given, except for `--json`, which may be
 abbrev pub no_output_flags : Bool → OutputFlagsData
-no_output_flags json = record { tree = false; since = None; as_ceph = false; to = None; by_name = false; json = json; under = None; down_to = None }
+no_output_flags json = record { tree = false; since = None; as_ceph = false; to = None; by_name = false; json = json; under = None; down_to = None; class = None }
 
 -- exactly the words that ask for this to be printed, with or without `--json`
 abbrev pub flags_by : Bool → OutputSpec → OutputFlagsData
 flags_by json Map = no_output_flags json
-flags_by json (Tree part) = record (no_output_flags json) { tree = true; under = name_text part.under; down_to = name_text part.down_to }
+flags_by json (Tree part) = record (no_output_flags json) { tree = true; under = name_text part.under; down_to = name_text part.down_to; class = name_text part.class }
 flags_by json (Since since) = record (no_output_flags json) { since = Some since.map.bytes.items; by_name = since.by_name; under = name_text since.under }
-flags_by json (Changes name) = record (no_output_flags json) { tree = true; since = Some name.bytes.items }
+flags_by json (Changes tree) = record (no_output_flags json) { tree = true; since = Some tree.map.bytes.items; under = name_text tree.part.under; down_to = name_text tree.part.down_to; class = name_text tree.part.class }
 flags_by json AsCeph = record (no_output_flags json) { as_ceph = true }
 flags_by json (To target) = record (no_output_flags json) { as_ceph = target.as_ceph; to = Some target.map.bytes.items; by_name = target.by_name; under = name_text target.under }
 
@@ -68,9 +71,9 @@ flags_by json (To target) = record (no_output_flags json) { as_ceph = target.as_
 abbrev pub ask_for_two : OutputFlagsData → Bool
 ask_for_two flags = (flags.tree || is_some flags.since) && (flags.as_ceph || is_some flags.to)
 
--- whether the words ask for a tree of changes that isn't whole or isn't by ids
-abbrev pub ask_for_some_changes : OutputFlagsData → Bool
-ask_for_some_changes flags = flags.tree && is_some flags.since && (flags.by_name || is_some flags.under || is_some flags.down_to)
+-- whether the words ask for a tree of changes by names, which doesn't exist
+abbrev pub ask_for_tree_of_names : OutputFlagsData → Bool
+ask_for_tree_of_names flags = flags.tree && is_some flags.since && flags.by_name
 
 -- whether `--by-name` is given without another map, so without `--since` and `--to`
 abbrev pub have_names_alone : OutputFlagsData → Bool
@@ -84,6 +87,18 @@ have_part_alone flags = is_some flags.under && not flags.tree && not (is_some fl
 abbrev pub have_type_alone : OutputFlagsData → Bool
 have_type_alone flags = is_some flags.down_to && not flags.tree
 
+-- whether `--class` is given without `--tree`
+abbrev pub have_class_alone : OutputFlagsData → Bool
+have_class_alone flags = is_some flags.class && not flags.tree
+
+-- whether the words ask for a tree of changes of one class, which doesn't exist
+abbrev pub changes_of_class : OutputFlagsData → Bool
+changes_of_class flags = is_some flags.class && is_some flags.since
+
+-- whether the words ask for a JSON document of one class, which doesn't exist
+abbrev pub json_of_class : OutputFlagsData → Bool
+json_of_class flags = flags.json && is_some flags.class
+
 -- whether the words ask for a JSON document of lines for a shell, which doesn't exist
 abbrev pub json_of_lines : OutputFlagsData → Bool
 json_of_lines flags = flags.json && flags.as_ceph
@@ -92,16 +107,24 @@ json_of_lines flags = flags.json && flags.as_ceph
 abbrev pub json_of_names : OutputFlagsData → Bool
 json_of_names flags = flags.json && is_some flags.since && flags.by_name
 
+-- whether the words ask for a JSON document of the upper levels of a tree of changes, which doesn't exist
+abbrev pub json_of_levels : OutputFlagsData → Bool
+json_of_levels flags = flags.json && is_some flags.since && is_some flags.down_to
+
 -- WORDS THAT DON'T GO TOGETHER: the error line of the first of these conditions that holds of the words; nothing if none holds, so that the words can be given together
 abbrev pub complaint : OutputFlagsData → Option Text
 complaint flags =
     if ask_for_two flags then Some (codes "error: at most one of --tree, --since, --as-ceph and --to, but --tree with --since and --to with --as-ceph\n") else (
-    if ask_for_some_changes flags then Some (codes "error: --tree with --since goes with none of --by-name, --under and --down-to\n") else (
+    if ask_for_tree_of_names flags then Some (codes "error: --tree with --since doesn't go with --by-name\n") else (
     if have_names_alone flags then Some (codes "error: --by-name goes with --since and --to\n") else (
     if have_part_alone flags then Some (codes "error: --under goes with --tree, --since and --to\n") else (
     if have_type_alone flags then Some (codes "error: --down-to goes with --tree\n") else (
+    if have_class_alone flags then Some (codes "error: --class goes with --tree\n") else (
+    if changes_of_class flags then Some (codes "error: --tree with --since doesn't go with --class\n") else (
+    if json_of_class flags then Some (codes "error: --json doesn't go with --class\n") else (
     if json_of_lines flags then Some (codes "error: --json doesn't go with --as-ceph\n") else (
-    if json_of_names flags then Some (codes "error: --json and --since don't go with --by-name\n") else None))))))
+    if json_of_names flags then Some (codes "error: --json and --since don't go with --by-name\n") else (
+    if json_of_levels flags then Some (codes "error: --json and --since don't go with --down-to\n") else None))))))))))
 
 -- WHAT IS PRINTED: the parsed words are exactly those that ask for this, and they can be given together
 pub record IsOutputSpec (rows : List Row) (json : Bool) (output_spec : OutputSpec) : Type 0 where

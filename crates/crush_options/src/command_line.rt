@@ -3,9 +3,11 @@
 ghost use Rattle.std.specs.Prelude.{◌≡◌, ◌≤◌, IfErr, IfOk, None, Some, codes, false, length, map, option_map, true};
 ghost use Rattle.clap.specs.Words.{all_of, app_of, fault_of, first_of, found_of, kind_of, one_of, rows_of, rule_of, with_rule};
 ghost use Rattle.crush_options.specs.Options.{AreRead, IsConflictFault, AreOptionsOf, IsFaultIn, IsFaultOf, IsModeOf, IsRefusedFor, IsRefusedIf, all_named, file, flag, names_text, option, program, scripts, with_modes, with_parts, with_output_flags};
-ghost use Rattle.crush_options.specs.OutputFlags.{AreOutputFlags, IsFlag, ask_for_some_changes, ask_for_two, complaint, have_names_alone, have_part_alone, have_type_alone, name_text, flags_by, flags_data};
+ghost use Rattle.crush_options.specs.OutputFlags.{AreOutputFlags, IsFlag, ask_for_tree_of_names, ask_for_two, complaint, have_class_alone, have_names_alone, have_part_alone, have_type_alone, name_text, flags_by, flags_data};
 
-use crate::parsed_options::{Mode, Options, OptionsFault, OutputSpec, Since, Target, TreePartSpec};
+use crate::parsed_options::{
+    ChangeTree, Mode, Options, OptionsFault, OutputSpec, Since, Target, TreePartSpec,
+};
 use clap::error::ErrorKind;
 use clap::{Arg, ArgAction, ArgMatches, Command, Error};
 use std::alloc::{AllocError, Global};
@@ -90,9 +92,10 @@ two clusters `--by-name` compares them by their names alone.
 
 With `--tree`, `--since` or `--to`, `--under NAME` prints only what concerns the
 item NAME and the items below it. With `--tree`, `--down-to TYPE` prints nothing
-below buckets of this type. None of `--by-name`, `--under` and `--down-to` goes
-with a tree of what has changed. `--json` prints one JSON document in place of
-everything else. It doesn't go with `--as-ceph`, nor with `--since` by name.
+below buckets of this type, and `--class CLASS` counts only the devices of this
+class. Neither `--by-name` nor `--class` goes with a tree of what has changed.
+`--json` prints one JSON document in place of everything else. It doesn't go
+with `--as-ceph` or `--class`, nor with `--since` by name or down to a type.
 
 With `--exit-code` the status is 6 in place of 0 if a command changed the map;
 with `--since`, if an item or a setting is reported; with `--to`, if a command
@@ -105,6 +108,7 @@ Standard error:
     crushedit: differs N     with --strict and --to: N differences remain
     crushedit: no item NAME  --under: the map has no such item
     crushedit: no type TYPE  --down-to: the map has no such type
+    crushedit: no class NAME  --class: no device of the map has this class
 
 Below `refused`, `made` and `differs` come the lines of these calls and
 differences. With `--explain` more lines follow. They say where an error in the
@@ -113,7 +117,7 @@ and the reason.
 
 Exit status:
     0    the job was run; without --strict, commands may have been refused
-    1    the job, MAP, NAME or TYPE is invalid; nothing was printed
+    1    the job, MAP, NAME, TYPE or CLASS is invalid; nothing was printed
     2    the command line is refused
     3    a file can't be opened, or a read or a write failed
     4    out of memory, or a thread couldn't be started; nothing was printed
@@ -132,8 +136,7 @@ Examples:
 const TWO_PRINTED: &str =
     "error: at most one of --tree, --since, --as-ceph and --to, but --tree with --since and --to with --as-ceph\n";
 
-const WHOLE_CHANGES: &str =
-    "error: --tree with --since goes with none of --by-name, --under and --down-to\n";
+const TREE_OF_NAMES: &str = "error: --tree with --since doesn't go with --by-name\n";
 
 const NAMES_ALONE: &str = "error: --by-name goes with --since and --to\n";
 
@@ -141,9 +144,17 @@ const PART_ALONE: &str = "error: --under goes with --tree, --since and --to\n";
 
 const TYPE_ALONE: &str = "error: --down-to goes with --tree\n";
 
+const CLASS_ALONE: &str = "error: --class goes with --tree\n";
+
+const CLASS_CHANGES: &str = "error: --tree with --since doesn't go with --class\n";
+
+const JSON_CLASS: &str = "error: --json doesn't go with --class\n";
+
 const JSON_LINES: &str = "error: --json doesn't go with --as-ceph\n";
 
 const JSON_NAMES: &str = "error: --json and --since don't go with --by-name\n";
+
+const JSON_LEVELS: &str = "error: --json and --since don't go with --down-to\n";
 
 /// The most files with scripts on one command line: as many as a job may have operators.
 const MOST_SCRIPTS: usize = 16;
@@ -243,9 +254,11 @@ fn with_parts<'a>(alloc: Global) -> Result<Command<'a>, AllocError>
 fn command<'a>(alloc: Global) -> Result<Command<'a>, AllocError>
     ensures { IfOk result (λ command. app_of command ≡ program) }
 {
+    let class = "With --tree: count only the devices of this class";
     let exit_code = "Exit with status 6 if something changed or differs";
     let explain = "Say on standard error where an error is, and why";
     with_parts(alloc)?
+        .arg(option(alloc, "class", "CLASS", class))?
         .arg(flag(alloc, "exit-code", exit_code))?
         .arg(flag(alloc, "explain", explain))?
         .arg(scripts(alloc))?
@@ -278,6 +291,7 @@ struct OutputFlags<'a> {
     json: bool,
     under: Option<&'a str>,
     down_to: Option<&'a str>,
+    class: Option<&'a str>,
 }
 
 fn output_flags_of<'a>(matches: &'a ArgMatches<'_>) -> OutputFlags<'a>
@@ -292,6 +306,7 @@ fn output_flags_of<'a>(matches: &'a ArgMatches<'_>) -> OutputFlags<'a>
         json: is_set(matches, "json"),
         under: matches.get_str("under"),
         down_to: matches.get_str("down-to"),
+        class: matches.get_str("class"),
     }
 }
 
@@ -301,12 +316,10 @@ fn ask_for_two(flags: OutputFlags<'_>) -> bool
     (flags.tree || flags.since.is_some()) && (flags.as_ceph || flags.to.is_some())
 }
 
-fn ask_for_some_changes(flags: OutputFlags<'_>) -> bool
-    ensures { result ≡ ask_for_some_changes (flags_data flags.entry) }
+fn ask_for_tree_of_names(flags: OutputFlags<'_>) -> bool
+    ensures { result ≡ ask_for_tree_of_names (flags_data flags.entry) }
 {
-    flags.tree
-        && flags.since.is_some()
-        && (flags.by_name || flags.under.is_some() || flags.down_to.is_some())
+    flags.tree && flags.since.is_some() && flags.by_name
 }
 
 fn have_names_alone(flags: OutputFlags<'_>) -> bool
@@ -327,24 +340,38 @@ fn have_type_alone(flags: OutputFlags<'_>) -> bool
     flags.down_to.is_some() && !flags.tree
 }
 
+fn have_class_alone(flags: OutputFlags<'_>) -> bool
+    ensures { result ≡ have_class_alone (flags_data flags.entry) }
+{
+    flags.class.is_some() && !flags.tree
+}
+
 /// Returns the error line of words that can't be given together, or `None` if they can.
 fn complaint(flags: OutputFlags<'_>) -> Option<&'static str>
     ensures { option_map (λ text. text.now) result ≡ complaint (flags_data flags.entry) }
 {
     if ask_for_two(flags) {
         Some(TWO_PRINTED)
-    } else if ask_for_some_changes(flags) {
-        Some(WHOLE_CHANGES)
+    } else if ask_for_tree_of_names(flags) {
+        Some(TREE_OF_NAMES)
     } else if have_names_alone(flags) {
         Some(NAMES_ALONE)
     } else if have_part_alone(flags) {
         Some(PART_ALONE)
     } else if have_type_alone(flags) {
         Some(TYPE_ALONE)
+    } else if have_class_alone(flags) {
+        Some(CLASS_ALONE)
+    } else if flags.class.is_some() && flags.since.is_some() {
+        Some(CLASS_CHANGES)
+    } else if flags.json && flags.class.is_some() {
+        Some(JSON_CLASS)
     } else if flags.json && flags.as_ceph {
         Some(JSON_LINES)
     } else if flags.json && flags.since.is_some() && flags.by_name {
         Some(JSON_NAMES)
+    } else if flags.json && flags.since.is_some() && flags.down_to.is_some() {
+        Some(JSON_LEVELS)
     } else {
         None
     }
@@ -359,14 +386,40 @@ fn copy_of(alloc: Global, name: Option<&str>) -> Result<Option<String>, AllocErr
     }
 }
 
+/// Returns the part of a tree that is printed.
+fn part_by(alloc: Global, flags: OutputFlags<'_>) -> Result<TreePartSpec, AllocError>
+    ensures under { IfOk result (λ part. name_text part.under ≡ (flags_data flags.entry).under) }
+    ensures down_to { IfOk result (λ part. name_text part.down_to
+        ≡ (flags_data flags.entry).down_to) }
+    ensures class { IfOk result (λ part. name_text part.class ≡ (flags_data flags.entry).class) }
+{
+    let under = copy_of(alloc, flags.under)?;
+    let down_to = copy_of(alloc, flags.down_to)?;
+    let class = copy_of(alloc, flags.class)?;
+    Ok(TreePartSpec {
+        under,
+        down_to,
+        class,
+    })
+}
+
 fn tree_by(alloc: Global, flags: OutputFlags<'_>) -> Result<OutputSpec, AllocError>
     requires together { complaint (flags_data flags) ≡ None }
     requires alone { (flags.to ≡ None) × (flags.since ≡ None) × (flags.tree ≡ true) }
     ensures { IfOk result (λ output_spec. flags_by flags.entry.json output_spec ≡ flags_data flags.entry) }
 {
-    let under = copy_of(alloc, flags.under)?;
-    let down_to = copy_of(alloc, flags.down_to)?;
-    Ok(OutputSpec::Tree(TreePartSpec { under, down_to }))
+    let part = part_by(alloc, flags)?;
+    Ok(OutputSpec::Tree(part))
+}
+
+fn changes_by(alloc: Global, flags: OutputFlags<'_>, name: &str) -> Result<OutputSpec, AllocError>
+    requires together { complaint (flags_data flags) ≡ None }
+    requires alone { (flags.to ≡ None) × (flags.since ≡ Some name) × (flags.tree ≡ true) }
+    ensures { IfOk result (λ output_spec. flags_by flags.entry.json output_spec ≡ flags_data flags.entry) }
+{
+    let map = String::from_str(alloc, name)?;
+    let part = part_by(alloc, flags)?;
+    Ok(OutputSpec::Changes(ChangeTree { map, part }))
 }
 
 fn since_by(alloc: Global, flags: OutputFlags<'_>, name: &str) -> Result<OutputSpec, AllocError>
@@ -404,7 +457,7 @@ fn output_spec_by(alloc: Global, flags: OutputFlags<'_>) -> Result<OutputSpec, A
 {
     match (flags.to, flags.since) {
         (Some(name), _) => target_by(alloc, flags, name),
-        (None, Some(name)) if flags.tree => Ok(OutputSpec::Changes(String::from_str(alloc, name)?)),
+        (None, Some(name)) if flags.tree => changes_by(alloc, flags, name),
         (None, Some(name)) => since_by(alloc, flags, name),
         (None, None) if flags.tree => tree_by(alloc, flags),
         (None, None) if flags.as_ceph => Ok(OutputSpec::AsCeph),

@@ -8,4 +8,6 @@ mod command_line;
 mod parsed_options;
 
 pub use command_line::options;
-pub use parsed_options::{Mode, Options, OptionsFault, OutputSpec, Since, Target, TreePartSpec};
+pub use parsed_options::{
+    ChangeTree, Mode, Options, OptionsFault, OutputSpec, Since, Target, TreePartSpec,
+};

@@ -26,13 +26,15 @@ pub struct Mode {
     pub json: bool,
 }
 
-/// The part of a tree that is printed. If neither name is given, the whole tree is printed.
+/// The part of a tree that is printed. If no name is given, the whole tree is printed.
 #[derive(Debug, Drop)]
 pub struct TreePartSpec {
     /// The name of the item that is printed, with all that is below it (`--under`).
     pub under: Option<String>,
     /// The type of the buckets below which nothing is printed (`--down-to`).
     pub down_to: Option<String>,
+    /// The class whose devices alone count (`--class`). Without a class all devices count.
+    pub class: Option<String>,
 }
 
 /// The old map, since which changes are printed, and the items whose changes are printed.
@@ -45,6 +47,15 @@ pub struct Since {
     /// The name of the item whose changes are printed, with the changes of all items that are or
     /// were below it (`--under`). Without a name all changes are printed.
     pub under: Option<String>,
+}
+
+/// The old map, since which changes are printed as a tree, and the part of this tree that is
+/// printed.
+#[derive(Debug, Drop)]
+pub struct ChangeTree {
+    /// The name of the old map's file (`--since`).
+    pub map: String,
+    pub part: TreePartSpec,
 }
 
 /// The map that commands are to lead to, and how they are found and printed.
@@ -71,8 +82,8 @@ pub enum OutputSpec {
     Tree(TreePartSpec),
     /// The changes since another map, item by item.
     Since(Since),
-    /// The changes since another map as a tree. The string is the name of that map's file.
-    Changes(String),
+    /// The changes since another map, as a tree.
+    Changes(ChangeTree),
     /// The commands that changed the map, as Ceph's own.
     AsCeph,
     /// The commands that lead from the map to a wanted map.

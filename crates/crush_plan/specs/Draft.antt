@@ -1,6 +1,7 @@
 -- A map on its way to another.
-use Rattle.std.specs.Prelude.{◌≡◌, List, [], ◌++◌}
+use Rattle.std.specs.Prelude.{◌≡◌, List, [], ◌++◌, Option}
 use Rattle.std.specs.Option.{option_map}
+use Rattle.crush_units.specs.declared.id.ItemId.{ItemId}
 use Rattle.crush_model.specs.Forest.{ForestData}
 use Rattle.crush_model.specs.Stands.{Stands}
 use Rattle.crush_model.specs.Table.{Row}
@@ -9,11 +10,18 @@ use Rattle.crush_edits.specs.Setting.{SettingData}
 use Rattle.crush_plan.specs.declared.goal.PlanGoal.{PlanGoal}
 use Rattle.crush_plan.specs.declared.draft.Draft.{Draft}
 use Rattle.crush_plan.specs.Leads.{Leads}
-use Rattle.crush_plan.specs.Part.{IsAllowed}
+use Rattle.crush_plan.specs.Part.{HasPartBelow, IsAllowed, WeighsPart}
 
 -- an edit of a table that is allowed between the two maps
 abbrev pub Allows : {A B : _} → PlanGoal A B → List Row → Edit → Type 0
 Allows goal v e = (t u : List Row) → Stands goal.before.now.forest t → Stands goal.wanted.now.forest u → IsAllowed t u (option_map (λ name. name.now) goal.under) v e
+
+-- an edit of a table that sets no weight outside of the part; and a bucket, below which an edit may set all weights
+abbrev pub MayWeigh : {A B : _} → PlanGoal A B → List Row → Edit → Type 0
+MayWeigh goal v e = (t u : List Row) → Stands goal.before.now.forest t → Stands goal.wanted.now.forest u → WeighsPart t u (option_map (λ name. name.now) goal.under) v e
+
+abbrev pub MayWeighBelow : {A B : _} → PlanGoal A B → List Row → Option ItemId → Type 0
+MayWeighBelow goal v i = (t u : List Row) → Stands goal.before.now.forest t → Stands goal.wanted.now.forest u → HasPartBelow t u (option_map (λ name. name.now) goal.under) v i
 
 -- the edits lead to a table that the forest represents
 abbrev pub LeadsTo : {A B : _} → PlanGoal A B → SettingData → List Row → List Edit → ForestData → Type 0

@@ -2,11 +2,13 @@
 use Rattle.std.specs.Prelude.{◌≡◌, ℕ, Bool, true, false, ◌||◌, List, [], ◌∷◌, Option, None, Some, is_some}
 use Rattle.std.specs.List.{list_all}
 use Rattle.std.specs.Option.{option_map_or}
-use Rattle.crush_model.specs.Table.{Row, id_named}
+use Rattle.crush_units.specs.declared.id.ItemId.{ItemId}
+use Rattle.crush_units.specs.declared.id.ItemId.TheVariants.{Device, Bucket}
+use Rattle.crush_model.specs.Table.{Row, id_named, is_below, name_of}
 use Rattle.crush_edits.specs.declared.edit.Edit.{Edit}
 use Rattle.crush_edits.specs.declared.edit.Edit.TheVariants.{Insert, CreateOrMove, Update, Move, Swap, Reweight, ReweightSubtree, Remove, AddBucket, Rename, SetClass, RemoveClass}
 use Rattle.crush_edits.specs.declared.location.Pair.{Pair}
-use Rattle.crush_names.specs.Named.{is_in}
+use Rattle.crush_compare.specs.Named.{is_in}
 use Rattle.crush_history.specs.Said.{IsSaid}
 
 -- the name with which an edit names an item, and the item's name after the edit, if the item is there then
@@ -46,6 +48,31 @@ abbrev pub concerns : List Row → List Row → Option (List ℕ) → List Row �
 concerns old new None t e = true
 concerns old new (Some part) t e = list_all (is_called_in old new (Some part) t) (called e)
 
+-- whether an item of the table t, of this id, was in the part, or will be there by the name that it has in t
+abbrev pub is_item_in_part : List Row → List Row → Option (List ℕ) → List Row → ItemId → Bool
+is_item_in_part old new under t i = is_in under old i || option_map_or (will_be_in_part new under) (name_of t i) false
+
+-- each item below a bucket was in the part, or will be there; of a device, or of no item, nothing is said
+abbrev pub HasPartBelow : List Row → List Row → Option (List ℕ) → List Row → Option ItemId → Type 0
+HasPartBelow old new under t None = Unit {0}
+HasPartBelow old new under t (Some (Device d)) = Unit {0}
+HasPartBelow old new under t (Some (Bucket b)) = (i : ItemId) → is_below t b i ≡ true → is_item_in_part old new under t i ≡ true
+
+-- WEIGHS PART: an edit that sets all weights below a bucket sets only weights of items that were in the part, or will be there
+abbrev pub WeighsPart : List Row → List Row → Option (List ℕ) → List Row → Edit → Type 0
+WeighsPart old new under t (Insert d n w l) = Unit {0}
+WeighsPart old new under t (CreateOrMove d n w l) = Unit {0}
+WeighsPart old new under t (Update d n w l) = Unit {0}
+WeighsPart old new under t (Move n l) = Unit {0}
+WeighsPart old new under t (Swap a b) = Unit {0}
+WeighsPart old new under t (Reweight n w) = Unit {0}
+WeighsPart old new under t (ReweightSubtree n w) = HasPartBelow old new under t (id_named t n)
+WeighsPart old new under t (Remove n) = Unit {0}
+WeighsPart old new under t (AddBucket n kind) = Unit {0}
+WeighsPart old new under t (Rename from to) = Unit {0}
+WeighsPart old new under t (SetClass n c) = Unit {0}
+WeighsPart old new under t (RemoveClass n) = Unit {0}
+
 -- the location of an edit
 abbrev pub location_of : Edit → List Pair
 location_of (Insert d n w l) = l
@@ -65,8 +92,10 @@ location_of (RemoveClass n) = []
 abbrev pub are_there : List Row → List Pair → Bool
 are_there t l = list_all (λ (p : Pair). is_some (id_named t p.name)) l
 
--- ALLOWED: a command can say the edit, the edit creates no bucket by its location, and it changes only items of the part
+-- ALLOWED: a command can say the edit, the edit creates no bucket by its location, and it changes only items of the part, also
+-- where it sets all weights below a bucket
 pub record IsAllowed (old new : List Row) (under : Option (List ℕ)) (t : List Row) (e : Edit) : Type 0 where
   pub said : IsSaid e
   pub there : are_there t (location_of e) ≡ true
   pub concerned : concerns old new under t e ≡ true
+  pub below : WeighsPart old new under t e

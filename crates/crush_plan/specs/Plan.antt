@@ -4,12 +4,12 @@ use Rattle.std.specs.List.{count_by}
 use Rattle.crush_model.specs.Table.{Row}
 use Rattle.crush_edits.specs.declared.edit.Edit.{Edit}
 use Rattle.crush_since.specs.Since.{PlainMap, plain_map}
-use Rattle.crush_names.specs.declared.aside.Counts.{Counts}
+use Rattle.crush_since.specs.declared.names.aside.Counts.{Counts}
 use Rattle.crush_plan.specs.declared.plan.Plan.{Plan}
-use Rattle.crush_names.specs.Aside.{CountsAsideOf}
+use Rattle.crush_since.specs.Aside.{CountsAsideOf}
 use Rattle.crush_plan.specs.Leads.{Leads}
 use Rattle.crush_plan.specs.Part.{IsAllowed}
-use Rattle.crush_names.specs.Stays.{stays_part}
+use Rattle.crush_since.specs.Stays.{stays_part}
 
 -- the edits, the lines of the differences that remain after them, and the counts of ids that differ
 pub record PlanData : Type 0 where

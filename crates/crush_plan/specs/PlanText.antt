@@ -3,7 +3,7 @@ use Rattle.std.specs.Prelude.{ℕ, ◌==◌, Bool, true, List, [], ◌∷◌, �
 use Rattle.crush_edits.specs.declared.edit.Edit.{Edit}
 use Rattle.crush_history.specs.HistoryText.{edit_text}
 use Rattle.crush_history.specs.Ceph.{ceph_heading, ceph_line}
-use Rattle.crush_names.specs.Aside.{aside_text}
+use Rattle.crush_since.specs.Aside.{aside_text}
 use Rattle.crush_plan.specs.Plan.{PlanData, line_count}
 use Rattle.crush_plan.specs.declared.text.PlanWords.{PlanWords}
 use Rattle.crush_plan.specs.declared.text.PlanWords.TheVariants.{Script, Ceph}

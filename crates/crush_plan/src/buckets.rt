@@ -21,6 +21,7 @@ pub(crate) fn make_buckets<A: Allocator + Clone, B: Allocator>(
     make_each(draft, goal, ordered.as_slice())
 }
 
+/// Returns the buckets in the order of their ids, from -1 downward.
 fn by_id(alloc: Global, buckets: &[BucketId]) -> Result<Vec<BucketId>, AllocError> {
     let mut ordered = Vec::new(alloc);
     ordered.extend_from_slice(buckets)?;
@@ -41,7 +42,8 @@ fn make_each<A: Allocator + Clone, B: Allocator>(
     Ok(())
 }
 
-/// Gives the bucket the type of the same name, whose number may differ in the two maps.
+/// Creates a bucket with the name and the type that the bucket has in the wanted map. The types are
+/// matched by their names, because the two maps may number their types differently.
 fn make_bucket<A: Allocator + Clone, B: Allocator>(
     draft: &mut Draft<A>,
     goal: &PlanGoal<'_, A, B>,

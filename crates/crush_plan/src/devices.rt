@@ -11,6 +11,7 @@ use crush_tree::View;
 use crush_units::ItemId;
 use std::alloc::{AllocError, Allocator};
 
+/// Adds each of these devices if the map doesn't have it, and sets its class if the class differs.
 pub(crate) fn set_devices<A: Allocator + Clone, B: Allocator>(
     draft: &mut Draft<A>,
     goal: &PlanGoal<'_, A, B>,
@@ -38,7 +39,8 @@ fn set_device<A: Allocator + Clone, B: Allocator>(
     set_class(draft, goal, device, &there)
 }
 
-/// Adds the device below the bucket that holds it in the wanted map, unless its name is in use.
+/// Adds the device to the bucket of the same name as in the wanted map, unless an item has the
+/// device's name already.
 fn put_device<A: Allocator + Clone, B: Allocator>(
     draft: &mut Draft<A>,
     goal: &PlanGoal<'_, A, B>,
@@ -64,6 +66,7 @@ fn put_device<A: Allocator + Clone, B: Allocator>(
     }
 }
 
+/// Returns the name of the bucket that holds the device in the wanted map.
 fn place_name<'a, A: Allocator, B: Allocator>(
     goal: &'a PlanGoal<'_, A, B>,
     there: &View<'_>,
@@ -71,6 +74,7 @@ fn place_name<'a, A: Allocator, B: Allocator>(
     goal.there.name_of(ItemId::Bucket(there.parent?))
 }
 
+/// Sets the class that the device has in the wanted map.
 fn set_class<A: Allocator + Clone, B: Allocator>(
     draft: &mut Draft<A>,
     goal: &PlanGoal<'_, A, B>,
@@ -89,7 +93,7 @@ fn set_class<A: Allocator + Clone, B: Allocator>(
     }
 }
 
-/// Removes the old class, because a device that has a class can't get another one.
+/// Removes the old class. A device that has a class can't get another class.
 fn remove_class<A: Allocator + Clone, B: Allocator>(
     draft: &mut Draft<A>,
     goal: &PlanGoal<'_, A, B>,

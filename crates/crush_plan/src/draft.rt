@@ -1,10 +1,13 @@
-//! A map on its way to another map, with the edits that have been made so far.
+//! An unfinished plan: a map on its way to another map, with the edits that have been applied so
+//! far.
 
 ghost use Rattle.std.specs.Prelude.{◌≡◌, ◌++◌, ◌∷◌, [], List, OnOk, IfOk, if◌then◌else◌, true};
 ghost use Rattle.crush_model.specs.Stands.{Stands};
 ghost use Rattle.crush_model.specs.Table.{Row};
 ghost use Rattle.crush_plan.specs.Draft.{Allows, GoesOn, IsFork};
-ghost use Rattle.crush_plan.specs.Part.{are_there, location_of};
+ghost use Rattle.crush_history.specs.Said.{IsSaid};
+ghost use Rattle.crush_plan.specs.Part.{are_there, concerns, location_of};
+ghost use Rattle.std.specs.Option.{option_map};
 
 use crate::expressible::is_expressible;
 use crate::goal::PlanGoal;
@@ -17,11 +20,12 @@ pub(crate) struct Draft<A: Allocator> {
     pub alloc: Global,
     /// The map after the edits.
     pub map: CrushMap<A>,
-    /// Each of these edits was allowed and done, and changed the map.
+    /// Each of these edits was allowed and not refused, and changed the map.
     pub edits: Vec<Edit>,
 }
 
-/// Copies the name of an item, so the only possible fault is that memory runs out.
+/// Copies the name of an item. The only possible error is that memory runs out, because the name
+/// is valid.
 pub(crate) fn copy_name(alloc: Global, name: &[u8]) -> Result<Name<Global>, AllocError> {
     match Name::read(alloc, name) {
         Ok(name) => Ok(name),
@@ -41,7 +45,7 @@ impl<A: Allocator + Clone> Draft<A> {
         })
     }
 
-    /// Takes over the map of a draft that was forked off, and appends its edits.
+    /// Takes the map of a draft that was made by `fork`, and appends that draft's edits.
     pub(crate) fn adopt(&mut self, fork: Draft<A>) -> Result<(), AllocError>
         ensures map { OnOk result (self.new.map ≡ fork.map) }
         ensures edits { OnOk result (self.new.edits.items
@@ -53,7 +57,7 @@ impl<A: Allocator + Clone> Draft<A> {
         Ok(())
     }
 
-    /// Applies the edit if it is allowed, and adds it to the edits if it is done and changes the
+    /// Applies the edit if it is allowed. Adds it to the edits if it is not refused and changes the
     /// map.
     pub(crate) fn give<B: Allocator>(
         &mut self,
@@ -62,36 +66,44 @@ impl<A: Allocator + Clone> Draft<A> {
     ) -> Result<(), AllocError>
         ensures { OnOk result (GoesOn goal.now self.old self.new) }
     {
-        let is_below = goal.sets_below(self.alloc, &self.map, &edit)?;
-        if is_below {
-            self.give_allowed(goal, edit)
-        } else {
-            Ok(())
-        }
-    }
-
-    fn give_allowed<B: Allocator>(
-        &mut self,
-        goal: &PlanGoal<'_, A, B>,
-        edit: Edit,
-    ) -> Result<(), AllocError>
-        ensures { OnOk result (GoesOn goal.now self.old self.new) }
-    {
-        if self.allows(goal, &edit) {
+        let is_allowed = self.allows(goal, &edit)?;
+        if is_allowed {
             self.make(goal, edit)
         } else {
             Ok(())
         }
     }
 
-    /// Whether the plan may have the edit.
-    fn allows<B: Allocator>(&self, goal: &PlanGoal<'_, A, B>, edit: &Edit) -> bool
-        ensures { result ≡ true → (v : List Row) → Stands self.now.map.forest v
-            → Allows goal.now v edit.now }
+    /// Whether the plan may have the edit. An `Err` says that memory ran out.
+    fn allows<B: Allocator>(
+        &self,
+        goal: &PlanGoal<'_, A, B>,
+        edit: &Edit,
+    ) -> Result<bool, AllocError>
+        ensures { IfOk result (λ is_allowed. is_allowed ≡ true → (v : List Row)
+            → Stands self.now.map.forest v → Allows goal.now v edit.now) }
+    {
+        if self.fits(goal, edit) {
+            goal.weighs_part(self.alloc, &self.map, edit)
+        } else {
+            Ok(false)
+        }
+    }
+
+    /// Whether the plan may have the edit, if it only sets weights of items in the part.
+    fn fits<B: Allocator>(&self, goal: &PlanGoal<'_, A, B>, edit: &Edit) -> bool
+        ensures said { result ≡ true → IsSaid edit.now }
+        ensures there { result ≡ true → (v : List Row) → Stands self.now.map.forest v
+            → are_there v (location_of edit.now) ≡ true }
+        ensures concerned { result ≡ true → (t u v : List Row)
+            → Stands goal.now.before.now.forest t → Stands goal.now.wanted.now.forest u
+            → Stands self.now.map.forest v
+            → concerns t u (option_map (λ n. n.now) goal.now.under) v edit.now ≡ true }
     {
         is_expressible(edit) && is_located(&self.map, edit) && goal.concerns(&self.map, edit)
     }
 
+    /// Applies the edit. Adds it to the edits if it is not refused and changes the map.
     fn make<B: Allocator>(
         &mut self,
         goal: &PlanGoal<'_, A, B>,
@@ -107,6 +119,7 @@ impl<A: Allocator + Clone> Draft<A> {
         }
     }
 
+    /// Adds the edit to the edits if it has changed the map.
     fn keep(&mut self, edit: Edit, changed: bool) -> Result<(), AllocError>
         ensures map { self.new.map ≡ self.old.map }
         ensures edits { OnOk result (self.new.edits.items
@@ -118,12 +131,12 @@ impl<A: Allocator + Clone> Draft<A> {
         Ok(())
     }
 
-    /// Whether the map has the item of this id under this name.
+    /// Whether the map has an item of this id with this name.
     pub(crate) fn has_item(&self, id: ItemId, name: &str) -> bool {
         self.map.locate(name) == Some(id)
     }
 
-    /// Returns a location that consists of this bucket only.
+    /// Returns the location that consists only of this bucket, which has this name.
     fn place(&self, bucket: BucketId, name: &str) -> Result<Location, AllocError> {
         let mut at = Location::new(self.alloc);
         let Some(kind) = self.map.kind_of(ItemId::Bucket(bucket)) else {
@@ -138,6 +151,7 @@ impl<A: Allocator + Clone> Draft<A> {
         }
     }
 
+    /// Gives the draft an edit that removes the item of this name.
     pub(crate) fn remove<B: Allocator>(
         &mut self,
         goal: &PlanGoal<'_, A, B>,
@@ -149,6 +163,7 @@ impl<A: Allocator + Clone> Draft<A> {
         self.give(goal, Edit::Remove { name })
     }
 
+    /// Gives the draft an edit that swaps the two buckets of these names.
     pub(crate) fn swap<B: Allocator>(
         &mut self,
         goal: &PlanGoal<'_, A, B>,
@@ -162,6 +177,7 @@ impl<A: Allocator + Clone> Draft<A> {
         self.give(goal, Edit::Swap { a, b })
     }
 
+    /// Gives the draft an edit that gives the bucket of the name `from` the name `to`.
     pub(crate) fn rename_bucket<B: Allocator>(
         &mut self,
         goal: &PlanGoal<'_, A, B>,
@@ -175,6 +191,7 @@ impl<A: Allocator + Clone> Draft<A> {
         self.give(goal, Edit::Rename { from, to })
     }
 
+    /// Gives the draft an edit that creates an empty bucket of this name and this type.
     pub(crate) fn add_bucket<B: Allocator>(
         &mut self,
         goal: &PlanGoal<'_, A, B>,
@@ -188,7 +205,8 @@ impl<A: Allocator + Clone> Draft<A> {
         self.give(goal, Edit::AddBucket { name, kind })
     }
 
-    /// Moves the item of this name below the bucket, which has the second name.
+    /// Gives the draft an edit that moves the item of the first name into the bucket, which has the
+    /// second name.
     pub(crate) fn relocate<B: Allocator>(
         &mut self,
         goal: &PlanGoal<'_, A, B>,
@@ -203,6 +221,7 @@ impl<A: Allocator + Clone> Draft<A> {
         self.give(goal, Edit::Move { name, at })
     }
 
+    /// Gives the draft an edit that sets the weight of the device of this name.
     pub(crate) fn reweight<B: Allocator>(
         &mut self,
         goal: &PlanGoal<'_, A, B>,
@@ -215,6 +234,7 @@ impl<A: Allocator + Clone> Draft<A> {
         self.give(goal, Edit::Reweight { name, weight })
     }
 
+    /// Gives the draft an edit that sets the weights of all devices below the bucket.
     pub(crate) fn reweight_below<B: Allocator>(
         &mut self,
         goal: &PlanGoal<'_, A, B>,
@@ -230,7 +250,7 @@ impl<A: Allocator + Clone> Draft<A> {
         self.give(goal, Edit::ReweightSubtree { name, weight })
     }
 
-    /// Adds a device below the bucket, which has the second name.
+    /// Gives the draft an edit that adds the device to the bucket, which has this name.
     pub(crate) fn insert<B: Allocator>(
         &mut self,
         goal: &PlanGoal<'_, A, B>,
@@ -251,6 +271,7 @@ impl<A: Allocator + Clone> Draft<A> {
         self.give(goal, edit)
     }
 
+    /// Gives the draft an edit that removes the class of the device of this name.
     pub(crate) fn remove_class<B: Allocator>(
         &mut self,
         goal: &PlanGoal<'_, A, B>,
@@ -262,6 +283,7 @@ impl<A: Allocator + Clone> Draft<A> {
         self.give(goal, Edit::RemoveClass { name })
     }
 
+    /// Gives the draft an edit that sets the class of the device of this name.
     pub(crate) fn set_class<B: Allocator>(
         &mut self,
         goal: &PlanGoal<'_, A, B>,
@@ -276,7 +298,7 @@ impl<A: Allocator + Clone> Draft<A> {
     }
 }
 
-/// A device that an edit adds to the map.
+/// A device that an edit adds to the map, with its weight there.
 #[derive(Drop)]
 pub(crate) struct NewDevice<'a> {
     pub id: DeviceId,
@@ -284,7 +306,7 @@ pub(crate) struct NewDevice<'a> {
     pub weight: Weight,
 }
 
-/// Whether the edit creates no bucket by its location.
+/// Whether the map has each bucket of the edit's location, so that the edit creates none of them.
 fn is_located<A: Allocator>(map: &CrushMap<A>, edit: &Edit) -> bool
     ensures { result ≡ true → (v : List Row) → Stands map.now.forest v
         → are_there v (location_of edit.now) ≡ true }
@@ -305,7 +327,7 @@ fn is_located<A: Allocator>(map: &CrushMap<A>, edit: &Edit) -> bool
     }
 }
 
-/// Whether the location is one bucket that the map has.
+/// Whether the location consists of one bucket, which the map has.
 fn is_there<A: Allocator>(map: &CrushMap<A>, at: &Location) -> bool
     ensures { result ≡ true → (v : List Row) → Stands map.now.forest v
         → are_there v at.now ≡ true }

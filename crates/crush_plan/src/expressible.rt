@@ -10,8 +10,8 @@ use crush_history::device_named;
 use crush_units::{DeviceId, Name, Weight};
 use std::alloc::Global;
 
-/// Whether a line of a script can express the edit: a device that it places has to be named `osd.`
-/// followed by the id of the device.
+/// Whether a line of a script can express the edit. An edit that places a device can be expressed
+/// only if the name of the device is `osd.` followed by the id of the device.
 pub(crate) fn is_expressible(edit: &Edit) -> bool
     ensures { result ≡ true → IsSaid edit.now }
 {
@@ -74,6 +74,7 @@ pub(crate) fn is_expressible(edit: &Edit) -> bool
     }
 }
 
+/// Whether a line of a script can express an edit that places this device.
 fn is_expressible_placing(
     device: DeviceId,
     name: &Name<Global>,
@@ -90,12 +91,14 @@ fn is_expressible_placing(
     }
 }
 
+/// Tells the prover that the name is valid.
 fn recall_name(name: &Name<Global>)
     ensures { IsName name.now }
 {
     let _bytes = name.as_bytes();
 }
 
+/// Tells the prover that both names are valid.
 fn recall_names(first: &Name<Global>, second: &Name<Global>)
     ensures first { IsName first.now }
     ensures second { IsName second.now }
@@ -104,6 +107,7 @@ fn recall_names(first: &Name<Global>, second: &Name<Global>)
     let _second = second.as_bytes();
 }
 
+/// Tells the prover that the name is valid, and that the weight has 32 bits.
 fn recall_weighed(name: &Name<Global>, weight: Weight)
     ensures name { IsName name.now }
     ensures weight { weight < 2 ^ 32 }

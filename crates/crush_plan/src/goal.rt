@@ -1,17 +1,19 @@
-//! What a plan is to lead to, and which edits it may have.
+//! The goal of a plan: the wanted map, and which edits the plan may have.
 
-ghost use Rattle.std.specs.Prelude.{◌≡◌, List, Some};
+ghost use Rattle.std.specs.Prelude.{◌≡◌, List, IfOk, Some, false, true};
 ghost use Rattle.std.specs.List.{list_all};
-ghost use Rattle.std.specs.Option.{option_map};
+ghost use Rattle.std.specs.Option.{option_map, option_map_or};
 ghost use Rattle.crush_model.specs.Stands.{Stands};
-ghost use Rattle.crush_model.specs.Table.{Row};
-ghost use Rattle.crush_names.specs.Named.{is_in};
-ghost use Rattle.crush_plan.specs.Part.{called, concerns, is_called_in, was_in_part, will_be_in_part};
+ghost use Rattle.crush_model.specs.Table.{Row, id_named, name_of};
+ghost use Rattle.crush_compare.specs.Named.{is_in};
+ghost use Rattle.crush_plan.specs.Draft.{MayWeigh, MayWeighBelow};
+ghost use Rattle.crush_plan.specs.Part.{called, concerns, is_called_in, is_item_in_part, was_in_part, will_be_in_part};
+ghost use Rattle.crush_units.specs.declared.id.ItemId.TheVariants.{Bucket};
 
 use crate::identity::Identity;
-use crate::item_table::{ItemTable, bucket_named};
+use crate::item_table::ItemTable;
+use crush_compare::is_in;
 use crush_map::{CrushMap, Edit};
-use crush_names::is_in;
 use crush_since::all_below;
 use crush_units::{BucketId, ItemId, Name};
 use std::alloc::{AllocError, Allocator, Global};
@@ -20,7 +22,8 @@ use std::alloc::{AllocError, Allocator, Global};
 #[derive(Drop)]
 pub(crate) struct PlanGoal<'a, A: Allocator, B: Allocator> {
     pub identity: Identity,
-    /// The name of an item. If it is given, the plan changes only this item and what is below it.
+    /// The name of an item, or `None`. If there is a name, the plan changes only the item of this
+    /// name, and the items below it.
     pub under: Option<&'a str>,
     /// The map before all edits of the plan.
     pub before: &'a CrushMap<A>,
@@ -49,12 +52,12 @@ impl<A: Allocator, B: Allocator> PlanGoal<'_, A, B> {
         }
     }
 
-    /// Whether the plan may give the item of this id this name, or change it if it has the name.
+    /// Whether the plan may change the item of this id, which has this name after the change.
     pub(crate) fn is_in_part(&self, id: ItemId, name: &str) -> bool {
         self.under.is_none() || self.was_in_part(id) || self.will_be_in_part(name)
     }
 
-    /// Whether the edit changes only items of the part, and creates none elsewhere.
+    /// Whether each item that the edit names was in the part, or will be there.
     pub(crate) fn concerns(&self, map: &CrushMap<A>, edit: &Edit) -> bool
         ensures { (t u v : List Row) → Stands self.now.before.now.forest t
             → Stands self.now.wanted.now.forest u → Stands map.now.forest v
@@ -107,45 +110,98 @@ impl<A: Allocator, B: Allocator> PlanGoal<'_, A, B> {
         self.was_called_in(map, before) || self.will_be_in_part(behind.as_str())
     }
 
-    /// Whether the edit sets only weights of devices in the part.
-    pub(crate) fn sets_below(
+    /// Whether the edit sets only weights of items that were in the part, or will be there. Only
+    /// one kind of edit sets all weights below a bucket. An `Err` says that memory ran out.
+    pub(crate) fn weighs_part(
         &self,
         alloc: Global,
         map: &CrushMap<A>,
         edit: &Edit,
-    ) -> Result<bool, AllocError> {
-        if self.under.is_none() {
-            return Ok(true);
-        }
+    ) -> Result<bool, AllocError>
+        ensures { IfOk result (λ is_allowed. is_allowed ≡ true → (v : List Row)
+            → Stands map.now.forest v → MayWeigh self.now v edit.now) }
+    {
         match edit {
-            Edit::ReweightSubtree { name, .. } => self.has_all_below(alloc, map, name),
-            _ => Ok(true),
+            Edit::Insert { .. } => Ok(true),
+            Edit::CreateOrMove { .. } => Ok(true),
+            Edit::Update { .. } => Ok(true),
+            Edit::Move { .. } => Ok(true),
+            Edit::Swap { .. } => Ok(true),
+            Edit::Reweight { .. } => Ok(true),
+            Edit::ReweightSubtree { name, .. } => self.has_part_below(alloc, map, name),
+            Edit::Remove { .. } => Ok(true),
+            Edit::AddBucket { .. } => Ok(true),
+            Edit::Rename { .. } => Ok(true),
+            Edit::SetClass { .. } => Ok(true),
+            Edit::RemoveClass { .. } => Ok(true),
         }
     }
 
-    fn has_all_below(
+    fn has_part_below(
         &self,
         alloc: Global,
         map: &CrushMap<A>,
         name: &Name<Global>,
-    ) -> Result<bool, AllocError> {
-        match bucket_named(map, name.as_str()) {
-            Some(bucket) => self.has_all_in(alloc, map, bucket),
+    ) -> Result<bool, AllocError>
+        ensures { IfOk result (λ is_allowed. is_allowed ≡ true → (v : List Row)
+            → Stands map.now.forest v → MayWeighBelow self.now v (id_named v name.now)) }
+    {
+        match map.locate(name.as_str()) {
+            Some(id) => self.has_part_below_item(alloc, map, id),
             None => Ok(true),
         }
     }
 
-    fn has_all_in(
+    fn has_part_below_item(
+        &self,
+        alloc: Global,
+        map: &CrushMap<A>,
+        id: ItemId,
+    ) -> Result<bool, AllocError>
+        ensures { IfOk result (λ is_allowed. is_allowed ≡ true → (v : List Row)
+            → Stands map.now.forest v → MayWeighBelow self.now v (Some id)) }
+    {
+        match id {
+            ItemId::Device(_) => Ok(true),
+            ItemId::Bucket(bucket) => self.has_part_below_bucket(alloc, map, bucket),
+        }
+    }
+
+    fn has_part_below_bucket(
         &self,
         alloc: Global,
         map: &CrushMap<A>,
         bucket: BucketId,
-    ) -> Result<bool, AllocError> {
+    ) -> Result<bool, AllocError>
+        ensures { IfOk result (λ is_allowed. is_allowed ≡ true → (v : List Row)
+            → Stands map.now.forest v → MayWeighBelow self.now v (Some (Bucket bucket))) }
+    {
+        match self.under {
+            Some(_) => self.has_listed_below(alloc, map, bucket),
+            None => Ok(true),
+        }
+    }
+
+    /// Lists the items below the bucket.
+    fn has_listed_below(
+        &self,
+        alloc: Global,
+        map: &CrushMap<A>,
+        bucket: BucketId,
+    ) -> Result<bool, AllocError>
+        ensures { IfOk result (λ is_allowed. is_allowed ≡ true → (v : List Row)
+            → Stands map.now.forest v → MayWeighBelow self.now v (Some (Bucket bucket))) }
+    {
         let below = all_below(alloc, map, bucket)?;
         Ok(self.are_in_part(map, below.as_slice()))
     }
 
-    fn are_in_part(&self, map: &CrushMap<A>, ids: &[ItemId]) -> bool {
+    fn are_in_part(&self, map: &CrushMap<A>, ids: &[ItemId]) -> bool
+        ensures { (t u v : List Row) → Stands self.now.before.now.forest t
+            → Stands self.now.wanted.now.forest u → Stands map.now.forest v
+            → result ≡ list_all
+            (is_item_in_part t u (option_map (λ n. n.now) self.now.under) v) ids.now }
+    {
         for id in ids {
             if !self.is_item_in_part(map, id) {
                 return false;
@@ -154,11 +210,20 @@ impl<A: Allocator, B: Allocator> PlanGoal<'_, A, B> {
         true
     }
 
-    fn is_item_in_part(&self, map: &CrushMap<A>, id: &ItemId) -> bool {
+    fn is_item_in_part(&self, map: &CrushMap<A>, id: &ItemId) -> bool
+        ensures { (t u v : List Row) → Stands self.now.before.now.forest t
+            → Stands self.now.wanted.now.forest u → Stands map.now.forest v
+            → result ≡ is_item_in_part t u (option_map (λ n. n.now) self.now.under) v id.now }
+    {
         self.was_in_part(*id) || self.is_named_in_part(map, *id)
     }
 
-    fn is_named_in_part(&self, map: &CrushMap<A>, id: ItemId) -> bool {
+    fn is_named_in_part(&self, map: &CrushMap<A>, id: ItemId) -> bool
+        ensures { (u v : List Row) → Stands self.now.wanted.now.forest u
+            → Stands map.now.forest v → result
+            ≡ option_map_or (will_be_in_part u (option_map (λ n. n.now) self.now.under))
+            (name_of v id) false }
+    {
         match map.name_of(id) {
             Some(name) => self.will_be_in_part(name),
             None => false,

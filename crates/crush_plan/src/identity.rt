@@ -1,4 +1,5 @@
-//! Which bucket of the one map is which bucket of the other.
+//! Matches the buckets of two maps: finds out which bucket of the map becomes which bucket of the
+//! wanted map.
 
 use crate::item_table::ItemTable;
 use crush_edits::Setting;
@@ -6,31 +7,32 @@ use crush_tree::View;
 use crush_units::{BucketId, ItemId, TypeId};
 use std::alloc::{AllocError, Allocator, Global};
 
-/// How a bucket of one map is matched with a bucket of the other map.
+/// How a plan matches the buckets of the map with the buckets of the wanted map.
 #[derive(Clone, Copy, Debug, PartialEq, Eq)]
 pub enum Identity {
-    /// For two maps of one cluster: by ids if the names or the types agree, and otherwise by names.
-    /// The plan may also match all buckets by names, if that plan is better.
+    /// For two maps of one cluster: two buckets of the same id are matched if their names or their
+    /// types agree. Any other bucket is matched by its name. If fewer differences remain when all
+    /// buckets are matched by their names, the plan does that instead.
     Ids,
-    /// For maps of two clusters: by names only.
+    /// For maps of two clusters: two buckets are matched if they have the same name.
     Names,
 }
 
-/// The same bucket in both maps.
+/// A bucket of the map, and the bucket of the wanted map that it becomes.
 #[derive(Clone, Copy)]
 pub(crate) struct BucketPair {
     pub current: BucketId,
     pub target: BucketId,
 }
 
-/// All buckets that both maps have.
+/// All pairs of matched buckets.
 #[derive(Drop)]
 pub(crate) struct BucketPairs {
-    /// By ascending distance of the current ids from 0.
+    /// In the order of the current ids, from -1 downward.
     by_current: Vec<BucketPair>,
-    /// By ascending distance of the target ids from 0.
+    /// In the order of the target ids, from -1 downward.
     by_target: Vec<BucketPair>,
-    /// The pairs with two different names, in the order of the map's tree.
+    /// The pairs of buckets with different names, in the order of the map's tree.
     pub renamed: Vec<BucketPair>,
 }
 
@@ -46,7 +48,7 @@ fn have_same_name(current: &View<'_>, target: &View<'_>) -> bool {
     current.name.as_bytes() == target.name.as_bytes()
 }
 
-/// Whether both maps have a bucket of this id, and the names or the types of the two agree.
+/// Whether both maps have a bucket of this id, and the names or the types of the two buckets agree.
 fn is_same_by_id<A: Allocator, B: Allocator>(
     map: &ItemTable<'_, A>,
     wanted: &ItemTable<'_, B>,
@@ -64,10 +66,11 @@ fn is_same_by_id<A: Allocator, B: Allocator>(
     }
 }
 
-/// Returns the bucket of the wanted map that a bucket of the map is.
+/// Returns the bucket of the wanted map that a bucket of the map becomes, or `None` if the wanted
+/// map doesn't have the bucket.
 ///
-/// A bucket that both maps have by name is never taken for a new one, even if its type differs:
-/// then it would have to be removed and created again.
+/// Two buckets of the same name are matched even if their types differ. Otherwise the plan would
+/// have to remove the bucket and create it again.
 fn target_of<A: Allocator, B: Allocator>(
     identity: Identity,
     map: &ItemTable<'_, A>,
@@ -84,6 +87,7 @@ fn target_of<A: Allocator, B: Allocator>(
     }
 }
 
+/// Returns this bucket of the wanted map, unless it is matched with the bucket of its own id.
 fn unless_same_by_id<A: Allocator, B: Allocator>(
     map: &ItemTable<'_, A>,
     wanted: &ItemTable<'_, B>,
@@ -97,6 +101,7 @@ fn unless_same_by_id<A: Allocator, B: Allocator>(
 }
 
 impl BucketPairs {
+    /// Matches the buckets of two maps. It takes logarithmic time for each bucket of the map.
     pub(crate) fn new<A: Allocator, B: Allocator>(
         alloc: Global,
         identity: Identity,
@@ -120,6 +125,7 @@ impl BucketPairs {
         Ok(pairs)
     }
 
+    /// Appends the pair of this item, if the item is a bucket that the wanted map has too.
     fn push<A: Allocator, B: Allocator>(
         &mut self,
         identity: Identity,
@@ -144,7 +150,7 @@ impl BucketPairs {
         Ok(())
     }
 
-    /// Returns the bucket of the wanted map that this bucket of the map is.
+    /// Returns the bucket of the wanted map that this bucket of the map becomes.
     pub(crate) fn target_of(&self, bucket: BucketId) -> Option<BucketId> {
         let pairs = self.by_current.as_slice();
         match pairs.binary_search_by_key(&bucket.distance(), |pair| pair.current.distance()) {
@@ -153,7 +159,7 @@ impl BucketPairs {
         }
     }
 
-    /// Returns the bucket of the map that this bucket of the wanted map is.
+    /// Returns the bucket of the map that becomes this bucket of the wanted map.
     pub(crate) fn current_of(&self, bucket: BucketId) -> Option<BucketId> {
         let pairs = self.by_target.as_slice();
         match pairs.binary_search_by_key(&bucket.distance(), |pair| pair.target.distance()) {

@@ -1,4 +1,4 @@
-//! The items of a map, each found by its id without a climb through the tree.
+//! A table in which an item of a map is found by its id.
 
 use crush_map::{CrushMap, Setting};
 use crush_print::{WalkStep, walk};
@@ -6,7 +6,7 @@ use crush_tree::View;
 use crush_units::{BucketId, ItemId};
 use std::alloc::{AllocError, Allocator, Global};
 
-/// Where an item is in the list of all items.
+/// The position of an item in the list of all items.
 #[derive(Clone, Copy)]
 struct Key {
     key: u64,
@@ -15,14 +15,15 @@ struct Key {
 
 /// The items of a map that doesn't change while the table is used.
 ///
-/// The table is made by one walk through the map. A look-up of an id in the map itself climbs
-/// through all buckets above the item.
+/// One walk through the map makes the table. A search in the table takes logarithmic time. A search
+/// for an id in the map itself goes through all buckets above the item, which takes long if buckets
+/// are nested deeply.
 #[derive(Drop)]
 pub(crate) struct ItemTable<'a, A: Allocator> {
     map: &'a CrushMap<A>,
     /// In the order of the map's tree: a bucket comes before the items below it.
     pub steps: Vec<WalkStep<'a, A>>,
-    /// In ascending order.
+    /// By ascending keys.
     keys: Vec<Key>,
 }
 
@@ -34,6 +35,7 @@ fn key_of(id: ItemId) -> u64 {
     }
 }
 
+/// Appends the key and the position of each item.
 fn push_keys<A: Allocator>(
     steps: &[WalkStep<'_, A>],
     keys: &mut Vec<Key>,
@@ -48,6 +50,7 @@ fn push_keys<A: Allocator>(
 }
 
 impl<'a, A: Allocator> ItemTable<'a, A> {
+    /// Returns the table of a map. It visits each item of the map once, and sorts the keys.
     pub(crate) fn new(alloc: Global, map: &'a CrushMap<A>) -> Result<ItemTable<'a, A>, AllocError> {
         let steps = walk(alloc, map)?;
         let mut keys = Vec::new(alloc);
@@ -56,6 +59,7 @@ impl<'a, A: Allocator> ItemTable<'a, A> {
         Ok(ItemTable { map, steps, keys })
     }
 
+    /// Returns the item of this id.
     pub(crate) fn view(&self, id: ItemId) -> Option<View<'_>> {
         let keys = self.keys.as_slice();
         let key = key_of(id);
@@ -68,6 +72,7 @@ impl<'a, A: Allocator> ItemTable<'a, A> {
         }
     }
 
+    /// Returns the name of the item of this id.
     pub(crate) fn name_of(&self, id: ItemId) -> Option<&str> {
         match self.view(id) {
             Some(view) => Some(view.name),
@@ -75,7 +80,7 @@ impl<'a, A: Allocator> ItemTable<'a, A> {
         }
     }
 
-    /// Returns the bucket that holds the item.
+    /// Returns the bucket that holds the item of this id.
     pub(crate) fn parent(&self, id: ItemId) -> Option<BucketId> {
         match self.view(id) {
             Some(view) => view.parent,
@@ -83,20 +88,23 @@ impl<'a, A: Allocator> ItemTable<'a, A> {
         }
     }
 
+    /// Returns the id of the item of this name.
     pub(crate) fn locate(&self, name: &str) -> Option<ItemId> {
         self.map.locate(name)
     }
 
+    /// Returns the bucket of this name.
     pub(crate) fn bucket_named(&self, name: &str) -> Option<BucketId> {
         bucket_named(self.map, name)
     }
 
+    /// Returns the setting of the map.
     pub(crate) fn setting(&self) -> &Setting {
         self.map.setting()
     }
 }
 
-/// Returns the bucket with this name, or `None` if no item or a device has the name.
+/// Returns the bucket of this name, or `None` if no item or a device has the name.
 pub(crate) fn bucket_named<A: Allocator>(map: &CrushMap<A>, name: &str) -> Option<BucketId> {
     bucket_of(map.locate(name)?)
 }

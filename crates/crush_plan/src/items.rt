@@ -1,50 +1,54 @@
-//! The items of two maps for which a plan may need a command.
+//! The items of two maps for which a plan may need an edit.
 
 use crate::identity::BucketPairs;
 use crate::item_table::ItemTable;
-use crush_names::are_near;
+use crate::weights::Which;
+use crush_compare::are_near;
 use crush_tree::View;
 use crush_units::{BucketId, DeviceId, ItemId};
 use std::alloc::{AllocError, Allocator, Global};
 
-/// Items of the map, in the order of its tree: a bucket comes before the items below it.
+/// Items of the map, in the order of the map's tree: a bucket comes before the items below it.
 #[derive(Drop)]
 pub(crate) struct CurrentItems {
     /// The buckets that the wanted map doesn't have.
     pub removed_buckets: Vec<BucketId>,
     /// The devices that the wanted map doesn't have.
     pub removed_devices: Vec<DeviceId>,
-    /// The devices of both maps, unless both maps place them with the same weight.
+    /// The devices that both maps have, except those that both maps place with the same weight.
     pub reweighed: Vec<DeviceId>,
+    /// Those of `reweighed` whose weight is to become less.
+    pub lowered: Vec<DeviceId>,
 }
 
-/// Items of the wanted map, in the order of its tree.
+/// Items of the wanted map, in the order of the wanted map's tree.
 #[derive(Drop)]
 pub(crate) struct TargetItems {
-    /// All buckets. A bucket that has its place already is listed too, because a command for
-    /// another bucket may move it away.
+    /// All buckets. A bucket that already has its place is listed too, because an edit of another
+    /// bucket may move it away.
     pub buckets: Vec<BucketId>,
     /// The buckets that the map doesn't have.
     pub new_buckets: Vec<BucketId>,
-    /// The devices that a bucket holds.
+    /// The devices that are in a bucket.
     pub placed: Vec<Placed>,
-    /// The devices that the map doesn't have, or that have another class there.
+    /// The devices that the map doesn't have, and the devices that have another class in the map.
     pub set: Vec<SetDevice>,
 }
 
-/// A device with the bucket of the wanted map that holds it.
+/// A device, and the bucket that holds the device in the wanted map.
 #[derive(Clone, Copy)]
 pub(crate) struct Placed {
     pub id: DeviceId,
     pub parent: BucketId,
 }
 
+/// A device that has to be added, or whose class has to be set.
 #[derive(Clone, Copy)]
 pub(crate) struct SetDevice {
     pub id: DeviceId,
     /// Whether the device has a class in the map.
     pub has_class: bool,
-    /// Whether the class differs.
+    /// Whether the device has another class in the wanted map.
     pub differs: bool,
 }
 
@@ -54,6 +58,8 @@ pub(crate) struct Items {
     pub target: TargetItems,
 }
 
+/// Finds the items of both maps for which the plan may need an edit. `pairs` says which buckets of
+/// the two maps are matched.
 pub(crate) fn items_of_both<A: Allocator, B: Allocator>(
     alloc: Global,
     pairs: &BucketPairs,
@@ -75,6 +81,7 @@ fn current_items<A: Allocator, B: Allocator>(
         removed_buckets: Vec::new(alloc),
         removed_devices: Vec::new(alloc),
         reweighed: Vec::new(alloc),
+        lowered: Vec::new(alloc),
     };
     for step in &map.steps {
         items.push(pairs, wanted, &step.view())?;
@@ -111,6 +118,7 @@ pub(crate) fn same_item<'a, A: Allocator>(
     }
 }
 
+/// Whether both maps place the device, with the same weight.
 fn weigh_alike(current: &View<'_>, target: &View<'_>) -> bool {
     current.parent.is_some() && target.parent.is_some() && are_near(current.weight, target.weight)
 }
@@ -127,9 +135,25 @@ impl CurrentItems {
             ItemId::Bucket(bucket) => self.removed_buckets.push(bucket)?,
             ItemId::Device(device) => match same_item(wanted, item) {
                 None => self.removed_devices.push(device)?,
-                Some(target) if weigh_alike(item, &target) => {}
-                Some(_) => self.reweighed.push(device)?,
+                Some(target) => self.push_reweighed(device, item, &target)?,
             },
+        }
+        Ok(())
+    }
+
+    /// Appends the device if its weight is to change. Both maps have the device.
+    fn push_reweighed(
+        &mut self,
+        device: DeviceId,
+        item: &View<'_>,
+        target: &View<'_>,
+    ) -> Result<(), AllocError> {
+        if weigh_alike(item, target) {
+            return Ok(());
+        }
+        self.reweighed.push(device)?;
+        if Which::Less.sets(item.weight, target.weight) {
+            self.lowered.push(device)?;
         }
         Ok(())
     }

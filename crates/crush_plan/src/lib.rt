@@ -1,9 +1,9 @@
 //! Plans: the edits that lead from one map to another map, and the differences that remain because
 //! no edit can remove them.
 //!
-//! [`find_plan`] finds a [`Plan`], and [`plan_text`] prints it. Each edit is made on a copy of the
-//! map, and is kept only if it is done and changes the copy. So what a plan says is true of the two
-//! maps, however the plan was found.
+//! [`find_plan`] finds a [`Plan`], and [`plan_text`] prints it. To find a plan, the program applies
+//! each edit to a copy of the map, and keeps the edit only if it is not refused and changes the
+//! copy. So what a plan says is true of the two maps, however the plan was found.
 #![tactic(auto)]
 
 mod buckets;

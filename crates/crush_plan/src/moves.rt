@@ -10,8 +10,9 @@ use crate::items::{Placed, TargetItems};
 use crush_units::{BucketId, ItemId};
 use std::alloc::{AllocError, Allocator};
 
-/// Moves buckets from the roots downward, and then devices. When an item is moved, all that is above
-/// its destination has its place already, so nothing is moved below itself.
+/// Moves buckets, from the roots of the wanted map downward, and then devices. When an item is
+/// moved, all buckets above its destination already have their places, so nothing is moved below
+/// itself.
 pub(crate) fn move_all<A: Allocator + Clone, B: Allocator>(
     draft: &mut Draft<A>,
     goal: &PlanGoal<'_, A, B>,
@@ -36,7 +37,8 @@ fn move_buckets<A: Allocator + Clone, B: Allocator>(
     Ok(())
 }
 
-/// Moves the bucket that has the name of this bucket of the wanted map.
+/// Moves the bucket that has the name of this bucket of the wanted map, if the two have different
+/// places.
 fn move_bucket<A: Allocator + Clone, B: Allocator>(
     draft: &mut Draft<A>,
     goal: &PlanGoal<'_, A, B>,
@@ -68,6 +70,7 @@ fn move_devices<A: Allocator + Clone, B: Allocator>(
     Ok(())
 }
 
+/// Moves the device if the map has it under the name that it has in the wanted map.
 fn move_device<A: Allocator + Clone, B: Allocator>(
     draft: &mut Draft<A>,
     goal: &PlanGoal<'_, A, B>,
@@ -85,8 +88,8 @@ fn move_device<A: Allocator + Clone, B: Allocator>(
     }
 }
 
-/// Moves the item, which has this name, below the bucket that has the name of `parent`, a bucket of
-/// the wanted map.
+/// Moves the item, which has this name, into the map's bucket that has the same name as `parent`.
+/// `parent` is a bucket of the wanted map. If the item is in that bucket already, nothing happens.
 fn move_below<A: Allocator + Clone, B: Allocator>(
     draft: &mut Draft<A>,
     goal: &PlanGoal<'_, A, B>,

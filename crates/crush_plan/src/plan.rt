@@ -1,12 +1,13 @@
 //! The plan from one map to another.
 
-ghost use Rattle.std.specs.Prelude.{◌≡◌, ◌<◌, [], IfOk, List, true};
+ghost use Rattle.std.specs.Prelude.{◌≡◌, ◌<◌, IfOk, List, true};
 ghost use Rattle.std.specs.Option.{option_map};
 ghost use Rattle.crush_model.specs.Stands.{Stands};
 ghost use Rattle.crush_model.specs.Table.{Row};
 ghost use Rattle.crush_since.specs.Since.{plain_map};
+ghost use Rattle.crush_since.specs.Stays.{stays_part};
 ghost use Rattle.crush_plan.specs.Draft.{IsDraftOf};
-ghost use Rattle.crush_plan.specs.Plan.{GoesTo, IsPlan, TellsRest, line_count, plan_data};
+ghost use Rattle.crush_plan.specs.Plan.{GoesTo, IsPlan, line_count, plan_data};
 
 use crate::draft::Draft;
 use crate::goal::PlanGoal;
@@ -14,30 +15,33 @@ use crate::identity::Identity;
 use crate::item_table::ItemTable;
 use crate::search::improve;
 use crush_map::{CrushMap, Edit};
-use crush_names::{Counts, count_aside, stays_part};
+use crush_since::{Counts, count_aside, stays_part};
 use std::alloc::{AllocError, Allocator, Global};
 
-/// Edits that lead from one map to another, and what still differs after them.
+/// Edits that lead from one map to another map, and what still differs after the edits.
 #[derive(Debug, Drop)]
 pub struct Plan {
-    /// Each edit is done, and changes the map that the edits before it have made.
+    /// The edits, in the order in which they are to be applied. No edit is refused, and each edit
+    /// changes the map that the edits before it have made.
     pub edits: Vec<Edit>,
-    /// A line for each difference by names that remains after the edits.
+    /// A line for each difference that remains after the edits. The items of the two maps are
+    /// matched by their names.
     pub rest: Vec<u8>,
     /// How many buckets of the same name have different ids after the edits. No edit can set an id,
-    /// so ids are no differences.
+    /// so a different id is no difference.
     pub aside: Counts,
 }
 
-/// Finds edits that lead from a map to the wanted map.
+/// Returns a plan that leads from a map to the wanted map.
 ///
-/// With a name, the plan is for a part of the map: the item of this name, and what is below it.
-/// Then the edits change only items that are in the part, or that will be there.
+/// `identity` says how the buckets of the two maps are matched. If `under` is a name, the plan is
+/// only for a part of the map: the item of this name, and all items below it. Then each edit
+/// concerns only items that are in this part of the map, or in this part of the wanted map.
 ///
-/// Each edit can be expressed as a line of a script, is done, and changes the map. Either the plan
-/// has no edits, or fewer differences remain than without its edits.
+/// A line of a script can express each edit. No edit is refused, and each edit changes the map.
+/// Either the plan has no edits, or fewer differences remain than without its edits.
 ///
-/// Fails if memory runs out.
+/// An `Err` says that memory ran out.
 pub fn find_plan<A: Allocator + Clone, B: Allocator>(
     alloc: Global,
     identity: Identity,
@@ -50,30 +54,35 @@ pub fn find_plan<A: Allocator + Clone, B: Allocator>(
         → IsPlan (option_map (λ name. name.now) under.entry) (plain_map map.now.setting t)
         (plain_map wanted.now.setting u) (plan_data plan)) }
 {
-    let none = without_edits(alloc, under, map, wanted)?;
-    if none.rest.is_empty() {
-        return Ok(none);
+    let rest = stays_part(alloc, under, map, wanted)?;
+    if rest.is_empty() {
+        return without_edits(alloc, under, map, wanted, rest);
     }
-    let found = with_edits(alloc, identity, under, map, wanted)?;
-    if is_better(&found, &none) {
+    let differences = count_lines(rest.as_slice());
+    let found = with_edits(alloc, identity, under, map, wanted, differences)?;
+    if is_better(&found, differences) {
         return Ok(found);
     }
-    Ok(none)
+    without_edits(alloc, under, map, wanted, rest)
 }
 
+/// Returns the plan without edits. `rest` lists the differences between the two maps.
 fn without_edits<A: Allocator, B: Allocator>(
     alloc: Global,
     under: Option<&str>,
     map: &CrushMap<A>,
     wanted: &CrushMap<B>,
+    rest: Vec<u8>,
 ) -> Result<Plan, AllocError>
-    ensures none { IfOk result (λ plan. plan.edits.items ≡ []) }
-    ensures tells { IfOk result (λ plan. (t u : List Row)
+    requires remaining { (t u : List Row)
         → Stands map.now.forest t → Stands wanted.now.forest u
-        → TellsRest (option_map (λ name. name.now) under.entry) (plain_map map.now.setting t)
+        → rest.items ≡ stays_part (option_map (λ name. name.now) under)
+        (plain_map map.now.setting t) (plain_map wanted.now.setting u) }
+    ensures { IfOk result (λ plan. (t u : List Row)
+        → Stands map.now.forest t → Stands wanted.now.forest u
+        → IsPlan (option_map (λ name. name.now) under.entry) (plain_map map.now.setting t)
         (plain_map wanted.now.setting u) (plan_data plan)) }
 {
-    let rest = stays_part(alloc, under, map, wanted)?;
     let aside = count_aside(alloc, under, map, wanted)?;
     Ok(Plan {
         edits: Vec::new(alloc),
@@ -82,12 +91,14 @@ fn without_edits<A: Allocator, B: Allocator>(
     })
 }
 
+/// Looks for edits. `differences` is the number of differences between the two maps.
 fn with_edits<A: Allocator + Clone, B: Allocator>(
     alloc: Global,
     identity: Identity,
     under: Option<&str>,
     map: &CrushMap<A>,
     wanted: &CrushMap<B>,
+    differences: usize,
 ) -> Result<Plan, AllocError>
     ensures { IfOk result (λ plan. (t u : List Row)
         → Stands map.now.forest t → Stands wanted.now.forest u
@@ -101,30 +112,31 @@ fn with_edits<A: Allocator + Clone, B: Allocator>(
         wanted,
         there: ItemTable::new(alloc, wanted)?,
     };
-    to_goal(alloc, &goal)
+    to_goal(alloc, &goal, differences)
 }
 
 fn to_goal<A: Allocator + Clone, B: Allocator>(
     alloc: Global,
     goal: &PlanGoal<'_, A, B>,
+    differences: usize,
 ) -> Result<Plan, AllocError>
     ensures { IfOk result (λ plan. (t u : List Row)
         → Stands goal.now.before.now.forest t → Stands goal.now.wanted.now.forest u
         → GoesTo (option_map (λ name. name.now) goal.now.under)
         (plain_map goal.now.before.now.setting t) (plain_map goal.now.wanted.now.setting u) (plan_data plan)) }
 {
-    let draft = drafted(alloc, goal)?;
+    let draft = drafted(alloc, goal, differences)?;
     let rest = stays_part(alloc, goal.under, &draft.map, goal.wanted)?;
     let aside = count_aside(alloc, goal.under, &draft.map, goal.wanted)?;
     let Draft { edits, .. } = draft;
     Ok(Plan { edits, rest, aside })
 }
 
-/// Whether fewer differences remain after the one plan than after the other.
-fn is_better(plan: &Plan, other: &Plan) -> bool
-    ensures { result ≡ true → line_count plan.now.rest.items < line_count other.now.rest.items }
+/// Whether fewer than these differences remain after the edits of the plan.
+fn is_better(plan: &Plan, differences: usize) -> bool
+    ensures { result ≡ true → line_count plan.now.rest.items < differences }
 {
-    plan.count_differences() < other.count_differences()
+    plan.count_differences() < differences
 }
 
 impl Plan {
@@ -136,6 +148,7 @@ impl Plan {
     }
 }
 
+/// Returns how many lines a text has: how many of its bytes end a line.
 pub(crate) fn count_lines(text: &[u8]) -> usize
     ensures { result ≡ line_count text.now }
 {
@@ -148,9 +161,11 @@ pub(crate) fn count_lines(text: &[u8]) -> usize
     count
 }
 
+/// Returns the draft to which the search leads from the map before all edits.
 fn drafted<A: Allocator + Clone, B: Allocator>(
     alloc: Global,
     goal: &PlanGoal<'_, A, B>,
+    differences: usize,
 ) -> Result<Draft<A>, AllocError>
     ensures { IfOk result (IsDraftOf goal.now) }
 {
@@ -159,6 +174,6 @@ fn drafted<A: Allocator + Clone, B: Allocator>(
         map: goal.before.try_copy()?,
         edits: Vec::new(alloc),
     };
-    improve(&mut draft, goal)?;
+    improve(&mut draft, goal, differences)?;
     Ok(draft)
 }

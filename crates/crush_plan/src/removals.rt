@@ -9,7 +9,7 @@ use crate::way::Way;
 use crush_units::{BucketId, DeviceId, ItemId, Name};
 use std::alloc::{AllocError, Allocator, Global};
 
-/// Removes devices, and then buckets without items, the lowest bucket first.
+/// Removes devices, and then buckets without items. A bucket comes after all buckets below it.
 pub(crate) fn remove_all<A: Allocator + Clone, B: Allocator>(
     draft: &mut Draft<A>,
     goal: &PlanGoal<'_, A, B>,
@@ -34,7 +34,7 @@ fn remove_devices<A: Allocator + Clone, B: Allocator>(
     Ok(())
 }
 
-/// Leaves a device alone that has been removed already.
+/// Removes the device, unless an earlier step has removed it already.
 fn remove_device<A: Allocator + Clone, B: Allocator>(
     draft: &mut Draft<A>,
     goal: &PlanGoal<'_, A, B>,
@@ -66,6 +66,7 @@ fn remove_buckets<A: Allocator + Clone, B: Allocator>(
     Ok(())
 }
 
+/// Removes the bucket, unless an earlier step has removed it already.
 fn remove_bucket<A: Allocator + Clone, B: Allocator>(
     draft: &mut Draft<A>,
     goal: &PlanGoal<'_, A, B>,
@@ -80,8 +81,8 @@ fn remove_bucket<A: Allocator + Clone, B: Allocator>(
     }
 }
 
-/// Returns the name that the bucket has now, or `None` if the bucket was removed before. A new
-/// bucket may have got its id since.
+/// Returns the name that the bucket has now, or `None` if the bucket has been removed. After the
+/// removal, a new bucket may have got the id of the removed bucket.
 fn removed_name<A: Allocator + Clone, B: Allocator>(
     draft: &Draft<A>,
     goal: &PlanGoal<'_, A, B>,
@@ -97,7 +98,7 @@ fn removed_name<A: Allocator + Clone, B: Allocator>(
     }
 }
 
-/// Whether the name is the name of a bucket that only the wanted map has.
+/// Whether a bucket that only the wanted map has has this name.
 fn is_new<A: Allocator, B: Allocator>(
     goal: &PlanGoal<'_, A, B>,
     way: &Way<'_, A>,

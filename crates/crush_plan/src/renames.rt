@@ -19,10 +19,11 @@ use crush_units::{BucketId, ItemId, Name};
 use itoa::Buffer;
 use std::alloc::{AllocError, Allocator, Global};
 
-/// How many bytes of a name at most come before the number of a free name.
+/// The largest number of bytes that a free name takes from the name of a bucket, before its number.
+/// So a free name isn't longer than a name may be.
 const LONGEST_STEM: usize = 240;
 
-/// Renames all buckets that are to be renamed and may be.
+/// Renames the buckets that are to be renamed, if the plan may rename them.
 pub(crate) fn rename_all<A: Allocator + Clone, B: Allocator>(
     draft: &mut Draft<A>,
     goal: &PlanGoal<'_, A, B>,
@@ -54,6 +55,7 @@ fn possible_renames<A: Allocator, B: Allocator>(
     Ok(renames)
 }
 
+/// Whether the plan may rename the bucket.
 fn is_possible<A: Allocator, B: Allocator>(goal: &PlanGoal<'_, A, B>, pair: &BucketPair) -> bool {
     match target_name(goal, pair) {
         Some(name) => goal.is_in_part(ItemId::Bucket(pair.current), name),
@@ -61,6 +63,7 @@ fn is_possible<A: Allocator, B: Allocator>(goal: &PlanGoal<'_, A, B>, pair: &Buc
     }
 }
 
+/// Returns the name that the bucket is to get.
 fn target_name<'a, A: Allocator, B: Allocator>(
     goal: &'a PlanGoal<'_, A, B>,
     pair: &BucketPair,
@@ -92,7 +95,8 @@ fn next_owner<A: Allocator, B: Allocator>(
     }
 }
 
-/// Whether this bucket waits for no other bucket that is renamed: it is the last bucket of a chain.
+/// Whether no other bucket has to be renamed before this bucket: this is the last bucket of a
+/// chain.
 fn begins_chain<A: Allocator, B: Allocator>(
     goal: &PlanGoal<'_, A, B>,
     way: &Way<'_, A>,
@@ -107,6 +111,7 @@ fn begins_chain<A: Allocator, B: Allocator>(
     }
 }
 
+/// Renames the buckets of all chains.
 fn rename_chains<A: Allocator + Clone, B: Allocator>(
     draft: &mut Draft<A>,
     goal: &PlanGoal<'_, A, B>,
@@ -121,7 +126,8 @@ fn rename_chains<A: Allocator + Clone, B: Allocator>(
     Ok(())
 }
 
-/// Renames the buckets of a chain, unless the first name isn't free.
+/// Renames the buckets of a chain, of which this bucket is the last one. Does nothing if an item
+/// has the name that this bucket is to get, or if this bucket is not the last one of a chain.
 fn rename_chain<A: Allocator + Clone, B: Allocator>(
     draft: &mut Draft<A>,
     goal: &PlanGoal<'_, A, B>,
@@ -142,6 +148,7 @@ fn rename_chain<A: Allocator + Clone, B: Allocator>(
     }
 }
 
+/// Whether no item of the map has the name that the bucket is to get.
 fn is_target_free<A: Allocator, B: Allocator>(
     map: &CrushMap<A>,
     goal: &PlanGoal<'_, A, B>,
@@ -153,8 +160,8 @@ fn is_target_free<A: Allocator, B: Allocator>(
     }
 }
 
-/// Renames the bucket, then the bucket that is to get its old name, and so on. Stops at a bucket
-/// that has lost its old name already.
+/// Renames the first bucket, then the bucket that is to get its old name, and so on. Stops at a
+/// bucket that has been renamed already. Renames at most `most` buckets.
 fn rename_from<A: Allocator + Clone, B: Allocator>(
     draft: &mut Draft<A>,
     goal: &PlanGoal<'_, A, B>,
@@ -175,7 +182,8 @@ fn rename_from<A: Allocator + Clone, B: Allocator>(
     Ok(())
 }
 
-/// Returns the next bucket of the chain, or `None` if this bucket has lost its old name already.
+/// Returns the bucket that is to get this bucket's old name, or `None` if this bucket has been
+/// renamed already.
 fn next_waiting<A: Allocator + Clone, B: Allocator>(
     draft: &Draft<A>,
     goal: &PlanGoal<'_, A, B>,
@@ -189,7 +197,7 @@ fn next_waiting<A: Allocator + Clone, B: Allocator>(
     }
 }
 
-/// Renames the bucket if it still has the name with which the search started.
+/// Renames the bucket, unless it has been renamed already.
 fn rename_one<A: Allocator + Clone, B: Allocator>(
     draft: &mut Draft<A>,
     goal: &PlanGoal<'_, A, B>,
@@ -206,8 +214,8 @@ fn rename_one<A: Allocator + Clone, B: Allocator>(
     }
 }
 
-/// Gives a free name to the bucket that has the name which this bucket is to get, if the wanted map
-/// doesn't have that bucket.
+/// Makes the name that this bucket is to get free: gives a free name to the bucket that has the
+/// name, if the wanted map doesn't have that bucket.
 fn release_name<A: Allocator + Clone, B: Allocator>(
     draft: &mut Draft<A>,
     goal: &PlanGoal<'_, A, B>,
@@ -248,7 +256,7 @@ fn release<A: Allocator + Clone, B: Allocator>(
     }
 }
 
-/// Returns the renames that are in no chain, so that they are in cycles. Each chain is walked once.
+/// Returns the renames that are in no chain, and so are in cycles. It goes through each chain once.
 fn unchained<A: Allocator, B: Allocator>(
     alloc: Global,
     goal: &PlanGoal<'_, A, B>,
@@ -282,6 +290,7 @@ fn chained_buckets<A: Allocator, B: Allocator>(
     Ok(chained)
 }
 
+/// Whether the bucket is one of these buckets.
 fn is_chained(chained: &[BucketId], bucket: BucketId) -> bool {
     match chained.binary_search_by_key(&bucket.distance(), |bucket| bucket.distance()) {
         Ok(_) => true,
@@ -289,6 +298,8 @@ fn is_chained(chained: &[BucketId], bucket: BucketId) -> bool {
     }
 }
 
+/// Appends the first bucket, and the buckets of its chain that are renamed after it, at most `most`
+/// buckets.
 fn push_chain<A: Allocator, B: Allocator>(
     goal: &PlanGoal<'_, A, B>,
     way: &Way<'_, A>,
@@ -307,6 +318,7 @@ fn push_chain<A: Allocator, B: Allocator>(
     Ok(())
 }
 
+/// Renames the buckets of all cycles.
 fn rename_cycles<A: Allocator + Clone, B: Allocator>(
     draft: &mut Draft<A>,
     goal: &PlanGoal<'_, A, B>,
@@ -332,8 +344,8 @@ fn may_break<A: Allocator + Clone, B: Allocator>(
         && goal.was_in_part(ItemId::Bucket(pair.current))
 }
 
-/// Renames all buckets of a cycle, of which this one first gets a free name. It has to be in the
-/// part already, since nothing in the part has the free name in the wanted map.
+/// Renames all buckets of a cycle. This bucket first gets a free name. This bucket has to be in the
+/// part before the edits, because no item of the wanted map has the free name.
 fn break_cycle<A: Allocator + Clone, B: Allocator>(
     draft: &mut Draft<A>,
     goal: &PlanGoal<'_, A, B>,
@@ -373,7 +385,8 @@ fn free_name<A: Allocator, B: Allocator>(
     Ok(None)
 }
 
-/// Takes only the first bytes of a long name.
+/// Returns the name with a point and the number after it. Of a long name, it takes only the first
+/// bytes.
 fn numbered_name(alloc: Global, name: &[u8], number: u32) -> Result<Name<Global>, AllocError> {
     let mut buffer = Buffer::new();
     let number = buffer.format(number).as_bytes();

@@ -1,4 +1,4 @@
-//! Looks for the edits of a plan.
+//! The search for the edits of a plan.
 
 ghost use Rattle.std.specs.Prelude.{◌≡◌, ◌⊎◌, IfOk, OnOk};
 ghost use Rattle.crush_plan.specs.Draft.{GoesOn, IsContinued};
@@ -15,58 +15,63 @@ use crate::renames::rename_all;
 use crate::swaps::swap_all;
 use crate::way::Way;
 use crate::weights::{Which, set_weights};
-use crush_names::stays_part;
+use crush_since::stays_part;
 use std::alloc::{AllocError, Allocator};
 
-/// How often a plan is continued at most. Nearly all plans are found in one round. Another round
-/// starts where the first one ended, and may do what was refused before.
+/// The largest number of rounds in which edits are added to a plan. Nearly all plans are found in
+/// one round. The next round starts from the map to which the round before has led, so edits that
+/// were refused before may now succeed.
 const MOST_ROUNDS: usize = 8;
 
-/// A draft that continues another one, and how many differences remain after its edits.
+/// A draft that continues another draft, and how many differences remain after its edits.
 #[derive(Drop)]
 struct Candidate<A: Allocator> {
     draft: Draft<A>,
     differences: usize,
 }
 
-/// Adds edits as long as fewer differences remain after them. So a second plan, from where the
-/// first one has led, has no edits.
+/// Adds edits to the draft, in rounds, as long as fewer differences remain after each round.
+/// `differences` is the number of differences that remain before the first round. So a second plan,
+/// which starts from the map to which the first plan leads, has no edits.
 pub(crate) fn improve<A: Allocator + Clone, B: Allocator>(
     draft: &mut Draft<A>,
     goal: &PlanGoal<'_, A, B>,
+    differences: usize,
 ) -> Result<(), AllocError>
     ensures { OnOk result (GoesOn goal.now draft.old draft.new) }
 {
+    let mut before = differences;
     let mut goes_on = true;
     for _round in 0..MOST_ROUNDS {
         if !goes_on {
             return Ok(());
         }
-        goes_on = improve_once(draft, goal)?;
+        let after = improve_once(draft, goal, before)?;
+        goes_on = 0 < after && after < before;
+        before = after;
     }
     Ok(())
 }
 
-/// Returns whether another round may find more.
+/// Adds the edits of the best candidate, if fewer than these differences remain after them. Returns
+/// how many differences remain then.
 fn improve_once<A: Allocator + Clone, B: Allocator>(
     draft: &mut Draft<A>,
     goal: &PlanGoal<'_, A, B>,
-) -> Result<bool, AllocError>
+    differences: usize,
+) -> Result<usize, AllocError>
     ensures { OnOk result (GoesOn goal.now draft.old draft.new) }
 {
-    let differences = count_differences(draft, goal)?;
-    if differences == 0 {
-        return Ok(false);
-    }
     let best = best_candidate(draft, goal)?;
     if best.differences >= differences {
-        return Ok(false);
+        return Ok(differences);
     }
-    let is_unfinished = best.differences > 0;
+    let after = best.differences;
     draft.adopt(best.draft)?;
-    Ok(is_unfinished)
+    Ok(after)
 }
 
+/// Returns how many differences remain after the edits of the draft.
 fn count_differences<A: Allocator + Clone, B: Allocator>(
     draft: &Draft<A>,
     goal: &PlanGoal<'_, A, B>,
@@ -75,8 +80,9 @@ fn count_differences<A: Allocator + Clone, B: Allocator>(
     Ok(count_lines(rest.as_slice()))
 }
 
-/// Looks for edits in both ways to match buckets, or only by names if the caller wants that. If all
-/// matched buckets have the same name in both maps, the two ways are the same.
+/// Returns the better of two candidates: one matches buckets as the goal says, the other matches
+/// them by names. If all matched buckets have the same name in both maps, the two ways are the
+/// same, so it makes only one candidate.
 fn best_candidate<A: Allocator + Clone, B: Allocator>(
     draft: &Draft<A>,
     goal: &PlanGoal<'_, A, B>,
@@ -93,8 +99,8 @@ fn best_candidate<A: Allocator + Clone, B: Allocator>(
     Ok(better_of(first, second))
 }
 
-/// Returns the candidate after which fewer differences remain, otherwise the one with fewer edits,
-/// otherwise the first one.
+/// Returns the candidate after which fewer differences remain. If the numbers are equal, returns
+/// the candidate with fewer edits, and otherwise the first candidate.
 fn better_of<A: Allocator>(first: Candidate<A>, second: Candidate<A>) -> Candidate<A>
     ensures { (result ≡ first) ⊎ (result ≡ second) }
 {
@@ -105,12 +111,14 @@ fn better_of<A: Allocator>(first: Candidate<A>, second: Candidate<A>) -> Candida
     }
 }
 
+/// Whether fewer differences remain after the candidate, or as many after fewer edits.
 fn is_better<A: Allocator>(candidate: &Candidate<A>, other: &Candidate<A>) -> bool {
     candidate.differences < other.differences
         || (candidate.differences == other.differences
             && candidate.draft.edits.len() < other.draft.edits.len())
 }
 
+/// Returns a copy of the draft's map with the edits that lead to the goal in this way.
 fn try_way<A: Allocator + Clone, B: Allocator>(
     draft: &Draft<A>,
     goal: &PlanGoal<'_, A, B>,
@@ -127,8 +135,8 @@ fn try_way<A: Allocator + Clone, B: Allocator>(
     })
 }
 
-/// Removals come first, to make room, and weights are lowered before anything is added, so that no
-/// sum is too large on the way.
+/// Gives the draft all edits that lead to the goal in this way. Removals come first, to make room.
+/// Weights are lowered before anything is added, so that no sum is too large in between.
 fn build_edits<A: Allocator + Clone, B: Allocator>(
     draft: &mut Draft<A>,
     goal: &PlanGoal<'_, A, B>,
@@ -138,7 +146,7 @@ fn build_edits<A: Allocator + Clone, B: Allocator>(
 {
     let (current, target) = (&way.items.current, &way.items.target);
     remove_all(draft, goal, way)?;
-    set_weights(draft, goal, current.reweighed.as_slice(), Which::Less)?;
+    set_weights(draft, goal, current.lowered.as_slice(), Which::Less)?;
     swap_all(draft, goal, way)?;
     rename_all(draft, goal, way)?;
     make_buckets(draft, goal, target.new_buckets.as_slice())?;

@@ -2,14 +2,14 @@
 
 ghost use Rattle.std.specs.Prelude.{◌≡◌, ◌∷◌, [], ◌++◌, IfOk, OnOk, codes, flat_map, true};
 ghost use Rattle.crush_history.specs.HistoryText.{edit_text};
-ghost use Rattle.crush_names.specs.Aside.{aside_text};
+ghost use Rattle.crush_since.specs.Aside.{aside_text};
 ghost use Rattle.crush_plan.specs.Plan.{plan_data};
 ghost use Rattle.crush_plan.specs.PlanText.{commented, mark, plan_line, plan_text, stay_heading, stay_text};
 
 use crate::plan::{Plan, count_lines};
 use crush_edits::Edit;
 use crush_history::{push_ceph_heading, push_ceph_line, write_edit};
-use crush_names::{Counts, push_aside};
+use crush_since::{Counts, push_aside};
 use crush_units::put_all;
 use itoa::Buffer;
 use std::alloc::{AllocError, Global};
@@ -24,8 +24,8 @@ pub enum PlanWords {
 }
 
 /// Returns the text of a plan: the line `# N commands`, and a line for each edit. If differences
-/// remain, the line `# N differences stay` follows, and a comment for each of them. Last come comments
-/// that say how many buckets have different ids. Fails if memory runs out.
+/// remain, the line `# N differences stay` follows, and a comment for each difference. Last come
+/// comments that say how many buckets have different ids. An `Err` says that memory ran out.
 pub fn plan_text(alloc: Global, plan: &Plan, words: PlanWords) -> Result<Vec<u8>, AllocError>
     ensures { IfOk result (λ text. text.items ≡ plan_text words (plan_data plan.now)) }
 {
@@ -38,6 +38,7 @@ pub fn plan_text(alloc: Global, plan: &Plan, words: PlanWords) -> Result<Vec<u8>
     Ok(text)
 }
 
+/// Appends the counts of different ids, as comments.
 fn push_ids(alloc: Global, counts: Counts, text: &mut Vec<u8>) -> Result<(), AllocError>
     ensures { OnOk result (text.new.items ≡ text.old.items ++ commented true (aside_text counts)) }
 {
@@ -46,6 +47,7 @@ fn push_ids(alloc: Global, counts: Counts, text: &mut Vec<u8>) -> Result<(), All
     push_comments(lines.as_slice(), text)
 }
 
+/// Appends a line for each edit.
 fn push_edits(edits: &[Edit], words: PlanWords, text: &mut Vec<u8>) -> Result<(), AllocError>
     ensures { OnOk result (text.new.items ≡ text.old.items ++ flat_map (plan_line words) edits.now) }
 {
@@ -64,6 +66,7 @@ fn push_edit(edit: &Edit, words: PlanWords, text: &mut Vec<u8>) -> Result<(), Al
     }
 }
 
+/// Appends the edit as a line of a script.
 fn push_line(edit: &Edit, text: &mut Vec<u8>) -> Result<(), AllocError>
     ensures { OnOk result (text.new.items ≡ text.old.items ++ (edit_text edit.now ++ codes "\n")) }
 {
@@ -71,6 +74,7 @@ fn push_line(edit: &Edit, text: &mut Vec<u8>) -> Result<(), AllocError>
     text.extend_from_slice(b"\n")
 }
 
+/// Appends the differences that remain, as comments, if there are any.
 fn push_rest(rest: &[u8], text: &mut Vec<u8>) -> Result<(), AllocError>
     ensures { OnOk result (text.new.items ≡ text.old.items ++ stay_text rest.now) }
 {
@@ -81,6 +85,7 @@ fn push_rest(rest: &[u8], text: &mut Vec<u8>) -> Result<(), AllocError>
     push_comments(rest, text)
 }
 
+/// Appends the line that says how many differences remain.
 #[tactic(auto, unfolding(crate::specs::PlanText::stay_heading))]
 fn push_heading(count: usize, text: &mut Vec<u8>) -> Result<(), AllocError>
     ensures { OnOk result (text.new.items ≡ text.old.items ++ stay_heading count) }
@@ -94,6 +99,7 @@ fn push_heading(count: usize, text: &mut Vec<u8>) -> Result<(), AllocError>
     .map_err(|_| AllocError)
 }
 
+/// Appends the lines, with `# ` before each line.
 fn push_comments(lines: &[u8], text: &mut Vec<u8>) -> Result<(), AllocError>
     ensures { OnOk result (text.new.items ≡ text.old.items ++ commented true lines.now) }
 {

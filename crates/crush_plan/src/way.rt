@@ -1,4 +1,5 @@
-//! One way to look for a plan: which bucket of the map is which, and what has to be done.
+//! One way to look for a plan: how the buckets of the two maps are matched, and what has to be
+//! done.
 
 use crate::goal::PlanGoal;
 use crate::identity::{BucketPair, BucketPairs, Identity};
@@ -8,6 +9,7 @@ use crush_map::CrushMap;
 use crush_units::{BucketId, ItemId};
 use std::alloc::{AllocError, Allocator, Global};
 
+/// The matched buckets of the two maps, and the items for which the plan may need an edit.
 #[derive(Drop)]
 pub(crate) struct Way<'a, A: Allocator> {
     /// The items of the map from which this way starts.
@@ -17,6 +19,7 @@ pub(crate) struct Way<'a, A: Allocator> {
 }
 
 impl<'a, A: Allocator> Way<'a, A> {
+    /// Returns the way that starts from this map and matches buckets as `identity` says.
     pub(crate) fn new<B: Allocator>(
         alloc: Global,
         identity: Identity,
@@ -33,13 +36,13 @@ impl<'a, A: Allocator> Way<'a, A> {
         })
     }
 
-    /// The name with which the search starts.
+    /// Returns the name that the bucket has in the map from which this way starts.
     pub(crate) fn name_at_start(&self, pair: &BucketPair) -> Option<&str> {
         self.start.name_of(ItemId::Bucket(pair.current))
     }
 
-    /// Returns this bucket of the map with the bucket of the wanted map that it is, if the two have
-    /// different names.
+    /// Returns this bucket of the map with the bucket of the wanted map that it becomes, if the two
+    /// buckets have different names.
     pub(crate) fn renamed<B: Allocator>(
         &self,
         goal: &PlanGoal<'_, A, B>,

@@ -10,21 +10,23 @@ use crate::goal::PlanGoal;
 use crate::item_table::ItemTable;
 use crate::items::same_item;
 use common::{Subtree, subtrees};
+use crush_compare::are_near;
 use crush_map::CrushMap;
-use crush_names::are_near;
 use crush_units::{DeviceId, ItemId, Weight};
 use std::alloc::{AllocError, Allocator, Global};
 
 /// Which weights are set.
 #[derive(Clone, Copy, PartialEq, Eq)]
 pub(crate) enum Which {
-    /// Those that become less.
+    /// The weights that become less.
     Less,
-    /// Those that change in either direction.
+    /// The weights that become less or more.
     Other,
 }
 
 impl Which {
+    /// Whether a weight that is to change in this way is set. A difference of one unit doesn't
+    /// count.
     pub(crate) fn sets(self, from: Weight, to: Weight) -> bool {
         match self {
             Which::Less => to.units() < from.units() && !are_near(from, to),
@@ -40,8 +42,9 @@ struct NewWeight {
     weight: Weight,
 }
 
-/// Sets the weights of all devices below a bucket with one edit, if all of them are to have the same
-/// weight and at least two have another weight. Sets the other weights one by one.
+/// Sets the weights of these devices. If all devices below a bucket are to have the same weight,
+/// and at least two of them have another weight, then one edit sets the weights of all of them.
+/// Each other weight is set by an edit of its own.
 pub(crate) fn set_weights<A: Allocator + Clone, B: Allocator>(
     draft: &mut Draft<A>,
     goal: &PlanGoal<'_, A, B>,
@@ -59,6 +62,7 @@ pub(crate) fn set_weights<A: Allocator + Clone, B: Allocator>(
     set_one_by_one(draft, goal, changes.as_slice())
 }
 
+/// Sets the weights of all devices below each of these buckets.
 fn set_below<A: Allocator + Clone, B: Allocator>(
     draft: &mut Draft<A>,
     goal: &PlanGoal<'_, A, B>,
@@ -72,6 +76,7 @@ fn set_below<A: Allocator + Clone, B: Allocator>(
     Ok(())
 }
 
+/// Sets the weight of each of these devices.
 fn set_one_by_one<A: Allocator + Clone, B: Allocator>(
     draft: &mut Draft<A>,
     goal: &PlanGoal<'_, A, B>,
@@ -98,6 +103,7 @@ fn set_weight<A: Allocator + Clone, B: Allocator>(
     }
 }
 
+/// Returns those of the devices whose weights have to be set, with their new weights.
 fn new_weights<A: Allocator, B: Allocator>(
     alloc: Global,
     map: &CrushMap<A>,
@@ -118,7 +124,8 @@ fn new_weights<A: Allocator, B: Allocator>(
     Ok(changes)
 }
 
-/// Returns the weight that a device of both maps is to get, if both maps place it.
+/// Returns the weight that the device is to get, or `None` if it is not to be set or a map doesn't
+/// place the device.
 fn new_weight<A: Allocator, B: Allocator>(
     map: &ItemTable<'_, A>,
     wanted: &ItemTable<'_, B>,

@@ -18,8 +18,8 @@ use Rattle.crush_nodes.proofs.CountLaws.{bucket_count-forest}
 use Rattle.crush_tree.proofs.ReadLemmas.Items.{map-node_id}
 use Rattle.crush_print.proofs.Told.{Told, stands_told, size_le_rows}
 use Rattle.crush_print.proofs.WalkLaws.{node_steps, steps_told}
-use Rattle.crush_print.specs.SeenPart.{HasSteps}
-use Rattle.crush_print.specs.Tree.{WalkStepData, steps_at, steps_of}
+use Rattle.crush_items.specs.SeenPart.{HasSteps}
+use Rattle.crush_items.specs.Tree.{WalkStepData, steps_at, steps_of}
 
 -- what a table says of items, it says of the items of a bucket among them
 pub told_kids : (t : List Row) (p : Option ℕ) (n k : Items) (b : ℕ) → Told t p n → kids_in b n ≡ Some k → Told t (Some b) k

@@ -8,7 +8,7 @@ use Rattle.crush_model.specs.Forest.{rows_of}
 use Rattle.crush_model.specs.Table.{Row}
 use Rattle.crush_edits.specs.Setting.{KindData, SettingData}
 use Rattle.crush_print.specs.MapText.{root_numbers, kind_text}
-use Rattle.crush_print.specs.Tree.{step_at, steps_at, unplaced_numbers, tree_rows}
+use Rattle.crush_items.specs.Tree.{step_at, steps_at, unplaced_numbers, tree_rows}
 use Rattle.crush_print.specs.TreeText.{at_right, at_left, step_line, heading, steps_text, tree_text}
 
 -- a device without class

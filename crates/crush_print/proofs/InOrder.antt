@@ -20,7 +20,8 @@ use Rattle.crush_nodes.specs.declared.node.Node.TheVariants.{Device, Bucket}
 use Rattle.crush_print.specs.Lines.{device_line}
 use Rattle.crush_print.specs.ItemsText.{id_number, own_text, buckets_among, leaves}
 use Rattle.crush_print.specs.MapText.{ascending, device_number, root_number, device_numbers, root_numbers, of_row, bucket_text, bucket_numbers_at, bucket_numbers, device_lines, root_texts}
-use Rattle.crush_print.proofs.Sorting.{sorted_is_ascending, lines_by_number, lines_in_order, lines_of_rising, ascending-reordered}
+pub use Rattle.crush_items.proofs.Sorting.{numbers_seen}
+use Rattle.crush_items.proofs.Sorting.{numbers_seen, sorted_is_ascending, lines_by_number, lines_in_order, lines_of_rising, ascending-reordered}
 use Rattle.crush_print.proofs.ItemLines.{leaves-join}
 use Rattle.crush_print.proofs.Told.{Told, IsTold, buckets_print, bucket_id, buckets_numbered, leaves_print, leaf_numbers, root_ids, root_numbers_are, root_ids-join, size_le_rows, size_of-join, told_join, stands_told}
 
@@ -46,10 +47,6 @@ pub refs_that_rise : {X Y : Type 0} (see : X → Y) (number : Y → ℕ) (line :
     → All (λ y. text (number y) ≡ line y) ys → flat_map (λ x. line (see x)) refs ≡ flat_map text (ascending (map number ys))
 refs_that_rise see number line text ys refs same rising each =
     sym (flat_map-map line see refs) ∙ lines_of_rising number line text ys (map see refs) same (sym (map-map number see refs) ∙ rising) each
-
--- the numbers of a list that is seen as another
-pub numbers_seen : {X Y : Type 0} (number : Y → ℕ) (see : X → Y) (xs : List X) (ys : List Y) → map see xs ≡ ys → map (λ x. number (see x)) xs ≡ map number ys
-numbers_seen number see xs ys are = map-map number see xs ∙ ap (map number) are
 
 -- THE DEVICES: those of the forest, sorted by id, print the table's device lines
 pub devices_print : {X : Type 0} (see : X → LeafData) (f : ForestData) (t : List Row) (found sorted : List X) → map see found ≡ leaves (all_items f) → IsPermutation found sorted → IsNonDecreasingBy (λ x. (see x).id) sorted → Stands f t

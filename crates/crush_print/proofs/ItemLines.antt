@@ -1,18 +1,19 @@
 -- Lines of items and texts of buckets, along a list of nodes.
-use Rattle.std.proofs.Common.{◌≡◌, ℕ, ◌+◌, ◌<◌, ◌≤◌, List, [], ◌∷◌, ◌++◌, length, get_or, take, map, ap, sym, ◌∙◌, refl, arith, append_assoc, Result, Ok, Err}
+use Rattle.std.proofs.Common.{◌≡◌, ℕ, ◌+◌, ◌<◌, List, [], ◌∷◌, ◌++◌, length, get_or, take, map, ap, sym, ◌∙◌, refl, append_assoc, Result, Ok, Err}
 use Rattle.std.specs.Prelude.{OnOk, codes, decimal, flat_map, is_ok, if◌then◌else◌}
 use Rattle.std.proofs.lemmas.List.{append-nil, take_more}
 use Rattle.std.proofs.lemmas.List.Concat.{flat_map-append}
 use Rattle.std.proofs.lemmas.List.Folds.{flat_map-map}
 use Rattle.crush_units.specs.declared.id.ItemId.TheVariants.{Bucket as BucketItem}
-use Rattle.crush_model.specs.Items.{LeafData, BucketData, Items, none, device, bucket, size_of}
+use Rattle.crush_model.specs.Items.{LeafData, BucketData, Items, none, device, bucket}
 use Rattle.crush_model.specs.Forest.{join}
 use Rattle.crush_nodes.specs.Seen.{items_of, leaf_data}
 use Rattle.crush_nodes.specs.declared.node.Node.{Node}
 use Rattle.crush_nodes.specs.declared.node.Node.TheVariants.{Device, Bucket}
-use Rattle.crush_nodes.proofs.Steps.{items_of-taken, kids_smaller}
+use Rattle.crush_nodes.proofs.Steps.{items_of-taken}
 use Rattle.crush_print.specs.Lines.{item_line, bucket_head}
 use Rattle.crush_print.specs.ItemsText.{item_lines, buckets_among, leaves}
+pub use Rattle.crush_items.proofs.WalkLaws.{item_no_larger}
 
 -- of the items of both
 pub item_lines-join : (a b : Items) → item_lines (join a b) ≡ item_lines a ++ item_lines b
@@ -79,11 +80,6 @@ unfolding bucket_head
 head_more (Ok x) old now new kind space name opens number remark id before after a b c d =
     one_more old now new (kind ++ (space ++ (name ++ []))) (opens ++ (number ++ (remark ++ []))) _ before after (rw (a, b, c, d) simp (append_assoc, append-nil))
 head_more (Err e) old now new kind space name opens number remark id before after a b c d = tt
-
--- an item has no more buckets than the items that it is among
-pub item_no_larger : {A : _} (ns : List (Node A)) (i : ℕ) (x : Node A) → i < length ns → x ≡ get_or ns i x → size_of (items_of (x ∷ [])) ≤ size_of (items_of ns)
-item_no_larger ns i (Device l) lt is = omega arith
-item_no_larger ns i (Bucket b) lt is = omega (arith, kids_smaller ns i (Bucket b) b lt is refl)
 
 -- a device among the nodes is found, and so are those below a bucket
 pub found_device : {A : _} (ns : List (Node A)) (i : ℕ) (x : Node A) (l : _) (old now new : List LeafData) → i < length ns → x ≡ get_or ns i x → x ≡ Device l

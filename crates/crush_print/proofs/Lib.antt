@@ -1,4 +1,6 @@
+pub mod ClassLaws
 pub mod InOrder
+pub mod LineLaws
 pub mod ItemLines
 pub mod PartRows
 pub mod PartSteps
@@ -10,7 +12,6 @@ pub mod PrintedOrder
 pub mod PrintedTexts
 pub mod PrintedWords
 pub mod SameText
-pub mod Sorting
 pub mod TakenNames
 pub mod Told
 pub mod BelowLaws
@@ -18,3 +19,4 @@ pub mod Examples
 pub mod PlaceLaws
 pub mod SameTree
 pub mod WalkLaws
+pub use Rattle.crush_items.proofs.Sorting

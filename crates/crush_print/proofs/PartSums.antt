@@ -19,7 +19,7 @@ sum_if p f true x xs n e h = sum_by-cons f x (filter p xs) ∙ ap (λ m. f x + m
 sum_if p f false x xs n e h = h ∙ omega arith
 
 -- the sum over what passes a filter
-sum_by-filtered : {X : Type 0} (p : X → Bool) (f : X → ℕ) (xs : List X) → sum_by f (filter p xs) ≡ sum_by (λ x. if p x then f x else 0) xs
+pub sum_by-filtered : {X : Type 0} (p : X → Bool) (f : X → ℕ) (xs : List X) → sum_by f (filter p xs) ≡ sum_by (λ x. if p x then f x else 0) xs
 sum_by-filtered p f [] = refl
 sum_by-filtered p f (x ∷ xs) = sum_if p f (p x) x xs (sum_by (λ y. if p y then f y else 0) xs) refl (sum_by-filtered p f xs) ∙ sym (sum_by-cons (λ y. if p y then f y else 0) x xs)
 

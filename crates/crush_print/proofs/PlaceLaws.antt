@@ -17,8 +17,8 @@ use Rattle.crush_nodes.specs.Seen.{items_of, node_id}
 use Rattle.crush_nodes.specs.Views.{ViewData, row_view}
 use Rattle.crush_nodes.specs.declared.node.Node.{Node}
 use Rattle.crush_tree.specs.Tops.{root_ids, unplaced_ids}
-use Rattle.crush_print.specs.SeenPart.{HasSteps}
-use Rattle.crush_print.specs.Tree.{WalkStepData, step_at, steps_at, steps_of}
+use Rattle.crush_items.specs.SeenPart.{HasSteps}
+use Rattle.crush_items.specs.Tree.{WalkStepData, step_at, steps_at, steps_of}
 use Rattle.crush_print.proofs.BelowLaws.{no_kids}
 
 some_is : {X : Type 0} (x y : X) → Some x ≡ Some y → x ≡ y

@@ -18,7 +18,7 @@ use Rattle.crush_model.proofs.Climbs.{above-parent, times_in, member-times_in, p
 use Rattle.crush_model.proofs.KidSums.{sum_by-agree, over_kids-kids, climb_kids}
 use Rattle.crush_model.proofs.Relocated.{All-kids}
 use Rattle.crush_print.specs.MapText.{root_number, root_numbers, bucket_numbers_at, bucket_numbers}
-use Rattle.crush_print.proofs.Sorting.{times, times-ascending}
+use Rattle.crush_items.proofs.Sorting.{times, times-ascending}
 use Rattle.crush_print.proofs.PrintedTexts.{root_order}
 
 -- no device is above an item

@@ -14,7 +14,7 @@ use Rattle.crush_model.proofs.Same.{sum_below-same, item_weight-same}
 use Rattle.crush_print.specs.Lines.{device_line, item_line, bucket_lines}
 use Rattle.crush_print.specs.RuleLines.{bucket_name, take_line, step_line, rule_head, size_line, rule_lines}
 use Rattle.crush_print.specs.MapText.{device_number, root_number, device_numbers, root_numbers, of_row, kind_text, kids_lines, bucket_text, bucket_numbers_at, bucket_numbers, device_lines, root_texts, tunable_section, device_section, kind_section, bucket_section, rule_section, map_text, SameTablesPrintAlike}
-use Rattle.crush_print.proofs.Sorting.{ascending-reordered}
+use Rattle.crush_items.proofs.Sorting.{ascending-reordered}
 
 module _ (s : SettingData) (t u : List Row) (l : Lawful t) (same : Same t u) where
   -- of an item

@@ -12,8 +12,8 @@ use Rattle.crush_model.proofs.Reorder.{reordered-length}
 use Rattle.crush_model.proofs.Same.{item_weight-same}
 use Rattle.crush_nodes.specs.Views.{ViewData, row_view}
 use Rattle.crush_print.specs.MapText.{root_number, root_numbers}
-use Rattle.crush_print.proofs.Sorting.{ascending-reordered}
-use Rattle.crush_print.specs.Tree.{WalkStepData, step_at, steps_at, unplaced_number, unplaced_numbers, tree_rows}
+use Rattle.crush_items.proofs.Sorting.{ascending-reordered}
+use Rattle.crush_items.specs.Tree.{WalkStepData, step_at, steps_at, unplaced_number, unplaced_numbers, tree_rows}
 use Rattle.crush_print.specs.TreeText.{steps_text, tree_text, SameTablesHaveOneTree}
 
 abbrev step : ℕ → ViewData → List WalkStepData

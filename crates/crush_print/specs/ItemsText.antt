@@ -1,12 +1,11 @@
 -- The lines of items and the texts of buckets, computed from items as plain data.
 use Rattle.std.specs.Prelude.{ℕ, List, [], ◌∷◌, ◌++◌, None}
-use Rattle.crush_units.specs.declared.id.ItemId.{ItemId}
-use Rattle.crush_units.specs.declared.id.ItemId.TheVariants.{Device, Bucket}
 use Rattle.crush_model.specs.Items.{LeafData, BucketData, Items, none, device, bucket}
 use Rattle.crush_model.specs.ItemRows.{bucket_row}
 use Rattle.crush_edits.specs.Setting.{SettingData}
 use Rattle.crush_print.specs.Lines.{item_line, bucket_lines}
 use Rattle.crush_print.specs.MapText.{kind_text}
+pub use Rattle.crush_items.specs.Order.{id_number}
 
 -- the lines of these items, but not of those below them; a bucket has the weight that it stores
 abbrev pub item_lines : Items → List ℕ
@@ -29,8 +28,3 @@ abbrev pub leaves : Items → List LeafData
 leaves none = []
 leaves (device d rest) = d ∷ leaves rest
 leaves (bucket h w m kids rest) = leaves kids ++ leaves rest
-
--- the distance of an id from 0: a device's number, or a bucket's number without its sign
-abbrev pub id_number : ItemId → ℕ
-id_number (Device d) = d
-id_number (Bucket b) = b

@@ -1,9 +1,13 @@
+pub mod ClassItems
+pub mod ClassTree
+pub mod ClassWeights
 pub mod ItemsText
 pub mod Lines
 pub mod MapText
 pub mod RuleLines
-pub mod SeenPart
 pub mod WalkStep
-pub mod Tree
+pub mod TreeLine
 pub mod TreePart
 pub mod TreeText
+pub use Rattle.crush_items.specs.Tree
+pub use Rattle.crush_items.specs.SeenPart

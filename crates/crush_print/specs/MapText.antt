@@ -1,5 +1,5 @@
 -- The text of a map, computed from its setting and its table. docs/user/FORMATS.md has the same in words.
-use Rattle.std.specs.Prelude.{◌≡◌, ℕ, zero, suc, List, [], ◌∷◌, ◌++◌, if◌then◌else◌, Some, is_some, nat_le, length, All, map, flat_map, unwrap_or, codes}
+use Rattle.std.specs.Prelude.{◌≡◌, ℕ, zero, suc, List, [], ◌∷◌, ◌++◌, Some, length, All, map, flat_map, unwrap_or, codes}
 use Rattle.std.specs.Option.{option_map_or}
 use Rattle.crush_units.specs.declared.id.ItemId.{ItemId}
 use Rattle.crush_units.specs.declared.id.ItemId.TheVariants.{Device, Bucket}
@@ -7,28 +7,12 @@ use Rattle.crush_model.specs.Lawful.{Lawful}
 use Rattle.crush_model.specs.Same.{Same}
 use Rattle.crush_edits.specs.Setting.{KindData, SettingData, kind_name, taken_buckets}
 use Rattle.crush_edits.specs.Fits.{Fits}
-use Rattle.crush_model.specs.Table.{Row, row_of, kids, sum_below, item_weight, bucket_ids}
+use Rattle.crush_model.specs.Table.{Row, row_of, kids, sum_below, item_weight}
 use Rattle.crush_print.specs.Lines.{tunable_line, device_line, kind_line, item_line, bucket_lines}
 use Rattle.crush_print.specs.RuleLines.{bucket_name, rule_lines}
-
--- the number n inserted into numbers that are in ascending order
-abbrev pub put_in : ℕ → List ℕ → List ℕ
-put_in n [] = n ∷ []
-put_in n (x ∷ xs) = if nat_le n x then n ∷ (x ∷ xs) else x ∷ put_in n xs
-
--- the numbers in ascending order
-abbrev pub ascending : List ℕ → List ℕ
-ascending [] = []
-ascending (n ∷ ns) = put_in n (ascending ns)
-
--- the number of a device, as a list; nothing for a bucket
-abbrev pub device_number : ItemId → List ℕ
-device_number (Device d) = d ∷ []
-device_number (Bucket b) = []
-
--- the number of a root, as a list: a bucket that no bucket holds; nothing for any other row
-abbrev pub root_number : Row → List ℕ
-root_number r = if is_some r.parent then [] else bucket_ids r.id
+use Rattle.crush_items.specs.Order.{ascending, device_number, root_numbers}
+pub use Rattle.crush_items.specs.Order.{put_in, ascending, device_number, root_number}
+unfoldable pub use Rattle.crush_items.specs.Order.{root_numbers}
 
 -- the numbers of all devices, in ascending order
 unfoldable pub device_numbers : List Row → List ℕ
@@ -37,10 +21,6 @@ device_numbers t = ascending (flat_map (λ (r : Row). device_number r.id) t)
 -- the numbers of all types, in ascending order
 unfoldable pub kind_numbers : SettingData → List ℕ
 kind_numbers s = ascending (map (λ (k : KindData). k.number) s.kinds)
-
--- the numbers of the roots, in the order of their ids from -1 downward
-unfoldable pub root_numbers : List Row → List ℕ
-root_numbers t = ascending (flat_map root_number t)
 
 -- what `line` gives for the row of the item i; nothing if the table doesn't have the item
 unfoldable pub of_row : List Row → ItemId → (Row → List ℕ) → List ℕ

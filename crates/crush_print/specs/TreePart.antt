@@ -3,7 +3,7 @@ use Rattle.std.specs.Prelude.{◌≡◌, ℕ, Bool, false, List, [], ◌∷◌, 
 use Rattle.crush_units.specs.declared.id.ItemId.{ItemId}
 use Rattle.crush_model.specs.Table.{Row}
 use Rattle.crush_edits.specs.Setting.{SettingData}
-use Rattle.crush_print.specs.Tree.{WalkStepData, steps_at, tree_rows}
+use Rattle.crush_items.specs.Tree.{WalkStepData, steps_at, tree_rows}
 use Rattle.crush_print.specs.TreeText.{steps_text}
 use Rattle.crush_print.specs.declared.part.TreePart.{TreePart}
 

@@ -9,7 +9,7 @@ use Rattle.crush_model.specs.Table.{Row}
 use Rattle.crush_edits.specs.Setting.{SettingData}
 use Rattle.crush_print.specs.Lines.{id_text}
 use Rattle.crush_print.specs.MapText.{kind_text}
-use Rattle.crush_print.specs.Tree.{WalkStepData, tree_rows}
+use Rattle.crush_items.specs.Tree.{WalkStepData, tree_rows}
 use Rattle.crush_print.specs.declared.tree.Widths.{Widths}
 
 -- n spaces

@@ -6,6 +6,7 @@
 //! of the tree.
 #![tactic(auto)]
 
+mod classes;
 pub mod columns;
 mod lines;
 mod order;
@@ -14,15 +15,18 @@ mod printer;
 mod sorted;
 mod steps;
 mod tree;
+mod tree_line;
 pub mod words;
 
+pub use classes::{class_weights, has_class};
+pub use crush_items::nodes_in_order;
 pub use crush_units::WriteFault;
-pub use order::{buckets, devices, nodes_in_order};
+pub use order::{buckets, devices};
 pub use part::{TreePart, walk_part};
 pub use printer::{same_tables_print_alike, taken_buckets_are_named, write_map};
 pub use sorted::{sorted_buckets, sorted_devices};
 pub use steps::{WalkStep, walk, walk_below};
 pub use tree::{
     id_column, same_tables_have_one_tree, whole_tree_is_a_part, wider, wider_id, write_tree,
-    write_tree_part,
+    write_tree_of_class, write_tree_part,
 };

@@ -1,7 +1,6 @@
 //! The devices and the buckets of a map, in the order in which its text has them.
 
 ghost use Rattle.std.specs.Prelude.{◌≡◌, List, [], ◌∷◌, ◌++◌, None, OnOk, IfOk, flat_map, map};
-ghost use Rattle.std.specs.List.Sorted.{IsPermutation};
 ghost use Rattle.crush_model.specs.ItemRows.{device_row};
 ghost use Rattle.crush_model.specs.Stands.{Stands};
 ghost use Rattle.crush_model.specs.Table.{Row};
@@ -11,9 +10,10 @@ ghost use Rattle.crush_print.specs.ItemsText.{buckets_among, id_number, leaves, 
 ghost use Rattle.crush_print.specs.Lines.{device_line};
 ghost use Rattle.crush_print.specs.MapText.{ascending, bucket_numbers, device_lines, device_numbers, root_texts};
 
+use crush_items::nodes_in_order;
 use crush_map::CrushMap;
 use crush_tree::{Bucket, Forest, Leaf, Node};
-use crush_units::{BucketId, DeviceId, ItemId};
+use crush_units::{BucketId, DeviceId};
 use std::alloc::{AllocError, Allocator, Global};
 
 /// Returns the ids of all devices of a map in ascending order, as the map's text has them. An `Err`
@@ -142,40 +142,5 @@ fn find_buckets<'a, A: Allocator>(
             found.push(bucket)?;
             Ok(())
         }
-    }
-}
-
-/// Returns references to the nodes, in the order of the distances of their ids from 0: devices by
-/// ascending id, buckets from -1 downward. An `Err` says that memory ran out.
-pub fn nodes_in_order<A: Allocator>(
-    alloc: Global,
-    nodes: &[Node<A>],
-) -> Result<Vec<&Node<A>>, AllocError>
-    ensures same { IfOk result (λ sorted. IsPermutation nodes.now (map (λ r. r.now) sorted.items)) }
-    ensures rising { IfOk result (λ sorted. map (λ r. id_number (node_id r.now)) sorted.items
-        ≡ ascending (map (λ node. id_number (node_id node)) nodes.now)) }
-{
-    let mut sorted = references(alloc, nodes)?;
-    sorted.sort_unstable_by_key(|node| number_of(*node));
-    Ok(sorted)
-}
-
-fn references<A: Allocator>(alloc: Global, nodes: &[Node<A>]) -> Result<Vec<&Node<A>>, AllocError>
-    ensures { IfOk result (λ references. map (λ r. r.now) references.items ≡ nodes.now) }
-{
-    let mut references = Vec::new(alloc);
-    for node in nodes {
-        references.push(node)?;
-    }
-    Ok(references)
-}
-
-/// Returns the distance of the node's id from 0.
-fn number_of<A: Allocator>(node: &Node<A>) -> u32
-    ensures { result ≡ id_number (node_id node.now) }
-{
-    match node.id() {
-        ItemId::Device(device) => device.number(),
-        ItemId::Bucket(bucket) => bucket.distance(),
     }
 }

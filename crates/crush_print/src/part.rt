@@ -1,14 +1,17 @@
 //! A walk of a part of a map's tree: one item with what is below it, down to the buckets of a type.
 
-ghost use Rattle.std.specs.Prelude.{◌≡◌, ◌<◌, ◌^◌, ◌∷◌, ◌++◌, [], List, All, IfNone, IfOk, IfSome, None, Some, false, length, slice_index_or, map as each};
+ghost use Rattle.std.specs.Prelude.{◌≡◌, ◌<◌, ◌≤◌, ◌^◌, ◌∷◌, ◌++◌, [], ℕ, List, All, IfNone, IfOk, IfSome, None, Some, false, length, slice_index_or, map as each};
+ghost use Rattle.crush_units.specs.declared.limits.TheConstants.{HEAVIEST_BUCKET};
+ghost use Rattle.crush_nodes.specs.Classed.{class_sum_in};
 ghost use Rattle.crush_nodes.specs.Seen.{items_of, node_id};
 ghost use Rattle.crush_model.specs.Items.{size_of};
 ghost use Rattle.crush_model.specs.Stands.{Stands};
 ghost use Rattle.crush_model.specs.Table.{Row, kids, parent_of, row_of};
 ghost use Rattle.crush_units.specs.Id.{same_id};
 ghost use Rattle.crush_print.specs.WalkStep.{walk_step_data};
-ghost use Rattle.crush_print.specs.SeenPart.{HasSteps};
-ghost use Rattle.crush_print.specs.Tree.{WalkStepData, steps_at};
+ghost use Rattle.crush_items.specs.SeenPart.{HasSteps};
+ghost use Rattle.crush_items.specs.Tree.{WalkStepData, steps_at};
+ghost use Rattle.crush_print.specs.ClassItems.{HasWeights};
 ghost use Rattle.crush_print.specs.TreePart.{closed_by, cut, down_to, is_closed, part_steps, steps_under, whole_tree};
 
 use crate::steps::{WalkStep, push_steps, walk};
@@ -59,7 +62,7 @@ pub fn walk_part<A: Allocator>(
 }
 
 /// Returns the item and all items below it; for `None`, all items of the map.
-fn walk_under<A: Allocator>(
+pub(crate) fn walk_under<A: Allocator>(
     alloc: Global,
     map: &CrushMap<A>,
     under: Option<ItemId>,
@@ -95,10 +98,14 @@ fn walk_item<'a, A: Allocator>(
 }
 
 /// Returns the nodes among which the item is, if the map has it.
-fn beside<'a, A: Allocator>(map: &'a CrushMap<A>, id: &ItemId) -> &'a [Node<A>]
+pub(crate) fn beside<'a, A: Allocator>(map: &'a CrushMap<A>, id: &ItemId) -> &'a [Node<A>]
     ensures few { size_of (items_of result.now) < 2 ^ 31 }
     ensures steps { (t : List Row) → Stands map.now.forest t
         → All (HasSteps t (parent_of t id.now)) result.now }
+    ensures weights { (t : List Row) (c : List ℕ) → Stands map.now.forest t
+        → All (HasWeights t c) result.now }
+    ensures light { (c : List ℕ)
+        → All (λ node. class_sum_in c (items_of (node ∷ [])) ≤ HEAVIEST_BUCKET) result.now }
     ensures others { (t : List Row) → Stands map.now.forest t
         → All (λ node. same_id (node_id node) id.now ≡ false) result.now
         → steps_at t (length t) 0 id.now ≡ [] }
@@ -114,6 +121,10 @@ fn nodes_in<A: Allocator>(map: &CrushMap<A>, bucket: BucketId) -> &[Node<A>]
     ensures few { size_of (items_of result.now) < 2 ^ 31 }
     ensures steps { (t : List Row) → Stands map.now.forest t
         → All (HasSteps t (Some bucket)) result.now }
+    ensures weights { (t : List Row) (c : List ℕ) → Stands map.now.forest t
+        → All (HasWeights t c) result.now }
+    ensures light { (c : List ℕ)
+        → All (λ node. class_sum_in c (items_of (node ∷ [])) ≤ HEAVIEST_BUCKET) result.now }
     ensures ids { (t : List Row) → Stands map.now.forest t
         → each node_id result.now ≡ kids t bucket }
 {
@@ -129,6 +140,10 @@ fn tops_like<'a, A: Allocator>(map: &'a CrushMap<A>, id: &ItemId) -> &'a [Node<A
     ensures few { size_of (items_of result.now) < 2 ^ 31 }
     ensures steps { (t : List Row) → Stands map.now.forest t
         → All (HasSteps t None) result.now }
+    ensures weights { (t : List Row) (c : List ℕ) → Stands map.now.forest t
+        → All (HasWeights t c) result.now }
+    ensures light { (c : List ℕ)
+        → All (λ node. class_sum_in c (items_of (node ∷ [])) ≤ HEAVIEST_BUCKET) result.now }
     ensures others { (t : List Row) → Stands map.now.forest t → parent_of t id.now ≡ None
         → All (λ node. same_id (node_id node) id.now ≡ false) result.now
         → row_of t id.now ≡ None }
@@ -142,7 +157,7 @@ fn tops_like<'a, A: Allocator>(map: &'a CrushMap<A>, id: &ItemId) -> &'a [Node<A
 }
 
 /// Returns the index of the node with this id.
-fn place_of<A: Allocator>(nodes: &[Node<A>], id: &ItemId) -> Option<usize>
+pub(crate) fn place_of<A: Allocator>(nodes: &[Node<A>], id: &ItemId) -> Option<usize>
     ensures within { IfSome result (λ k. k < length nodes.now) }
     ensures id { IfSome result (λ k. (d : _) → node_id (slice_index_or nodes.now k d) ≡ id.now) }
     ensures none { IfNone result
@@ -218,7 +233,7 @@ fn copy_of<'a, A: Allocator>(step: &WalkStep<'a, A>) -> WalkStep<'a, A>
 }
 
 /// Whether the step is deeper than `closed`, so that it is below the bucket of that depth.
-fn is_closed<A: Allocator>(closed: Option<u32>, step: &WalkStep<'_, A>) -> bool
+pub(crate) fn is_closed<A: Allocator>(closed: Option<u32>, step: &WalkStep<'_, A>) -> bool
     ensures { result ≡ is_closed closed (walk_step_data step.now) }
 {
     match closed {
@@ -228,7 +243,7 @@ fn is_closed<A: Allocator>(closed: Option<u32>, step: &WalkStep<'_, A>) -> bool
 }
 
 /// Returns the step's depth if its item has the type `kind`.
-fn closed_by<A: Allocator>(kind: TypeId, step: &WalkStep<'_, A>) -> Option<u32>
+pub(crate) fn closed_by<A: Allocator>(kind: TypeId, step: &WalkStep<'_, A>) -> Option<u32>
     ensures { result ≡ closed_by kind (walk_step_data step.now) }
 {
     if step.view().kind.number() == kind.number() {

@@ -9,13 +9,16 @@ ghost use Rattle.crush_print.specs.Lines.{id_text};
 ghost use Rattle.crush_model.specs.Stands.{Stands};
 ghost use Rattle.crush_model.specs.Table.{Row};
 ghost use Rattle.crush_units.specs.Weight.{weight_text};
-ghost use Rattle.crush_print.specs.WalkStep.{walk_step_data};
+ghost use Rattle.crush_print.specs.ClassTree.{class_tree_text};
+ghost use Rattle.crush_print.specs.TreeLine.{line_data};
 ghost use Rattle.crush_print.specs.TreePart.{WholeTreeIsAPart, tree_part_text};
 ghost use Rattle.crush_print.specs.TreeText.{SameTablesHaveOneTree, at_right, heading, indent, kind_prefix, step_line, steps_text, tree_text, widths_of};
 
+use crate::classes::weights_under;
 use crate::columns::{push_left, push_right};
-use crate::part::{TreePart, walk_part};
-use crate::steps::{WalkStep, walk};
+use crate::part::{TreePart, walk_part, walk_under};
+use crate::steps::walk;
+use crate::tree_line::{TreeLine, lines_of, weighed_lines};
 use crate::words::{bytes_of, push_id, push_indent, push_kind, push_row, push_weight};
 use crush_map::{CrushMap, Setting};
 use crush_tree::View;
@@ -72,6 +75,29 @@ pub fn write_tree_part<A: Allocator, W: Write>(
     put(out, text.as_slice())
 }
 
+/// Writes a part of the tree of a map as [`write_tree_part`] does, but only the devices of one class
+/// count: the weight of a line is that of all devices of the class that are the item or below it.
+/// An item without such a device has no line. After a fault the same is written as by
+/// [`write_tree`]: nothing after `OutOfMemory`, otherwise a prefix of the text that isn't the whole.
+pub fn write_tree_of_class<A: Allocator, W: Write>(
+    alloc: Global,
+    map: &CrushMap<A>,
+    part: TreePart,
+    class: &str,
+    out: &mut W,
+) -> Result<(), WriteFault>
+    ensures writes { (t : List Row) → Stands map.now.forest t → Writes result
+        (W.contents out.old) (W.contents out.new) (class_tree_text map.now.setting part class.now t) }
+    ensures none { result ≡ Err WriteFault.OutOfMemory
+        → Keeps (W.contents out.old) (W.contents out.new) }
+{
+    let mut text = Vec::new(alloc);
+    if push_class_tree(alloc, map, part, class, &mut text).is_err() {
+        return Err(WriteFault::OutOfMemory);
+    }
+    put(out, text.as_slice())
+}
+
 /// The law that [`TreePart::whole`] is the whole tree.
 pub fn whole_tree_is_a_part()
     ensures { WholeTreeIsAPart }
@@ -93,7 +119,8 @@ fn push_tree<A: Allocator>(
         → OnOk result (out.new.items ≡ out.old.items ++ tree_text map.now.setting t) }
 {
     let steps = walk(alloc, map)?;
-    push_text(alloc, map.setting(), steps.as_slice(), out)
+    let lines = lines_of(alloc, steps.as_slice())?;
+    push_text(alloc, map.setting(), lines.as_slice(), out)
 }
 
 #[tactic(auto, unfolding(crate::specs::TreePart::tree_part_text))]
@@ -107,56 +134,74 @@ fn push_part<A: Allocator>(
         → OnOk result (out.new.items ≡ out.old.items ++ tree_part_text map.now.setting part t) }
 {
     let steps = walk_part(alloc, map, part)?;
-    push_text(alloc, map.setting(), steps.as_slice(), out)
+    let lines = lines_of(alloc, steps.as_slice())?;
+    push_text(alloc, map.setting(), lines.as_slice(), out)
+}
+
+#[tactic(auto, unfolding(crate::specs::ClassTree::class_steps, crate::specs::ClassTree::class_tree_text, crate::specs::TreePart::part_steps))]
+fn push_class_tree<A: Allocator>(
+    alloc: Global,
+    map: &CrushMap<A>,
+    part: TreePart,
+    class: &str,
+    out: &mut Vec<u8>,
+) -> Result<(), AllocError>
+    ensures { (t : List Row) → Stands map.now.forest t
+        → OnOk result (out.new.items ≡ out.old.items ++ class_tree_text map.now.setting part class.now t) }
+{
+    let steps = walk_under(alloc, map, part.under)?;
+    let weights = weights_under(alloc, map, part.under, class)?;
+    let lines = weighed_lines(alloc, steps.as_slice(), weights.as_slice(), part.down_to)?;
+    push_text(alloc, map.setting(), lines.as_slice(), out)
 }
 
 #[tactic(auto, unfolding(crate::specs::TreeText::steps_text))]
-fn push_text<A: Allocator>(
+fn push_text(
     alloc: Global,
     setting: &Setting,
-    steps: &[WalkStep<'_, A>],
+    lines: &[TreeLine<'_>],
     out: &mut Vec<u8>,
 ) -> Result<(), AllocError>
     ensures { OnOk result (out.new.items ≡ out.old.items
-        ++ steps_text setting.now (each walk_step_data steps.now)) }
+        ++ steps_text setting.now (each line_data lines.now)) }
 {
-    let widths = widths_of(alloc, steps)?;
+    let widths = widths_of(alloc, lines)?;
     push_heading(alloc, &widths, out)?;
-    push_lines(alloc, setting, &widths, steps, out)
+    push_lines(alloc, setting, &widths, lines, out)
 }
 
-fn push_lines<A: Allocator>(
+fn push_lines(
     alloc: Global,
     setting: &Setting,
     widths: &Widths,
-    steps: &[WalkStep<'_, A>],
+    lines: &[TreeLine<'_>],
     out: &mut Vec<u8>,
 ) -> Result<(), AllocError>
     ensures { OnOk result (out.new.items ≡ out.old.items
-        ++ flat_map (λ s. step_line setting.now widths.now (walk_step_data s)) steps.now) }
+        ++ flat_map (λ l. step_line setting.now widths.now (line_data l)) lines.now) }
 {
-    for step in steps {
-        push_line(alloc, setting, widths, step, out)?;
+    for line in lines {
+        push_line(alloc, setting, widths, line, out)?;
     }
     Ok(())
 }
 
 #[tactic(auto, unfolding(crate::specs::TreeText::step_line))]
-fn push_line<A: Allocator>(
+fn push_line(
     alloc: Global,
     setting: &Setting,
     widths: &Widths,
-    step: &WalkStep<'_, A>,
+    line: &TreeLine<'_>,
     out: &mut Vec<u8>,
 ) -> Result<(), AllocError>
     ensures { OnOk result (out.new.items ≡ out.old.items
-        ++ step_line setting.now widths.now (walk_step_data step.now)) }
+        ++ step_line setting.now widths.now (line_data line.now)) }
 {
-    let view = step.view();
+    let view = &line.view;
     let id = id_column(alloc, widths.id, view.id)?;
     let class = class_column(alloc, widths.class, view.class)?;
     let weight = weight_column(alloc, widths.weight, view.weight)?;
-    let name = name_column(alloc, setting, step.depth, &view)?;
+    let name = name_column(alloc, setting, line.depth, view)?;
     push_row(
         id.as_slice(),
         class.as_slice(),
@@ -259,15 +304,15 @@ fn wider_weight(alloc: Global, width: usize, weight: Weight) -> Result<usize, Al
     Ok(wider(width, word.as_slice()))
 }
 
-/// Returns the least widths in which the headings and the words of all steps fit.
-fn widths_of<A: Allocator>(alloc: Global, steps: &[WalkStep<'_, A>]) -> Result<Widths, AllocError>
-    ensures { IfOk result (λ widths. widths ≡ widths_of (each walk_step_data steps.now)) }
+/// Returns the least widths in which the headings and the words of all lines fit.
+fn widths_of(alloc: Global, lines: &[TreeLine<'_>]) -> Result<Widths, AllocError>
+    ensures { IfOk result (λ widths. widths ≡ widths_of (each line_data lines.now)) }
 {
     let mut id = 2;
     let mut class = 5;
     let mut weight = 6;
-    for step in steps {
-        let view = step.view();
+    for line in lines {
+        let view = &line.view;
         id = wider_id(alloc, id, view.id)?;
         class = wider(class, bytes_of(view.class));
         weight = wider_weight(alloc, weight, view.weight)?;

@@ -26,6 +26,7 @@ strict_of_early X strict h (run.Made n) early = absurd early
 strict_of_early X strict h (run.Differs n) early = absurd early
 strict_of_early X strict h run.NoItem early = absurd early
 strict_of_early X strict h run.NoType early = absurd early
+strict_of_early X strict h run.NoClass early = absurd early
 strict_of_early X strict h (run.SecondMap w s) early = tt
 
 pub early_strict : {X : Type 0} (strict : Bool) (h : List EntryData) (r : Result X RunFault) (f : RunFault) → r ≡ Err f → IsEarlyFault f → IsStrict strict h r
@@ -43,6 +44,7 @@ make_of_early X no_make h (run.Made n) early = absurd early
 make_of_early X no_make h (run.Differs n) early = absurd early
 make_of_early X no_make h run.NoItem early = absurd early
 make_of_early X no_make h run.NoType early = absurd early
+make_of_early X no_make h run.NoClass early = absurd early
 make_of_early X no_make h (run.SecondMap w s) early = tt
 
 pub early_make : {X : Type 0} (no_make : Bool) (h : List EntryData) (r : Result X RunFault) (f : RunFault) → r ≡ Err f → IsEarlyFault f → IsNoMake no_make h r
@@ -60,6 +62,7 @@ found_of_early X what s t (run.Made n) early = absurd early
 found_of_early X what s t (run.Differs n) early = absurd early
 found_of_early X what s t run.NoItem early = absurd early
 found_of_early X what s t run.NoType early = absurd early
+found_of_early X what s t run.NoClass early = absurd early
 found_of_early X what s t (run.SecondMap w o) early = tt
 
 pub early_found : {X : Type 0} (what : Output) (s : SettingData) (t : List Row) (r : Result X RunFault) (f : RunFault) → r ≡ Err f → IsEarlyFault f → IsFound what s t r
@@ -77,6 +80,7 @@ whole_of_early X strict rest (run.Made n) early = absurd early
 whole_of_early X strict rest (run.Differs n) early = absurd early
 whole_of_early X strict rest run.NoItem early = absurd early
 whole_of_early X strict rest run.NoType early = absurd early
+whole_of_early X strict rest run.NoClass early = absurd early
 whole_of_early X strict rest (run.SecondMap w s) early = tt
 
 pub early_whole : {X : Type 0} (strict : Bool) (rest : List ℕ) (r : Result X RunFault) (f : RunFault) → r ≡ Err f → IsEarlyFault f → IsWhole strict rest r
@@ -94,6 +98,7 @@ told_of_early X mode text s t names h rest (run.Made n) notes early = absurd ear
 told_of_early X mode text s t names h rest (run.Differs n) notes early = absurd early
 told_of_early X mode text s t names h rest run.NoItem notes early = absurd early
 told_of_early X mode text s t names h rest run.NoType notes early = absurd early
+told_of_early X mode text s t names h rest run.NoClass notes early = absurd early
 told_of_early X mode text s t names h rest (run.SecondMap w o) notes early = tt
 
 pub early_told : {X : Type 0} (mode : Mode) (text : TextData) (s : SettingData) (t : List Row) (names : List (List ℕ)) (h : List EntryData) (rest : List ℕ) (r : Result X RunFault) (f : RunFault) (notes : List ℕ) → r ≡ Err f → IsEarlyFault f → AreNotesOfHistory mode text s t names h rest r notes
@@ -111,6 +116,7 @@ noted_of_input explain origin all (run.Made n) notes h none = absurd h
 noted_of_input explain origin all (run.Differs n) notes h none = absurd h
 noted_of_input explain origin all run.NoItem notes h none = absurd h
 noted_of_input explain origin all run.NoType notes h none = absurd h
+noted_of_input explain origin all run.NoClass notes h none = absurd h
 noted_of_input explain origin all (run.SecondMap w s) notes h none = absurd h
 
 pub input_noted : {X : Type 0} (explain : Bool) (origin : ℕ → OriginData) (all : Option (List ℕ)) (r : Result X RunFault) (f : RunFault) (notes : List ℕ) → r ≡ Err f → IsInputFault f → notes ≡ [] → AreNotesOfResult explain origin all r notes
@@ -127,6 +133,7 @@ noted_of_scripts explain in_turn origin all (run.Made n) notes h none = absurd h
 noted_of_scripts explain in_turn origin all (run.Differs n) notes h none = absurd h
 noted_of_scripts explain in_turn origin all run.NoItem notes h none = absurd h
 noted_of_scripts explain in_turn origin all run.NoType notes h none = absurd h
+noted_of_scripts explain in_turn origin all run.NoClass notes h none = absurd h
 noted_of_scripts explain in_turn origin all (run.SecondMap w s) notes h none = absurd h
 
 pub scripts_noted : {X : Type 0} (explain in_turn : Bool) (origin : ℕ → OriginData) (all : Option (List ℕ)) (r : Result X RunFault) (f : RunFault) (notes : List ℕ) → r ≡ Err f → IsScriptsFault in_turn f → notes ≡ [] → AreNotesOfResult explain origin all r notes
@@ -144,6 +151,7 @@ early_of_input (run.Made n) h = absurd h
 early_of_input (run.Differs n) h = absurd h
 early_of_input run.NoItem h = absurd h
 early_of_input run.NoType h = absurd h
+early_of_input run.NoClass h = absurd h
 early_of_input (run.SecondMap w s) h = absurd h
 
 pub early_of_scripts : (in_turn : Bool) (f : RunFault) → IsScriptsFault in_turn f → IsEarlyFault f
@@ -157,6 +165,7 @@ early_of_scripts in_turn (run.Made n) h = absurd h
 early_of_scripts in_turn (run.Differs n) h = absurd h
 early_of_scripts in_turn run.NoItem h = absurd h
 early_of_scripts in_turn run.NoType h = absurd h
+early_of_scripts in_turn run.NoClass h = absurd h
 early_of_scripts in_turn (run.SecondMap w s) h = absurd h
 
 pub early_of_no_job : (all : Option (List ℕ)) (f : RunFault) → IsNoJob all f → IsEarlyFault f
@@ -170,6 +179,7 @@ early_of_no_job all (run.Made n) h = absurd h
 early_of_no_job all (run.Differs n) h = absurd h
 early_of_no_job all run.NoItem h = absurd h
 early_of_no_job all run.NoType h = absurd h
+early_of_no_job all run.NoClass h = absurd h
 early_of_no_job all (run.SecondMap w s) h = absurd h
 
 pub early_of_read : (all : Option (List ℕ)) (f : RunFault) → IsReadFault all f → IsEarlyFault f
@@ -183,4 +193,5 @@ early_of_read all (run.Made n) h = absurd h
 early_of_read all (run.Differs n) h = absurd h
 early_of_read all run.NoItem h = absurd h
 early_of_read all run.NoType h = absurd h
+early_of_read all run.NoClass h = absurd h
 early_of_read all (run.SecondMap w s) h = absurd h

@@ -39,6 +39,7 @@ ending_of_all mode o all bytes (Err (run.Made n)) notes input h told = told
 ending_of_all mode o all bytes (Err (run.Differs n)) notes input h told = told
 ending_of_all mode o all bytes (Err run.NoItem) notes input h told = told
 ending_of_all mode o all bytes (Err run.NoType) notes input h told = told
+ending_of_all mode o all bytes (Err run.NoClass) notes input h told = told
 ending_of_all mode o all bytes (Err (run.SecondMap w s)) notes input h told = absurd h
 
 -- if no entry was refused, then there are no lines of refused entries
@@ -86,7 +87,7 @@ pub explained_needs : (mode : Mode) (what : Output) → mode.explain ≡ true �
 explained_needs mode output.Map on = on
 explained_needs mode (output.Tree part) on = on
 explained_needs mode (output.Since old) on = on
-explained_needs mode (output.Changes m) on = on
+explained_needs mode (output.Changes old) on = on
 explained_needs mode output.AsCeph on = refl
 explained_needs mode (output.To w) on = on
 
@@ -104,6 +105,7 @@ told_of_end mode text s t names h rest (Err (run.Made n)) noted notes are made w
 told_of_end mode text s t names h rest (Err (run.Differs n)) noted notes are made whole is = is ∙ are.whole whole.0
 told_of_end mode text s t names h rest (Err run.NoItem) noted notes are made whole is = is ∙ are.calls
 told_of_end mode text s t names h rest (Err run.NoType) noted notes are made whole is = is ∙ are.calls
+told_of_end mode text s t names h rest (Err run.NoClass) noted notes are made whole is = is ∙ are.calls
 told_of_end mode text s t names h rest (Err (run.SecondMap w o)) noted notes are made whole is = tt
 
 -- and without `explain` there are none, except those of what ended the run
@@ -120,4 +122,5 @@ noted_of_end mode text s t names h rest (Err (run.Made n)) noted notes origin al
 noted_of_end mode text s t names h rest (Err (run.Differs n)) noted notes origin all are may strict plain is = tt
 noted_of_end mode text s t names h rest (Err run.NoItem) noted notes origin all are may strict plain is = quiet_notes mode text s t names h notes plain strict (λ quiet. is ∙ (are quiet).calls)
 noted_of_end mode text s t names h rest (Err run.NoType) noted notes origin all are may strict plain is = quiet_notes mode text s t names h notes plain strict (λ quiet. is ∙ (are quiet).calls)
+noted_of_end mode text s t names h rest (Err run.NoClass) noted notes origin all are may strict plain is = quiet_notes mode text s t names h notes plain strict (λ quiet. is ∙ (are quiet).calls)
 noted_of_end mode text s t names h rest (Err (run.SecondMap w o)) noted notes origin all are may strict plain is = absurd may

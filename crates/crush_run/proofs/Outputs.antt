@@ -33,13 +33,14 @@ early_of_map why all (run.Made n) h = absurd h
 early_of_map why all (run.Differs n) h = absurd h
 early_of_map why all run.NoItem h = absurd h
 early_of_map why all run.NoType h = absurd h
+early_of_map why all run.NoClass h = absurd h
 early_of_map why all (run.SecondMap w s) h = tt
 
 pub early_of_output : (content : List ℕ → Option (List ℕ)) (what : OutputSpec) (f : RunFault) → IsOutputFault content what f → IsEarlyFault f
 early_of_output content output_spec.Map f h = absurd h
 early_of_output content (output_spec.Tree part) f h = rw h tt
 early_of_output content (output_spec.Since words) f h = early_of_map second.Since (content words.map.bytes.items) f h
-early_of_output content (output_spec.Changes name) f h = early_of_map second.Since (content name.bytes.items) f h
+early_of_output content (output_spec.Changes words) f h = early_of_map second.Since (content words.map.bytes.items) f h
 early_of_output content output_spec.AsCeph f h = absurd h
 early_of_output content (output_spec.To words) f h = early_of_map second.To (content words.map.bytes.items) f h
 
@@ -55,6 +56,7 @@ ended_before content options origin bytes job (run.Made n) old new notes early =
 ended_before content options origin bytes job (run.Differs n) old new notes early = absurd early
 ended_before content options origin bytes job run.NoItem old new notes early = absurd early
 ended_before content options origin bytes job run.NoType old new notes early = absurd early
+ended_before content options origin bytes job run.NoClass old new notes early = absurd early
 ended_before content options origin bytes job (run.SecondMap w s) old new notes early = tt
 
 pub ended_before_output : (content : List ℕ → Option (List ℕ)) (options : Options) (origin : ℕ → OriginData) (bytes : List ℕ) (job : JobData) (r : Result Summary RunFault) (f : RunFault) (old new : Option (List ℕ)) (notes : List ℕ) → r ≡ Err f → IsEarlyFault f
@@ -75,6 +77,7 @@ ended content options what origin bytes job (Err (run.Made n)) old new notes is 
 ended content options what origin bytes job (Err (run.Differs n)) old new notes is ends = record { what = what; output = is; ends = ends }
 ended content options what origin bytes job (Err run.NoItem) old new notes is ends = record { what = what; output = is; ends = ends }
 ended content options what origin bytes job (Err run.NoType) old new notes is ends = record { what = what; output = is; ends = ends }
+ended content options what origin bytes job (Err run.NoClass) old new notes is ends = record { what = what; output = is; ends = ends }
 ended content options what origin bytes job (Err (run.SecondMap w s)) old new notes is ends = tt
 
 pub ended_as_wanted : (content : List ℕ → Option (List ℕ)) (options : Options) (what : Output) (origin : ℕ → OriginData) (bytes : List ℕ) (job : JobData) (text : TextData) (r : Result Summary RunFault) (old new : Option (List ℕ)) (notes : List ℕ) → IsOutputOf content options.output_spec what
@@ -94,6 +97,7 @@ options_fault_of_read content options all (run.Made n) h = absurd h
 options_fault_of_read content options all (run.Differs n) h = absurd h
 options_fault_of_read content options all run.NoItem h = absurd h
 options_fault_of_read content options all run.NoType h = absurd h
+options_fault_of_read content options all run.NoClass h = absurd h
 options_fault_of_read content options all (run.SecondMap w s) h = absurd h
 
 fault_of_map : (content : List ℕ → Option (List ℕ)) (options : Options) (why : SecondMap) (all own : Option (List ℕ)) (f : RunFault) → IfSome all HasJob → IsOutputFault content options.output_spec f → IsMapFault why own f → IsOptionsFault content options all f
@@ -107,6 +111,7 @@ fault_of_map content options why all own (run.Made n) has output h = absurd h
 fault_of_map content options why all own (run.Differs n) has output h = absurd h
 fault_of_map content options why all own run.NoItem has output h = absurd h
 fault_of_map content options why all own run.NoType has output h = absurd h
+fault_of_map content options why all own run.NoClass has output h = absurd h
 fault_of_map content options why all own (run.SecondMap w s) has output h = (has, output)
 
 -- a fault of the selected output is a fault of another map, or may be one
@@ -114,7 +119,7 @@ output_is_map : (content : List ℕ → Option (List ℕ)) (what : OutputSpec) (
 output_is_map content output_spec.Map f h = absurd h
 output_is_map content (output_spec.Tree part) f h = (second.Since, None, rw h tt)
 output_is_map content (output_spec.Since words) f h = (second.Since, content words.map.bytes.items, h)
-output_is_map content (output_spec.Changes name) f h = (second.Since, content name.bytes.items, h)
+output_is_map content (output_spec.Changes words) f h = (second.Since, content words.map.bytes.items, h)
 output_is_map content output_spec.AsCeph f h = absurd h
 output_is_map content (output_spec.To words) f h = (second.To, content words.map.bytes.items, h)
 
@@ -136,6 +141,7 @@ options_fault_of_outcome content options all (Err (run.Made n)) has h = (h, has)
 options_fault_of_outcome content options all (Err (run.Differs n)) has h = (h, has)
 options_fault_of_outcome content options all (Err run.NoItem) has h = has
 options_fault_of_outcome content options all (Err run.NoType) has h = has
+options_fault_of_outcome content options all (Err run.NoClass) has h = has
 options_fault_of_outcome content options all (Err (run.SecondMap w s)) has h = absurd h
 
 -- if the bytes are a job, then this holds after success too
@@ -157,6 +163,7 @@ ending_as_wanted content options input (Err (run.Made n)) notes h told = told
 ending_as_wanted content options input (Err (run.Differs n)) notes h told = told
 ending_as_wanted content options input (Err run.NoItem) notes h told = told
 ending_as_wanted content options input (Err run.NoType) notes h told = told
+ending_as_wanted content options input (Err run.NoClass) notes h told = told
 ending_as_wanted content options input (Err (run.SecondMap w s)) notes h told = absurd h
 
 -- the notes of a fault of the selected output, which can only be a fault of another map, are as the options select
@@ -172,6 +179,7 @@ noted_of_map content options why input own name (run.Made n) notes may told outp
 noted_of_map content options why input own name (run.Differs n) notes may told output = absurd may
 noted_of_map content options why input own name run.NoItem notes may told output = absurd may
 noted_of_map content options why input own name run.NoType notes may told output = absurd may
+noted_of_map content options why input own name run.NoClass notes may told output = absurd may
 noted_of_map content options why input own name (run.SecondMap w s) notes may told output = output
 
 output_is_noted : (content : List ℕ → Option (List ℕ)) (explain : Bool) (what : OutputSpec) (f : RunFault) (notes : List ℕ) → IsOutputFault content what f → AreNotesOfOutputFault content explain what f notes
@@ -179,7 +187,7 @@ output_is_noted : (content : List ℕ → Option (List ℕ)) (explain : Bool) (w
 output_is_noted content explain output_spec.Map f notes h told = absurd h
 output_is_noted content explain (output_spec.Tree part) f notes h told = (second.Since, None, [], rw h tt, rw h told)
 output_is_noted content explain (output_spec.Since words) f notes h told = (second.Since, content words.map.bytes.items, words.map.bytes.items, h, told)
-output_is_noted content explain (output_spec.Changes name) f notes h told = (second.Since, content name.bytes.items, name.bytes.items, h, told)
+output_is_noted content explain (output_spec.Changes words) f notes h told = (second.Since, content words.map.bytes.items, words.map.bytes.items, h, told)
 output_is_noted content explain output_spec.AsCeph f notes h told = absurd h
 output_is_noted content explain (output_spec.To words) f notes h told = (second.To, content words.map.bytes.items, words.map.bytes.items, h, told)
 

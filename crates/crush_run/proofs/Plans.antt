@@ -6,9 +6,9 @@ use Rattle.crush_model.specs.Table.{Row}
 use Rattle.crush_edits.specs.Setting.{SettingData}
 use Rattle.crush_since.specs.Since.{PlainMap, plain_map}
 use Rattle.crush_print.specs.Tree.{tree_rows}
-use Rattle.crush_names.specs.Aside.{is_aside, other_class_ids, other_id}
+use Rattle.crush_since.specs.Aside.{is_aside, other_class_ids, other_id}
 use Rattle.crush_plan.specs.Plan.{IsPlan, PlanData}
-use Rattle.crush_names.specs.Stays.{stays_part}
+use Rattle.crush_since.specs.Stays.{stays_part}
 use Rattle.crush_input.specs.declared.output.Output.{Output}
 use Rattle.crush_input.specs.declared.output.Output.TheVariants as output
 use Rattle.crush_input.specs.Options.{name_text}
@@ -34,7 +34,7 @@ pub some_plan : Output → SettingData → List Row → PlanData
 some_plan output.Map s t = record { edits = []; rest = []; aside = record { ids = 0; class_ids = 0 } }
 some_plan (output.Tree part) s t = record { edits = []; rest = []; aside = record { ids = 0; class_ids = 0 } }
 some_plan (output.Since old) s t = record { edits = []; rest = []; aside = record { ids = 0; class_ids = 0 } }
-some_plan (output.Changes m) s t = record { edits = []; rest = []; aside = record { ids = 0; class_ids = 0 } }
+some_plan (output.Changes old) s t = record { edits = []; rest = []; aside = record { ids = 0; class_ids = 0 } }
 some_plan output.AsCeph s t = record { edits = []; rest = []; aside = record { ids = 0; class_ids = 0 } }
 some_plan (output.To w) s t = without (name_text w.under) (plain_map s t) (plain_map w.map.setting (rows_of w.map.forest))
 
@@ -43,6 +43,6 @@ unfolding some_plan
 some_plan_is output.Map s t = refl
 some_plan_is (output.Tree part) s t = refl
 some_plan_is (output.Since old) s t = refl
-some_plan_is (output.Changes m) s t = refl
+some_plan_is (output.Changes old) s t = refl
 some_plan_is output.AsCeph s t = refl
 some_plan_is (output.To w) s t = without_is_plan (name_text w.under) (plain_map s t) (plain_map w.map.setting (rows_of w.map.forest))

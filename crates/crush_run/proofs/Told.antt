@@ -25,6 +25,7 @@ run_fault_of_all mode (Err (run.Made n)) all bytes input h = (h.0, has_job all b
 run_fault_of_all mode (Err (run.Differs n)) all bytes input h = (h.0, has_job all bytes input h.1)
 run_fault_of_all mode (Err run.NoItem) all bytes input h = has_job all bytes input h
 run_fault_of_all mode (Err run.NoType) all bytes input h = has_job all bytes input h
+run_fault_of_all mode (Err run.NoClass) all bytes input h = has_job all bytes input h
 run_fault_of_all mode (Err (run.SecondMap w s)) all bytes input h = absurd h
 
 -- if a job was read, then the bytes are a job
@@ -45,6 +46,7 @@ run_fault_of_job mode (Err (run.Made n)) all has h = (h, has)
 run_fault_of_job mode (Err (run.Differs n)) all has h = (h, has)
 run_fault_of_job mode (Err run.NoItem) all has h = has
 run_fault_of_job mode (Err run.NoType) all has h = has
+run_fault_of_job mode (Err run.NoClass) all has h = has
 run_fault_of_job mode (Err (run.SecondMap w s)) all has h = absurd h
 
 -- a fault of the scripts is one of the outcome
@@ -59,6 +61,7 @@ outcome_fault_of_scripts mode (run.Made n) h = absurd h
 outcome_fault_of_scripts mode (run.Differs n) h = absurd h
 outcome_fault_of_scripts mode run.NoItem h = absurd h
 outcome_fault_of_scripts mode run.NoType h = absurd h
+outcome_fault_of_scripts mode run.NoClass h = absurd h
 outcome_fault_of_scripts mode (run.SecondMap w s) h = h
 
 -- and so is a fault of the write
@@ -74,6 +77,7 @@ outcome_fault_of_writing mode (Err (run.Made n)) h = h
 outcome_fault_of_writing mode (Err (run.Differs n)) h = h
 outcome_fault_of_writing mode (Err run.NoItem) h = h
 outcome_fault_of_writing mode (Err run.NoType) h = h
+outcome_fault_of_writing mode (Err run.NoClass) h = h
 outcome_fault_of_writing mode (Err (run.SecondMap w s)) h = h
 
 -- a fault of reading may come with any bytes
@@ -88,6 +92,7 @@ run_fault_of_input mode (run.Made n) all h = absurd h
 run_fault_of_input mode (run.Differs n) all h = absurd h
 run_fault_of_input mode run.NoItem all h = absurd h
 run_fault_of_input mode run.NoType all h = absurd h
+run_fault_of_input mode run.NoClass all h = absurd h
 run_fault_of_input mode (run.SecondMap w s) all h = absurd h
 
 -- bytes that are no job have a fault of the run
@@ -102,4 +107,5 @@ run_fault_of_no_job mode (run.Made n) all h = absurd h
 run_fault_of_no_job mode (run.Differs n) all h = absurd h
 run_fault_of_no_job mode run.NoItem all h = absurd h
 run_fault_of_no_job mode run.NoType all h = absurd h
+run_fault_of_no_job mode run.NoClass all h = absurd h
 run_fault_of_no_job mode (run.SecondMap w s) all h = absurd h

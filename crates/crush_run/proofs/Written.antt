@@ -6,7 +6,7 @@ use Rattle.crush_units.specs.Writes.{Writes}
 use Rattle.crush_units.specs.declared.write.WriteFault.{WriteFault}
 use Rattle.crush_units.specs.declared.write.WriteFault.TheVariants as write
 use Rattle.crush_units.proofs.Appending.{appends_both, less_of_both, then_less}
-use Rattle.crush_names.specs.SinceNames.{WritesOrNothing}
+use Rattle.crush_since.specs.SinceNames.{WritesOrNothing}
 use Rattle.crush_options.specs.declared.parsed_options.Mode.{Mode}
 use Rattle.crush_input.specs.declared.fault.RunFault.{RunFault}
 use Rattle.crush_input.specs.declared.fault.RunFault.TheVariants as run
@@ -62,6 +62,7 @@ unwritten_where_checked X mode (run.Made n) old text h = keeps_same old
 unwritten_where_checked X mode (run.Differs n) old text h = keeps_same old
 unwritten_where_checked X mode run.NoItem old text h = keeps_same old
 unwritten_where_checked X mode run.NoType old text h = keeps_same old
+unwritten_where_checked X mode run.NoClass old text h = keeps_same old
 unwritten_where_checked X mode (run.SecondMap w s) old text h = absurd h
 
 pub unwritten_of_check : {X : Type 0} (mode : Mode) (r : Result X RunFault) (e f : RunFault) (old : Option (List ℕ)) (text : List ℕ) → r ≡ Err e → e ≡ f → IsCheckFault mode f → IsWritten r old old text
@@ -79,6 +80,7 @@ unwritten_early X (run.Made n) old text early = absurd early
 unwritten_early X (run.Differs n) old text early = absurd early
 unwritten_early X run.NoItem old text early = absurd early
 unwritten_early X run.NoType old text early = absurd early
+unwritten_early X run.NoClass old text early = absurd early
 unwritten_early X (run.SecondMap w s) old text early = keeps_same old
 
 pub nothing_written : {X : Type 0} (r : Result X RunFault) (f : RunFault) (old : Option (List ℕ)) (text : List ℕ) → r ≡ Err f → IsEarlyFault f → IsWritten r old old text

@@ -3,6 +3,7 @@ use Rattle.std.specs.Prelude.{◌≡◌, List, Bool, true, false, ℕ, Option, N
 use Rattle.crush_units.specs.declared.id.ItemId.{ItemId}
 use Rattle.crush_model.specs.Table.{Row, id_named, is_named}
 use Rattle.crush_edits.specs.Setting.{SettingData, kind_number}
+use Rattle.crush_print.specs.ClassWeights.{is_class}
 use Rattle.crush_print.specs.declared.part.TreePart.{TreePart}
 use Rattle.crush_options.specs.declared.parsed_options.TreePartSpec.{TreePartSpec}
 use Rattle.crush_input.specs.declared.output.Output.{Output}
@@ -15,13 +16,20 @@ use Rattle.crush_input.specs.Options.{name_text}
 abbrev pub under_of : Output → Option (List ℕ)
 under_of (output.Tree part) = name_text part.under
 under_of (output.Since old) = name_text old.under
+under_of (output.Changes old) = name_text old.part.under
 under_of (output.To target) = name_text target.under
 under_of what = None
 
 -- the name of the type of the buckets below which a tree isn't printed, if there is one
 abbrev pub down_to_of : Output → Option (List ℕ)
 down_to_of (output.Tree part) = name_text part.down_to
+down_to_of (output.Changes old) = name_text old.part.down_to
 down_to_of what = None
+
+-- the name of the class whose devices alone count in a tree, if there is one
+abbrev pub class_of : Output → Option (List ℕ)
+class_of (output.Tree part) = name_text part.class
+class_of what = None
 
 -- the id of the item that has the name in the table t, if a name is given and an item has it
 abbrev pub named_item : List Row → Option (List ℕ) → Option ItemId
@@ -47,24 +55,32 @@ abbrev pub has_kind : Option (List ℕ) → SettingData → Bool
 has_kind None s = true
 has_kind (Some name) s = is_some (kind_number s name)
 
--- the named item and the named type exist, as far as names are given
+-- whether a device of the table has the class of the name, if a name is given; true without a name
+abbrev pub has_class : Option (List ℕ) → List Row → Bool
+has_class None t = true
+has_class (Some name) t = is_class t name
+
+-- the named item, the named type and the named class exist, as far as names are given
 pub record AreThere (what : Output) (s : SettingData) (t : List Row) : Type 0 where
   pub item : has_item (under_of what) t ≡ true
   pub kind : has_kind (down_to_of what) s ≡ true
+  pub class : has_class (class_of what) t ≡ true
 
 -- FOUND: the result of a run agrees with the names. If the run succeeds, fails to write, or ends because differences remain after its plan,
--- then both names exist. If it ends with NoItem, then no item has the name. If it ends with NoType, then the item exists and no type has
--- the name. Nothing is said of any other end.
+-- then all names exist. If it ends with NoItem, then no item has the name. If it ends with NoType, then the item exists and no type has
+-- the name. If it ends with NoClass, then the item and the type exist and no device has the class. Nothing is said of any other end.
 abbrev pub IsFound : {X : Type 0} → Output → SettingData → List Row → Result X RunFault → Type 0
 IsFound what s t (Ok x) = AreThere what s t
 IsFound what s t (Err run.Write) = AreThere what s t
 IsFound what s t (Err (run.Differs n)) = AreThere what s t
 IsFound what s t (Err run.NoItem) = has_item (under_of what) t ≡ false
 IsFound what s t (Err run.NoType) = (has_item (under_of what) t ≡ true) × (has_kind (down_to_of what) s ≡ false)
+IsFound what s t (Err run.NoClass) = (has_item (under_of what) t ≡ true) × (has_kind (down_to_of what) s ≡ true) × (has_class (class_of what) t ≡ false)
 IsFound what s t (Err fault) = Unit {0}
 
--- the faults of the look-up: NoItem or NoType
+-- the faults of the look-up: NoItem, NoType or NoClass
 abbrev pub IsFindFault : RunFault → Type 0
 IsFindFault run.NoItem = Unit {0}
 IsFindFault run.NoType = Unit {0}
+IsFindFault run.NoClass = Unit {0}
 IsFindFault fault = ⊥

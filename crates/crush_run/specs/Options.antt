@@ -32,4 +32,5 @@ EndsAsOptionsSay content options origin bytes job (Err (run.Made n)) old new not
 EndsAsOptionsSay content options origin bytes job (Err (run.Differs n)) old new notes = EndsWithOutput content options origin bytes job (Err (run.Differs n)) old new notes
 EndsAsOptionsSay content options origin bytes job (Err run.NoItem) old new notes = EndsWithOutput content options origin bytes job (Err run.NoItem) old new notes
 EndsAsOptionsSay content options origin bytes job (Err run.NoType) old new notes = EndsWithOutput content options origin bytes job (Err run.NoType) old new notes
+EndsAsOptionsSay content options origin bytes job (Err run.NoClass) old new notes = EndsWithOutput content options origin bytes job (Err run.NoClass) old new notes
 EndsAsOptionsSay content options origin bytes job (Err fault) old new notes = Unit {0}

@@ -12,11 +12,13 @@ use Rattle.crush_edits.specs.Setting.{SettingData}
 use Rattle.crush_history.specs.History.{EntryData}
 use Rattle.crush_history.specs.HistoryText.{entries_text}
 use Rattle.crush_print.specs.MapText.{map_text}
-use Rattle.crush_since.specs.ChangeText.{changes_text}
+use Rattle.crush_since.specs.ChangePart.{changes_part_text}
 use Rattle.crush_since.specs.Since.{PlainMap, plain_map, since_text}
 use Rattle.crush_since.specs.SincePart.{since_part_text}
-use Rattle.crush_names.specs.SinceNames.{since_names_part, since_names_text}
+use Rattle.crush_since.specs.SinceNames.{since_names_part, since_names_text}
+use Rattle.crush_print.specs.ClassTree.{class_tree_text}
 use Rattle.crush_print.specs.TreePart.{part_steps, tree_part_text}
+use Rattle.crush_print.specs.declared.part.TreePart.{TreePart}
 use Rattle.crush_reasons.specs.Ceph.{ceph_text}
 use Rattle.crush_plan.specs.Plan.{PlanData}
 use Rattle.crush_plan.specs.PlanText.{plan_text}
@@ -54,13 +56,18 @@ abbrev pub changed_text : Bool → Option (List ℕ) → PlainMap → PlainMap �
 changed_text false under old new = changed_by_id (named_item new.table under) old new
 changed_text true under old new = changed_by_name under old new
 
+-- the text of a part of a tree: of all devices, or with a class of the devices of this class
+abbrev pub tree_text_of : Option (List ℕ) → SettingData → TreePart → List Row → List ℕ
+tree_text_of None s p t = tree_part_text s p t
+tree_text_of (Some c) s p t = class_tree_text s p c t
+
 -- the selected output of a map with the setting s and the table t, which it has after the history h; o is the table before h. It is the
 -- map's text, its tree, what has changed in it since another map (in lines or as a tree), the commands that changed it, or a plan from it.
 abbrev pub main_text : Output → PlanData → SettingData → List Row → List Row → List EntryData → List ℕ
 main_text output.Map plan s o t h = map_text s t
-main_text (output.Tree words) plan s o t h = tree_part_text s (part_of words s t) t
+main_text (output.Tree words) plan s o t h = tree_text_of (name_text words.class) s (part_of words s t) t
 main_text (output.Since old) plan s o t h = changed_text old.by_name (name_text old.under) (plain_map old.map.setting (rows_of old.map.forest)) (plain_map s t)
-main_text (output.Changes m) plan s o t h = changes_text (plain_map m.setting (rows_of m.forest)) (plain_map s t)
+main_text (output.Changes old) plan s o t h = changes_part_text (part_of old.part s t) (plain_map old.map.setting (rows_of old.map.forest)) (plain_map s t)
 main_text output.AsCeph plan s o t h = ceph_text s o h
 main_text (output.To target) plan s o t h = plan_text (plan_words target.as_ceph) plan
 
@@ -77,13 +84,14 @@ abbrev pub since_program_text : Option Data → Option ItemId → PlainMap → P
 since_program_text history under old new = document_text (document_of_since history (since_document under old new))
 
 -- FOR A PROGRAM: one document, which contains the history if it is selected. A tree of changes has the same document as a list of changes.
+-- The tree of a class has the same document as the tree of all devices, but no command line asks for the document of a class.
 -- Ceph's own commands have no document, and are written as for a person.
 abbrev pub program_text : Bool → Output → PlanData → SettingData → List Row → List Row → List (List ℕ) → List EntryData → List ℕ
 program_text history output.Map plan s o t names h = document_text (document (history_if_requested history names h) (map_document s t))
 program_text history (output.Tree words) plan s o t names h = document_text (document_of_tree (history_if_requested history names h) (tree_document s t (part_steps (part_of words s t) t)))
 program_text history (output.Since old) plan s o t names h = since_program_text (history_if_requested history names h) (named_item t (name_text old.under)) (plain_map old.map.setting (rows_of old.map.forest)) (plain_map s t)
-program_text history (output.Changes m) plan s o t names h = since_program_text (history_if_requested history names h) None (plain_map m.setting (rows_of m.forest)) (plain_map s t)
-program_text history (output.To target) plan s o t names h = plan_document_text (plan_document (history_if_requested history names h) plan.edits plan.rest)
+program_text history (output.Changes old) plan s o t names h = since_program_text (history_if_requested history names h) (named_item t (name_text old.part.under)) (plain_map old.map.setting (rows_of old.map.forest)) (plain_map s t)
+program_text history (output.To target) plan s o t names h = plan_document_text (plan_document (history_if_requested history names h) plan.edits plan.rest plan.aside.ids plan.aside.class_ids)
 program_text history output.AsCeph plan s o t names h = person_text history output.AsCeph plan s o t names h
 
 -- OUTPUT: all that a successful run writes

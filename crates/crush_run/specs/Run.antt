@@ -6,7 +6,7 @@ use Rattle.crush_model.specs.Table.{Row}
 use Rattle.crush_edits.specs.Setting.{SettingData}
 use Rattle.crush_since.specs.Since.{PlainMap, plain_map}
 use Rattle.crush_since.specs.SincePart.{is_changed, is_part_changed}
-use Rattle.crush_names.specs.SinceNames.{is_changed_by_name}
+use Rattle.crush_since.specs.SinceNames.{is_changed_by_name}
 use Rattle.crush_plan.specs.Plan.{PlanData}
 use Rattle.crush_history.specs.History.{EntryData, IsLegal, of_operator, table_after, changes, turns}
 use Rattle.crush_history.specs.Turns.{calls_at, calls_of}
@@ -54,7 +54,7 @@ has_changed true under old new = is_changed_by_name under old new
 -- whether an entry of h changed the map.
 abbrev pub differs_of : Output → PlanData → SettingData → List Row → List EntryData → Bool
 differs_of (output.Since old) plan s t h = has_changed old.by_name (name_text old.under) (plain_map old.map.setting (rows_of old.map.forest)) (plain_map s t)
-differs_of (output.Changes m) plan s t h = is_changed (plain_map m.setting (rows_of m.forest)) (plain_map s t)
+differs_of (output.Changes old) plan s t h = is_changed_by_id (named_item t (name_text old.part.under)) (plain_map old.map.setting (rows_of old.map.forest)) (plain_map s t)
 differs_of (output.To target) plan s t h = not (length plan.edits == 0) || not (length plan.rest == 0)
 differs_of what plan s t h = nat_lt 0 (changes h)
 
@@ -88,7 +88,7 @@ pub record Ends (mode : Mode) (what : Output) (job : JobData) (text : TextData) 
   pub noted : AreNotesOfHistory mode text job.setting job.table (names_of job.scripts) history plan.rest result notes
 
 -- when a run may end with this fault; `all` has the bytes, if they are known. Job: the bytes have this fault, which isn't out of memory. Write,
--- Thread, Refused, Made, Differs, NoItem, NoType: the bytes are a job. Thread: the run isn't in turn. Refused and Differs: the run is
+-- Thread, Refused, Made, Differs, NoItem, NoType, NoClass: the bytes are a job. Thread: the run isn't in turn. Refused and Differs: the run is
 -- strict. Made: the run is to make no buckets. Read and Memory: always possible. A fault of another map: never, because a run of a job
 -- reads no other map.
 abbrev pub IsRunFault : Mode → Option (List ℕ) → RunFault → Type 0
@@ -102,4 +102,5 @@ IsRunFault mode all (run.Made n) = (mode.no_make ≡ true) × IfSome all HasJob
 IsRunFault mode all (run.Differs n) = (mode.strict ≡ true) × IfSome all HasJob
 IsRunFault mode all run.NoItem = IfSome all HasJob
 IsRunFault mode all run.NoType = IfSome all HasJob
+IsRunFault mode all run.NoClass = IfSome all HasJob
 IsRunFault mode all (run.SecondMap which fault) = ⊥

@@ -46,6 +46,7 @@ IsOutcomeFault mode (run.Made n) = mode.no_make ≡ true
 IsOutcomeFault mode (run.Differs n) = mode.strict ≡ true
 IsOutcomeFault mode run.NoItem = Unit {0}
 IsOutcomeFault mode run.NoType = Unit {0}
+IsOutcomeFault mode run.NoClass = Unit {0}
 IsOutcomeFault mode fault = ⊥
 
 -- the faults before there is a history: all but those of the checks and of the write
@@ -56,6 +57,7 @@ IsEarlyFault (run.Made n) = ⊥
 IsEarlyFault (run.Differs n) = ⊥
 IsEarlyFault run.NoItem = ⊥
 IsEarlyFault run.NoType = ⊥
+IsEarlyFault run.NoClass = ⊥
 IsEarlyFault fault = Unit {0}
 
 -- the faults of the checks, which come after the history and before anything is written
@@ -65,6 +67,7 @@ IsCheckFault mode (run.Made n) = mode.no_make ≡ true
 IsCheckFault mode (run.Differs n) = mode.strict ≡ true
 IsCheckFault mode run.NoItem = Unit {0}
 IsCheckFault mode run.NoType = Unit {0}
+IsCheckFault mode run.NoClass = Unit {0}
 IsCheckFault mode fault = ⊥
 
 -- the faults after there is a history
@@ -76,6 +79,7 @@ IsWritingFault mode (run.Made n) = mode.no_make ≡ true
 IsWritingFault mode (run.Differs n) = mode.strict ≡ true
 IsWritingFault mode run.NoItem = Unit {0}
 IsWritingFault mode run.NoType = Unit {0}
+IsWritingFault mode run.NoClass = Unit {0}
 IsWritingFault mode fault = ⊥
 
 -- the scripts of the job have run with the history h: h is the history of a run of the job, and the map `after` is the map after it
@@ -112,6 +116,7 @@ notes_after_fault (run.Made n) end_notes = end_notes.made.items
 notes_after_fault (run.Differs n) end_notes = end_notes.whole.items
 notes_after_fault run.NoItem end_notes = end_notes.calls.items
 notes_after_fault run.NoType end_notes = end_notes.calls.items
+notes_after_fault run.NoClass end_notes = end_notes.calls.items
 notes_after_fault fault end_notes = []
 
 -- which of these notes are printed after this result

@@ -15,8 +15,7 @@ use crate::finding::{name_of, named_item};
 use crush_history::count_changes;
 use crush_input::{OldMap, Output, Request};
 use crush_map::CrushMap;
-use crush_names::is_changed_by_name;
-use crush_since::{is_changed, is_part_changed};
+use crush_since::{is_changed, is_changed_by_name, is_part_changed};
 use crush_units::ItemId;
 use std::alloc::{AllocError, Global};
 
@@ -68,7 +67,10 @@ fn differs(alloc: Global, output: &Output, completed: &CompletedRun<'_>) -> Resu
 {
     match output {
         Output::Since(old) => has_changed(alloc, old, completed.map),
-        Output::Changes(old) => is_changed_by_id(alloc, None, old, completed.map),
+        Output::Changes(old) => {
+            let under = named_item(name_of(&old.part.under), completed.map);
+            is_changed_by_id(alloc, under, &old.map, completed.map)
+        }
         Output::To(_) => {
             let (edits, rest) = (
                 completed.plan.edits.as_slice(),

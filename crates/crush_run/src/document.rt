@@ -97,13 +97,17 @@ pub(crate) fn write_document<W: Write>(
             let under = named_item(name_of(&old.under), completed.map);
             write_changed(alloc, under, &old.map, completed.map, history, writer)
         }
-        Output::Changes(old) => write_changed(alloc, None, old, completed.map, history, writer),
+        Output::Changes(old) => {
+            let under = named_item(name_of(&old.part.under), completed.map);
+            write_changed(alloc, under, &old.map, completed.map, history, writer)
+        }
         Output::To(_) => {
             let (edits, rest) = (
                 completed.plan.edits.as_slice(),
                 completed.plan.rest.as_slice(),
             );
-            write_plan_document(alloc, edits, rest, history, writer)
+            let (ids, class_ids) = (completed.plan.aside.ids, completed.plan.aside.class_ids);
+            write_plan_document(alloc, edits, rest, ids, class_ids, history, writer)
         }
         Output::AsCeph => write_text(alloc, request, completed, writer),
     }

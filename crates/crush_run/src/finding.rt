@@ -1,11 +1,12 @@
-//! Looks up the item of `--under` and the type of `--down-to` in the map after the scripts.
+//! Looks up the item of `--under`, the type of `--down-to` and the class of `--class` in the map
+//! after the scripts.
 
 ghost use Rattle.std.specs.Prelude.{◌≡◌, List, IfErr};
 ghost use Rattle.std.specs.Option.{option_map};
 ghost use Rattle.crush_input.specs.Options.{name_text};
 ghost use Rattle.crush_model.specs.Stands.{Stands};
 ghost use Rattle.crush_model.specs.Table.{Row};
-ghost use Rattle.crush_run.specs.Found.{IsFindFault, IsFound, down_to_of, has_item, has_kind, named_item, named_kind, part_of, under_of};
+ghost use Rattle.crush_run.specs.Found.{IsFindFault, IsFound, class_of, down_to_of, has_class, has_item, has_kind, named_item, named_kind, part_of, under_of};
 
 use crush_input::{Output, RunFault};
 use crush_map::CrushMap;
@@ -30,7 +31,8 @@ fn under_of(output: &Output) -> Option<&str>
         Output::Tree(part) => name_of(&part.under),
         Output::Since(old) => name_of(&old.under),
         Output::To(target) => name_of(&target.under),
-        Output::Map | Output::Changes(_) | Output::AsCeph => None,
+        Output::Changes(old) => name_of(&old.part.under),
+        Output::Map | Output::AsCeph => None,
     }
 }
 
@@ -39,6 +41,16 @@ fn down_to_of(output: &Output) -> Option<&str>
 {
     match output {
         Output::Tree(part) => name_of(&part.down_to),
+        Output::Changes(old) => name_of(&old.part.down_to),
+        _ => None,
+    }
+}
+
+fn class_of(output: &Output) -> Option<&str>
+    ensures { option_map (λ name. name.now) result ≡ class_of output.now }
+{
+    match output {
+        Output::Tree(part) => name_of(&part.class),
         _ => None,
     }
 }
@@ -94,7 +106,17 @@ fn has_kind(name: Option<&str>, map: &CrushMap<Global>) -> bool
     }
 }
 
-/// Fails if the map doesn't have the named item, or else the named type.
+fn has_class(name: Option<&str>, map: &CrushMap<Global>) -> bool
+    ensures { (t : List Row) → Stands map.now.forest t
+        → result ≡ has_class (option_map (λ name. name.now) name.entry) t }
+{
+    match name {
+        Some(name) => crush_print::has_class(map, name),
+        None => true,
+    }
+}
+
+/// Fails if the map doesn't have the named item, or else the named type, or else the named class.
 pub(crate) fn check_found(output: &Output, map: &CrushMap<Global>) -> Result<(), RunFault>
     ensures found { (t : List Row) → Stands map.now.forest t
         → IsFound output.now map.now.setting t result }
@@ -105,6 +127,9 @@ pub(crate) fn check_found(output: &Output, map: &CrushMap<Global>) -> Result<(),
     }
     if !has_kind(down_to_of(output), map) {
         return Err(RunFault::NoType);
+    }
+    if !has_class(class_of(output), map) {
+        return Err(RunFault::NoClass);
     }
     Ok(())
 }

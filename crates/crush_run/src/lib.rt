@@ -2,7 +2,7 @@
 //!
 //! [`run_options`] runs the job that a command line selects; [`run_job`] runs the job that a reader
 //! contains. `crush_script` parses a job, `crush_editor` runs its scripts, and `crush_print`,
-//! `crush_since`, `crush_names`, `crush_reasons`, `crush_plan` or `crush_json` write the output.
+//! `crush_since`, `crush_reasons`, `crush_plan` or `crush_json` write the output.
 //! `crush_input` reports how the run ended. `specs/Output.antt` says what is written, and
 //! `specs/Run.antt` says how a run ends.
 #![tactic(auto)]

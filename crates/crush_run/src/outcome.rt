@@ -58,7 +58,7 @@ fn summary_of(completed: &CompletedRun<'_>, differs: bool) -> Summary
     }
 }
 
-/// Checks what the request demands, in this order: no refusals, no buckets made, both names found,
+/// Checks what the request demands, in this order: no refusals, no buckets made, all names found,
 /// no difference left.
 fn check_conditions(request: &Request, completed: &CompletedRun<'_>) -> Result<(), RunFault>
     requires { length completed.now.entries.now ≤ MOST_ENTRIES }
@@ -174,7 +174,11 @@ fn end_by(alloc: Global, fault: RunFault, end_notes: EndNotes) -> Ending
 {
     let EndNotes { calls, made, whole } = end_notes;
     match fault {
-        RunFault::Write | RunFault::Refused(_) | RunFault::NoItem | RunFault::NoType => Ending {
+        RunFault::Write
+        | RunFault::Refused(_)
+        | RunFault::NoItem
+        | RunFault::NoType
+        | RunFault::NoClass => Ending {
             outcome: Err(fault),
             notes: calls,
         },

@@ -12,8 +12,8 @@ ghost use Rattle.crush_run.specs.Planned.{IsDiffersFault, IsPlanned, IsWhole, pl
 use crate::finding::name_of;
 use crush_input::{Output, RunFault, TargetMap};
 use crush_map::CrushMap;
-use crush_names::Counts;
 use crush_plan::{Identity, Plan, PlanWords, find_plan, plan_text};
+use crush_since::Counts;
 use crush_units::{WriteFault, put};
 use std::alloc::{AllocError, Global};
 use std::io::Write;

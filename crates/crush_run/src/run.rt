@@ -198,8 +198,8 @@ where
 /// - [`RunFault::Refused`]: the run is `strict`, and a call was refused.
 /// - [`RunFault::Made`]: the run is `no_make`, and a call made more buckets than it has
 ///   `add-bucket`s.
-/// - [`RunFault::NoItem`], [`RunFault::NoType`]: the map after the scripts doesn't have a name that
-///   the request gives.
+/// - [`RunFault::NoItem`], [`RunFault::NoType`], [`RunFault::NoClass`]: the map after the scripts
+///   doesn't have a name that the request gives.
 /// - [`RunFault::Differs`]: the run is `strict`, and its plan leaves differences.
 /// - [`RunFault::Memory`]: memory ran out.
 ///

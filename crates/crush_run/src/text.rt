@@ -15,7 +15,8 @@ ghost use Rattle.crush_edits.specs.Setting.{SettingData};
 ghost use Rattle.crush_input.specs.Notes.{IsKept};
 ghost use Rattle.crush_reasons.specs.Ceph.{ceph_text};
 ghost use Rattle.crush_plan.specs.Plan.{plan_data};
-ghost use Rattle.crush_run.specs.Output.{IsPut, changed_by_id, changed_by_name, changed_text, lines_if_requested, main_text, person_text};
+ghost use Rattle.crush_run.specs.Output.{IsPut, changed_by_id, changed_by_name, changed_text, lines_if_requested, main_text, person_text, tree_text_of};
+ghost use Rattle.crush_run.specs.Found.{part_of};
 ghost use Rattle.crush_run.specs.Stages.{IsOpening, needs_opening};
 ghost use Rattle.crush_units.specs.declared.limits.TheConstants.{MOST_ENTRIES};
 
@@ -25,10 +26,12 @@ use crate::planned::write_plan;
 use crush_history::{Entry, Script, history_text};
 use crush_input::{OldMap, Output, Request};
 use crush_map::CrushMap;
-use crush_names::{write_since_by_name, write_since_by_name_part};
-use crush_print::{write_map, write_tree_part};
+use crush_options::TreePartSpec;
+use crush_print::{write_map, write_tree_of_class, write_tree_part};
 use crush_reasons::ceph_text;
-use crush_since::{since_part_text, write_changes, write_since};
+use crush_since::{
+    since_part_text, write_changes, write_since, write_since_by_name, write_since_by_name_part,
+};
 use crush_units::{ItemId, WriteFault, put};
 use std::alloc::{AllocError, Global};
 use std::io::Write;
@@ -164,6 +167,25 @@ fn write_changed<W: Write>(
     write_by_id(alloc, under, &old.map, map, writer)
 }
 
+fn write_tree<W: Write>(
+    alloc: Global,
+    words: &TreePartSpec,
+    map: &CrushMap<Global>,
+    writer: &mut W,
+) -> Result<(), WriteFault>
+    ensures writes { (t : List Row) → Stands map.now.forest t
+        → IsPut result (W.contents writer.old) (W.contents writer.new)
+        (tree_text_of (name_text words.now.class) map.now.setting (part_of words.now map.now.setting t) t) }
+    ensures none { result ≡ Err WriteFault.OutOfMemory
+        → Keeps (W.contents writer.old) (W.contents writer.new) }
+{
+    let part = part_of(words, map);
+    match &words.class {
+        Some(class) => write_tree_of_class(alloc, map, part, class.as_str(), writer),
+        None => write_tree_part(alloc, map, part, writer),
+    }
+}
+
 fn write_output<W: Write>(
     alloc: Global,
     request: &Request,
@@ -183,16 +205,12 @@ fn write_output<W: Write>(
 {
     match &request.output {
         Output::Map => write_map(alloc, completed.map, writer),
-        Output::Tree(words) => write_tree_part(
-            alloc,
-            completed.map,
-            part_of(words, completed.map),
-            writer,
-        ),
+        Output::Tree(words) => write_tree(alloc, words, completed.map, writer),
         Output::Since(old) => write_changed(alloc, old, completed.map, writer),
         Output::Changes(old) => {
-            old.forest().recall_invariant();
-            write_changes(alloc, old, completed.map, writer)
+            old.map.forest().recall_invariant();
+            let part = part_of(&old.part, completed.map);
+            write_changes(alloc, &old.map, completed.map, part, writer)
         }
         Output::AsCeph => write_ceph(alloc, completed, writer),
         Output::To(target) => write_plan(alloc, target.as_ceph, completed.plan, writer),

@@ -2,9 +2,9 @@
 //!
 //! `script` tests `crush_text`, `crush_print`, `crush_history`, `crush_script` and `crush_units`;
 //! `view` tests `crush_print`, `crush_items`, `crush_compare` and `crush_since`; `plan` tests
-//! `crush_plan` and `crush_names`; `json` tests `crush_json`; `reasons` tests `crush_reasons`. A test
-//! ends each map, job and call that it owns by `drop`, so that its parts are taken apart in one
-//! place, and not in each proof.
+//! `crush_plan`, and `crush_since` by names; `json` tests `crush_json`; `reasons` tests
+//! `crush_reasons`. A test ends each map, job and call that it owns by `drop`, so that its parts are
+//! taken apart in one place, and not in each proof.
 #![tactic(auto)]
 
 #[cfg(test)]

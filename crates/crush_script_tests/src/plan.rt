@@ -5,9 +5,8 @@ mod maps;
 mod names_part;
 mod names_since;
 
-use crate::maps::{EXAMPLE_MAP, map_of};
-use crush_names::stays;
 use crush_plan::{Identity, PlanWords, find_plan, plan_text};
+use crush_since::stays;
 use maps::*;
 use std::process::Abort;
 
@@ -15,7 +14,7 @@ fn planned(
     rt: &(impl Abort + AllocGlobal),
     identity: Identity,
     words: PlanWords,
-    texts: [&[u8]; 2],
+    texts: [&[&[u8]]; 2],
 ) -> Vec<u8> {
     planned_under(rt, identity, words, None, texts)
 }
@@ -25,10 +24,10 @@ fn planned_under(
     identity: Identity,
     words: PlanWords,
     under: Option<&str>,
-    texts: [&[u8]; 2],
+    texts: [&[&[u8]]; 2],
 ) -> Vec<u8> {
-    let map = map_of(rt, texts[0]);
-    let wanted = map_of(rt, texts[1]);
+    let map = map_of_parts(rt, texts[0]);
+    let wanted = map_of_parts(rt, texts[1]);
     let plan = find_plan(rt.alloc(), identity, under, &map, &wanted).expect(rt, "no memory");
     let text = plan_text(rt.alloc(), &plan, words).expect(rt, "no memory");
     drop(plan);
@@ -37,14 +36,14 @@ fn planned_under(
     text
 }
 
-fn is_planned(rt: &(impl Abort + AllocGlobal), texts: [&[u8]; 2], told: &[u8]) -> bool {
+fn is_planned(rt: &(impl Abort + AllocGlobal), texts: [&[&[u8]]; 2], told: &[u8]) -> bool {
     planned(rt, Identity::Ids, PlanWords::Script, texts).as_slice() == told
 }
 
 fn is_planned_under(
     rt: &(impl Abort + AllocGlobal),
     under: &str,
-    texts: [&[u8]; 2],
+    texts: [&[&[u8]]; 2],
     told: &[u8],
 ) -> bool {
     let text = planned_under(rt, Identity::Ids, PlanWords::Script, Some(under), texts);
@@ -53,18 +52,12 @@ fn is_planned_under(
 
 #[test]
 fn a_map_to_itself_takes_no_command(rt: HostRuntime) {
-    assert!(rt; is_planned(&rt, [EXAMPLE_MAP, EXAMPLE_MAP], b"# 0 commands\n"));
+    assert!(rt; is_planned(&rt, [EXAMPLE, EXAMPLE], b"# 0 commands\n"));
 }
 
 #[test]
 fn an_item_is_moved(rt: HostRuntime) {
-    assert!(rt;
-        is_planned(
-            &rt,
-            [EXAMPLE_MAP, MOVED],
-            b"# 1 commands\nmove osd.0 host=h2\n"
-        )
-    );
+    assert!(rt; is_planned(&rt, [EXAMPLE, MOVED], b"# 1 commands\nmove osd.0 host=h2\n"));
 }
 
 #[test]
@@ -72,7 +65,7 @@ fn exchanged_ids_are_no_reason_for_a_command(rt: HostRuntime) {
     assert!(rt;
         is_planned(
             &rt,
-            [SWAPPED, EXAMPLE_MAP],
+            [SWAPPED, EXAMPLE],
             b"# 0 commands\n# ids of 2 buckets differ\n"
         )
     );
@@ -94,7 +87,7 @@ fn a_bucket_of_another_type_keeps_its_type(rt: HostRuntime) {
     assert!(rt;
         is_planned(
             &rt,
-            [EXAMPLE_MAP, RETYPED],
+            [EXAMPLE, RETYPED],
             b"# 0 commands\n# 1 differences stay\n# h1: type host, wanted rack\n"
         )
     );
@@ -140,7 +133,7 @@ fn buckets_that_come_are_made_and_put(rt: HostRuntime) {
     assert!(rt;
         is_planned(
             &rt,
-            [EXAMPLE_MAP, GROWN],
+            [EXAMPLE, GROWN],
             b"# 5 commands\nadd-bucket h3 host\nadd-bucket r1 rack\nmove r1 root=default\nmove h3 rack=r1\nadd osd.3 0.33299 host=h3\n"
         )
     );
@@ -151,7 +144,7 @@ fn what_is_not_wanted_goes_lowest_first(rt: HostRuntime) {
     assert!(rt;
         is_planned(
             &rt,
-            [GROWN, EXAMPLE_MAP],
+            [GROWN, EXAMPLE],
             b"# 3 commands\nrm osd.3\nrm h3\nrm r1\n"
         )
     );
@@ -162,7 +155,7 @@ fn a_host_is_removed_with_its_devices(rt: HostRuntime) {
     assert!(rt;
         is_planned(
             &rt,
-            [EXAMPLE_MAP, SHRUNK],
+            [EXAMPLE, SHRUNK],
             b"# 3 commands\nrm osd.0\nrm osd.1\nrm h1\n"
         )
     );
@@ -173,7 +166,7 @@ fn and_comes_back(rt: HostRuntime) {
     assert!(rt;
         is_planned(
             &rt,
-            [SHRUNK, EXAMPLE_MAP],
+            [SHRUNK, EXAMPLE],
             b"# 4 commands\nadd-bucket h1 host\nmove h1 root=default\nadd osd.0 1.00000 host=h1\nadd osd.1 1.00000 host=h1\n"
         )
     );
@@ -184,7 +177,7 @@ fn what_no_command_sets_stays(rt: HostRuntime) {
     assert!(rt;
         is_planned(
             &rt,
-            [EXAMPLE_MAP, CLASSED],
+            [EXAMPLE, CLASSED],
             b"# 1 commands\nset-device-class ssd osd.0\n# 1 differences stay\n# tunables differ\n"
         )
     );
@@ -195,7 +188,7 @@ fn an_id_is_told_aside(rt: HostRuntime) {
     assert!(rt;
         is_planned(
             &rt,
-            [EXAMPLE_MAP, NUMBERED],
+            [EXAMPLE, NUMBERED],
             b"# 0 commands\n# ids of 1 buckets differ\n"
         )
     );
@@ -206,7 +199,7 @@ fn a_ring_of_names_is_opened(rt: HostRuntime) {
     assert!(rt;
         is_planned(
             &rt,
-            [EXAMPLE_MAP, RENAMED],
+            [EXAMPLE, RENAMED],
             b"# 3 commands\nrename-bucket h1 h1.1\nrename-bucket h2 h1\nrename-bucket h1.1 h2\n"
         )
     );
@@ -217,7 +210,7 @@ fn one_weight_below_a_bucket_is_one_command(rt: HostRuntime) {
     assert!(rt;
         is_planned(
             &rt,
-            [EXAMPLE_MAP, WEIGHTLESS],
+            [EXAMPLE, WEIGHTLESS],
             b"# 1 commands\nreweight-subtree default 0.00000\n"
         )
     );
@@ -241,12 +234,7 @@ fn a_bucket_gives_its_name_to_a_device(rt: HostRuntime) {
 
 #[test]
 fn by_name_items_are_moved_in_place_of_names(rt: HostRuntime) {
-    let text = planned(
-        &rt,
-        Identity::Names,
-        PlanWords::Script,
-        [EXAMPLE_MAP, RENAMED],
-    );
+    let text = planned(&rt, Identity::Names, PlanWords::Script, [EXAMPLE, RENAMED]);
     assert!(rt;
         text.as_slice()
             == b"# 3 commands\nmove osd.0 host=h2\nmove osd.1 host=h2\nmove osd.2 host=h1\n# ids of 2 buckets differ\n".as_slice()
@@ -259,7 +247,7 @@ fn of_a_part_its_weights_alone_are_set(rt: HostRuntime) {
         is_planned_under(
             &rt,
             "h1",
-            [EXAMPLE_MAP, WEIGHTLESS],
+            [EXAMPLE, WEIGHTLESS],
             b"# 1 commands\nreweight-subtree h1 0.00000\n"
         )
     );
@@ -271,7 +259,7 @@ fn what_is_above_a_part_stays(rt: HostRuntime) {
         is_planned_under(
             &rt,
             "h3",
-            [GROWN, EXAMPLE_MAP],
+            [GROWN, EXAMPLE],
             b"# 2 commands\nrm osd.3\nrm h3\n"
         )
     );
@@ -283,7 +271,7 @@ fn what_comes_into_a_part_is_of_it(rt: HostRuntime) {
         is_planned_under(
             &rt,
             "h2",
-            [EXAMPLE_MAP, MOVED],
+            [EXAMPLE, MOVED],
             b"# 1 commands\nmove osd.0 host=h2\n"
         )
     );
@@ -291,7 +279,7 @@ fn what_comes_into_a_part_is_of_it(rt: HostRuntime) {
 
 #[test]
 fn of_a_part_without_a_difference_nothing_is_told(rt: HostRuntime) {
-    assert!(rt; is_planned_under(&rt, "h2", [EXAMPLE_MAP, CLASSED], b"# 0 commands\n"));
+    assert!(rt; is_planned_under(&rt, "h2", [EXAMPLE, CLASSED], b"# 0 commands\n"));
 }
 
 #[test]
@@ -310,14 +298,14 @@ fn where_all_help_nothing_a_class_is_set_alone(rt: HostRuntime) {
 
 #[test]
 fn commands_are_told_as_those_of_ceph(rt: HostRuntime) {
-    let text = planned(&rt, Identity::Ids, PlanWords::Ceph, [EXAMPLE_MAP, MOVED]);
+    let text = planned(&rt, Identity::Ids, PlanWords::Ceph, [EXAMPLE, MOVED]);
     assert!(rt; text.as_slice() == b"# 1 commands\nceph osd crush move osd.0 host=h2\n".as_slice());
 }
 
 #[test]
 fn each_column_that_differs_is_told(rt: HostRuntime) {
-    let map = map_of(&rt, EXAMPLE_MAP);
-    let wanted = map_of(&rt, OTHERWISE);
+    let map = map_of_parts(&rt, EXAMPLE);
+    let wanted = map_of_parts(&rt, OTHERWISE);
     let lines = stays(rt.alloc(), &map, &wanted).expect(&rt, "no memory");
     assert!(rt;
         lines.as_slice()

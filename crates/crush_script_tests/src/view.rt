@@ -1,13 +1,15 @@
 //! Trees, lists of items, pairs of items, and what has changed between two maps, as text. Expected
 //! values follow the forms in docs/user/FORMATS.md.
 
+mod change_parts;
 mod change_trees;
 mod changed_parts;
 mod changes;
+mod classes;
 mod comparisons;
 mod items;
-mod listings;
 mod parts;
+mod rule_changes;
 mod trees;
 
 const EXAMPLE_MAP: &[u8] = b"\

@@ -11,8 +11,8 @@ use Rattle.crush_print.specs.RuleLines.{bucket_name}
 use Rattle.crush_since.specs.Changes.{stood_at, left_from, is_listed, stands_at, root_rows, unplaced_rows, change_rows}
 use Rattle.crush_since.specs.ChangeText.{heading, weights_column, name_column, change_line, rows_text, changes_text}
 use Rattle.crush_since.specs.Classes.{class_lines, classes, class_line, untaken_text}
-use Rattle.crush_since.specs.Rules.{other_order}
-use Rattle.crush_since.specs.Emptied.{emptied_lines, rule_takes, weighs_nothing}
+use Rattle.crush_since.specs.Rules.{other_order, rule_takes, weighs_nothing}
+use Rattle.crush_since.specs.Emptied.{emptied_lines}
 use Rattle.crush_since.specs.Settings.{tunables_line, kinds_line, rules_line, setting_lines}
 use Rattle.crush_since.specs.Since.{PlainMap, plain_map, id_line, all_ids, all_buckets, all_devices, totals_line, last_lines}
 use Rattle.crush_since.specs.Tallies.{first_counts, last_counts, counts_line}

@@ -1,13 +1,8 @@
--- The text of the tree of what has changed: brackets, and that no text is empty.
+-- The text of the tree of what has changed: brackets, and rows behind rows.
 use Rattle.std.proofs.Common.{◌≡◌, ℕ, ◌<◌, List, [], ◌∷◌, ◌++◌, length, drop, ap, ◌∙◌, refl, arith, append_assoc, Result, Ok, Err}
 use Rattle.std.specs.Prelude.{OnOk}
-use Rattle.std.proofs.lemmas.List.{length-append}
-use Rattle.crush_since.specs.ChangeText.{brackets, brackets_text, rows_text, changes_text}
-use Rattle.crush_since.specs.Changes.{change_rows}
+use Rattle.crush_since.specs.ChangeText.{brackets, brackets_text}
 use Rattle.crush_since.specs.ItemParts.{behind}
-use Rattle.crush_since.specs.Since.{PlainMap, all_ids, last_lines}
-use Rattle.crush_since.specs.Tallies.{tally_of}
-use Rattle.crush_since.proofs.PartLaws.{last_lines_are_some}
 
 -- no notes, no brackets
 pub no_brackets : (ps : List (List ℕ)) → length (behind ps) ≡ 0 → brackets ps ≡ []
@@ -23,10 +18,3 @@ some_brackets (p ∷ rest) some = refl
 pub both_pushed : {X E Z : Type 0} (r : Result X E) (old one new first rows second : List Z) → one ≡ old ++ first → first ≡ rows → OnOk r (new ≡ one ++ second) → OnOk r (new ≡ old ++ (rows ++ second))
 both_pushed (Ok x) old one new first rows second begun are ended = ended ∙ ap (λ l. l ++ second) (begun ∙ ap (λ l. old ++ l) are) ∙ append_assoc old rows second
 both_pushed (Err e) old one new first rows second begun are ended = tt
-
--- no text is empty: it has its totals
-pub changes_text_is_some : (old new : PlainMap) → 0 < length (changes_text old new)
-unfolding changes_text
-changes_text_is_some old new =
-    let counts = tally_of old.table new.table (all_ids old.table new.table) in
-    omega (arith, length-append (rows_text old.setting new.setting (change_rows old new)) (last_lines old new counts), last_lines_are_some old new counts)

@@ -14,8 +14,8 @@ use Rattle.crush_model.proofs.Weighs.{All-found}
 use Rattle.crush_print.specs.MapText.{put_in, ascending, device_number, root_number, root_numbers}
 use Rattle.crush_since.specs.Changes.{change_at, stood_at, left_at, left_from, has_some, is_listed, with_below, stands_at, root_rows, unplaced_rows, change_rows}
 use Rattle.crush_since.specs.ChangeText.{heading, rows_text, changes_text}
-use Rattle.crush_since.specs.Equal.{same_option}
-use Rattle.crush_since.specs.ItemData.{ItemData, row_item}
+use Rattle.crush_compare.specs.Equal.{same_option}
+use Rattle.crush_items.specs.ItemData.{ItemData, row_item}
 use Rattle.crush_since.specs.Since.{plain_map}
 use Rattle.crush_since.specs.SinceLaws.{NoRowSinceItself}
 use Rattle.crush_print.specs.Tree.{unplaced_number, unplaced_numbers}

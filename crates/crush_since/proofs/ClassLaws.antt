@@ -1,6 +1,6 @@
 -- Classes of two maps: those of their items are those of their tables, and a map since itself tells none.
 use Rattle.std.proofs.Common.{◌≡◌, ℕ, ◌+◌, Bool, true, false, List, [], ◌∷◌, ◌++◌, map, ap, sym, ◌∙◌, refl, arith, eq-eqb}
-use Rattle.std.specs.Prelude.{◌==◌, ◌&&◌, not, Option, None, Some, All, flat_map, if◌then◌else◌, bytes_eq}
+use Rattle.std.specs.Prelude.{◌==◌, ◌&&◌, ◌||◌, not, Option, None, Some, All, flat_map, if◌then◌else◌, bytes_eq}
 use Rattle.std.specs.List.{sum_by}
 use Rattle.std.specs.Option.{option_map, option_map_or}
 use Rattle.std.proofs.lemmas.List.Sums.{sum_by-append, sum_by-cons}
@@ -8,17 +8,17 @@ use Rattle.std.proofs.lemmas.List.Elements.{All-head, All-tail, All-weaker}
 use Rattle.crush_units.specs.declared.id.ItemId.{ItemId}
 use Rattle.crush_model.specs.Lawful.{Lawful}
 use Rattle.crush_model.specs.Table.{Row, row_of}
-use Rattle.crush_model.proofs.Reorder.{sum_by-flat_map}
+use Rattle.crush_model.proofs.Reorder.{sum_by-flat_map, sum_by-map}
 use Rattle.crush_model.proofs.Weighs.{All-found}
 use Rattle.crush_edits.specs.Setting.{StepData, take, choose, set, emit, RuleData, SettingData}
-use Rattle.crush_since.specs.Classes.{class_of, row_class, entry_class, step_class, rule_classes, classes, class_line, reweighed_line, is_untaken, untaken_text, untaken_line, class_lines}
+use Rattle.crush_since.specs.Classes.{class_of, row_class, entry_class, step_class, rule_classes, classes, class_change, is_reweighed, is_untaken, change_of_class, class_changes, lines_of_classes, class_lines}
 use Rattle.crush_since.specs.Collected.{Amount, old_weight, new_weight, old_devices, new_devices, takes, ClassData, collected}
 use Rattle.crush_since.specs.CollectedSeen.{added}
-use Rattle.crush_since.specs.Entries.{EntryData, row_entry, entry_of}
-use Rattle.crush_since.specs.Listing.{Lists, listed_id, entry_data}
+use Rattle.crush_items.specs.Entries.{EntryData, row_entry, entry_of}
+use Rattle.crush_items.specs.Items.{HasEntries, entry_id, item_entry}
+use Rattle.crush_items.specs.declared.items.Item.{Item}
 use Rattle.crush_since.specs.declared.since.collected.Source.{Source}
 use Rattle.crush_since.specs.declared.since.collected.Source.TheVariants.{Old, New, Rule}
-use Rattle.crush_since.specs.declared.since.listing.Listed.{Listed}
 use Rattle.crush_since.proofs.CollectedLaws.{amount_at, amounts, Rising, Counted, first_amount, collected_adds, collected_same, rising_collected}
 use Rattle.crush_since.proofs.SortedItems.{counted_by}
 
@@ -52,33 +52,34 @@ sum_same f g (x ∷ xs) a = omega (arith, sum_by-cons f x xs, sum_by-cons g x xs
 abbrev amount_of : (EntryData → ℕ) → List Row → ItemId → ℕ
 amount_of f t i = option_map_or f (entry_of t i) 0
 
-sum_listed : {A : _} (f : EntryData → ℕ) (t : List Row) (ls : List (Listed A)) → Lawful t → Lists t ls → sum_by (λ l. f (entry_data l)) ls ≡ sum_by (λ (r : Row). f (row_entry t r.id r)) t
+sum_listed : {A : _} (f : EntryData → ℕ) (t : List Row) (ls : List (Item A)) → Lawful t → HasEntries t (map item_entry ls) → sum_by (λ l. f (item_entry l)) ls ≡ sum_by (λ (r : Row). f (row_entry t r.id r)) t
 sum_listed f t ls lawful lists =
-    sum_same (λ l. f (entry_data l)) (λ l. amount_of f t (listed_id l)) ls
-    (All-weaker (λ l. entry_of t (listed_id l) ≡ Some (entry_data l)) (λ l. f (entry_data l) ≡ amount_of f t (listed_id l)) (λ l e. sym (ap (λ o. option_map_or f o 0) e)) ls lists.told)
+    sym (sum_by-map f item_entry ls)
+    ∙ sum_same f (λ e. amount_of f t (entry_id e)) (map item_entry ls)
+    (All-weaker (λ e. entry_of t (entry_id e) ≡ Some e) (λ e. f e ≡ amount_of f t (entry_id e)) (λ e told. sym (ap (λ o. option_map_or f o 0) told)) (map item_entry ls) lists.told)
     ∙ lists.ids (amount_of f t)
     ∙ sum_same (λ (r : Row). amount_of f t r.id) (λ (r : Row). f (row_entry t r.id r)) t
     (All-weaker (λ (r : Row). row_of t r.id ≡ Some r) (λ (r : Row). amount_of f t r.id ≡ f (row_entry t r.id r)) (λ r e. ap (λ o. option_map_or f (option_map (row_entry t r.id) o) 0) e) t (All-found t lawful.ids))
 
-listed_amounts : {A : _} (s : Source) (c : List ℕ) (k : Amount) (t : List Row) (ls : List (Listed A)) → Lawful t → Lists t ls
-    → amounts c k (flat_map (λ l. entry_class s (entry_data l)) ls) ≡ amounts c k (flat_map (row_class s t) t)
+listed_amounts : {A : _} (s : Source) (c : List ℕ) (k : Amount) (t : List Row) (ls : List (Item A)) → Lawful t → HasEntries t (map item_entry ls)
+    → amounts c k (flat_map (λ l. entry_class s (item_entry l)) ls) ≡ amounts c k (flat_map (row_class s t) t)
 listed_amounts s c k t ls lawful lists =
-    sum_by-flat_map (amount_at c k) (λ l. entry_class s (entry_data l)) ls
+    sum_by-flat_map (amount_at c k) (λ l. entry_class s (item_entry l)) ls
     ∙ sum_listed (λ e. amounts c k (entry_class s e)) t ls lawful lists
     ∙ sym (sum_by-flat_map (amount_at c k) (row_class s t) t)
 
 -- THE CLASSES of two maps
-pub classes_listed : {A B : _} (t u : List Row) (xs : List (Listed A)) (ys : List (Listed B)) (rules : List RuleData) → Lawful t → Lawful u → Lists t xs → Lists u ys
-    → collected (flat_map (λ l. entry_class Old (entry_data l)) xs ++ flat_map (λ l. entry_class New (entry_data l)) ys ++ rule_classes rules) ≡ classes t u rules
+pub classes_listed : {A B : _} (t u : List Row) (xs : List (Item A)) (ys : List (Item B)) (rules : List RuleData) → Lawful t → Lawful u → HasEntries t (map item_entry xs) → HasEntries u (map item_entry ys)
+    → collected (flat_map (λ l. entry_class Old (item_entry l)) xs ++ flat_map (λ l. entry_class New (item_entry l)) ys ++ rule_classes rules) ≡ classes t u rules
 unfolding classes
 classes_listed t u xs ys rules lt lu lx ly =
-    let a = flat_map (λ l. entry_class Old (entry_data l)) xs in
-    let b = flat_map (λ l. entry_class New (entry_data l)) ys in
+    let a = flat_map (λ l. entry_class Old (item_entry l)) xs in
+    let b = flat_map (λ l. entry_class New (item_entry l)) ys in
     let a' = flat_map (row_class Old t) t in
     let b' = flat_map (row_class New u) u in
     let r = rule_classes rules in
     collected_same (a ++ b ++ r) (a' ++ b' ++ r)
-    (counted_both (a ++ b) r (counted_both a b (counted_each _ (λ l. counted_class Old (entry_data l).item.view.weight (entry_data l).item.view.class) xs) (counted_each _ (λ l. counted_class New (entry_data l).item.view.weight (entry_data l).item.view.class) ys)) (counted_rules rules))
+    (counted_both (a ++ b) r (counted_both a b (counted_each _ (λ l. counted_class Old (item_entry l).item.view.weight (item_entry l).item.view.class) xs) (counted_each _ (λ l. counted_class New (item_entry l).item.view.weight (item_entry l).item.view.class) ys)) (counted_rules rules))
     (counted_both (a' ++ b') r (counted_both a' b' (counted_each _ (λ (x : Row). counted_class Old _ x.class) t) (counted_each _ (λ (x : Row). counted_class New _ x.class) u)) (counted_rules rules))
     (λ c k. omega (
       arith,
@@ -147,19 +148,16 @@ classes_even : (k j : Amount) → AreTurned k j → (t : List Row) (rules : List
 classes_even k j turned t rules =
     all_even k j (collected (entries t rules)) (rising_collected (entries t rules)) (λ c. collected_adds c k (entries t rules) ∙ entries_even k j turned t rules c ∙ sym (collected_adds c j (entries t rules)))
 
-none_reweighed : (xs : List ClassData) → AllEven old_weight new_weight xs → flat_map reweighed_line xs ≡ []
-none_reweighed [] h = refl
-none_reweighed (x ∷ xs) h = λ i. (if not (eq-eqb (x.amount old_weight) (x.amount new_weight) h.0 i) then class_line x else []) ++ none_reweighed xs h.1 i
-
 never : (p q : Bool) → ((p && not p) && q) ≡ false
 never true q = refl
 never false q = refl
 
-none_untaken : (xs : List ClassData) → AllEven old_devices new_devices xs → flat_map untaken_line xs ≡ []
-none_untaken [] h = refl
-none_untaken (x ∷ xs) h =
-    let no : is_untaken x ≡ false = ap (λ n. ((x.amount old_devices == 0) && not (n == 0)) && (x.amount takes == 0)) (sym h.0) ∙ never (x.amount old_devices == 0) (x.amount takes == 0) in
-    λ i. (if no i then untaken_text x.name else []) ++ none_untaken xs h.1 i
+none_changed : (xs : List ClassData) → AllEven old_weight new_weight xs → AllEven old_devices new_devices xs → flat_map change_of_class xs ≡ []
+none_changed [] weights devices = refl
+none_changed (x ∷ xs) weights devices =
+    let stays : is_reweighed (class_change x) ≡ false = ap not (eq-eqb (x.amount old_weight) (x.amount new_weight) weights.0) in
+    let taken : is_untaken (class_change x) ≡ false = ap (λ n. ((x.amount old_devices == 0) && not (n == 0)) && not (not (x.amount takes == 0))) (sym devices.0) ∙ never (x.amount old_devices == 0) (not (not (x.amount takes == 0))) in
+    λ i. (if stays i || taken i then class_change x ∷ [] else []) ++ none_changed xs weights.1 devices.1 i
 
 weights_turned : AreTurned old_weight new_weight
 weights_turned = record { old = λ w. refl; new = λ w. refl; rule = refl }
@@ -167,6 +165,10 @@ weights_turned = record { old = λ w. refl; new = λ w. refl; rule = refl }
 devices_turned : AreTurned old_devices new_devices
 devices_turned = record { old = λ w. refl; new = λ w. refl; rule = refl }
 
+pub no_changed_classes : (t : List Row) (rules : List RuleData) → class_changes t t rules ≡ []
+unfolding classes
+no_changed_classes t rules = none_changed (collected (entries t rules)) (classes_even old_weight new_weight weights_turned t rules) (classes_even old_devices new_devices devices_turned t rules)
+
 pub no_classes : (s : SettingData) (t : List Row) → class_lines t t s ≡ []
-unfolding class_lines classes
-no_classes s t = λ i. none_reweighed (collected (entries t s.rules)) (classes_even old_weight new_weight weights_turned t s.rules) i ++ none_untaken (collected (entries t s.rules)) (classes_even old_devices new_devices devices_turned t s.rules) i
+unfolding class_lines
+no_classes s t = ap lines_of_classes (no_changed_classes t s.rules)

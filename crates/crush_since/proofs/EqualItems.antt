@@ -20,8 +20,8 @@ use Rattle.crush_model.proofs.Same.{item_weight-same}
 use Rattle.crush_model.proofs.Tested.{bytes_equal}
 use Rattle.crush_edits.specs.Setting.{SettingData}
 use Rattle.crush_print.specs.MapText.{put_in, ascending, device_number}
-use Rattle.crush_since.specs.Equal.{same_option, same_text}
-use Rattle.crush_since.specs.ItemData.{ItemData, row_item, item_of, own_class_ids}
+use Rattle.crush_compare.specs.Equal.{same_option, same_text}
+use Rattle.crush_items.specs.ItemData.{ItemData, row_item, item_of, own_class_ids}
 use Rattle.crush_since.specs.ItemParts.{same_algs, same_class_id, part, name_part, type_part, place_part, weight_part, class_part, alg_part, class_ids_part, changes, parts, behind, line, item_line}
 use Rattle.crush_since.specs.ItemWords.{item_word, whole_word}
 use Rattle.crush_since.specs.Since.{plain_map, same_class_ids, id_line, once_behind, all_ids, all_buckets, all_devices, item_lines}

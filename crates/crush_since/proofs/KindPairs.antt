@@ -10,7 +10,7 @@ use Rattle.std.specs.Option.{option_eq, option_map}
 use Rattle.crush_edits.specs.Setting.{KindData, TunableData, SettingData, first_name}
 use Rattle.crush_edits.specs.SettingSeen.{kind_data, tunable_data}
 use Rattle.crush_edits.proofs.SettingLaws.{name_got}
-use Rattle.crush_since.specs.Equal.{same_text}
+use Rattle.crush_compare.specs.Equal.{same_text}
 use Rattle.crush_since.specs.Settings.{same_tunable, same_kinds}
 
 -- the tunables, in order

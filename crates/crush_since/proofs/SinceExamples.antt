@@ -10,8 +10,8 @@ use Rattle.crush_model.specs.Forest.{rows_of}
 use Rattle.crush_model.specs.Table.{Row}
 use Rattle.crush_print.specs.RuleLines.{bucket_name}
 use Rattle.crush_since.specs.Classes.{class_lines, classes, class_line, untaken_text}
-use Rattle.crush_since.specs.Rules.{other_order}
-use Rattle.crush_since.specs.Emptied.{emptied_lines, rule_takes, weighs_nothing}
+use Rattle.crush_since.specs.Rules.{other_order, rule_takes, weighs_nothing}
+use Rattle.crush_since.specs.Emptied.{emptied_lines}
 use Rattle.crush_since.specs.Settings.{tunables_line, kinds_line, rules_line, setting_lines}
 use Rattle.crush_since.specs.Since.{PlainMap, plain_map, id_line, all_ids, all_buckets, all_devices, item_lines, totals_line, last_lines, since_text}
 use Rattle.crush_since.specs.Tallies.{first_counts, last_counts, counts_line}

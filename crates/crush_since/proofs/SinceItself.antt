@@ -15,12 +15,13 @@ use Rattle.crush_model.specs.Table.{Row, total}
 use Rattle.crush_model.proofs.Tested.{bytes_itself}
 use Rattle.crush_edits.specs.Setting.{TunableData, StepData, take, choose, set, emit, RuleData, SettingData, kind_name}
 use Rattle.crush_print.specs.RuleLines.{bucket_name}
-use Rattle.crush_since.specs.Emptied.{taken_weight, emptied_line, emptied_by, emptied_of, emptied_lines}
-use Rattle.crush_since.specs.Equal.{same_option, same_text}
-use Rattle.crush_since.specs.ItemData.{ItemData, item_of, own_class_ids}
+use Rattle.crush_compare.specs.declared.identity.Identity.TheVariants.{Ids}
+use Rattle.crush_since.specs.Emptied.{taken_weight, if_emptied, emptied_by, emptied_of, emptied_rules, emptied_lines}
+use Rattle.crush_compare.specs.Equal.{same_option, same_text}
+use Rattle.crush_items.specs.ItemData.{ItemData, item_of, own_class_ids}
 use Rattle.crush_since.specs.ItemWords.{place_word, type_word, class_or_none, alg_word}
 use Rattle.crush_since.specs.ItemParts.{same_algs, same_class_id, part, change, changes, line, item_line}
-use Rattle.crush_since.specs.Rules.{lines_or_order, rule_changes}
+use Rattle.crush_since.specs.Rules.{or_order, changed_rules, rule_change_lines}
 use Rattle.crush_since.proofs.ClassLaws.{no_classes}
 use Rattle.crush_since.specs.Settings.{same_tunable, kind_numbers, agree_on, same_kinds, same_bool, same_step, same_rule, listed_if_not, tunables_line, kinds_line, rules_line, setting_lines}
 use Rattle.crush_since.specs.Since.{plain_map, same_class_ids, id_line, all_ids, item_lines, totals_line, last_lines, since_text}
@@ -28,11 +29,11 @@ use Rattle.crush_since.specs.SinceLaws.{NothingSinceItself, nothing_counted}
 use Rattle.crush_since.specs.Tallies.{in_both, is_made, is_removed, is_renamed, is_moved, is_reweighed, is_reclassed, tally_of, counts_line}
 
 -- TESTS of a value and itself
-option_itself : (o : Option ℕ) → same_option o o ≡ true
+pub option_itself : (o : Option ℕ) → same_option o o ≡ true
 option_itself None = refl
 option_itself (Some n) = eq-eqb n n refl
 
-text_itself : (o : Option (List ℕ)) → same_text o o ≡ true
+pub text_itself : (o : Option (List ℕ)) → same_text o o ≡ true
 text_itself None = refl
 text_itself (Some n) = bytes_itself n
 
@@ -77,17 +78,17 @@ unfolding item_lines
 no_items s t = nothing_of (id_line (plain_map s t) (plain_map s t)) (no_line_of s t) (all_ids t t)
 
 -- SETTINGS
-tunable_itself : (x : TunableData) → same_tunable x x ≡ true
+pub tunable_itself : (x : TunableData) → same_tunable x x ≡ true
 tunable_itself x = λ i. bytes_itself x.name i && eq-eqb x.value x.value refl i
 
 all_agree : (p : ℕ → Bool) → ((n : ℕ) → p n ≡ true) → (ns : List ℕ) → list_all p ns ≡ true
 all_agree p each [] = refl
 all_agree p each (n ∷ ns) = ap (λ b. b && list_all p ns) (each n) ∙ all_agree p each ns
 
-kinds_itself : (s : SettingData) → same_kinds s s ≡ true
+pub kinds_itself : (s : SettingData) → same_kinds s s ≡ true
 kinds_itself s = λ i. all_agree (agree_on s s) (λ n. text_itself (kind_name s n)) (kind_numbers s) i && all_agree (agree_on s s) (λ n. text_itself (kind_name s n)) (kind_numbers s) i
 
-bool_itself : (b : Bool) → same_bool b b ≡ true
+pub bool_itself : (b : Bool) → same_bool b b ≡ true
 bool_itself true = refl
 bool_itself false = refl
 
@@ -97,7 +98,7 @@ step_itself (choose l f n k) = λ i. bool_itself l i && bool_itself f i && (sign
 step_itself (set w v) = λ i. bytes_itself w i && eq-eqb v v refl i
 step_itself emit = refl
 
-rule_itself : (x : RuleData) → same_rule x x ≡ true
+pub rule_itself : (x : RuleData) → same_rule x x ≡ true
 rule_itself x = λ i.
     bytes_itself x.name i && eq-eqb x.id x.id refl i && bytes_itself x.kind i && option_itself x.min_size i && option_itself x.max_size i && pairs_itself same_step step_itself x.steps i
 
@@ -105,7 +106,7 @@ no_settings : (s : SettingData) → setting_lines s s ≡ []
 unfolding setting_lines tunables_line kinds_line rules_line
 no_settings s = λ i.
     listed_if_not (pairs_itself same_tunable tunable_itself s.tunables i) (codes "tunables differ\n") ++ listed_if_not (kinds_itself s i) (codes "types differ\n")
-    ++ (if pairs_itself same_rule rule_itself s.rules i then [] else lines_or_order (rule_changes same_rule s.rules s.rules))
+    ++ rule_change_lines (if pairs_itself same_rule rule_itself s.rules i then [] else or_order (changed_rules same_rule s.rules s.rules))
 
 -- COUNTS
 none_meets : (p : ItemId → Bool) → ((i : ItemId) → p i ≡ false) → (ids : List ItemId) → count_by p ids ≡ 0
@@ -131,21 +132,21 @@ no_counts t ids = λ k. record {
 }
 
 -- RULES that find nothing now found nothing before
-not_emptied : (w : ℕ) → ((w == 0) && not (w == 0)) ≡ false
+pub not_emptied : (w : ℕ) → ((w == 0) && not (w == 0)) ≡ false
 not_emptied w = at (w == 0) where
   at : (b : Bool) → (b && not b) ≡ false
   at true = refl
   at false = refl
 
-no_step : (t : List Row) (rule : List ℕ) (x : StepData) → emptied_by t t rule x ≡ []
-no_step t rule (take b c) = ap (λ z. if z then emptied_line rule (bucket_name t b) c else []) (not_emptied (taken_weight t b c))
+no_step : (t : List Row) (rule : List ℕ) (x : StepData) → emptied_by Ids t t rule x ≡ []
+no_step t rule (take b c) = ap (λ z. if_emptied z rule (bucket_name t b) c) (not_emptied (taken_weight t b c))
 no_step t rule (choose l f n k) = refl
 no_step t rule (set w v) = refl
 no_step t rule emit = refl
 
 no_rules : (s : SettingData) (t : List Row) → emptied_lines t t s ≡ []
 unfolding emptied_lines
-no_rules s t = nothing_of (emptied_of t t) (λ r. nothing_of (emptied_by t t r.name) (no_step t r.name) r.steps) s.rules
+no_rules s t = ap rule_change_lines (nothing_of (emptied_of Ids t t) (λ r. nothing_of (emptied_by Ids t t r.name) (no_step t r.name) r.steps) s.rules)
 
 pub last_since_itself : (s : SettingData) (t : List Row) → last_lines (plain_map s t) (plain_map s t) (tally_of t t (all_ids t t)) ≡ totals_line (total t) (total t) ++ counts_line nothing_counted
 unfolding last_lines

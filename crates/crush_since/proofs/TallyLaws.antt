@@ -6,7 +6,7 @@ use Rattle.std.proofs.lemmas.List.Sums.{count_by_more_yes, count_by_more_no}
 use Rattle.crush_units.specs.declared.id.ItemId.{ItemId}
 use Rattle.crush_model.specs.Count.{one_if}
 use Rattle.crush_model.specs.Table.{Row}
-use Rattle.crush_since.specs.ItemData.{ItemData, item_of}
+use Rattle.crush_items.specs.ItemData.{ItemData, item_of}
 use Rattle.crush_since.specs.Tallies.{is_made, is_removed, is_renamed, is_moved, is_reweighed, is_reclassed, tally_of, tally_with, HasRoom}
 use Rattle.crush_since.specs.declared.since.tally.Tally.{Tally}
 
@@ -16,19 +16,6 @@ count_more p xs i x lt is = at (p x) refl where
   at : (b : Bool) → p x ≡ b → count_by p (take (i + 1) xs) ≡ count_by p (take i xs) + one_if (p x)
   at true e = let one : one_if (p x) ≡ 1 = ap one_if e in omega (arith, one, count_by_more_yes p xs i x lt (ap p (sym is) ∙ e))
   at false e = let none : one_if (p x) ≡ 0 = ap one_if e in omega (arith, none, count_by_more_no p xs i x lt (ap p (sym is) ∙ e))
-
--- the counts of one id more
-pub tally_more : (t u : List Row) (ids : List ItemId) (i : ℕ) (x : ItemId) (n m : Tally) (before after : Option ItemData) → i < length ids → x ≡ get_or ids i x → n ≡ tally_of t u (take i ids) → m ≡ tally_with n before after
-    → before ≡ item_of t x → after ≡ item_of u x → m ≡ tally_of t u (take (i + 1) ids)
-tally_more t u ids i x n m before after lt is so_far with_it is_before is_after =
-    with_it ∙ (λ k. tally_with (so_far k) (is_before k) (is_after k)) ∙ (λ k. record {
-      made = sym (count_more (λ j. is_made (item_of t j) (item_of u j)) ids i x lt is) k;
-      removed = sym (count_more (λ j. is_removed (item_of t j) (item_of u j)) ids i x lt is) k;
-      renamed = sym (count_more (λ j. is_renamed (item_of t j) (item_of u j)) ids i x lt is) k;
-      moved = sym (count_more (λ j. is_moved (item_of t j) (item_of u j)) ids i x lt is) k;
-      reweighed = sym (count_more (λ j. is_reweighed (item_of t j) (item_of u j)) ids i x lt is) k;
-      reclassed = sym (count_more (λ j. is_reclassed (item_of t j) (item_of u j)) ids i x lt is) k;
-    })
 
 -- no count is above a number
 pub record AtMost (k : ℕ) (n : Tally) : Type 0 where

@@ -7,18 +7,18 @@ use Rattle.crush_edits.specs.Setting.{SettingData}
 use Rattle.crush_units.specs.declared.id.ItemId.{ItemId}
 use Rattle.crush_units.specs.Weight.{weight_text}
 use Rattle.crush_since.specs.Changes.{ChangeData, has_some, with_below}
-use Rattle.crush_since.specs.Equal.{same_option, same_text}
-use Rattle.crush_since.specs.ItemData.{ItemData}
+use Rattle.crush_compare.specs.Equal.{same_option, same_text}
+use Rattle.crush_items.specs.ItemData.{ItemData}
 use Rattle.crush_since.specs.ItemParts.{same_algs, part, changes, behind, line, item_line}
 use Rattle.crush_since.specs.ItemWords.{item_word, place_word, type_word, class_or_none, alg_word}
-use Rattle.crush_since.specs.SameItem.{same_item}
+use Rattle.crush_compare.specs.SameItem.{same_item}
 
 -- A LINE is there where parts are
 some_last : {X : Type 0} (xs : List X) (y : X) (ys : List X) → has_some (xs ++ y ∷ ys) ≡ true
 some_last [] y ys = refl
 some_last (x ∷ xs) y ys = refl
 
-line_told : (name : List ℕ) (i : ItemId) (ps : List (List ℕ)) → has_some (line name i ps) ≡ has_some ps
+pub line_told : (name : List ℕ) (i : ItemId) (ps : List (List ℕ)) → has_some (line name i ps) ≡ has_some ps
 line_told name i [] = refl
 line_told name i (p ∷ rest) = some_last (item_word name i ++ codes ": " ++ (p ++ behind rest)) 10 []
 

@@ -1,10 +1,13 @@
--- The rows of what has changed, of items as plain data.
-use Rattle.std.specs.Prelude.{ℕ, ◌+◌, true, false, List, [], ◌∷◌, ◌++◌, Option, Some, if◌then◌else◌}
+-- The rows of what has changed, and the buckets of a forest, of items as plain data.
+use Rattle.std.specs.Prelude.{ℕ, ◌+◌, true, false, List, [], ◌∷◌, ◌++◌, Option, Some, if◌then◌else◌, map}
 use Rattle.crush_units.specs.declared.id.ItemId.TheVariants.{Device, Bucket}
-use Rattle.crush_model.specs.Items.{Items, none, device, bucket}
+use Rattle.std.specs.List.Sorted.{IsNonDecreasingBy, IsPermutation}
+use Rattle.crush_model.specs.Forest.{ForestData, all_items}
+use Rattle.crush_model.specs.Items.{BucketData, Items, none, device, bucket}
 use Rattle.crush_model.specs.Table.{Row, kids, is_there}
 use Rattle.crush_nodes.specs.Seen.{items_of, node_id}
 use Rattle.crush_nodes.specs.declared.node.Node.{Node}
+use Rattle.crush_print.specs.ItemsText.{buckets_among}
 use Rattle.crush_since.specs.Changes.{ChangeData, change_at, stands_in, left_from, is_listed, with_below}
 use Rattle.crush_since.specs.Since.{PlainMap}
 
@@ -27,3 +30,8 @@ stands_of old new depth (bucket h w m k rest) =
     with_below (is_listed old new (Bucket h.id)) (change_at old.table new.table true depth (Bucket h.id))
     (stands_of old new (depth + 1) k ++ left_from old.table new.table (depth + 1) (Some h.id) (kids old.table h.id))
     ++ stands_of old new depth rest
+
+-- the buckets of a forest, as `see` shows them, their ids rising
+pub record AreBuckets {X : Type 0} (see : X → BucketData) (f : ForestData) (xs : List X) : Type 0 where
+  pub same : IsPermutation (buckets_among (all_items f)) (map see xs)
+  pub rising : IsNonDecreasingBy (λ x. (see x).header.id) xs

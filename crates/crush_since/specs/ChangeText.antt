@@ -7,8 +7,8 @@ use Rattle.crush_units.specs.Weight.{weight_text}
 use Rattle.crush_edits.specs.Setting.{SettingData}
 use Rattle.crush_print.specs.Lines.{id_text}
 use Rattle.crush_since.specs.Changes.{ChangeData, change_rows}
-use Rattle.crush_since.specs.Equal.{same_option}
-use Rattle.crush_since.specs.ItemData.{ItemData}
+use Rattle.crush_compare.specs.Equal.{same_option}
+use Rattle.crush_items.specs.ItemData.{ItemData}
 use Rattle.crush_since.specs.ItemParts.{part, behind, name_part, type_part, class_part, alg_part, class_ids_part}
 use Rattle.crush_since.specs.Since.{PlainMap, all_ids, last_lines}
 use Rattle.crush_since.specs.Tallies.{tally_of}

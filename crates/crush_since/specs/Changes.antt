@@ -5,8 +5,8 @@ use Rattle.crush_units.specs.declared.id.ItemId.{ItemId}
 use Rattle.crush_units.specs.declared.id.ItemId.TheVariants.{Device, Bucket}
 use Rattle.crush_model.specs.Table.{Row, kids, is_there}
 use Rattle.crush_print.specs.MapText.{root_numbers}
-use Rattle.crush_since.specs.Equal.{same_option}
-use Rattle.crush_since.specs.ItemData.{ItemData, item_of}
+use Rattle.crush_compare.specs.Equal.{same_option}
+use Rattle.crush_items.specs.ItemData.{ItemData, item_of}
 use Rattle.crush_since.specs.Since.{PlainMap, same_class_ids, id_line}
 use Rattle.crush_print.specs.Tree.{unplaced_numbers}
 

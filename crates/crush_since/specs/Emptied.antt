@@ -1,11 +1,15 @@
--- Rules that find nothing: docs/user/FORMATS.md has the same in words.
-use Rattle.std.specs.Prelude.{ℕ, ◌==◌, Bool, not, ◌&&◌, List, [], ◌++◌, Option, None, Some, if◌then◌else◌, flat_map, codes, unwrap_or}
+-- Rules that take nothing: docs/user/FORMATS.md has the same in words.
+use Rattle.std.specs.Prelude.{ℕ, ◌==◌, Bool, not, ◌&&◌, List, [], ◌∷◌, Option, None, Some, if◌then◌else◌, flat_map, option_and_then, unwrap_or}
+use Rattle.std.specs.Option.{option_map_or}
+use Rattle.crush_compare.specs.declared.identity.Identity.{Identity}
+use Rattle.crush_compare.specs.declared.identity.Identity.TheVariants.{Ids, Names}
 use Rattle.crush_units.specs.declared.id.ItemId.{ItemId}
-use Rattle.crush_units.specs.declared.id.ItemId.TheVariants.{Bucket}
+use Rattle.crush_units.specs.declared.id.ItemId.TheVariants.{Device, Bucket}
 use Rattle.crush_model.specs.Classes.{class_weight_of}
-use Rattle.crush_model.specs.Table.{Row, weight_of}
+use Rattle.crush_model.specs.Table.{Row, weight_of, id_named, name_of}
 use Rattle.crush_edits.specs.Setting.{StepData, take, choose, set, emit, RuleData, SettingData}
 use Rattle.crush_print.specs.RuleLines.{bucket_name}
+use Rattle.crush_since.specs.Rules.{RuleChangeData, rule_takes_nothing, rule_change_lines}
 
 -- what an item weighs, or its devices of a class
 abbrev pub weight_as : List Row → Option (List ℕ) → ItemId → Option ℕ
@@ -16,35 +20,44 @@ weight_as t (Some c) i = class_weight_of t i c
 abbrev pub taken_weight : List Row → ℕ → Option (List ℕ) → ℕ
 taken_weight t b c = unwrap_or (weight_as t c (Bucket b)) 0
 
+-- the bucket of the old table that is the new table's bucket b: the one of the same id, or the one of the same name, if there is one
+abbrev pub bucket_number : ItemId → Option ℕ
+bucket_number (Device d) = None
+bucket_number (Bucket b) = Some b
+
+abbrev pub bucket_named : List Row → List ℕ → Option ℕ
+bucket_named t n = option_and_then bucket_number (id_named t n)
+
+abbrev pub old_bucket : Identity → List Row → List Row → ℕ → Option ℕ
+old_bucket Ids t u b = Some b
+old_bucket (Names devices) t u b = option_and_then (bucket_named t) (name_of u (Bucket b))
+
+-- what the bucket weighed in the old table: nothing if the old table doesn't have it
+abbrev pub weight_before : Identity → List Row → List Row → ℕ → Option (List ℕ) → ℕ
+weight_before identity t u b c = option_map_or (λ o. taken_weight t o c) (old_bucket identity t u b) 0
+
 -- whether it weighs nothing now and weighed something
-abbrev pub is_emptied : List Row → List Row → ℕ → Option (List ℕ) → Bool
-is_emptied t u b c = (taken_weight u b c == 0) && not (taken_weight t b c == 0)
+abbrev pub is_emptied : Identity → List Row → List Row → ℕ → Option (List ℕ) → Bool
+is_emptied identity t u b c = (taken_weight u b c == 0) && not (weight_before identity t u b c == 0)
 
--- what is taken: `BUCKET`, or `BUCKET~CLASS`
-abbrev pub taken_word : List ℕ → Option (List ℕ) → List ℕ
-taken_word name None = name
-taken_word name (Some c) = name ++ codes "~" ++ c
+-- a step of a rule, if it takes something that is emptied
+abbrev pub if_emptied : Bool → List ℕ → List ℕ → Option (List ℕ) → List RuleChangeData
+if_emptied is rule name c = if is then rule_takes_nothing rule name c ∷ [] else []
 
--- the line of a rule that finds nothing
-unfoldable pub rule_takes : List ℕ → List ℕ
-rule_takes rule = codes "rule " ++ rule ++ codes " takes nothing: "
+abbrev pub emptied_by : Identity → List Row → List Row → List ℕ → StepData → List RuleChangeData
+emptied_by identity t u rule (take b c) = if_emptied (is_emptied identity t u b c) rule (bucket_name u b) c
+emptied_by identity t u rule (choose leaf firstn count kind) = []
+emptied_by identity t u rule (set word value) = []
+emptied_by identity t u rule emit = []
 
-unfoldable pub weighs_nothing : List ℕ
-weighs_nothing = codes " weighs 0.00000\n"
+-- each such step of a rule
+abbrev pub emptied_of : Identity → List Row → List Row → RuleData → List RuleChangeData
+emptied_of identity t u r = flat_map (emptied_by identity t u r.name) r.steps
 
-abbrev pub emptied_line : List ℕ → List ℕ → Option (List ℕ) → List ℕ
-emptied_line rule name c = rule_takes rule ++ taken_word name c ++ weighs_nothing
+-- RULES THAT TAKE NOTHING: each such step of each rule
+abbrev pub emptied_rules : Identity → List Row → List Row → List RuleData → List RuleChangeData
+emptied_rules identity t u rules = flat_map (emptied_of identity t u) rules
 
--- the line of a step, if it takes something that is emptied
-abbrev pub emptied_by : List Row → List Row → List ℕ → StepData → List ℕ
-emptied_by t u rule (take b c) = if is_emptied t u b c then emptied_line rule (bucket_name u b) c else []
-emptied_by t u rule (choose leaf firstn count kind) = []
-emptied_by t u rule (set word value) = []
-emptied_by t u rule emit = []
-
--- the lines of the rules, each with one for each such step
-abbrev pub emptied_of : List Row → List Row → RuleData → List ℕ
-emptied_of t u r = flat_map (emptied_by t u r.name) r.steps
-
+-- and their lines, if buckets are matched by their ids
 unfoldable pub emptied_lines : List Row → List Row → SettingData → List ℕ
-emptied_lines t u s = flat_map (emptied_of t u) s.rules
+emptied_lines t u s = rule_change_lines (emptied_rules Ids t u s.rules)

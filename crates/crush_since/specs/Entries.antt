@@ -1,36 +1,9 @@
 -- What a map says of its items by their ids, each with the bucket that holds it.
-use Rattle.std.specs.Prelude.{ℕ, ◌+◌, ◌*◌, List, [], ◌∷◌, ◌++◌, Option, Some}
-use Rattle.std.specs.Option.{option_map}
+use Rattle.std.specs.Prelude.{ℕ, ◌+◌, ◌*◌}
 use Rattle.crush_units.specs.declared.id.ItemId.{ItemId}
 use Rattle.crush_units.specs.declared.id.ItemId.TheVariants.{Device, Bucket}
-use Rattle.crush_model.specs.Items.{LeafData, ShadowData, HeaderData, Items, none, device, bucket}
-use Rattle.crush_model.specs.Table.{Row, row_of}
-use Rattle.crush_nodes.specs.Views.{device_view, bucket_view}
-use Rattle.crush_since.specs.ItemData.{ItemData, row_item, own_class_ids}
-
--- an item with its class ids
-pub record EntryData : Type 0 where
-  pub item : ItemData
-  pub class_ids : List ShadowData
-
--- the entry of an id
-abbrev pub row_entry : List Row → ItemId → Row → EntryData
-row_entry t i r = record { item = row_item t r; class_ids = own_class_ids t i }
-
-abbrev pub entry_of : List Row → ItemId → Option EntryData
-entry_of t i = option_map (row_entry t i) (row_of t i)
-
--- those of items as plain data, which stand below the parent p of the name n, an item before what is below it
-abbrev pub device_entry : Option ℕ → Option (List ℕ) → LeafData → EntryData
-device_entry p n d = record { item = record { view = device_view p d; holder = n }; class_ids = [] }
-
-abbrev pub bucket_entry : Option ℕ → Option (List ℕ) → HeaderData → ℕ → EntryData
-bucket_entry p n h w = record { item = record { view = bucket_view p h w; holder = n }; class_ids = h.class_ids }
-
-abbrev pub entries_of : Option ℕ → Option (List ℕ) → Items → List EntryData
-entries_of p n none = []
-entries_of p n (device d rest) = device_entry p n d ∷ entries_of p n rest
-entries_of p n (bucket h w m k rest) = bucket_entry p n h w ∷ (entries_of (Some h.id) (Some h.name) k ++ entries_of p n rest)
+use Rattle.crush_model.specs.Items.{device, bucket}
+pub use Rattle.crush_items.specs.Entries.{EntryData, row_entry, entry_of, device_entry, bucket_entry, entries_of}
 
 -- a number for each id: an even one for a bucket, an odd one for a device
 abbrev pub id_key : ItemId → ℕ

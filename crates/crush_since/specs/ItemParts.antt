@@ -1,25 +1,14 @@
 -- What there is to tell of an item, by what two maps say of it.
-use Rattle.std.specs.Prelude.{ℕ, ◌==◌, Bool, true, false, ◌&&◌, List, [], ◌∷◌, ◌++◌, Option, None, Some, if◌then◌else◌, flat_map, codes, bytes_eq}
-use Rattle.crush_units.specs.declared.alg.Alg.{Alg}
+use Rattle.std.specs.Prelude.{ℕ, ◌==◌, Bool, List, [], ◌∷◌, ◌++◌, Option, None, Some, if◌then◌else◌, flat_map, codes, bytes_eq}
 use Rattle.crush_units.specs.declared.id.ItemId.{ItemId}
-use Rattle.crush_units.specs.Alg.{same_alg}
 use Rattle.crush_units.specs.Weight.{weight_text}
-use Rattle.crush_model.specs.Items.{ShadowData}
 use Rattle.crush_nodes.specs.Views.{ViewData}
 use Rattle.crush_edits.specs.Setting.{SettingData}
-use Rattle.crush_since.specs.Equal.{same_option, same_text}
-use Rattle.crush_since.specs.ItemData.{ItemData}
+use Rattle.crush_compare.specs.Equal.{same_option, same_text}
+use Rattle.crush_compare.specs.SameItem.{same_algs}
+pub use Rattle.crush_compare.specs.SameItem.{same_algs, same_class_id}
+use Rattle.crush_items.specs.ItemData.{ItemData}
 use Rattle.crush_since.specs.ItemWords.{item_word, place_word, type_word, class_or_none, alg_word, whole_word}
-
--- TESTS of columns
-abbrev pub same_algs : Option Alg → Option Alg → Bool
-same_algs None None = true
-same_algs None (Some b) = false
-same_algs (Some a) None = false
-same_algs (Some a) (Some b) = same_alg a b
-
-abbrev pub same_class_id : ShadowData → ShadowData → Bool
-same_class_id x y = (x.id == y.id) && bytes_eq x.class y.class
 
 -- PARTS: a part is told where a column differs
 abbrev pub part : Bool → List ℕ → List (List ℕ)

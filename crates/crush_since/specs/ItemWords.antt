@@ -7,7 +7,7 @@ use Rattle.crush_units.specs.Alg.{alg_text}
 use Rattle.crush_units.specs.Weight.{weight_text}
 use Rattle.crush_edits.specs.Setting.{SettingData, kind_name}
 use Rattle.crush_print.specs.Lines.{id_text}
-use Rattle.crush_since.specs.ItemData.{ItemData}
+use Rattle.crush_items.specs.ItemData.{ItemData}
 
 -- an item as `NAME (ID)`
 abbrev pub item_word : List ℕ → ItemId → List ℕ

@@ -1,21 +1,16 @@
 -- How the items of a map by their ids are seen as plain data, and what they are of a table.
-use Rattle.std.specs.Prelude.{◌≡◌, ℕ, List, [], Some, All}
+use Rattle.std.specs.Prelude.{◌≡◌, ℕ, List, Some, All}
 use Rattle.std.specs.List.{sum_by}
 use Rattle.std.specs.List.Sorted.{IsNonDecreasingBy}
 use Rattle.std.specs.Option.{option_map}
 use Rattle.crush_units.specs.declared.id.ItemId.{ItemId}
-use Rattle.crush_model.specs.Items.{ShadowData}
 use Rattle.crush_model.specs.Table.{Row}
 use Rattle.crush_nodes.specs.Seen.{node_id}
-use Rattle.crush_nodes.specs.declared.node.Node.{Node}
-use Rattle.crush_nodes.specs.declared.node.Node.TheVariants.{Device, Bucket}
 use Rattle.crush_since.specs.Entries.{EntryData, entry_of, id_key}
 use Rattle.crush_print.specs.WalkStep.{node_view}
 use Rattle.crush_since.specs.declared.since.listing.Listed.{Listed}
-
-abbrev pub node_class_ids : {A : _} → Node A → List ShadowData
-node_class_ids (Device l) = []
-node_class_ids (Bucket b) = b.value.header.class_ids
+use Rattle.crush_items.specs.Items.{node_class_ids}
+pub use Rattle.crush_items.specs.Items.{node_class_ids}
 
 abbrev pub listed_id : {A : _} → Listed A → ItemId
 listed_id l = node_id l.node.now

@@ -2,19 +2,17 @@
 use Rattle.std.specs.Prelude.{ℕ, Bool, List, [], ◌∷◌, ◌++◌, Option, None, Some, if◌then◌else◌, is_some, find, flat_map, codes, bytes_eq}
 use Rattle.std.specs.Cmp.Lexicographic.{pointwise}
 use Rattle.crush_edits.specs.Setting.{RuleData}
-use Rattle.crush_since.specs.declared.since.rules.RuleState.{RuleState}
-use Rattle.crush_since.specs.declared.since.rules.RuleState.TheVariants.{New, Differs, Gone}
 
--- a rule that differs, by its name
-pub record RuleChangeData : Type 0 where
-  pub name : List ℕ
-  pub state : RuleState
+-- a difference in the rules of two maps: a rule, by its name, which only the new map has, which differs, or which only the old map has; another order of the rules; or a rule, by its name, that takes nothing, with the name of the bucket and the class that one of its steps takes
+pub data RuleChangeData : Type 0 where
+  rule_new : List ℕ → RuleChangeData
+  rule_differs : List ℕ → RuleChangeData
+  rule_gone : List ℕ → RuleChangeData
+  rules_in_other_order : RuleChangeData
+  rule_takes_nothing : List ℕ → List ℕ → Option (List ℕ) → RuleChangeData
 
-abbrev pub rule_change : List ℕ → RuleState → RuleChangeData
-rule_change name state = record { name = name; state = state }
-
-abbrev pub change_unless : Bool → List ℕ → RuleState → List RuleChangeData
-change_unless same name state = if same then [] else rule_change name state ∷ []
+abbrev pub change_unless : Bool → RuleChangeData → List RuleChangeData
+change_unless same change = if same then [] else change ∷ []
 
 -- the first rule of a name, if there is one
 abbrev pub rule_named : List ℕ → List RuleData → Option RuleData
@@ -22,36 +20,56 @@ rule_named n rules = find (λ (r : RuleData). bytes_eq r.name n) rules
 
 -- a rule of the new map beside the old map's rule of its name
 abbrev pub beside : (RuleData → RuleData → Bool) → Option RuleData → RuleData → List RuleChangeData
-beside same None y = rule_change y.name New ∷ []
-beside same (Some x) y = change_unless (same x y) y.name Differs
+beside same None y = rule_new y.name ∷ []
+beside same (Some x) y = change_unless (same x y) (rule_differs y.name)
 
 abbrev pub new_rule : (RuleData → RuleData → Bool) → List RuleData → RuleData → List RuleChangeData
 new_rule same a y = beside same (rule_named y.name a) y
 
 -- a rule of the old map whose name no rule of the new map has
 abbrev pub gone_rule : List RuleData → RuleData → List RuleChangeData
-gone_rule b x = change_unless (is_some (rule_named x.name b)) x.name Gone
+gone_rule b x = change_unless (is_some (rule_named x.name b)) (rule_gone x.name)
 
--- RULES THAT DIFFER: of the new map each that is new or not the same, in order, and then each that is gone, in the old map's order
-abbrev pub rule_changes : (RuleData → RuleData → Bool) → List RuleData → List RuleData → List RuleChangeData
-rule_changes same a b = flat_map (new_rule same a) b ++ flat_map (gone_rule b) a
+-- the rules that differ: of the new map each that is new or not the same, in order, and then each that is gone, in the old map's order
+abbrev pub changed_rules : (RuleData → RuleData → Bool) → List RuleData → List RuleData → List RuleChangeData
+changed_rules same a b = flat_map (new_rule same a) b ++ flat_map (gone_rule b) a
 
--- LINES: one for each; if no rule differs, the order does
-abbrev pub state_word : RuleState → List ℕ
-state_word New = codes " is new\n"
-state_word Differs = codes " differs\n"
-state_word Gone = codes " is gone\n"
+-- if no rule differs, the order does
+abbrev pub or_order : List RuleChangeData → List RuleChangeData
+or_order [] = rules_in_other_order ∷ []
+or_order (x ∷ xs) = x ∷ xs
 
-abbrev pub rule_change_line : RuleChangeData → List ℕ
-rule_change_line x = codes "rule " ++ x.name ++ state_word x.state
+-- RULES THAT DIFFER, or that are in another order: none if the rules are the same, one by one in order
+abbrev pub rule_differences : (RuleData → RuleData → Bool) → List RuleData → List RuleData → List RuleChangeData
+rule_differences same a b = if pointwise same a b then [] else or_order (changed_rules same a b)
+
+-- LINES: what is taken is `BUCKET`, or `BUCKET~CLASS`
+abbrev pub taken_word : List ℕ → Option (List ℕ) → List ℕ
+taken_word name None = name
+taken_word name (Some c) = name ++ codes "~" ++ c
+
+unfoldable pub rule_takes : List ℕ → List ℕ
+rule_takes rule = codes "rule " ++ rule ++ codes " takes nothing: "
+
+unfoldable pub weighs_nothing : List ℕ
+weighs_nothing = codes " weighs 0.00000\n"
+
+abbrev pub emptied_line : List ℕ → List ℕ → Option (List ℕ) → List ℕ
+emptied_line rule name c = rule_takes rule ++ taken_word name c ++ weighs_nothing
 
 unfoldable pub other_order : List ℕ
 other_order = codes "rules stand in another order\n"
 
-abbrev pub lines_or_order : List RuleChangeData → List ℕ
-lines_or_order [] = other_order
-lines_or_order (x ∷ xs) = flat_map rule_change_line (x ∷ xs)
+abbrev pub rule_line : List ℕ → List ℕ → List ℕ
+rule_line name state = codes "rule " ++ name ++ state
 
--- nothing if the rules are the same, one by one in order
-abbrev pub rule_lines : (RuleData → RuleData → Bool) → List RuleData → List RuleData → List ℕ
-rule_lines same a b = if pointwise same a b then [] else lines_or_order (rule_changes same a b)
+-- one for each difference
+abbrev pub rule_change_line : RuleChangeData → List ℕ
+rule_change_line (rule_new name) = rule_line name (codes " is new\n")
+rule_change_line (rule_differs name) = rule_line name (codes " differs\n")
+rule_change_line (rule_gone name) = rule_line name (codes " is gone\n")
+rule_change_line rules_in_other_order = other_order
+rule_change_line (rule_takes_nothing rule name c) = emptied_line rule name c
+
+abbrev pub rule_change_lines : List RuleChangeData → List ℕ
+rule_change_lines changes = flat_map rule_change_line changes

@@ -1,13 +1,21 @@
 -- How a row of the tree of changes is seen as plain data, and of which tables rows are.
-use Rattle.std.specs.Prelude.{List}
+use Rattle.std.specs.Prelude.{◌≡◌, ℕ, Bool, List, map}
+use Rattle.std.specs.Cmp.Lexicographic.{pointwise}
 use Rattle.std.specs.Option.{option_map}
+use Rattle.crush_units.specs.declared.id.ItemId.{ItemId}
 use Rattle.crush_model.specs.Stands.{Stands}
 use Rattle.crush_model.specs.Table.{Row}
-use Rattle.crush_since.specs.Changes.{ChangeData, change_at}
-use Rattle.crush_since.specs.Listing.{Lists}
-use Rattle.crush_since.specs.SeenItem.{seen_data}
-use Rattle.crush_since.specs.declared.changes.rows.Both.{Both}
-use Rattle.crush_since.specs.declared.changes.rows.Place.{Place}
+use Rattle.crush_items.specs.ById.{AreById}
+use Rattle.crush_items.specs.Entries.{EntryData}
+use Rattle.crush_items.specs.Items.{item_entry}
+use Rattle.crush_items.specs.SeenItem.{seen_data}
+use Rattle.crush_compare.specs.Comparison.{pair_entries}
+use Rattle.crush_compare.specs.IdPairs.{EntryPair, class_ids_of}
+use Rattle.crush_compare.specs.declared.comparison.Comparison.{Comparison}
+use Rattle.crush_since.specs.Changes.{ChangeData}
+use Rattle.crush_since.specs.ItemParts.{same_class_id}
+use Rattle.crush_since.specs.declared.changes.both.Both.{Both}
+use Rattle.crush_since.specs.declared.changes.rows.TreeRow.{TreeRow}
 use Rattle.crush_since.specs.declared.changes.seen.Change.{Change}
 
 abbrev pub change_data : Change → ChangeData
@@ -20,12 +28,24 @@ change_data c = record {
   same_class_ids = c.same_class_ids;
 }
 
-abbrev pub place_change : List Row → List Row → Place → ChangeData
-place_change t u p = change_at t u p.stands p.depth p.id
+-- the row of an item, by what both maps have of the item
+abbrev pub entries_change : EntryPair → Bool → ℕ → ItemId → ChangeData
+entries_change e stands depth i = record {
+  id = i;
+  depth = depth;
+  stands = stands;
+  was = option_map (λ (x : EntryData). x.item) e.before;
+  is = option_map (λ (x : EntryData). x.item) e.after;
+  same_class_ids = pointwise same_class_id (class_ids_of e.before) (class_ids_of e.after);
+}
 
--- tables for which two maps stand, each with the list of its items
+abbrev pub row_change : {A B : _} → Comparison A B → TreeRow → ChangeData
+row_change maps r = entries_change (pair_entries maps r.pair) r.stands r.depth r.id
+
+-- tables for which two maps stand, with the places of their items
 pub record AreTables {A B : Type 0} (t u : List Row) (both : Both A B) : Type 0 where
-  pub old : Stands both.old.now.forest t
-  pub new : Stands both.new.now.forest u
-  pub before : Lists t both.before.items.items
-  pub after : Lists u both.after.items.items
+  pub old : Stands both.maps.old.map.now.forest t
+  pub new : Stands both.maps.new.map.now.forest u
+  pub before : AreById t (map item_entry both.maps.old.all.items) both.before.places.items
+  pub after : AreById u (map item_entry both.maps.new.all.items) both.after.places.items
+  pub buckets : both.buckets ≡ both.maps.old.map.now.forest

@@ -4,8 +4,8 @@ use Rattle.std.specs.Cmp.Lexicographic.{pointwise}
 use Rattle.std.specs.List.{list_all}
 use Rattle.std.specs.Ordering.{int_eq}
 use Rattle.crush_edits.specs.Setting.{KindData, TunableData, StepData, take, choose, set, emit, RuleData, SettingData, kind_name}
-use Rattle.crush_since.specs.Equal.{same_option, same_text}
-use Rattle.crush_since.specs.Rules.{rule_lines}
+use Rattle.crush_compare.specs.Equal.{same_option, same_text}
+use Rattle.crush_since.specs.Rules.{rule_differences, rule_change_lines}
 
 -- tunables, in order
 abbrev pub same_tunable : TunableData → TunableData → Bool
@@ -50,7 +50,7 @@ kinds_line a b = listed_if_not (same_kinds a b) (codes "types differ\n")
 
 -- and a line for each rule that differs
 unfoldable pub rules_line : SettingData → SettingData → List ℕ
-rules_line a b = rule_lines same_rule a.rules b.rules
+rules_line a b = rule_change_lines (rule_differences same_rule a.rules b.rules)
 
 unfoldable pub setting_lines : SettingData → SettingData → List ℕ
 setting_lines a b = tunables_line a b ++ kinds_line a b ++ rules_line a b

@@ -1,17 +1,18 @@
 -- What has changed from one map to another, told item by item: docs/user/FORMATS.md has the same in words.
-use Rattle.std.specs.Prelude.{ℕ, Bool, List, [], ◌∷◌, ◌++◌, Option, None, Some, if◌then◌else◌, map, flat_map, codes}
-use Rattle.std.specs.Cmp.Lexicographic.{pointwise}
+use Rattle.std.specs.Prelude.{ℕ, List, ◌++◌, flat_map, codes}
 use Rattle.crush_units.specs.declared.id.ItemId.{ItemId}
-use Rattle.crush_units.specs.declared.id.ItemId.TheVariants.{Device, Bucket}
 use Rattle.crush_units.specs.Weight.{weight_text}
-use Rattle.crush_model.specs.Table.{Row, bucket_ids, total}
+use Rattle.crush_model.specs.Table.{Row, total}
 use Rattle.crush_edits.specs.Setting.{SettingData}
-use Rattle.crush_print.specs.MapText.{ascending, device_number}
+use Rattle.crush_compare.specs.AllIds.{all_ids}
+use Rattle.crush_compare.specs.Difference.{same_class_ids}
+pub use Rattle.crush_compare.specs.AllIds.{once_behind, once}
+unfoldable pub use Rattle.crush_compare.specs.AllIds.{all_buckets, all_devices, all_ids}
+pub use Rattle.crush_compare.specs.Difference.{same_class_ids}
 use Rattle.crush_since.specs.Classes.{class_lines}
 use Rattle.crush_since.specs.Emptied.{emptied_lines}
-use Rattle.crush_since.specs.Equal.{same_option}
-use Rattle.crush_since.specs.ItemData.{item_of, own_class_ids}
-use Rattle.crush_since.specs.ItemParts.{same_class_id, item_line}
+use Rattle.crush_items.specs.ItemData.{item_of}
+use Rattle.crush_since.specs.ItemParts.{item_line}
 use Rattle.crush_since.specs.Settings.{setting_lines}
 use Rattle.crush_since.specs.Tallies.{tally_of, counts_line}
 use Rattle.crush_since.specs.declared.since.tally.Tally.{Tally}
@@ -25,29 +26,8 @@ abbrev pub plain_map : SettingData → List Row → PlainMap
 plain_map s t = record { setting = s; table = t }
 
 -- the line of an id
-abbrev pub same_class_ids : List Row → List Row → ItemId → Bool
-same_class_ids t u i = pointwise same_class_id (own_class_ids t i) (own_class_ids u i)
-
 unfoldable pub id_line : PlainMap → PlainMap → ItemId → List ℕ
 id_line old new i = item_line old.setting new.setting i (item_of old.table i) (item_of new.table i) (same_class_ids old.table new.table i)
-
--- numbers that rise, each once
-abbrev pub once_behind : Option ℕ → List ℕ → List ℕ
-once_behind last [] = []
-once_behind last (x ∷ xs) = if same_option last (Some x) then once_behind (Some x) xs else x ∷ once_behind (Some x) xs
-
-abbrev pub once : List ℕ → List ℕ
-once xs = once_behind None xs
-
--- the ids of both tables: buckets from -1 downward, and then devices upward
-unfoldable pub all_buckets : List Row → List Row → List ℕ
-all_buckets t u = once (ascending (flat_map (λ (r : Row). bucket_ids r.id) t ++ flat_map (λ (r : Row). bucket_ids r.id) u))
-
-unfoldable pub all_devices : List Row → List Row → List ℕ
-all_devices t u = once (ascending (flat_map (λ (r : Row). device_number r.id) t ++ flat_map (λ (r : Row). device_number r.id) u))
-
-unfoldable pub all_ids : List Row → List Row → List ItemId
-all_ids t u = map Bucket (all_buckets t u) ++ map Device (all_devices t u)
 
 -- the lines of all ids
 unfoldable pub item_lines : PlainMap → PlainMap → List ℕ

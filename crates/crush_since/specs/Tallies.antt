@@ -4,8 +4,8 @@ use Rattle.std.specs.List.{count_by}
 use Rattle.crush_units.specs.declared.id.ItemId.{ItemId}
 use Rattle.crush_model.specs.Count.{one_if}
 use Rattle.crush_model.specs.Table.{Row}
-use Rattle.crush_since.specs.Equal.{same_option, same_text}
-use Rattle.crush_since.specs.ItemData.{ItemData, item_of}
+use Rattle.crush_compare.specs.Equal.{same_option, same_text}
+use Rattle.crush_items.specs.ItemData.{ItemData, item_of}
 use Rattle.crush_since.specs.declared.since.tally.Tally.{Tally}
 
 -- TESTS of what both tables say of an id: that the second alone has it, or the first alone

@@ -18,9 +18,9 @@ use std::alloc::{AllocError, Allocator};
 
 /// Ensures that a bucket has room for one more item. If it is full, moves its items to a vector
 /// with 1.5 times the capacity, rounded down, plus one, and returns the old vector, now empty, so
-/// that the growth can be undone. Returns `Ok(None)` and changes nothing if the bucket has room. Fails with
-/// `AllocError` if memory can't be allocated, and then nothing has changed. `descent` leads to the
-/// bucket.
+/// that the growth can be undone. Returns `Ok(None)` and changes nothing if the bucket has room.
+/// Fails with `AllocError` if memory can't be allocated, and then nothing has changed. `descent`
+/// leads to the bucket.
 pub fn grow_buffer_in<A: Allocator + Clone, W: Descent>(
     items: &mut [Node<A>],
     descent: &W,
@@ -33,8 +33,8 @@ pub fn grow_buffer_in<A: Allocator + Clone, W: Descent>(
     change_at(items, descent, &ItemId::Bucket(place), GrowBuffer)
 }
 
-/// Ensures that a vector of items has room for one more item, as [`grow_buffer_in`] does for a bucket,
-/// with the same results.
+/// Ensures that a vector of items has room for one more item, as [`grow_buffer_in`] does for a
+/// bucket, with the same results.
 pub fn grow_buffer_of<A: Allocator + Clone>(
     items: &mut Vec<Node<A>, A>,
 ) -> Result<Option<Vec<Node<A>, A>>, AllocError>

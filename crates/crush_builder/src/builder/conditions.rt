@@ -186,8 +186,8 @@ impl<A: Allocator> MapBuilder<A> {
         self.hierarchy.parent(id).is_some()
     }
 
-    /// Returns how many bucket items were written with a weight other than the bucket's sum, which
-    /// replaced it.
+    /// Returns how many buckets were written as items with a weight that isn't their sum. The sum
+    /// replaced each such weight.
     pub fn adjusted(&self) -> u32
         ensures { (d : Draft) → IsDraft self.now d → result ≡ d.adjusted }
     {

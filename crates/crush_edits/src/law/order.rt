@@ -7,7 +7,8 @@ pub fn refusals_are_a_table()
     ensures { RowsAreRefusals }
 {}
 
-/// If several refusals hold for an edit, it reports the one with the lowest number.
+/// If there are several reasons to refuse an edit, the edit is refused with the one with the lowest
+/// number.
 pub fn least_refusal_is_told()
     ensures rise { TestsRise }
     ensures least { LeastIsTold }

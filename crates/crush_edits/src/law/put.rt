@@ -14,7 +14,8 @@ pub fn puts_are_steps()
     ensures boxed_new { PutsBoxedNew }
 {}
 
-/// A put keeps the table lawful if sums and counts stay in range; the setting still fits.
+/// If sums and counts stay in range, a put keeps the table lawful. The table still fits the setting
+/// (the map's types, tunables and rules) if the setting has the type of the item.
 pub fn puts_keep_lawful()
     ensures lawful { PutKeepsLawful }
     ensures lawful_new { PutNewKeepsLawful }

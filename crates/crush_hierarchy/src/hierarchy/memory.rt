@@ -26,11 +26,11 @@ impl<A: Allocator> Hierarchy<A> {
 }
 
 impl<A: Allocator + Clone> Hierarchy<A> {
-    /// Makes room for one more item at a place that exists, so that the growth can be undone. If
+    /// Ensures that a place that exists has room for one more item, in a way that can be undone. If
     /// the place is full, moves its items to a vector with 1.5 times the capacity, rounded down,
-    /// plus one, and returns the old vector for [`Hierarchy::replace_buffer`]. `Ok(None)` means that the
-    /// place had room, and that nothing has changed. Returns an error if memory can't be allocated;
-    /// then nothing changes.
+    /// plus one, and returns the old vector. With that vector, [`Hierarchy::replace_buffer`] undoes
+    /// the call. If the place has room already, returns `Ok(None)` and changes nothing. Returns an
+    /// error if memory can't be allocated; then nothing changes.
     pub fn grow_buffer(&mut self, place: Place) -> Result<Option<Vec<Node<A>, A>>, AllocError>
         requires { is_place (rows_of self.old) place ≡ true }
         ensures { GrowsBuffer place self.old self.new result }

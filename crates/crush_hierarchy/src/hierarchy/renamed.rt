@@ -10,7 +10,7 @@ use crush_index::{Index, NameMemory};
 use crush_units::{ItemId, Name};
 use std::alloc::{AllocError, Allocator, Global};
 
-/// The old name of an item that was given another, with what the index needs to restore it.
+/// The old name of an item that has a new name, with what the index needs to restore the old name.
 #[derive(Drop)]
 pub struct OldName<A: Allocator> {
     name: Name<A>,
@@ -60,7 +60,8 @@ impl<A: Allocator> Hierarchy<A> {
 }
 
 /// Replaces an item's name in the index, unless the new name is the item's own. Returns what the
-/// index needs to restore the old name.
+/// index needs to restore the old name. Returns an error if memory can't be allocated; then the
+/// index answers as before.
 fn tell_new_name<A: Allocator>(
     index: &mut Index,
     id: ItemId,

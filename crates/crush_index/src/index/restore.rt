@@ -49,7 +49,8 @@ pub(crate) enum PlaceMemory {
 pub struct RestoreMemory {
     name: NameMemory,
     place: PlaceMemory,
-    /// One for the id of a bucket and one for each of its class ids; none for a device.
+    /// The memory of one link for the id of a bucket and for each of its class ids; empty for a
+    /// device.
     ids: Vec<Spare<u32, ()>>,
 }
 
@@ -122,7 +123,7 @@ impl Index {
     /// `memory`.
     ///
     /// `hint` is the item's index among the items there, from 0; a wrong hint changes no answer.
-    /// `memory` must be from [`Index::restore_memory`] for this item: its name is the item's, and it has
+    /// `memory` must be from [`Index::restore_memory`] for this item: it has the item's name, and
     /// memory for the item's kind and for as many ids as the item uses.
     pub fn restore_node<A: Allocator>(
         &mut self,
@@ -233,7 +234,8 @@ fn restore_ids<A: Allocator>(
     }
 }
 
-/// Marks an id as used, with the memory of one of `spares`.
+/// Marks an id as used, without an error. Takes one of `spares`, whose memory is used if no other
+/// is left.
 fn restore_id(used: &mut UsedIds, id: BucketId, spares: &mut Vec<Spare<u32, ()>>)
     requires { 0 < length spares.old.items }
     ensures answers { UsesOne used.old used.new id true }

@@ -1,19 +1,20 @@
 //! The document of a plan, written.
 
-ghost use Rattle.std.specs.Prelude.{◌≡◌, ◌++◌, Err, IfOk, IfSome, OnOk, flat_map, map as each};
+ghost use Rattle.std.specs.Prelude.{◌≡◌, ◌++◌, Err, IfOk, IfSome, OnOk, codes, flat_map, map as each};
 ghost use Rattle.std.specs.Io.KnownBytes.{Keeps};
 ghost use Rattle.std.specs.Option.{option_map};
 ghost use Rattle.crush_units.specs.Writes.{Writes};
 ghost use Rattle.json.specs.Json.{array};
 ghost use Rattle.json.specs.Tree.{json_tokens};
-ghost use Rattle.crush_json.specs.PlanDocument.{all_of, command, plan_document, plan_document_text};
+ghost use Rattle.crush_json.specs.PlanDocument.{all_of, aside_document, command, plan_document, plan_document_text};
 ghost use Rattle.crush_json.specs.Seen.{IsHistory, history_data};
+ghost use Rattle.crush_json.specs.Tokens.{member_tokens};
 
 use crate::commands::push_command;
 use crate::document::Document;
-use crate::history::History;
+use crate::history::{History, push_history_if};
 use crate::stays::push_stays;
-use crate::write::{bounded, line_of, open};
+use crate::write::{bounded, line_of};
 use crush_map::Edit;
 use crush_units::{WriteFault, put};
 use std::alloc::{AllocError, Global};
@@ -22,24 +23,27 @@ use std::io::Write;
 /// In bytes.
 const USUAL_COMMAND: usize = 96;
 
-/// Writes `{"history":H,"plan":[..],"stays":[..]}` and a line feed, or without a history the same
-/// without that member: each edit of a plan as the command that a monitor takes, with the keys of
-/// Ceph's own table of commands, and each line of what stays, the rest of the plan, as a text. A
-/// weight is a decimal of five places, as `ceph` itself takes it.
+/// Writes `{"aside":A,"history":H,"plan":[..],"stays":[..]}` and a line feed, or without a history
+/// the same without that member: each edit of a plan as the command that a monitor takes, with the
+/// keys of Ceph's own table of commands, and each line of what stays, the rest of the plan, as a
+/// text. A weight is a decimal of five places, as `ceph` itself takes it. `ids` and `class_ids` are
+/// the numbers of buckets whose ids and whose class ids differ; A has both.
 pub fn write_plan_document<W: Write>(
     alloc: Global,
     edits: &[Edit],
     rest: &[u8],
+    ids: usize,
+    class_ids: usize,
     history: Option<History<'_>>,
     out: &mut W,
 ) -> Result<(), WriteFault>
     requires { IfSome history IsHistory }
     ensures writes { Writes result (W.contents out.old) (W.contents out.new) (plan_document_text
-        (plan_document (option_map history_data history.entry) edits.now rest.now)) }
+        (plan_document (option_map history_data history.entry) edits.now rest.now ids class_ids)) }
     ensures none { result ≡ Err WriteFault.OutOfMemory
         → Keeps (W.contents out.old) (W.contents out.new) }
 {
-    let Ok(text) = plan_text(alloc, edits, rest, history) else {
+    let Ok(text) = plan_text(alloc, edits, rest, ids, class_ids, history) else {
         return Err(WriteFault::OutOfMemory);
     };
     put(out, text.as_slice())
@@ -49,14 +53,16 @@ fn plan_text(
     alloc: Global,
     edits: &[Edit],
     rest: &[u8],
+    ids: usize,
+    class_ids: usize,
     history: Option<History<'_>>,
 ) -> Result<Vec<u8>, AllocError>
     requires { IfSome history IsHistory }
     ensures { IfOk result (λ text. text.items ≡ plan_document_text
-        (plan_document (option_map history_data history.entry) edits.now rest.now)) }
+        (plan_document (option_map history_data history.entry) edits.now rest.now ids class_ids)) }
 {
     let mut document = Document::new(alloc, bounded(edits.len()) * USUAL_COMMAND)?;
-    push_document(alloc, edits, rest, history, &mut document)?;
+    push_document(alloc, edits, rest, ids, class_ids, history, &mut document)?;
     line_of(document)
 }
 
@@ -64,17 +70,34 @@ fn push_document(
     alloc: Global,
     edits: &[Edit],
     rest: &[u8],
+    ids: usize,
+    class_ids: usize,
     history: Option<History<'_>>,
     out: &mut Document,
 ) -> Result<(), AllocError>
     requires { IfSome history IsHistory }
     ensures { OnOk result (out.new ≡ out.old ++ json_tokens
-        (plan_document (option_map history_data history.entry) edits.now rest.now)) }
+        (plan_document (option_map history_data history.entry) edits.now rest.now ids class_ids)) }
 {
-    open(alloc, history, "plan", out)?;
+    out.begin_object()?;
+    push_aside(ids, class_ids, out)?;
+    push_history_if(alloc, history, out)?;
+    out.key("plan")?;
     push_commands(alloc, edits, out)?;
     out.key("stays")?;
     push_stays(alloc, rest, out)?;
+    out.end_object()
+}
+
+#[tactic(auto, unfolding(crate::specs::PlanDocument::aside_document))]
+fn push_aside(ids: usize, class_ids: usize, out: &mut Document) -> Result<(), AllocError>
+    ensures { OnOk result (out.new ≡ out.old
+        ++ member_tokens (codes "aside") (aside_document ids class_ids)) }
+{
+    out.key("aside")?;
+    out.begin_object()?;
+    out.natural("class_ids", class_ids as u64)?;
+    out.natural("ids", ids as u64)?;
     out.end_object()
 }
 

@@ -25,10 +25,12 @@ use std::io::Write;
 const USUAL_CHANGES: usize = 4096;
 
 /// Writes `{"history":H,"since":S}` and a line feed, or without a history `{"since":S}`: what has
-/// changed from the old map to the new, an object for each item of `crush_since::listed_ids` with
-/// what it was and what it is; how many items differ in which way; whether rules, tunables and
-/// types differ; and what all placed devices weighed, and weigh. Under an item it has the items
-/// alone.
+/// changed from the old map to the new map. S has an object for each item of which the two maps say
+/// different things, with what it was and what it is, in the order of the ids. It also has the
+/// rules and the classes that differ, the numbers of items that differ in each way, whether the
+/// tunables and the types differ, and the total weights of both maps. If `under` is given, S has
+/// only this item and the items that are below it in either map. The function visits each item of
+/// each map once, and sorts the items of each map once.
 pub fn write_since_document<A: Allocator, B: Allocator, W: Write>(
     alloc: Global,
     old: &CrushMap<A>,

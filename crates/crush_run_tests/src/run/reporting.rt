@@ -60,6 +60,7 @@ fn is_explained(rt: &impl AllocGlobal, outcome: &Result<Summary, RunFault>, told
         explain: true,
         under: "",
         down_to: "",
+        class: "",
     };
     report(words, outcome, b"", &mut err);
     err.as_slice() == told

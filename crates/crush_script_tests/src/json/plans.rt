@@ -28,7 +28,7 @@ const REST: &[u8] = b"osd.1: class hdd, wanted (none)\ntunables differ\n";
 
 /// The expected document. Its keys are those of Ceph's own table of commands.
 const PLAN: &[u8] = b"\
-    {\"plan\":[\
+    {\"aside\":{\"class_ids\":1,\"ids\":2},\"plan\":[\
     {\"args\":[\"host=h3\",\"root=default\"],\"id\":3,\"prefix\":\"osd crush add\",\"weight\":0.33299},\
     {\"args\":[\"host=h3\"],\"id\":3,\"prefix\":\"osd crush set\",\"weight\":1.50000},\
     {\"args\":[\"root=default\"],\"id\":12,\"prefix\":\"osd crush create-or-move\",\"weight\":2.00000},\
@@ -43,7 +43,7 @@ const PLAN: &[u8] = b"\
     {\"ids\":[\"osd.0\"],\"prefix\":\"osd crush rm-device-class\"}],\
     \"stays\":[\"osd.1: class hdd, wanted (none)\",\"tunables differ\"]}\n";
 
-const NO_PLAN: &[u8] = b"{\"plan\":[],\"stays\":[]}\n";
+const NO_PLAN: &[u8] = b"{\"aside\":{\"class_ids\":1,\"ids\":2},\"plan\":[],\"stays\":[]}\n";
 
 fn edits_of(rt: &(impl Abort + AllocGlobal), calls: &[Call]) -> Vec<Edit> {
     let mut edits = Vec::new(rt.alloc());
@@ -60,7 +60,7 @@ fn edits_of(rt: &(impl Abort + AllocGlobal), calls: &[Call]) -> Vec<Edit> {
 
 fn is_plan(rt: &(impl Abort + AllocGlobal), edits: &[Edit], rest: &[u8], document: &[u8]) -> bool {
     let mut told = Vec::new(rt.alloc());
-    write_plan_document(rt.alloc(), edits, rest, None, &mut told).expect(rt, "not written");
+    write_plan_document(rt.alloc(), edits, rest, 2, 1, None, &mut told).expect(rt, "not written");
     told.as_slice() == document
 }
 

@@ -30,25 +30,25 @@ const MOVING: &[u8] = b"\
 /// The device keeps its weight of 1.0: h1 changes from 2.0 to 1.0 and h2 from 0.5 to 1.5, and the
 /// total remains 2.5.
 const MOVED: &[u8] = b"\
-    {\"since\":{\
+    {\"since\":{\"classes\":[],\
     \"counts\":{\"class\":0,\"made\":0,\"moved\":1,\"removed\":0,\"renamed\":0,\"weight\":2},\
     \"items\":[\
     {\"id\":-2,\
-    \"is\":{\"name\":\"h1\",\"parent\":\"default\",\"type\":\"host\",\"weight\":65536},\
-    \"was\":{\"name\":\"h1\",\"parent\":\"default\",\"type\":\"host\",\"weight\":131072}},\
+    \"is\":{\"alg\":\"straw2\",\"class_ids\":[],\"name\":\"h1\",\"parent\":\"default\",\"type\":\"host\",\"weight\":65536},\
+    \"was\":{\"alg\":\"straw2\",\"class_ids\":[],\"name\":\"h1\",\"parent\":\"default\",\"type\":\"host\",\"weight\":131072}},\
     {\"id\":-3,\
-    \"is\":{\"name\":\"h2\",\"parent\":\"default\",\"type\":\"host\",\"weight\":98304},\
-    \"was\":{\"name\":\"h2\",\"parent\":\"default\",\"type\":\"host\",\"weight\":32768}},\
+    \"is\":{\"alg\":\"straw2\",\"class_ids\":[],\"name\":\"h2\",\"parent\":\"default\",\"type\":\"host\",\"weight\":98304},\
+    \"was\":{\"alg\":\"straw2\",\"class_ids\":[],\"name\":\"h2\",\"parent\":\"default\",\"type\":\"host\",\"weight\":32768}},\
     {\"id\":0,\
     \"is\":{\"name\":\"osd.0\",\"parent\":\"h2\",\"type\":\"osd\",\"weight\":65536},\
     \"was\":{\"name\":\"osd.0\",\"parent\":\"h1\",\"type\":\"osd\",\"weight\":65536}}],\
-    \"rules\":false,\"total\":[163840,163840],\"tunables\":false,\"types\":false}}\n";
+    \"rules\":[],\"total\":[163840,163840],\"tunables\":false,\"types\":false}}\n";
 
 const MOVED_BELOW: &[u8] = b"\
     {\"since\":{\"items\":[\
     {\"id\":-2,\
-    \"is\":{\"name\":\"h1\",\"parent\":\"default\",\"type\":\"host\",\"weight\":65536},\
-    \"was\":{\"name\":\"h1\",\"parent\":\"default\",\"type\":\"host\",\"weight\":131072}},\
+    \"is\":{\"alg\":\"straw2\",\"class_ids\":[],\"name\":\"h1\",\"parent\":\"default\",\"type\":\"host\",\"weight\":65536},\
+    \"was\":{\"alg\":\"straw2\",\"class_ids\":[],\"name\":\"h1\",\"parent\":\"default\",\"type\":\"host\",\"weight\":131072}},\
     {\"id\":0,\
     \"is\":{\"name\":\"osd.0\",\"parent\":\"h2\",\"type\":\"osd\",\"weight\":65536},\
     \"was\":{\"name\":\"osd.0\",\"parent\":\"h1\",\"type\":\"osd\",\"weight\":65536}}]}}\n";
@@ -56,13 +56,72 @@ const MOVED_BELOW: &[u8] = b"\
 /// A root, and a device that is in no bucket, have no parent.
 const MADE: &[u8] = b"\
     {\"since\":{\
+    \"classes\":[{\"is\":98304,\"name\":\"ssd\",\"taken\":false,\"was\":0}],\
     \"counts\":{\"class\":0,\"made\":3,\"moved\":0,\"removed\":0,\"renamed\":0,\"weight\":0},\
     \"items\":[\
-    {\"id\":-4,\"is\":{\"name\":\"default\",\"type\":\"root\",\"weight\":98304}},\
+    {\"id\":-4,\"is\":{\"alg\":\"straw\",\"class_ids\":[],\"name\":\"default\",\"type\":\"root\",\"weight\":98304}},\
     {\"id\":3,\"is\":{\"name\":\"osd.3\",\"type\":\"osd\",\"weight\":0}},\
     {\"id\":7,\
     \"is\":{\"class\":\"ssd\",\"name\":\"osd.7\",\"parent\":\"default\",\"type\":\"osd\",\"weight\":98304}}],\
-    \"rules\":false,\"total\":[0,98304],\"tunables\":false,\"types\":true}}\n";
+    \"rules\":[],\"total\":[0,98304],\"tunables\":false,\"types\":true}}\n";
+
+/// Two maps with the same items, of which the bucket has another algorithm and another class id,
+/// and the device another class.
+const CLASSES_BEFORE: &[u8] = b"\
+    device 0 osd.0 class hdd\n\
+    type 1 root\n\
+    root default { id -1 id -5 class hdd alg straw hash 0 item osd.0 weight 1.0 }\n\
+    rule kept { id 0 type replicated step take default class hdd step emit }\n\
+    rule old { id 1 type replicated step take default step emit }\n\
+    rule other { id 2 type replicated step take default step emit }\n";
+
+const CLASSES_AFTER: &[u8] = b"\
+    device 0 osd.0 class ssd\n\
+    type 1 root\n\
+    root default { id -1 id -5 class hdd id -6 class ssd alg straw2 hash 0 item osd.0 weight 1.0 }\n\
+    rule kept { id 0 type replicated step take default class hdd step emit }\n\
+    rule new { id 3 type replicated step take default step emit }\n\
+    rule other { id 2 type erasure step take default step emit }\n";
+
+const CLASSES: &[u8] = b"\
+    {\"since\":{\
+    \"classes\":[\
+    {\"is\":0,\"name\":\"hdd\",\"taken\":true,\"was\":65536},\
+    {\"is\":65536,\"name\":\"ssd\",\"taken\":false,\"was\":0}],\
+    \"counts\":{\"class\":1,\"made\":0,\"moved\":0,\"removed\":0,\"renamed\":0,\"weight\":0},\
+    \"items\":[\
+    {\"id\":-1,\
+    \"is\":{\"alg\":\"straw2\",\"class_ids\":[{\"class\":\"hdd\",\"id\":-5},{\"class\":\"ssd\",\"id\":-6}],\
+    \"name\":\"default\",\"type\":\"root\",\"weight\":65536},\
+    \"was\":{\"alg\":\"straw\",\"class_ids\":[{\"class\":\"hdd\",\"id\":-5}],\
+    \"name\":\"default\",\"type\":\"root\",\"weight\":65536}},\
+    {\"id\":0,\
+    \"is\":{\"class\":\"ssd\",\"name\":\"osd.0\",\"parent\":\"default\",\"type\":\"osd\",\"weight\":65536},\
+    \"was\":{\"class\":\"hdd\",\"name\":\"osd.0\",\"parent\":\"default\",\"type\":\"osd\",\"weight\":65536}}],\
+    \"rules\":[\
+    {\"change\":\"new\",\"name\":\"new\"},\
+    {\"change\":\"differs\",\"name\":\"other\"},\
+    {\"change\":\"gone\",\"name\":\"old\"},\
+    {\"bucket\":\"default\",\"change\":\"takes nothing\",\"class\":\"hdd\",\"name\":\"kept\"}],\
+    \"total\":[65536,65536],\"tunables\":false,\"types\":false}}\n";
+
+const RULES_BEFORE: &[u8] = b"\
+    type 1 root\n\
+    root default { id -1 alg straw2 hash 0 }\n\
+    rule a { id 0 type replicated step take default step emit }\n\
+    rule b { id 1 type replicated step take default step emit }\n";
+
+const RULES_AFTER: &[u8] = b"\
+    type 1 root\n\
+    root default { id -1 alg straw2 hash 0 }\n\
+    rule b { id 1 type replicated step take default step emit }\n\
+    rule a { id 0 type replicated step take default step emit }\n";
+
+const OTHER_ORDER: &[u8] = b"\
+    {\"since\":{\"classes\":[],\
+    \"counts\":{\"class\":0,\"made\":0,\"moved\":0,\"removed\":0,\"renamed\":0,\"weight\":0},\
+    \"items\":[],\"rules\":[{\"change\":\"other order\"}],\
+    \"total\":[0,0],\"tunables\":false,\"types\":false}}\n";
 
 fn is_since(
     rt: &(impl Abort + AllocGlobal),
@@ -119,4 +178,28 @@ fn what_is_made_was_nothing(rt: HostRuntime) {
     assert!(rt; is_since(&rt, &old, &new, None, MADE));
     drop(new);
     drop(old);
+}
+
+fn is_since_texts(
+    rt: &(impl Abort + AllocGlobal),
+    old: &[u8],
+    new: &[u8],
+    document: &[u8],
+) -> bool {
+    let (old, _) = read_map(rt.alloc(), old).expect(rt, "no map");
+    let (new, _) = read_map(rt.alloc(), new).expect(rt, "no map");
+    let is = is_since(rt, &old, &new, None, document);
+    drop(new);
+    drop(old);
+    is
+}
+
+#[test]
+fn classes_and_rules_that_differ_are_told(rt: HostRuntime) {
+    assert!(rt; is_since_texts(&rt, CLASSES_BEFORE, CLASSES_AFTER, CLASSES));
+}
+
+#[test]
+fn rules_in_another_order_are_told(rt: HostRuntime) {
+    assert!(rt; is_since_texts(&rt, RULES_BEFORE, RULES_AFTER, OTHER_ORDER));
 }

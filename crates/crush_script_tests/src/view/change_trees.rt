@@ -4,6 +4,7 @@ use super::EXAMPLE_MAP;
 use super::changes::MOVED;
 use crate::maps::map_of;
 use crush_map::CrushMap;
+use crush_print::TreePart;
 use crush_since::write_changes;
 use std::alloc::Global;
 use std::process::Abort;
@@ -40,7 +41,7 @@ const SWAPPED: &[u8] = b"\
     root default { id -1 alg straw2 hash 0 item h2 weight 0.5 item h1 weight 2.0 }\n";
 
 /// The map after `rm osd.0`, `rm osd.1` and `rm h1`.
-const SHRUNK: &[u8] = b"\
+pub(super) const SHRUNK: &[u8] = b"\
     tunable chooseleaf_stable 1\n\
     device 2 osd.2\n\
     type 0 osd\n\
@@ -50,7 +51,7 @@ const SHRUNK: &[u8] = b"\
     host h2 { id -3 alg straw2 hash 0 item osd.2 weight 0.5 }\n\
     root default { id -1 alg straw2 hash 0 item h2 weight 0.5 }\n";
 
-const ROW: &[u8] = b"\
+pub(super) const ROW: &[u8] = b"\
     device 0 osd.0\n\
     type 0 osd\n\
     type 1 host\n\
@@ -63,7 +64,7 @@ const ROW: &[u8] = b"\
     root default { id -1 alg straw2 hash 0 item row00 weight 1.0 }\n";
 
 /// The empty rack is gone, and a new host has its id.
-const ROW_AGAIN: &[u8] = b"\
+pub(super) const ROW_AGAIN: &[u8] = b"\
     device 0 osd.0\n\
     device 1 osd.1\n\
     type 0 osd\n\
@@ -109,7 +110,7 @@ fn changes(
     new: &CrushMap<Global>,
 ) -> Vec<u8> {
     let mut text = Vec::new(rt.alloc());
-    write_changes(rt.alloc(), old, new, &mut text).expect(rt, "no text");
+    write_changes(rt.alloc(), old, new, TreePart::whole(), &mut text).expect(rt, "no text");
     text
 }
 

@@ -3,6 +3,7 @@
 use super::EXAMPLE_MAP;
 use super::changes::MOVED;
 use crate::maps::map_of;
+use crush_compare::Comparison;
 use crush_map::CrushMap;
 use crush_since::{
     Tally, count_changes, is_changed, is_part_changed, same_kinds, same_rules, same_tunables,
@@ -133,5 +134,20 @@ fn a_move_is_counted_with_the_weights_round_it(rt: HostRuntime) {
     let counts = counts_of_the_move(&rt);
     assert!(rt;
         counts.made == 0 && counts.removed == 0 && counts.moved == 1 && counts.reweighed == 2
+    );
+}
+
+#[test]
+fn a_move_is_counted_in_the_part_that_it_left(rt: HostRuntime) {
+    let old = map_of(&rt, EXAMPLE_MAP);
+    let new = map_of(&rt, MOVED);
+    let under = id_of(&rt, &new, "h1");
+    let both = Comparison::by_ids_below(rt.alloc(), &old, &new, under).expect(&rt, "no memory");
+    let counts = Tally::of(&both);
+    drop(both);
+    drop(old);
+    drop(new);
+    assert!(rt;
+        counts.made == 0 && counts.removed == 0 && counts.moved == 1 && counts.reweighed == 1
     );
 }

@@ -35,6 +35,21 @@ const OTHER_CLUSTER: &[u8] = b"\
     host h1 { id -8 alg straw2 hash 0 item osd.0 weight 1.0 item osd.1 weight 2.0 }\n\
     root default { id -7 alg straw2 hash 0 item h2 weight 0.5 item h1 weight 3.0 }\n";
 
+/// The example map in another cluster, where h2 is a rack and holds osd.1. osd.2 weighs one unit
+/// (1/65536) less than 0.5.
+const MOVED_MAP: &[u8] = b"\
+    tunable chooseleaf_stable 1\n\
+    device 0 osd.0\n\
+    device 1 osd.1\n\
+    device 2 osd.2\n\
+    type 0 osd\n\
+    type 1 host\n\
+    type 3 rack\n\
+    type 11 root\n\
+    host h1 { id -3 alg straw2 hash 0 item osd.0 weight 1.0 }\n\
+    rack h2 { id -2 alg straw2 hash 0 item osd.2 weight 0.49999 item osd.1 weight 1.0 }\n\
+    root default { id -1 alg straw2 hash 0 item h1 weight 1.0 item h2 weight 1.49999 }\n";
+
 fn word_of(difference: Option<Difference>) -> &'static [u8] {
     match difference {
         None => b"same",
@@ -45,6 +60,10 @@ fn word_of(difference: Option<Difference>) -> &'static [u8] {
                 b"class"
             } else if columns.weight {
                 b"weight"
+            } else if columns.place {
+                b"place"
+            } else if columns.kind {
+                b"type"
             } else {
                 b"another column"
             }
@@ -100,6 +119,25 @@ fn pairs_are_in_the_order_of_ids(rt: HostRuntime) {
 }
 
 #[test]
+fn pairs_of_a_part_are_of_the_items_that_were_or_are_in_it(rt: HostRuntime) {
+    let old = map_of(&rt, EXAMPLE_MAP);
+    let new = map_of(&rt, MOVED_MAP);
+    let under = old.locate("h2").expect(&rt, "no item");
+    let both = Comparison::by_ids_below(rt.alloc(), &old, &new, under).expect(&rt, "no memory");
+    let rows: [(&[u8], &[u8]); 3] = [
+        (b"h1", b"weight"),
+        (b"osd.0", b"place"),
+        (b"osd.2", b"weight"),
+    ];
+    let are = are_pairs(&both, Report::Changes, &rows);
+    let same = both.same_class_ids(both.pairs[0]);
+    drop(both);
+    drop(new);
+    drop(old);
+    assert!(rt; are && same);
+}
+
+#[test]
 fn pairs_by_names_are_in_the_order_of_the_new_tree(rt: HostRuntime) {
     let old = map_of(&rt, EXAMPLE_MAP);
     let new = map_of(&rt, OTHER_CLUSTER);
@@ -138,6 +176,43 @@ fn devices_of_other_ids_are_not_one_in_one_cluster(rt: HostRuntime) {
         (b"osd.0", b"removed"),
         (b"osd.2", b"removed"),
     ];
+    let are = are_pairs(&both, Report::Remaining, &rows);
+    drop(both);
+    drop(new);
+    drop(old);
+    assert!(rt; are);
+}
+
+#[test]
+fn types_and_places_are_compared_by_name(rt: HostRuntime) {
+    let old = map_of(&rt, EXAMPLE_MAP);
+    let new = map_of(&rt, MOVED_MAP);
+    let both = Comparison::by_names(rt.alloc(), Devices::ById, &old, &new).expect(&rt, "no memory");
+    let rows: [(&[u8], &[u8]); 6] = [
+        (b"default", b"same"),
+        (b"h1", b"same"),
+        (b"osd.0", b"same"),
+        (b"h2", b"type"),
+        (b"osd.2", b"same"),
+        (b"osd.1", b"place"),
+    ];
+    let are = are_pairs(&both, Report::Remaining, &rows);
+    drop(both);
+    drop(new);
+    drop(old);
+    assert!(rt; are);
+}
+
+#[test]
+fn a_part_has_what_is_below_its_name_in_either_map(rt: HostRuntime) {
+    let old = map_of(&rt, EXAMPLE_MAP);
+    let new = map_of(&rt, MOVED_MAP);
+    let under = Some("h1");
+    let both = Comparison::by_names_part(rt.alloc(), Devices::ById, under, &old, &new).expect(
+        &rt,
+        "no memory",
+    );
+    let rows: [(&[u8], &[u8]); 3] = [(b"h1", b"same"), (b"osd.0", b"same"), (b"osd.1", b"place")];
     let are = are_pairs(&both, Report::Remaining, &rows);
     drop(both);
     drop(new);

@@ -1,21 +1,20 @@
 //! The rows of items that stood here in the old map and do no longer.
 
-ghost use Rattle.std.specs.Prelude.{◌≡◌, ◌+◌, ◌<◌, ◌^◌, List, [], ◌∷◌, ◌++◌, None, Some, OnOk, All, flat_map, map as each};
+ghost use Rattle.std.specs.Prelude.{◌≡◌, ◌+◌, ◌<◌, ◌^◌, List, [], ◌∷◌, ◌++◌, None, Some, OnOk, All, false, flat_map, map as each};
 ghost use Rattle.crush_model.specs.Items.{size_of};
 ghost use Rattle.crush_model.specs.Table.{Row, is_there, kids};
 ghost use Rattle.crush_nodes.specs.Seen.{items_of};
 ghost use Rattle.crush_units.specs.declared.id.ItemId.TheVariants.{Bucket as BucketItem, Device as DeviceItem};
 ghost use Rattle.crush_print.specs.MapText.{root_numbers};
 ghost use Rattle.crush_since.specs.ChangeItems.{left_of, stood_of};
-ghost use Rattle.crush_since.specs.Changes.{left_from, stands_in};
-ghost use Rattle.crush_since.specs.Listing.{Lists};
-ghost use Rattle.crush_since.specs.SeenChange.{AreTables, place_change};
+ghost use Rattle.crush_since.specs.Changes.{change_at, left_from, stands_in};
+ghost use Rattle.crush_since.specs.SeenChange.{AreTables, row_change};
 ghost use Rattle.crush_print.specs.Tree.{unplaced_numbers};
 
-use crate::changes::rows::{Both, Place};
+use crate::changes::both::Both;
+use crate::changes::rows::TreeRow;
 use crate::since::columns::same_parent;
-use crate::since::listing::Listing;
-use crush_print::nodes_in_order;
+use crush_items::nodes_in_order;
 use crush_tree::{Bucket, Node};
 use crush_units::{BucketId, ItemId};
 use std::alloc::{AllocError, Allocator, Global};
@@ -23,13 +22,13 @@ use std::alloc::{AllocError, Allocator, Global};
 pub(super) fn push_left_roots<A: Allocator, B: Allocator>(
     alloc: Global,
     both: &Both<'_, A, B>,
-    rows: &mut Vec<Place>,
+    rows: &mut Vec<TreeRow>,
 ) -> Result<(), AllocError>
     ensures { (t u : List Row) → AreTables t u both.now
-        → OnOk result (each (place_change t u) rows.new.items ≡ each (place_change t u) rows.old.items
+        → OnOk result (each (row_change both.now.maps) rows.new.items ≡ each (row_change both.now.maps) rows.old.items
         ++ left_from t u 0 None (each BucketItem (root_numbers t))) }
 {
-    let forest = both.old.forest();
+    let forest = both.maps.old.map.forest();
     forest.recall_invariant();
     let roots = nodes_in_order(alloc, forest.roots())?;
     push_left_tops(both, roots.as_slice(), rows)
@@ -38,13 +37,13 @@ pub(super) fn push_left_roots<A: Allocator, B: Allocator>(
 pub(super) fn push_left_unplaced<A: Allocator, B: Allocator>(
     alloc: Global,
     both: &Both<'_, A, B>,
-    rows: &mut Vec<Place>,
+    rows: &mut Vec<TreeRow>,
 ) -> Result<(), AllocError>
     ensures { (t u : List Row) → AreTables t u both.now
-        → OnOk result (each (place_change t u) rows.new.items ≡ each (place_change t u) rows.old.items
+        → OnOk result (each (row_change both.now.maps) rows.new.items ≡ each (row_change both.now.maps) rows.old.items
         ++ left_from t u 0 None (each DeviceItem (unplaced_numbers t))) }
 {
-    let forest = both.old.forest();
+    let forest = both.maps.old.map.forest();
     forest.recall_invariant();
     let unplaced = nodes_in_order(alloc, forest.unplaced())?;
     push_left_tops(both, unplaced.as_slice(), rows)
@@ -54,11 +53,11 @@ pub(super) fn push_left_unplaced<A: Allocator, B: Allocator>(
 fn push_left_tops<A: Allocator, B: Allocator>(
     both: &Both<'_, A, B>,
     nodes: &[&Node<A>],
-    rows: &mut Vec<Place>,
+    rows: &mut Vec<TreeRow>,
 ) -> Result<(), AllocError>
     requires { All (λ r. size_of (items_of (r.now ∷ [])) < 2 ^ 32) nodes.now }
     ensures { (t u : List Row) → AreTables t u both.now
-        → OnOk result (each (place_change t u) rows.new.items ≡ each (place_change t u) rows.old.items
+        → OnOk result (each (row_change both.now.maps) rows.new.items ≡ each (row_change both.now.maps) rows.old.items
         ++ flat_map (λ r. left_of t u 0 None r.now) nodes.now) }
 {
     for node in nodes {
@@ -71,16 +70,14 @@ pub(super) fn push_left<A: Allocator, B: Allocator>(
     both: &Both<'_, A, B>,
     bucket: BucketId,
     depth: u32,
-    rows: &mut Vec<Place>,
+    rows: &mut Vec<TreeRow>,
 ) -> Result<(), AllocError>
     requires { depth < 2 ^ 31 }
     ensures { (t u : List Row) → AreTables t u both.now
-        → OnOk result (each (place_change t u) rows.new.items ≡ each (place_change t u) rows.old.items
+        → OnOk result (each (row_change both.now.maps) rows.new.items ≡ each (row_change both.now.maps) rows.old.items
         ++ left_from t u depth (Some bucket) (kids t bucket)) }
 {
-    let forest = both.old.forest();
-    forest.recall_invariant();
-    match both.old.items(bucket) {
+    match both.buckets.items(bucket) {
         Some(items) => push_left_items(both, items, bucket, depth, rows),
         None => Ok(()),
     }
@@ -91,11 +88,11 @@ fn push_left_items<A: Allocator, B: Allocator>(
     items: &[Node<A>],
     bucket: BucketId,
     depth: u32,
-    rows: &mut Vec<Place>,
+    rows: &mut Vec<TreeRow>,
 ) -> Result<(), AllocError>
     requires { depth + size_of (items_of items.now) < 2 ^ 32 }
     ensures { (t u : List Row) → AreTables t u both.now
-        → OnOk result (each (place_change t u) rows.new.items ≡ each (place_change t u) rows.old.items
+        → OnOk result (each (row_change both.now.maps) rows.new.items ≡ each (row_change both.now.maps) rows.old.items
         ++ flat_map (left_of t u depth (Some bucket)) items.now) }
 {
     for item in items {
@@ -109,14 +106,14 @@ fn push_if_left<A: Allocator, B: Allocator>(
     node: &Node<A>,
     place: Option<BucketId>,
     depth: u32,
-    rows: &mut Vec<Place>,
+    rows: &mut Vec<TreeRow>,
 ) -> Result<(), AllocError>
     requires { depth + size_of (items_of (node.now ∷ [])) < 2 ^ 32 }
     ensures { (t u : List Row) → AreTables t u both.now
-        → OnOk result (each (place_change t u) rows.new.items ≡ each (place_change t u) rows.old.items
+        → OnOk result (each (row_change both.now.maps) rows.new.items ≡ each (row_change both.now.maps) rows.old.items
         ++ left_of t u depth place node.now) }
 {
-    if stands_in(&both.after, node.id(), place) {
+    if stands_in(both, node.id(), place) {
         return Ok(());
     }
     push_stood(both, node, depth, rows)
@@ -127,26 +124,19 @@ fn push_stood<A: Allocator, B: Allocator>(
     both: &Both<'_, A, B>,
     node: &Node<A>,
     depth: u32,
-    rows: &mut Vec<Place>,
+    rows: &mut Vec<TreeRow>,
 ) -> Result<(), AllocError>
     requires { depth + size_of (items_of (node.now ∷ [])) < 2 ^ 32 }
     ensures { (t u : List Row) → AreTables t u both.now
-        → OnOk result (each (place_change t u) rows.new.items ≡ each (place_change t u) rows.old.items
+        → OnOk result (each (row_change both.now.maps) rows.new.items ≡ each (row_change both.now.maps) rows.old.items
         ++ stood_of t u depth (items_of (node.now ∷ []))) }
 {
-    let row = Place {
-        id: node.id(),
-        depth,
-        stands: false,
-    };
-    let Ok(()) = rows.push(row) else {
-        return Err(AllocError);
-    };
+    push_row(both, &node.id(), depth, rows)?;
     match node {
         Node::Device(_) => Ok(()),
         Node::Bucket(bucket) => {
             let bucket: &Bucket<A> = bucket;
-            if is_there(&both.after, ItemId::Bucket(bucket.header.id)) {
+            if is_there(both, ItemId::Bucket(bucket.header.id)) {
                 return Ok(());
             }
             let items = bucket.items.as_slice();
@@ -158,18 +148,45 @@ fn push_stood<A: Allocator, B: Allocator>(
     }
 }
 
-/// Below the bucket, or below none.
-fn stands_in<A: Allocator>(listing: &Listing<'_, A>, id: ItemId, place: Option<BucketId>) -> bool
-    ensures { (u : List Row) → Lists u listing.now.items.items → result ≡ stands_in u place id }
+/// Appends the row of an item that is no longer in its place.
+fn push_row<A: Allocator, B: Allocator>(
+    both: &Both<'_, A, B>,
+    id: &ItemId,
+    depth: u32,
+    rows: &mut Vec<TreeRow>,
+) -> Result<(), AllocError>
+    ensures { (t u : List Row) → AreTables t u both.now → OnOk result
+        (each (row_change both.now.maps) rows.new.items ≡ each (row_change both.now.maps) rows.old.items
+        ++ change_at t u false depth id.now ∷ []) }
 {
-    match listing.find(id) {
-        Some(item) => same_parent(item.parent, place),
+    let pair = both.pair_of(id);
+    let row = TreeRow {
+        id: *id,
+        pair,
+        depth,
+        stands: false,
+    };
+    rows.push(row)?;
+    Ok(())
+}
+
+/// Whether the item is in this place of the new map: below the bucket, or below none.
+fn stands_in<A: Allocator, B: Allocator>(
+    both: &Both<'_, A, B>,
+    id: ItemId,
+    place: Option<BucketId>,
+) -> bool
+    ensures { (t u : List Row) → AreTables t u both.now → result ≡ stands_in u place id }
+{
+    match both.maps.after(both.pair_of(&id)) {
+        Some(item) => same_parent(item.view.parent, place),
         None => false,
     }
 }
 
-fn is_there<A: Allocator>(listing: &Listing<'_, A>, id: ItemId) -> bool
-    ensures { (u : List Row) → Lists u listing.now.items.items → result ≡ is_there u id }
+/// Whether the new map has the item.
+fn is_there<A: Allocator, B: Allocator>(both: &Both<'_, A, B>, id: ItemId) -> bool
+    ensures { (t u : List Row) → AreTables t u both.now → result ≡ is_there u id }
 {
-    listing.find(id).is_some()
+    both.maps.after(both.pair_of(&id)).is_some()
 }

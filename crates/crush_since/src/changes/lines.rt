@@ -1,19 +1,19 @@
 //! The lines of the tree of what has changed.
 
-ghost use Rattle.std.specs.Prelude.{◌≡◌, ◌++◌, List, IfOk, OnOk, flat_map, map as each};
+ghost use Rattle.std.specs.Prelude.{◌≡◌, ◌++◌, IfOk, OnOk, flat_map, map as each};
 ghost use Rattle.std.specs.Option.{option_map};
-ghost use Rattle.crush_model.specs.Table.{Row};
 ghost use Rattle.crush_since.specs.ChangeText.{change_line, heading, kind_and_name, name_column, name_word, rows_text, side_by_side, weight_or_dash as dashed, weights_column};
-ghost use Rattle.crush_since.specs.SeenChange.{AreTables, change_data, place_change};
-ghost use Rattle.crush_since.specs.SeenItem.{seen_data};
+ghost use Rattle.crush_since.specs.SeenChange.{change_data, row_change};
+ghost use Rattle.crush_items.specs.SeenItem.{seen_data};
 ghost use Rattle.crush_print.specs.TreeText.{at_left, at_right};
 
 use crate::changes::notes::push_brackets;
-use crate::changes::rows::{Both, Place};
-use crate::changes::seen::{Change, change_at};
+use crate::changes::rows::TreeRow;
+use crate::changes::seen::{Change, change_of};
 use crate::changes::weights::{class_bytes, weighed, weighs, weight_or_dash};
 use crate::changes::widths::{ChangeWidths, widths_of};
 use crate::since::seen::Seen;
+use crush_compare::Comparison;
 use crush_map::Setting;
 use crush_print::columns::{push_left, push_right};
 use crush_print::id_column;
@@ -24,17 +24,17 @@ use std::alloc::{AllocError, Allocator, Global};
 #[tactic(auto, unfolding(crate::specs::ChangeText::rows_text))]
 pub(super) fn push_rows<A: Allocator, B: Allocator>(
     alloc: Global,
-    both: &Both<'_, A, B>,
-    rows: &[Place],
+    maps: &Comparison<'_, A, B>,
+    rows: &[TreeRow],
     out: &mut Vec<u8>,
 ) -> Result<(), AllocError>
-    ensures { (t u : List Row) → AreTables t u both.now → OnOk result (out.new.items
-        ≡ out.old.items ++ rows_text both.now.old.now.setting both.now.new.now.setting
-        (each (place_change t u) rows.now)) }
+    ensures { OnOk result (out.new.items ≡ out.old.items
+        ++ rows_text maps.now.old.map.now.setting maps.now.new.map.now.setting
+        (each (row_change maps.now) rows.now)) }
 {
-    let widths = widths_of(alloc, both, rows)?;
+    let widths = widths_of(alloc, maps, rows)?;
     push_heading(alloc, &widths, out)?;
-    push_lines(alloc, both, &widths, rows, out)
+    push_lines(alloc, maps, &widths, rows, out)
 }
 
 #[tactic(auto, unfolding(crate::specs::ChangeText::heading))]
@@ -57,36 +57,36 @@ fn push_heading(alloc: Global, widths: &ChangeWidths, out: &mut Vec<u8>) -> Resu
 
 fn push_lines<A: Allocator, B: Allocator>(
     alloc: Global,
-    both: &Both<'_, A, B>,
+    maps: &Comparison<'_, A, B>,
     widths: &ChangeWidths,
-    rows: &[Place],
+    rows: &[TreeRow],
     out: &mut Vec<u8>,
 ) -> Result<(), AllocError>
-    ensures { (t u : List Row) → AreTables t u both.now → OnOk result (out.new.items
-        ≡ out.old.items ++ flat_map (λ row. change_line both.now.old.now.setting
-        both.now.new.now.setting widths.now (place_change t u row)) rows.now) }
+    ensures { OnOk result (out.new.items ≡ out.old.items
+        ++ flat_map (λ row. change_line maps.now.old.map.now.setting
+        maps.now.new.map.now.setting widths.now (row_change maps.now row)) rows.now) }
 {
     for row in rows {
-        push_row_of(alloc, both, widths, row, out)?;
+        push_row_of(alloc, maps, widths, row, out)?;
     }
     Ok(())
 }
 
 fn push_row_of<A: Allocator, B: Allocator>(
     alloc: Global,
-    both: &Both<'_, A, B>,
+    maps: &Comparison<'_, A, B>,
     widths: &ChangeWidths,
-    row: &Place,
+    row: &TreeRow,
     out: &mut Vec<u8>,
 ) -> Result<(), AllocError>
-    ensures { (t u : List Row) → AreTables t u both.now → OnOk result (out.new.items
-        ≡ out.old.items ++ change_line both.now.old.now.setting both.now.new.now.setting
-        widths.now (place_change t u row.now)) }
+    ensures { OnOk result (out.new.items ≡ out.old.items
+        ++ change_line maps.now.old.map.now.setting maps.now.new.map.now.setting
+        widths.now (row_change maps.now row.now)) }
 {
-    let change = change_at(both, row);
+    let change = change_of(maps, row);
     let layout = Layout {
-        old: both.old.setting(),
-        new: both.new.setting(),
+        old: maps.old.map.setting(),
+        new: maps.new.map.setting(),
         widths: *widths,
     };
     push_line(alloc, &layout, &change, out)

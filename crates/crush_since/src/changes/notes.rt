@@ -5,7 +5,7 @@ ghost use Rattle.std.specs.Option.{option_map};
 ghost use Rattle.crush_since.specs.ChangeText.{brackets, brackets_text, column_notes, from_part, holder_word, notes as notes_of, stands_notes, stood_notes};
 ghost use Rattle.crush_since.specs.ItemParts.{behind};
 ghost use Rattle.crush_since.specs.SeenChange.{change_data};
-ghost use Rattle.crush_since.specs.SeenItem.{seen_data};
+ghost use Rattle.crush_items.specs.SeenItem.{seen_data};
 
 use crate::changes::seen::Change;
 use crate::since::columns::same_parent;

@@ -6,30 +6,25 @@ ghost use Rattle.crush_model.specs.Table.{Row};
 ghost use Rattle.crush_nodes.specs.Seen.{items_of};
 ghost use Rattle.crush_since.specs.ChangeItems.{stands_of};
 ghost use Rattle.crush_since.specs.Changes.{ChangeData, change_at, change_rows, is_listed as is_listed_of, root_rows, unplaced_rows, with_below};
-ghost use Rattle.crush_since.specs.SeenChange.{AreTables, place_change};
+ghost use Rattle.crush_since.specs.SeenChange.{AreTables, row_change};
 ghost use Rattle.crush_since.specs.Since.{plain_map};
+ghost use Rattle.crush_since.specs.declared.changes.rows.TreeRow.{TreeRow};
 
+use crate::changes::both::Both;
 use crate::changes::left::{push_left, push_left_roots, push_left_unplaced};
-use crate::since::listed::is_listed_of;
-use crate::since::listing::Listing;
-use crush_map::CrushMap;
-use crush_print::nodes_in_order;
+use crate::changes::seen::is_told;
+use crush_compare::Pair;
+use crush_items::nodes_in_order;
 use crush_tree::{Bucket, Node};
 use crush_units::ItemId;
 use std::alloc::{AllocError, Allocator, Global};
 
-#[derive(Drop)]
-pub(crate) struct Both<'a, A: Allocator, B: Allocator> {
-    pub old: &'a CrushMap<A>,
-    pub new: &'a CrushMap<B>,
-    pub before: Listing<'a, A>,
-    pub after: Listing<'a, B>,
-}
-
 /// A row: an item that stands here now, or stood here and does no longer.
 #[derive(Clone, Copy, Debug)]
-pub(crate) struct Place {
+pub(crate) struct TreeRow {
     pub id: ItemId,
+    /// Where each map has the item.
+    pub pair: Pair,
     /// How many buckets are above it.
     pub depth: u32,
     pub stands: bool,
@@ -41,10 +36,10 @@ pub(crate) struct Place {
 pub(crate) fn rows_of<A: Allocator, B: Allocator>(
     alloc: Global,
     both: &Both<'_, A, B>,
-) -> Result<Vec<Place>, AllocError>
+) -> Result<Vec<TreeRow>, AllocError>
     ensures { IfOk result (λ rows. (t u : List Row) → AreTables t u both.now
-        → each (place_change t u) rows.items
-        ≡ change_rows (plain_map both.now.old.now.setting t) (plain_map both.now.new.now.setting u)) }
+        → each (row_change both.now.maps) rows.items
+        ≡ change_rows (plain_map both.now.maps.old.map.now.setting t) (plain_map both.now.maps.new.map.now.setting u)) }
 {
     let mut rows = Vec::new(alloc);
     push_roots(alloc, both, &mut rows)?;
@@ -55,13 +50,13 @@ pub(crate) fn rows_of<A: Allocator, B: Allocator>(
 fn push_roots<A: Allocator, B: Allocator>(
     alloc: Global,
     both: &Both<'_, A, B>,
-    rows: &mut Vec<Place>,
+    rows: &mut Vec<TreeRow>,
 ) -> Result<(), AllocError>
     ensures { (t u : List Row) → AreTables t u both.now
-        → OnOk result (each (place_change t u) rows.new.items ≡ each (place_change t u) rows.old.items
-        ++ root_rows (plain_map both.now.old.now.setting t) (plain_map both.now.new.now.setting u)) }
+        → OnOk result (each (row_change both.now.maps) rows.new.items ≡ each (row_change both.now.maps) rows.old.items
+        ++ root_rows (plain_map both.now.maps.old.map.now.setting t) (plain_map both.now.maps.new.map.now.setting u)) }
 {
-    let forest = both.new.forest();
+    let forest = both.maps.new.map.forest();
     forest.recall_invariant();
     let roots = nodes_in_order(alloc, forest.roots())?;
     push_tops(both, roots.as_slice(), rows)?;
@@ -71,13 +66,13 @@ fn push_roots<A: Allocator, B: Allocator>(
 fn push_unplaced<A: Allocator, B: Allocator>(
     alloc: Global,
     both: &Both<'_, A, B>,
-    rows: &mut Vec<Place>,
+    rows: &mut Vec<TreeRow>,
 ) -> Result<(), AllocError>
     ensures { (t u : List Row) → AreTables t u both.now
-        → OnOk result (each (place_change t u) rows.new.items ≡ each (place_change t u) rows.old.items
-        ++ unplaced_rows (plain_map both.now.old.now.setting t) (plain_map both.now.new.now.setting u)) }
+        → OnOk result (each (row_change both.now.maps) rows.new.items ≡ each (row_change both.now.maps) rows.old.items
+        ++ unplaced_rows (plain_map both.now.maps.old.map.now.setting t) (plain_map both.now.maps.new.map.now.setting u)) }
 {
-    let forest = both.new.forest();
+    let forest = both.maps.new.map.forest();
     forest.recall_invariant();
     let unplaced = nodes_in_order(alloc, forest.unplaced())?;
     push_tops(both, unplaced.as_slice(), rows)?;
@@ -87,13 +82,13 @@ fn push_unplaced<A: Allocator, B: Allocator>(
 fn push_tops<A: Allocator, B: Allocator>(
     both: &Both<'_, A, B>,
     nodes: &[&Node<B>],
-    rows: &mut Vec<Place>,
+    rows: &mut Vec<TreeRow>,
 ) -> Result<(), AllocError>
     requires { All (λ r. size_of (items_of (r.now ∷ [])) < 2 ^ 31) nodes.now }
     ensures { (t u : List Row) → AreTables t u both.now
-        → OnOk result (each (place_change t u) rows.new.items ≡ each (place_change t u) rows.old.items
-        ++ flat_map (λ r. stands_of (plain_map both.now.old.now.setting t)
-        (plain_map both.now.new.now.setting u) 0 (items_of (r.now ∷ []))) nodes.now) }
+        → OnOk result (each (row_change both.now.maps) rows.new.items ≡ each (row_change both.now.maps) rows.old.items
+        ++ flat_map (λ r. stands_of (plain_map both.now.maps.old.map.now.setting t)
+        (plain_map both.now.maps.new.map.now.setting u) 0 (items_of (r.now ∷ []))) nodes.now) }
 {
     for node in nodes {
         push_standing(both, *node, 0, rows)?;
@@ -106,12 +101,12 @@ fn push_standing<B: Allocator, A: Allocator>(
     both: &Both<'_, A, B>,
     node: &Node<B>,
     depth: u32,
-    rows: &mut Vec<Place>,
+    rows: &mut Vec<TreeRow>,
 ) -> Result<(), AllocError>
     requires { depth + size_of (items_of (node.now ∷ [])) < 2 ^ 31 }
     ensures { (t u : List Row) → AreTables t u both.now
-        → OnOk result (each (place_change t u) rows.new.items ≡ each (place_change t u) rows.old.items
-        ++ stands_of (plain_map both.now.old.now.setting t) (plain_map both.now.new.now.setting u) depth
+        → OnOk result (each (row_change both.now.maps) rows.new.items ≡ each (row_change both.now.maps) rows.old.items
+        ++ stands_of (plain_map both.now.maps.old.map.now.setting t) (plain_map both.now.maps.new.map.now.setting u) depth
         (items_of (node.now ∷ []))) }
 {
     let at = rows.len();
@@ -139,30 +134,31 @@ fn push_told<A: Allocator, B: Allocator>(
     both: &Both<'_, A, B>,
     id: &ItemId,
     depth: u32,
-    rows: &mut Vec<Place>,
+    rows: &mut Vec<TreeRow>,
 ) -> Result<bool, AllocError>
     ensures row { (t u : List Row) → AreTables t u both.now → OnOk result
-        (each (place_change t u) rows.new.items ≡ each (place_change t u) rows.old.items
+        (each (row_change both.now.maps) rows.new.items ≡ each (row_change both.now.maps) rows.old.items
         ++ change_at t u true depth id.now ∷ []) }
     ensures told { IfOk result (λ answer. (t u : List Row) → AreTables t u both.now → answer
-        ≡ is_listed_of (plain_map both.now.old.now.setting t) (plain_map both.now.new.now.setting u)
+        ≡ is_listed_of (plain_map both.now.maps.old.map.now.setting t) (plain_map both.now.maps.new.map.now.setting u)
         id.now) }
 {
-    let is_listed = is_listed_of(&both.before, &both.after, id);
-    let row = Place {
+    let pair = both.pair_of(id);
+    let row = TreeRow {
         id: *id,
+        pair,
         depth,
         stands: true,
     };
     rows.push(row)?;
-    Ok(is_listed)
+    Ok(is_told(&both.maps, pair))
 }
 
 /// Takes the row back where there is nothing to say of its item and no row is behind it.
-fn settle(at: usize, is_listed: bool, rows: &mut Vec<Place>)
-    ensures { (t u : List Row) (before below : List ChangeData) (row : ChangeData)
-        → length before ≡ at → each (place_change t u) rows.old.items ≡ before ++ row ∷ below
-        → each (place_change t u) rows.new.items ≡ before ++ with_below is_listed row below }
+fn settle(at: usize, is_listed: bool, rows: &mut Vec<TreeRow>)
+    ensures { (see : TreeRow → ChangeData) (before below : List ChangeData) (row : ChangeData)
+        → length before ≡ at → each see rows.old.items ≡ before ++ row ∷ below
+        → each see rows.new.items ≡ before ++ with_below is_listed row below }
 {
     if !is_listed && rows.len().saturating_sub(at) == 1 {
         rows.truncate(at);

@@ -4,7 +4,7 @@ ghost use Rattle.std.specs.Prelude.{◌≡◌, ◌++◌, true, Some, IfOk, OnOk}
 ghost use Rattle.std.specs.Option.{option_map};
 ghost use Rattle.crush_since.specs.ChangeText.{class_word, item_class, weight_or_dash, weighed, weighed_here, weighs};
 ghost use Rattle.crush_since.specs.SeenChange.{change_data};
-ghost use Rattle.crush_since.specs.SeenItem.{seen_data};
+ghost use Rattle.crush_items.specs.SeenItem.{seen_data};
 
 use crate::changes::seen::Change;
 use crate::since::columns::same_parent;

@@ -1,13 +1,13 @@
 //! How wide the columns are.
 
-ghost use Rattle.std.specs.Prelude.{◌≡◌, List, IfOk, length, max, map as each};
-ghost use Rattle.crush_model.specs.Table.{Row};
+ghost use Rattle.std.specs.Prelude.{◌≡◌, IfOk, length, max, map as each};
 ghost use Rattle.crush_since.specs.ChangeText.{weight_or_dash as dashed, widths_of};
-ghost use Rattle.crush_since.specs.SeenChange.{AreTables, place_change};
+ghost use Rattle.crush_since.specs.SeenChange.{row_change};
 
-use crate::changes::rows::{Both, Place};
-use crate::changes::seen::change_at;
+use crate::changes::rows::TreeRow;
+use crate::changes::seen::change_of;
 use crate::changes::weights::{class_bytes, weighed, weighs, weight_or_dash};
+use crush_compare::Comparison;
 use crush_print::{wider, wider_id};
 use crush_units::Weight;
 use std::alloc::{AllocError, Allocator, Global};
@@ -24,18 +24,17 @@ pub(crate) struct ChangeWidths {
 
 pub(super) fn widths_of<A: Allocator, B: Allocator>(
     alloc: Global,
-    both: &Both<'_, A, B>,
-    rows: &[Place],
+    maps: &Comparison<'_, A, B>,
+    rows: &[TreeRow],
 ) -> Result<ChangeWidths, AllocError>
-    ensures { IfOk result (λ widths. (t u : List Row) → AreTables t u both.now
-        → widths ≡ widths_of (each (place_change t u) rows.now)) }
+    ensures { IfOk result (λ widths. widths ≡ widths_of (each (row_change maps.now) rows.now)) }
 {
     let mut id = 2;
     let mut class = 5;
     let mut was = 3;
     let mut weight = 6;
     for row in rows {
-        let change = change_at(both, row);
+        let change = change_of(maps, row);
         id = wider_id(alloc, id, change.id)?;
         class = wider(class, class_bytes(&change));
         was = wider_weight(alloc, was, weighed(&change))?;

@@ -8,8 +8,9 @@ ghost use Rattle.crush_since.specs.Settings.{setting_lines};
 ghost use Rattle.crush_since.specs.Since.{plain_map};
 ghost use Rattle.crush_since.specs.SincePart.{is_changed, is_part_changed};
 
+use crate::since::pairs::is_different;
 use crate::since::settings::{same_kinds, same_rules, same_tunables};
-use crate::since::wanted::listed_ids;
+use crush_compare::Comparison;
 use crush_map::{CrushMap, Setting};
 use crush_units::ItemId;
 use std::alloc::{AllocError, Allocator, Global};
@@ -27,8 +28,8 @@ pub fn is_changed<A: Allocator, B: Allocator>(
     if is_setting_listed(old.setting(), new.setting()) {
         return Ok(true);
     }
-    let ids = listed_ids(alloc, old, new, None)?;
-    Ok(has_some(ids.as_slice()))
+    let both = Comparison::by_ids(alloc, old, new)?;
+    Ok(is_different(&both))
 }
 
 /// Whether [`since_part_text`](crate::since_part_text) tells of an item.
@@ -42,14 +43,8 @@ pub fn is_part_changed<A: Allocator, B: Allocator>(
         → Stands new.now.forest u
         → changed ≡ is_part_changed under (plain_map old.now.setting t) (plain_map new.now.setting u)) }
 {
-    let ids = listed_ids(alloc, old, new, Some(under))?;
-    Ok(has_some(ids.as_slice()))
-}
-
-fn has_some(ids: &[ItemId]) -> bool
-    ensures { result ≡ has_some ids.now }
-{
-    !ids.is_empty()
+    let both = Comparison::by_ids_below(alloc, old, new, under)?;
+    Ok(is_different(&both))
 }
 
 fn is_setting_listed(old: &Setting, new: &Setting) -> bool

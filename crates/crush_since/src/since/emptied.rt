@@ -1,4 +1,4 @@
-//! Rules that find nothing.
+//! Rules that take nothing.
 
 ghost use Rattle.std.specs.Prelude.{◌≡◌, ◌++◌, List, OnOk, flat_map, option_and_then, unwrap_or, map as each};
 ghost use Rattle.std.specs.Option.{option_map};
@@ -6,108 +6,201 @@ ghost use Rattle.crush_edits.specs.SettingSeen.{rule_data, step_data};
 ghost use Rattle.crush_print.specs.RuleLines.{bucket_name};
 ghost use Rattle.crush_model.specs.Stands.{Stands};
 ghost use Rattle.crush_model.specs.Table.{Row, id_named};
-ghost use Rattle.crush_since.specs.Emptied.{weight_as, taken_weight, taken_word, rule_takes, weighs_nothing, is_emptied, emptied_line, emptied_by, emptied_of, emptied_lines};
+ghost use Rattle.crush_since.specs.Emptied.{bucket_named, emptied_by, emptied_of, emptied_rules, if_emptied, is_emptied, old_bucket, taken_weight, weight_as, weight_before};
+ghost use Rattle.crush_since.specs.RulesSeen.{rule_change_data};
 
 use crate::since::classes::class_named;
+use crate::since::rules::RuleChange;
+use crush_compare::Identity;
 use crush_map::{CrushMap, KeptRule, KeptStep};
-use crush_print::words::{bytes_of, push_all};
 use crush_units::{BucketId, ItemId, Weight};
 use std::alloc::{AllocError, Allocator};
 
-/// A line for each step of the new map's rules whose bucket, or its devices of a class, weighed
-/// something and weighs nothing now. A bucket is the same by its id; for a class each item below it
-/// is looked at.
-#[tactic(auto, unfolding(crate::specs::Emptied::emptied_lines))]
-pub(crate) fn push_emptied<A: Allocator, B: Allocator>(
+/// Appends each step of the new map's rules whose bucket, or its devices of a class, weighed
+/// something and weighs nothing now. The bucket in the old map is the one of the same id, or of the
+/// same name, as `identity` says.
+pub(crate) fn push_emptied<'a, A: Allocator, B: Allocator>(
+    identity: Identity,
     old: &CrushMap<A>,
-    new: &CrushMap<B>,
-    out: &mut Vec<u8>,
+    new: &'a CrushMap<B>,
+    changes: &mut Vec<RuleChange<'a>>,
 ) -> Result<(), AllocError>
     ensures { (t u : List Row) → Stands old.now.forest t → Stands new.now.forest u
-        → OnOk result (out.new.items ≡ out.old.items ++ emptied_lines t u new.now.setting) }
+        → OnOk result (each rule_change_data changes.new.items
+        ≡ each rule_change_data changes.old.items
+        ++ emptied_rules identity t u new.now.setting.rules) }
 {
     let rules = new.setting().rules();
-    push_rules(old, new, rules, out)
+    push_rules(identity, old, new, rules, changes)
 }
 
-fn push_rules<A: Allocator, B: Allocator>(
+fn push_rules<'a, A: Allocator, B: Allocator>(
+    identity: Identity,
     old: &CrushMap<A>,
-    new: &CrushMap<B>,
-    rules: &[KeptRule],
-    out: &mut Vec<u8>,
-) -> Result<(), AllocError>
-    ensures { (t u : List Row) → Stands old.now.forest t → Stands new.now.forest u → OnOk result
-        (out.new.items ≡ out.old.items ++ flat_map (emptied_of t u) (each rule_data rules.now)) }
-{
-    for rule in rules {
-        push_rule(old, new, rule, out)?;
-    }
-    Ok(())
-}
-
-fn push_rule<A: Allocator, B: Allocator>(
-    old: &CrushMap<A>,
-    new: &CrushMap<B>,
-    rule: &KeptRule,
-    out: &mut Vec<u8>,
+    new: &'a CrushMap<B>,
+    rules: &'a [KeptRule],
+    changes: &mut Vec<RuleChange<'a>>,
 ) -> Result<(), AllocError>
     ensures { (t u : List Row) → Stands old.now.forest t → Stands new.now.forest u
-        → OnOk result (out.new.items ≡ out.old.items ++ emptied_of t u (rule_data rule.now)) }
+        → OnOk result (each rule_change_data changes.new.items
+        ≡ each rule_change_data changes.old.items
+        ++ emptied_rules identity t u (each rule_data rules.now)) }
 {
-    push_steps(old, new, rule.name.as_bytes(), rule.steps.as_slice(), out)
-}
-
-fn push_steps<A: Allocator, B: Allocator>(
-    old: &CrushMap<A>,
-    new: &CrushMap<B>,
-    rule: &[u8],
-    steps: &[KeptStep],
-    out: &mut Vec<u8>,
-) -> Result<(), AllocError>
-    ensures { (t u : List Row) → Stands old.now.forest t → Stands new.now.forest u → OnOk result
-        (out.new.items
-        ≡ out.old.items ++ flat_map (emptied_by t u rule.now) (each step_data steps.now)) }
-{
-    for step in steps {
-        push_step(old, new, rule, step, out)?;
+    for rule in rules {
+        push_rule(identity, old, new, rule, changes)?;
     }
     Ok(())
 }
 
-fn push_step<A: Allocator, B: Allocator>(
+fn push_rule<'a, A: Allocator, B: Allocator>(
+    identity: Identity,
     old: &CrushMap<A>,
-    new: &CrushMap<B>,
-    rule: &[u8],
-    step: &KeptStep,
-    out: &mut Vec<u8>,
+    new: &'a CrushMap<B>,
+    rule: &'a KeptRule,
+    changes: &mut Vec<RuleChange<'a>>,
 ) -> Result<(), AllocError>
-    ensures { (t u : List Row) → Stands old.now.forest t → Stands new.now.forest u → OnOk result
-        (out.new.items ≡ out.old.items ++ emptied_by t u rule.now (step_data step.now)) }
+    ensures { (t u : List Row) → Stands old.now.forest t → Stands new.now.forest u
+        → OnOk result (each rule_change_data changes.new.items
+        ≡ each rule_change_data changes.old.items
+        ++ emptied_of identity t u (rule_data rule.now)) }
+{
+    push_steps(
+        identity,
+        old,
+        new,
+        rule.name.as_str(),
+        rule.steps.as_slice(),
+        changes,
+    )
+}
+
+fn push_steps<'a, A: Allocator, B: Allocator>(
+    identity: Identity,
+    old: &CrushMap<A>,
+    new: &'a CrushMap<B>,
+    rule: &'a str,
+    steps: &'a [KeptStep],
+    changes: &mut Vec<RuleChange<'a>>,
+) -> Result<(), AllocError>
+    ensures { (t u : List Row) → Stands old.now.forest t → Stands new.now.forest u
+        → OnOk result (each rule_change_data changes.new.items
+        ≡ each rule_change_data changes.old.items
+        ++ flat_map (emptied_by identity t u rule.now) (each step_data steps.now)) }
+{
+    for step in steps {
+        push_step(identity, old, new, rule, step, changes)?;
+    }
+    Ok(())
+}
+
+fn push_step<'a, A: Allocator, B: Allocator>(
+    identity: Identity,
+    old: &CrushMap<A>,
+    new: &'a CrushMap<B>,
+    rule: &'a str,
+    step: &'a KeptStep,
+    changes: &mut Vec<RuleChange<'a>>,
+) -> Result<(), AllocError>
+    ensures { (t u : List Row) → Stands old.now.forest t → Stands new.now.forest u
+        → OnOk result (each rule_change_data changes.new.items
+        ≡ each rule_change_data changes.old.items
+        ++ emptied_by identity t u rule.now (step_data step.now)) }
 {
     match step {
         KeptStep::Take(bucket, class) => {
             let class = class_named(class);
-            if is_emptied(old, new, *bucket, class) {
-                push_line(rule, bucket_bytes(new, *bucket), class, out)
-            } else {
-                Ok(())
-            }
+            let is = is_emptied(identity, old, new, *bucket, class);
+            let bucket = bucket_word(new, *bucket);
+            push_if(is, rule, bucket, class, changes)
         }
         _ => Ok(()),
     }
 }
 
+/// Appends that a rule takes nothing, if it does.
+fn push_if<'a>(
+    is: bool,
+    rule: &'a str,
+    bucket: &'a str,
+    class: Option<&'a str>,
+    changes: &mut Vec<RuleChange<'a>>,
+) -> Result<(), AllocError>
+    ensures { OnOk result (each rule_change_data changes.new.items
+        ≡ each rule_change_data changes.old.items
+        ++ if_emptied is rule.now bucket.now (option_map (λ c. c.now) class.entry)) }
+{
+    if is {
+        changes.push(RuleChange::TakesNothing {
+            rule,
+            bucket,
+            class,
+        })?;
+    }
+    Ok(())
+}
+
 fn is_emptied<A: Allocator, B: Allocator>(
+    identity: Identity,
     old: &CrushMap<A>,
     new: &CrushMap<B>,
     bucket: BucketId,
     class: Option<&str>,
 ) -> bool
     ensures { (t u : List Row) → Stands old.now.forest t → Stands new.now.forest u
-        → result ≡ is_emptied t u bucket (option_map (λ c. c.now) class.entry) }
+        → result ≡ is_emptied identity t u bucket (option_map (λ c. c.now) class.entry) }
 {
     taken_weight(new, bucket, class).units() == 0
-        && !(taken_weight(old, bucket, class).units() == 0)
+        && !(weight_before(identity, old, new, bucket, class).units() == 0)
+}
+
+/// Returns what the bucket weighed in the old map, or its devices of a class; 0 if the old map
+/// doesn't have the bucket.
+fn weight_before<A: Allocator, B: Allocator>(
+    identity: Identity,
+    old: &CrushMap<A>,
+    new: &CrushMap<B>,
+    bucket: BucketId,
+    class: Option<&str>,
+) -> Weight
+    ensures { (t u : List Row) → Stands old.now.forest t → Stands new.now.forest u
+        → result ≡ weight_before identity t u bucket (option_map (λ c. c.now) class.entry) }
+{
+    match old_bucket(identity, old, new, bucket) {
+        Some(before) => taken_weight(old, before, class),
+        None => Weight::from_units(0),
+    }
+}
+
+/// Returns the bucket of the old map that is this bucket of the new map, if there is one.
+fn old_bucket<A: Allocator, B: Allocator>(
+    identity: Identity,
+    old: &CrushMap<A>,
+    new: &CrushMap<B>,
+    bucket: BucketId,
+) -> Option<BucketId>
+    ensures { (t u : List Row) → Stands old.now.forest t → Stands new.now.forest u
+        → result ≡ old_bucket identity t u bucket }
+{
+    match identity {
+        Identity::Ids => Some(bucket),
+        Identity::Names(_) => match new.name_of(ItemId::Bucket(bucket)) {
+            Some(name) => bucket_named(old, name),
+            None => None,
+        },
+    }
+}
+
+/// Returns the bucket of this name, or `None` if no bucket has it.
+fn bucket_named<A: Allocator>(map: &CrushMap<A>, name: &str) -> Option<BucketId>
+    ensures { (t : List Row) → Stands map.now.forest t → result ≡ bucket_named t name.now }
+{
+    match map.locate(name) {
+        Some(id) => match id {
+            ItemId::Bucket(bucket) => Some(bucket),
+            ItemId::Device(_) => None,
+        },
+        None => None,
+    }
 }
 
 /// One that isn't there weighs nothing.
@@ -141,51 +234,13 @@ fn or_nothing(weight: Option<Weight>) -> Weight
     }
 }
 
+/// Returns the bucket's name, or an empty text if there is no such bucket.
 #[tactic(auto, unfolding(crush_print::specs::RuleLines::bucket_name))]
-fn bucket_bytes<A: Allocator>(map: &CrushMap<A>, bucket: BucketId) -> &[u8]
+fn bucket_word<A: Allocator>(map: &CrushMap<A>, bucket: BucketId) -> &str
     ensures { (t : List Row) → Stands map.now.forest t → result.now ≡ bucket_name t bucket }
 {
-    bytes_of(map.name_of(ItemId::Bucket(bucket)))
-}
-
-fn push_line(
-    rule: &[u8],
-    bucket: &[u8],
-    class: Option<&str>,
-    out: &mut Vec<u8>,
-) -> Result<(), AllocError>
-    ensures { OnOk result (out.new.items ≡ out.old.items
-        ++ emptied_line rule.now bucket.now (option_map (λ c. c.now) class.entry)) }
-{
-    push_takes(rule, out)?;
-    push_taken(bucket, class, out)?;
-    push_weighs_nothing(out)?;
-    Ok(())
-}
-
-#[tactic(auto, unfolding(crate::specs::Emptied::rule_takes))]
-fn push_takes(rule: &[u8], out: &mut Vec<u8>) -> Result<(), AllocError>
-    ensures { OnOk result (out.new.items ≡ out.old.items ++ rule_takes rule.now) }
-{
-    push_all(
-        &[b"rule ".as_slice(), rule, b" takes nothing: ".as_slice()],
-        out,
-    )
-}
-
-#[tactic(auto, unfolding(crate::specs::Emptied::weighs_nothing))]
-fn push_weighs_nothing(out: &mut Vec<u8>) -> Result<(), AllocError>
-    ensures { OnOk result (out.new.items ≡ out.old.items ++ weighs_nothing) }
-{
-    push_all(&[b" weighs 0.00000\n".as_slice()], out)
-}
-
-fn push_taken(bucket: &[u8], class: Option<&str>, out: &mut Vec<u8>) -> Result<(), AllocError>
-    ensures { OnOk result (out.new.items ≡ out.old.items
-        ++ taken_word bucket.now (option_map (λ c. c.now) class.entry)) }
-{
-    match class {
-        Some(class) => push_all(&[bucket, b"~".as_slice(), class.as_bytes()], out),
-        None => push_all(&[bucket], out),
+    match map.name_of(ItemId::Bucket(bucket)) {
+        Some(name) => name,
+        None => "",
     }
 }

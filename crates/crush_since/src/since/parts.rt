@@ -2,7 +2,7 @@
 
 ghost use Rattle.std.specs.Prelude.{◌≡◌, ◌≤◌, ◌++◌, OnOk, length, drop, flat_map};
 ghost use Rattle.std.specs.Option.{option_map};
-ghost use Rattle.crush_since.specs.SeenItem.{seen_data};
+ghost use Rattle.crush_items.specs.SeenItem.{seen_data};
 ghost use Rattle.crush_nodes.specs.SeenView.{view_data};
 ghost use Rattle.crush_since.specs.ItemParts.{behind, part, change, name_part, type_part, place_part, weight_part, class_part, alg_part, class_ids_part, changes, line_text, listed_name, parts as all_parts, item_line};
 
@@ -129,7 +129,7 @@ fn push_changes(
 }
 
 /// A part of these words, behind a semicolon, where a column differs.
-pub fn push_part(same: bool, words: &[&[u8]], parts: &mut Vec<u8>) -> Result<(), AllocError>
+pub(crate) fn push_part(same: bool, words: &[&[u8]], parts: &mut Vec<u8>) -> Result<(), AllocError>
     ensures { OnOk result (parts.new.items ≡ parts.old.items
         ++ behind (part same (flat_map (λ w. w.now) words.now))) }
 {

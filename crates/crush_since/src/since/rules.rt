@@ -1,138 +1,204 @@
-//! In which rules two maps differ.
+//! In which rules two maps differ, and which rules take nothing.
 
-ghost use Rattle.std.specs.Prelude.{◌≡◌, ◌++◌, OnOk, IfOk, find, flat_map, bytes_eq, length, get_or, ◌<◌, map as each};
+ghost use Rattle.std.specs.Prelude.{◌≡◌, ◌++◌, List, OnOk, IfOk, find, flat_map, bytes_eq, map as each};
 ghost use Rattle.std.specs.Option.{option_map};
 ghost use Rattle.crush_edits.specs.Setting.{RuleData};
 ghost use Rattle.crush_edits.specs.SettingSeen.{rule_data};
-ghost use Rattle.crush_since.specs.Rules.{beside, change_unless, gone_rule, lines_or_order, new_rule, other_order, rule_changes, rule_change_line, rule_named, state_word};
+ghost use Rattle.crush_model.specs.Stands.{Stands};
+ghost use Rattle.crush_model.specs.Table.{Row};
+ghost use Rattle.crush_since.specs.RuleChanges.{rule_changes};
+ghost use Rattle.crush_since.specs.Rules.{beside, change_unless, changed_rules, gone_rule, new_rule, or_order, rule_differences, rule_named};
+ghost use Rattle.crush_since.specs.RulesByName.{same_rule_by};
 ghost use Rattle.crush_since.specs.RulesSeen.{rule_change_data};
-ghost use Rattle.crush_since.specs.Settings.{rules_line, same_rule};
+ghost use Rattle.crush_since.specs.Since.{plain_map};
 
-use crate::since::settings::{same_rule, same_rules};
-use crush_map::{KeptRule, Setting};
-use crush_print::words::push_all;
-use std::alloc::{AllocError, Global};
+use crate::since::emptied::push_emptied;
+use crate::since::rules_by_name::{are_same_rules, is_same_rule};
+use crush_compare::Identity;
+use crush_map::{CrushMap, KeptRule};
+use std::alloc::{AllocError, Allocator, Global};
 
-/// In which way a rule differs.
+/// A difference between the rules of two maps. Its texts are those of the maps.
 #[derive(Clone, Copy, Debug)]
-pub(crate) enum RuleState {
+pub enum RuleChange<'a> {
     /// Only the new map has a rule of this name.
-    New,
-    Differs,
+    New(&'a str),
+    /// Both maps have a rule of this name, and the two rules differ.
+    Differs(&'a str),
     /// Only the old map has a rule of this name.
-    Gone,
+    Gone(&'a str),
+    /// No rule differs, but the rules of the new map are in another order.
+    OtherOrder,
+    /// A step of this rule of the new map takes a bucket that weighed something in the old map and
+    /// weighs nothing in the new map. If the step takes a class, only the devices of this class
+    /// count for both weights.
+    TakesNothing {
+        rule: &'a str,
+        /// The bucket's name in the new map.
+        bucket: &'a str,
+        class: Option<&'a str>,
+    },
 }
 
-/// A rule that differs in two maps.
-#[derive(Clone, Copy, Debug)]
-pub(crate) struct RuleChange<'a> {
-    pub name: &'a str,
-    pub state: RuleState,
-}
-
-/// Appends a line for each rule that differs. If none does, but the rules' order does, appends a
-/// line that says so.
-pub(crate) fn push_rules(old: &Setting, new: &Setting, out: &mut Vec<u8>) -> Result<(), AllocError>
-    ensures { OnOk result (out.new.items ≡ out.old.items ++ rules_line old.now new.now) }
-{
-    if same_rules(old.rules(), new.rules()) {
-        return Ok(());
-    }
-    let changes = rule_changes(*out.allocator(), old.rules(), new.rules())?;
-    push_rule_changes(changes.as_slice(), out)
-}
-
-/// Returns the rules that differ: first those of the new map that are new or differ, in its order,
-/// and then those that are gone, in the old map's order. A bucket that a step takes is compared by
-/// its id.
-fn rule_changes<'a>(
+/// Returns the differences between the rules of two maps. First come the rules of the new map that
+/// are new or differ, in the new map's order, and then the rules that are gone, in the old map's
+/// order. If the two maps have the same rules in another order, `OtherOrder` comes first instead.
+/// Last come the steps of the new map's rules that take nothing now, in their order.
+///
+/// Two steps that take a bucket are the same if the two buckets have the same id, or if `identity`
+/// matches items by their names, if they have the same name. In the same way the bucket that a step
+/// takes is found in the old map. An `Err` says that memory ran out.
+pub fn rule_changes<'a, A: Allocator, B: Allocator>(
     alloc: Global,
-    old: &'a [KeptRule],
-    new: &'a [KeptRule],
+    identity: Identity,
+    old: &'a CrushMap<A>,
+    new: &'a CrushMap<B>,
 ) -> Result<Vec<RuleChange<'a>>, AllocError>
-    ensures { IfOk result (λ changes. each rule_change_data changes.items
-        ≡ rule_changes same_rule (each rule_data old.now) (each rule_data new.now)) }
+    ensures { IfOk result (λ changes. (t u : List Row) → Stands old.now.forest t
+        → Stands new.now.forest u → each rule_change_data changes.items
+        ≡ rule_changes identity (plain_map old.now.setting t) (plain_map new.now.setting u)) }
 {
-    let mut changes = Vec::new(alloc);
-    push_new_rules(old, new, &mut changes)?;
-    push_gone_rules(old, new, &mut changes)?;
+    let mut changes = rule_differences(alloc, identity, old, new)?;
+    push_emptied(identity, old, new, &mut changes)?;
     Ok(changes)
 }
 
-fn push_new_rules<'a>(
-    old: &'a [KeptRule],
-    new: &'a [KeptRule],
+/// Returns the rules that differ, or the other order of the rules.
+fn rule_differences<'a, A: Allocator, B: Allocator>(
+    alloc: Global,
+    identity: Identity,
+    old: &'a CrushMap<A>,
+    new: &'a CrushMap<B>,
+) -> Result<Vec<RuleChange<'a>>, AllocError>
+    ensures { IfOk result (λ changes. (t u : List Row) → Stands old.now.forest t
+        → Stands new.now.forest u → each rule_change_data changes.items
+        ≡ rule_differences (same_rule_by identity t u) old.now.setting.rules new.now.setting.rules) }
+{
+    let before = old.setting().rules();
+    let after = new.setting().rules();
+    if are_same_rules(identity, old, new, before, after) {
+        return Ok(Vec::new(alloc));
+    }
+    let mut changes = changed_rules(alloc, identity, old, new, before, after)?;
+    push_order_if_none(&mut changes)?;
+    Ok(changes)
+}
+
+/// Returns the rules that differ: first those of the new map that are new or differ, in its order,
+/// and then those that are gone, in the old map's order.
+fn changed_rules<'a, A: Allocator, B: Allocator>(
+    alloc: Global,
+    identity: Identity,
+    old: &CrushMap<A>,
+    new: &CrushMap<B>,
+    before: &'a [KeptRule],
+    after: &'a [KeptRule],
+) -> Result<Vec<RuleChange<'a>>, AllocError>
+    ensures { IfOk result (λ changes. (t u : List Row) → Stands old.now.forest t
+        → Stands new.now.forest u → each rule_change_data changes.items
+        ≡ changed_rules (same_rule_by identity t u) (each rule_data before.now) (each rule_data after.now)) }
+{
+    let mut changes = Vec::new(alloc);
+    push_new_rules(identity, old, new, before, after, &mut changes)?;
+    push_gone_rules(before, after, &mut changes)?;
+    Ok(changes)
+}
+
+fn push_new_rules<'a, A: Allocator, B: Allocator>(
+    identity: Identity,
+    old: &CrushMap<A>,
+    new: &CrushMap<B>,
+    before: &'a [KeptRule],
+    after: &'a [KeptRule],
     changes: &mut Vec<RuleChange<'a>>,
 ) -> Result<(), AllocError>
-    ensures { OnOk result (each rule_change_data changes.new.items
+    ensures { (t u : List Row) → Stands old.now.forest t → Stands new.now.forest u
+        → OnOk result (each rule_change_data changes.new.items
         ≡ each rule_change_data changes.old.items
-        ++ flat_map (new_rule same_rule (each rule_data old.now)) (each rule_data new.now)) }
+        ++ flat_map (new_rule (same_rule_by identity t u) (each rule_data before.now)) (each rule_data after.now)) }
 {
-    for rule in new {
-        push_new_rule(old, rule, changes)?;
+    for rule in after {
+        push_new_rule(identity, old, new, before, rule, changes)?;
     }
     Ok(())
 }
 
-fn push_new_rule<'a>(
-    old: &'a [KeptRule],
+fn push_new_rule<'a, A: Allocator, B: Allocator>(
+    identity: Identity,
+    old: &CrushMap<A>,
+    new: &CrushMap<B>,
+    before: &'a [KeptRule],
     rule: &'a KeptRule,
     changes: &mut Vec<RuleChange<'a>>,
 ) -> Result<(), AllocError>
-    ensures { OnOk result (each rule_change_data changes.new.items
+    ensures { (t u : List Row) → Stands old.now.forest t → Stands new.now.forest u
+        → OnOk result (each rule_change_data changes.new.items
         ≡ each rule_change_data changes.old.items
-        ++ new_rule same_rule (each rule_data old.now) (rule_data rule.now)) }
+        ++ new_rule (same_rule_by identity t u) (each rule_data before.now) (rule_data rule.now)) }
 {
     let name = rule.name.as_str();
-    match rule_named(old, name) {
-        Some(before) => push_unless(same_rule(before, rule), name, RuleState::Differs, changes),
-        None => push_unless(false, name, RuleState::New, changes),
+    match rule_named(before, name) {
+        Some(found) => {
+            let same = is_same_rule(identity, old, new, found, rule);
+            push_unless(same, RuleChange::Differs(name), changes)
+        }
+        None => push_unless(false, RuleChange::New(name), changes),
     }
 }
 
 fn push_gone_rules<'a>(
-    old: &'a [KeptRule],
-    new: &'a [KeptRule],
+    before: &'a [KeptRule],
+    after: &'a [KeptRule],
     changes: &mut Vec<RuleChange<'a>>,
 ) -> Result<(), AllocError>
     ensures { OnOk result (each rule_change_data changes.new.items
         ≡ each rule_change_data changes.old.items
-        ++ flat_map (gone_rule (each rule_data new.now)) (each rule_data old.now)) }
+        ++ flat_map (gone_rule (each rule_data after.now)) (each rule_data before.now)) }
 {
-    for rule in old {
-        push_gone_rule(new, rule, changes)?;
+    for rule in before {
+        push_gone_rule(after, rule, changes)?;
     }
     Ok(())
 }
 
 /// Appends a rule of the old map if the new map has no rule of its name.
 fn push_gone_rule<'a>(
-    new: &'a [KeptRule],
+    after: &'a [KeptRule],
     rule: &'a KeptRule,
     changes: &mut Vec<RuleChange<'a>>,
 ) -> Result<(), AllocError>
     ensures { OnOk result (each rule_change_data changes.new.items
         ≡ each rule_change_data changes.old.items
-        ++ gone_rule (each rule_data new.now) (rule_data rule.now)) }
+        ++ gone_rule (each rule_data after.now) (rule_data rule.now)) }
 {
     let name = rule.name.as_str();
-    let stays = rule_named(new, name).is_some();
-    push_unless(stays, name, RuleState::Gone, changes)
+    let stays = rule_named(after, name).is_some();
+    push_unless(stays, RuleChange::Gone(name), changes)
 }
 
-fn push_unless<'a>(
+pub(crate) fn push_unless<'a>(
     same: bool,
-    name: &'a str,
-    state: RuleState,
+    change: RuleChange<'a>,
     changes: &mut Vec<RuleChange<'a>>,
 ) -> Result<(), AllocError>
     ensures { OnOk result (each rule_change_data changes.new.items
-        ≡ each rule_change_data changes.old.items ++ change_unless same name.now state) }
+        ≡ each rule_change_data changes.old.items ++ change_unless same (rule_change_data change.entry)) }
 {
     if same {
         return Ok(());
     }
-    changes.push(RuleChange { name, state })?;
+    changes.push(change)?;
+    Ok(())
+}
+
+/// Appends that the rules are in another order, if there is no other difference.
+fn push_order_if_none(changes: &mut Vec<RuleChange<'_>>) -> Result<(), AllocError>
+    ensures { OnOk result (each rule_change_data changes.new.items
+        ≡ or_order (each rule_change_data changes.old.items)) }
+{
+    if changes.is_empty() {
+        changes.push(RuleChange::OtherOrder)?;
+    }
     Ok(())
 }
 
@@ -147,59 +213,4 @@ fn rule_named<'a>(rules: &'a [KeptRule], name: &str) -> Option<&'a KeptRule>
         }
     }
     None
-}
-
-/// Appends a line for each of these rules. If there is none, appends the line which says that the
-/// rules are in another order.
-fn push_rule_changes<'a>(changes: &[RuleChange<'a>], out: &mut Vec<u8>) -> Result<(), AllocError>
-    ensures { OnOk result (out.new.items ≡ out.old.items
-        ++ lines_or_order (each rule_change_data changes.now)) }
-{
-    if changes.is_empty() {
-        return push_other_order(out);
-    }
-    push_changes(changes, out)
-}
-
-#[tactic(auto, unfolding(crate::specs::Rules::other_order))]
-fn push_other_order(out: &mut Vec<u8>) -> Result<(), AllocError>
-    ensures { OnOk result (out.new.items ≡ out.old.items ++ other_order) }
-{
-    push_all(&[b"rules stand in another order\n".as_slice()], out)
-}
-
-fn push_changes<'a>(changes: &[RuleChange<'a>], out: &mut Vec<u8>) -> Result<(), AllocError>
-    ensures { OnOk result (out.new.items ≡ out.old.items
-        ++ flat_map rule_change_line (each rule_change_data changes.now)) }
-{
-    for index in 0..changes.len() {
-        let change = change_at(changes, index);
-        push_change(*change, out)?;
-    }
-    Ok(())
-}
-
-fn push_change(change: RuleChange<'_>, out: &mut Vec<u8>) -> Result<(), AllocError>
-    ensures { OnOk result (out.new.items ≡ out.old.items
-        ++ rule_change_line (rule_change_data change.entry)) }
-{
-    push_all(&[b"rule ".as_slice(), change.name.as_bytes()], out)?;
-    push_state(change.state, out)
-}
-
-fn push_state(state: RuleState, out: &mut Vec<u8>) -> Result<(), AllocError>
-    ensures { OnOk result (out.new.items ≡ out.old.items ++ state_word state) }
-{
-    match state {
-        RuleState::New => push_all(&[b" is new\n".as_slice()], out),
-        RuleState::Differs => push_all(&[b" differs\n".as_slice()], out),
-        RuleState::Gone => push_all(&[b" is gone\n".as_slice()], out),
-    }
-}
-
-fn change_at<'b, 'a>(changes: &'b [RuleChange<'a>], at: usize) -> &'b RuleChange<'a>
-    requires { at < length changes.now }
-    ensures { result.now ≡ get_or changes.now at result.now }
-{
-    &changes[at]
 }

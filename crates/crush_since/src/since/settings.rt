@@ -3,27 +3,17 @@
 ghost use Rattle.std.specs.Prelude.{◌≡◌, ◌++◌, OnOk, map as each};
 ghost use Rattle.std.specs.Cmp.Lexicographic.{pointwise};
 ghost use Rattle.crush_edits.specs.SettingSeen.{rule_data, step_data};
-ghost use Rattle.crush_since.specs.Settings.{same_tunable, same_kinds, same_step, same_rule, listed_if_not, tunables_line, kinds_line, setting_lines};
+ghost use Rattle.crush_since.specs.Settings.{same_tunable, same_kinds, same_step, same_rule, listed_if_not, tunables_line, kinds_line};
 
-use crate::since::rules::push_rules;
 use crush_map::{KeptRule, KeptStep, Setting};
 use std::alloc::AllocError;
 
-#[tactic(auto, unfolding(crate::specs::Settings::setting_lines))]
-pub(crate) fn push_settings(
+/// A line where the tunables differ, in order.
+pub(crate) fn push_tunables(
     old: &Setting,
     new: &Setting,
     out: &mut Vec<u8>,
 ) -> Result<(), AllocError>
-    ensures { OnOk result (out.new.items ≡ out.old.items ++ setting_lines old.now new.now) }
-{
-    push_tunables(old, new, out)?;
-    push_kinds(old, new, out)?;
-    push_rules(old, new, out)
-}
-
-/// A line where the tunables differ, in order.
-pub fn push_tunables(old: &Setting, new: &Setting, out: &mut Vec<u8>) -> Result<(), AllocError>
     ensures { OnOk result (out.new.items ≡ out.old.items ++ tunables_line old.now new.now) }
 {
     tell_unless(same_tunables(old, new), b"tunables differ\n", out)?;
@@ -31,7 +21,7 @@ pub fn push_tunables(old: &Setting, new: &Setting, out: &mut Vec<u8>) -> Result<
 }
 
 /// A line where the types differ, in whatever order.
-pub fn push_kinds(old: &Setting, new: &Setting, out: &mut Vec<u8>) -> Result<(), AllocError>
+pub(crate) fn push_kinds(old: &Setting, new: &Setting, out: &mut Vec<u8>) -> Result<(), AllocError>
     ensures { OnOk result (out.new.items ≡ out.old.items ++ kinds_line old.now new.now) }
 {
     tell_unless(same_kinds(old, new), b"types differ\n", out)?;
@@ -39,7 +29,7 @@ pub fn push_kinds(old: &Setting, new: &Setting, out: &mut Vec<u8>) -> Result<(),
 }
 
 /// A line, unless both are the same.
-pub fn tell_unless(same: bool, text: &[u8], out: &mut Vec<u8>) -> Result<(), AllocError>
+pub(crate) fn tell_unless(same: bool, text: &[u8], out: &mut Vec<u8>) -> Result<(), AllocError>
     ensures { OnOk result (out.new.items ≡ out.old.items ++ listed_if_not same text.now) }
 {
     if same {
@@ -103,7 +93,7 @@ fn same_steps(old: &[KeptStep], new: &[KeptStep]) -> bool
 }
 
 /// Whether both are the same step; a bucket is compared by its id.
-pub fn same_step(old: &KeptStep, new: &KeptStep) -> bool
+pub(crate) fn same_step(old: &KeptStep, new: &KeptStep) -> bool
     ensures { result ≡ same_step (step_data old.now) (step_data new.now) }
 {
     match old {

@@ -1,13 +1,20 @@
 //! Counts of the items that differ.
 
-ghost use Rattle.std.specs.Prelude.{◌≡◌, ◌+◌, ◌<◌, ◌^◌};
+ghost use Rattle.std.specs.Prelude.{◌≡◌, ◌+◌, ◌<◌, ◌^◌, List, map as each};
 ghost use Rattle.std.specs.Option.{option_map};
+ghost use Rattle.crush_units.specs.declared.id.ItemId.{ItemId as Id};
 ghost use Rattle.crush_model.specs.Count.{one_if};
-ghost use Rattle.crush_since.specs.SeenItem.{seen_data};
-ghost use Rattle.crush_since.specs.Tallies.{HasRoom, no_tally, tally_with, is_made, is_renamed, is_moved, is_reweighed, is_reclassed};
+ghost use Rattle.crush_model.specs.Table.{Row};
+ghost use Rattle.crush_items.specs.SeenItem.{seen_data};
+ghost use Rattle.crush_compare.specs.Comparison.{pair_entries};
+ghost use Rattle.crush_compare.specs.IdPairs.{id_entries};
+ghost use Rattle.crush_since.specs.PairLines.{entry_item, pairs_tally};
+ghost use Rattle.crush_since.specs.Tallies.{HasRoom, no_tally, tally_of, tally_with, is_made, is_renamed, is_moved, is_reweighed, is_reclassed};
 
 use crate::since::columns::{same_class, same_parent};
 use crate::since::seen::Seen;
+use crush_compare::{Comparison, Pair};
+use std::alloc::Allocator;
 
 /// How many items differ in which way. The last four are of those that both maps have.
 #[derive(Clone, Copy, Debug)]
@@ -23,6 +30,15 @@ pub struct Tally {
 }
 
 impl Tally {
+    /// Returns how many items of a comparison by ids differ in which way.
+    pub fn of<A: Allocator, B: Allocator>(both: &Comparison<'_, A, B>) -> Tally
+        ensures { (t u : List Row) (ids : List Id)
+            → each (pair_entries both.now) both.now.pairs.items ≡ each (id_entries t u) ids
+            → result ≡ tally_of t u ids }
+    {
+        count(both, both.pairs.as_slice())
+    }
+
     pub(crate) fn none() -> Tally
         ensures { result ≡ no_tally }
     {
@@ -52,6 +68,31 @@ impl Tally {
     }
 }
 
+#[tactic(auto, using(crate::proofs::LineLaws::pairs_more, crate::proofs::TallyLaws::at_most_more))]
+fn count<A: Allocator, B: Allocator>(both: &Comparison<'_, A, B>, pairs: &[Pair]) -> Tally
+    ensures { result ≡ pairs_tally (pair_entries both.now) pairs.now }
+{
+    let mut tally = Tally::none();
+    for pair in pairs {
+        tally = count_one(both, pair, tally);
+    }
+    tally
+}
+
+fn count_one<A: Allocator, B: Allocator>(
+    both: &Comparison<'_, A, B>,
+    pair: &Pair,
+    tally: Tally,
+) -> Tally
+    requires { HasRoom tally }
+    ensures { result ≡ tally_with tally (entry_item (pair_entries both.now pair.now).before)
+        (entry_item (pair_entries both.now pair.now).after) }
+{
+    let was = both.before(*pair);
+    let is = both.after(*pair);
+    tally.with(&was, &is)
+}
+
 fn more(count: usize, test: bool) -> usize
     requires { count + 1 < 2 ^ 64 }
     ensures { result ≡ count + one_if test }
@@ -60,7 +101,7 @@ fn more(count: usize, test: bool) -> usize
 }
 
 /// Whether the second map alone has the item.
-pub fn is_made(before: &Option<Seen<'_>>, after: &Option<Seen<'_>>) -> bool
+pub(crate) fn is_made(before: &Option<Seen<'_>>, after: &Option<Seen<'_>>) -> bool
     ensures { result
         ≡ is_made (option_map seen_data before.now) (option_map seen_data after.now) }
 {
@@ -94,7 +135,7 @@ fn is_moved(before: &Option<Seen<'_>>, after: &Option<Seen<'_>>) -> bool
 }
 
 /// Whether both have the item, of another weight.
-pub fn is_reweighed(before: &Option<Seen<'_>>, after: &Option<Seen<'_>>) -> bool
+pub(crate) fn is_reweighed(before: &Option<Seen<'_>>, after: &Option<Seen<'_>>) -> bool
     ensures { result
         ≡ is_reweighed (option_map seen_data before.now) (option_map seen_data after.now) }
 {
@@ -108,7 +149,7 @@ pub fn is_reweighed(before: &Option<Seen<'_>>, after: &Option<Seen<'_>>) -> bool
 }
 
 /// Whether both have the item, of another class.
-pub fn is_reclassed(before: &Option<Seen<'_>>, after: &Option<Seen<'_>>) -> bool
+pub(crate) fn is_reclassed(before: &Option<Seen<'_>>, after: &Option<Seen<'_>>) -> bool
     ensures { result
         ≡ is_reclassed (option_map seen_data before.now) (option_map seen_data after.now) }
 {

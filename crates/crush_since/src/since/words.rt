@@ -3,7 +3,7 @@
 ghost use Rattle.std.specs.Prelude.{◌≡◌, ◌++◌, OnOk, IfOk};
 ghost use Rattle.std.specs.Option.{option_map};
 ghost use Rattle.crush_units.specs.Weight.{weight_text};
-ghost use Rattle.crush_since.specs.SeenItem.{seen_data};
+ghost use Rattle.crush_items.specs.SeenItem.{seen_data};
 ghost use Rattle.crush_since.specs.ItemWords.{item_word, place_in, place_word, type_word, class_or_none, alg_word, with_class, whole_word};
 ghost use Rattle.crush_since.specs.Since.{totals_line};
 ghost use Rattle.crush_since.specs.Tallies.{counted, first_counts, last_counts, counts_line};
@@ -51,7 +51,7 @@ pub(crate) fn place_of(alloc: Global, item: &Seen<'_>) -> Result<Vec<u8>, AllocE
 }
 
 /// A weight's text.
-pub fn weight_of(alloc: Global, weight: Weight) -> Result<Vec<u8>, AllocError>
+pub(crate) fn weight_of(alloc: Global, weight: Weight) -> Result<Vec<u8>, AllocError>
     ensures { IfOk result (λ text. text.items ≡ weight_text weight) }
 {
     let mut text = Vec::new(alloc);
@@ -60,7 +60,7 @@ pub fn weight_of(alloc: Global, weight: Weight) -> Result<Vec<u8>, AllocError>
 }
 
 /// The name of an item's type; of a device `osd` where the setting has no type 0.
-pub fn type_bytes(setting: &Setting, id: ItemId, kind: TypeId) -> &[u8]
+pub(crate) fn type_bytes(setting: &Setting, id: ItemId, kind: TypeId) -> &[u8]
     ensures { result.now ≡ type_word setting.now id kind }
 {
     match setting.kind_name(kind) {
@@ -73,7 +73,7 @@ pub fn type_bytes(setting: &Setting, id: ItemId, kind: TypeId) -> &[u8]
 }
 
 /// A class, or the word for none.
-pub fn class_bytes<'a>(class: Option<&'a str>) -> &'a [u8]
+pub(crate) fn class_bytes<'a>(class: Option<&'a str>) -> &'a [u8]
     ensures { result.now ≡ class_or_none (option_map (λ c. c.now) class.entry) }
 {
     match class {
@@ -83,7 +83,7 @@ pub fn class_bytes<'a>(class: Option<&'a str>) -> &'a [u8]
 }
 
 /// The word of an algorithm, or nothing where there is none.
-pub fn alg_bytes(alg: Option<Alg>) -> &'static [u8]
+pub(crate) fn alg_bytes(alg: Option<Alg>) -> &'static [u8]
     ensures { result.now ≡ alg_word alg }
 {
     match alg {
@@ -93,7 +93,7 @@ pub fn alg_bytes(alg: Option<Alg>) -> &'static [u8]
 }
 
 /// A class behind its word, if there is one.
-pub fn push_with_class(class: Option<&str>, out: &mut Vec<u8>) -> Result<(), AllocError>
+pub(crate) fn push_with_class(class: Option<&str>, out: &mut Vec<u8>) -> Result<(), AllocError>
     ensures { OnOk result (out.new.items ≡ out.old.items
         ++ with_class (option_map (λ c. c.now) class.entry)) }
 {
@@ -149,7 +149,7 @@ pub(crate) fn push_units(units: u128, out: &mut Vec<u8>) -> Result<(), AllocErro
 
 /// The line of the totals.
 #[tactic(auto, unfolding(crate::specs::Since::totals_line))]
-pub fn push_totals(before: u64, after: u64, out: &mut Vec<u8>) -> Result<(), AllocError>
+pub(crate) fn push_totals(before: u64, after: u64, out: &mut Vec<u8>) -> Result<(), AllocError>
     ensures { OnOk result (out.new.items ≡ out.old.items ++ totals_line before after) }
 {
     push_all(&[b"total ".as_slice()], out)?;
@@ -169,7 +169,7 @@ fn push_count(count: usize, what: &[u8], out: &mut Vec<u8>) -> Result<(), AllocE
 
 /// The line of the counts.
 #[tactic(auto, unfolding(crate::specs::Tallies::counts_line))]
-pub fn push_counts(counts: &Tally, out: &mut Vec<u8>) -> Result<(), AllocError>
+pub(crate) fn push_counts(counts: &Tally, out: &mut Vec<u8>) -> Result<(), AllocError>
     ensures { OnOk result (out.new.items ≡ out.old.items ++ counts_line counts.now) }
 {
     push_first_counts(counts, out)?;

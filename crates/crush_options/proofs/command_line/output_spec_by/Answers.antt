@@ -1,9 +1,6 @@
 use Rattle.std.proofs.Common.{rules}
 use Rattle.crush_options.proofs.command_line.output_spec_by.Goals as goal
 
-pub returns-in_ok-from_str-in-None-Some : goal.returns-in_ok-from_str-in-None-Some
-returns-in_ok-from_str-in-None-Some c = search rules
-
 pub returns-in-None-None-2 : goal.returns-in-None-None-2
 returns-in-None-None-2 c = search rules
 

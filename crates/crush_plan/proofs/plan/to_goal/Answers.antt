@@ -1,7 +1,7 @@
 use Rattle.std.proofs.Common.{ap, ◌∙◌}
 use Rattle.std.specs.Option.{option_map}
 use Rattle.crush_edits.specs.Setting.{SettingData}
-use Rattle.crush_names.specs.Stays.{stays_part}
+use Rattle.crush_since.specs.Stays.{stays_part}
 use Rattle.crush_since.specs.Since.{plain_map}
 use Rattle.crush_plan.specs.Draft.{Allows}
 use Rattle.crush_plan.specs.Part.{IsAllowed}

@@ -5,4 +5,4 @@ pub loop-round-init : goal.loop-round-init
 loop-round-init g c = stays_here _
 
 pub loop-round-preserved : goal.loop-round-preserved
-loop-round-preserved g c = goes_then _ _ _ c.loop-round.invariant c.in_ok-goes_on.ensures
+loop-round-preserved g c = goes_then _ _ _ c.loop-round.invariant c.in_ok-after.ensures

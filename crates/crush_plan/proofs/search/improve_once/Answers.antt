@@ -1,9 +1,6 @@
 use Rattle.crush_plan.proofs.Going.{adopted, stays_here}
 use Rattle.crush_plan.proofs.search.improve_once.Goals as goal
 
-pub returns-then-differences-eq0 : goal.returns-then-differences-eq0
-returns-then-differences-eq0 g c = stays_here _
-
 pub returns-then-best-differences : goal.returns-then-best-differences
 returns-then-best-differences g c = stays_here _
 

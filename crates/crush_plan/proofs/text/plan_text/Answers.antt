@@ -2,7 +2,7 @@ use Rattle.std.proofs.Common.{List, ℕ, true, ap, ◌∙◌, ◌++◌, length}
 use Rattle.std.specs.Prelude.{flat_map}
 use Rattle.crush_history.specs.Ceph.{ceph_heading}
 use Rattle.crush_since.proofs.PartLaws.{four_sections}
-use Rattle.crush_names.specs.Aside.{aside_text}
+use Rattle.crush_since.specs.Aside.{aside_text}
 use Rattle.crush_plan.specs.PlanText.{commented, plan_line, plan_text, stay_text}
 use Rattle.crush_plan.proofs.text.plan_text.Goals as goal
 

@@ -1,6 +1,6 @@
 use Rattle.std.proofs.Common.{◌∙◌, sym, subst, length}
 use Rattle.std.specs.Prelude.{All}
-use Rattle.crush_print.specs.SeenPart.{HasSteps}
+use Rattle.crush_items.specs.SeenPart.{HasSteps}
 use Rattle.crush_print.proofs.PlaceLaws.{no_steps, not_in_bucket}
 use Rattle.crush_print.proofs.part.beside.Goals as goal
 

@@ -1,7 +1,7 @@
 use Rattle.std.proofs.Common.{◌≡◌, ◌++◌, List, map, take}
 use Rattle.std.specs.Prelude.{None}
 use Rattle.crush_print.specs.WalkStep.{walk_step_data}
-use Rattle.crush_print.specs.Tree.{WalkStepData}
+use Rattle.crush_items.specs.Tree.{WalkStepData}
 use Rattle.crush_print.specs.TreePart.{down_to}
 use Rattle.crush_print.proofs.part.steps_down_to.Given as goal
 

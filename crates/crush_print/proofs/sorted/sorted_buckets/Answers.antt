@@ -1,7 +1,7 @@
 use Rattle.std.proofs.Common.{rules, ap, ◌∙◌}
 use Rattle.std.proofs.lemmas.List.Sorted.{IsNonDecreasingBy-from_sort_by_key}
 use Rattle.crush_print.specs.MapText.{ascending}
-use Rattle.crush_print.proofs.Sorting.{numbers_sorted}
+use Rattle.crush_items.proofs.Sorting.{numbers_sorted}
 use Rattle.crush_print.proofs.sorted.sorted_buckets.Goals as goal
 
 pub returns : goal.returns

@@ -4,4 +4,4 @@ use Rattle.crush_print.proofs.tree.push_line.Goals as goal
 
 pub returns : goal.returns
 unfolding step_line
-returns g c = search rules
+returns c = search rules

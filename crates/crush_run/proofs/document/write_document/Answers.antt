@@ -11,7 +11,7 @@ pub returns-in-Since-clause-writes : goal.returns-in-Since-clause-writes
 returns-in-Since-clause-writes g c = λ o t opening stands. rw (c.in-Since.is, ← c.history_if_requested-history.ensures.told, ← c.name_of.ensures, ← c.named_item-under.ensures t stands) (c.write_changed.ensures.writes t stands)
 
 pub returns-in-Changes-clause-writes : goal.returns-in-Changes-clause-writes
-returns-in-Changes-clause-writes g c = λ o t opening stands. rw (c.in-Changes.is, ← c.history_if_requested-history.ensures.told) (c.write_changed-in-Changes.ensures.writes t stands)
+returns-in-Changes-clause-writes g c = λ o t opening stands. rw (c.in-Changes.is, ← c.history_if_requested-history.ensures.told, ← c.name_of-in-Changes.ensures, ← c.named_item-under-in-Changes.ensures t stands) (c.write_changed-in-Changes.ensures.writes t stands)
 
 pub returns-in-AsCeph-clause-writes : goal.returns-in-AsCeph-clause-writes
 returns-in-AsCeph-clause-writes g c = λ o t opening stands.

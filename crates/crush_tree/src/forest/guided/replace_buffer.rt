@@ -39,8 +39,8 @@ impl<A: Allocator> Forest<A> {
 }
 
 impl<A: Allocator + Clone> Forest<A> {
-    /// Makes room for one more item at a place so that it can be undone, as [`Forest::grow_buffer`] does,
-    /// with a guide.
+    /// Makes room for one more item at a place so that it can be undone, as [`Forest::grow_buffer`]
+    /// does, with a guide.
     pub fn grow_buffer_by<G: Guide>(
         &mut self,
         guide: &G,

@@ -1,5 +1,8 @@
 use Rattle.crush_plan.proofs.Going.{stays_here}
 use Rattle.crush_plan.proofs.draft.Draft.give.Goals as goal
 
-pub returns-else-is_below : goal.returns-else-is_below
-returns-else-is_below g c = stays_here c.args.self.now
+pub make-requires : goal.make-requires
+make-requires g c = record { allowed = c.in_ok-is_allowed.ensures c.if-is_allowed.true }
+
+pub returns-else-is_allowed : goal.returns-else-is_allowed
+returns-else-is_allowed g c = stays_here c.args.self.now

@@ -3,7 +3,7 @@ use Rattle.std.proofs.lemmas.List.Sorted.{IsNonDecreasingBy-from_sort}
 use Rattle.crush_edits.specs.Setting.{KindData}
 use Rattle.crush_edits.specs.SettingSeen.{kind_data}
 use Rattle.crush_print.specs.MapText.{ascending, kind_numbers}
-use Rattle.crush_print.proofs.Sorting.{numbers_sorted}
+use Rattle.crush_items.proofs.Sorting.{numbers_sorted}
 use Rattle.crush_print.proofs.InOrder.{numbers_seen}
 use Rattle.crush_print.proofs.printer.kinds.numbers_in_order.Goals as goal
 

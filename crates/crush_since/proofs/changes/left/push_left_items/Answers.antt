@@ -1,5 +1,5 @@
 use Rattle.std.proofs.lemmas.List.{take_all}
-use Rattle.crush_since.specs.SeenChange.{place_change}
+use Rattle.crush_since.specs.SeenChange.{row_change}
 use Rattle.std.proofs.Common.{arith, ap, map, ◌∙◌, ◌++◌}
 use Rattle.std.specs.Prelude.{Some, flat_map}
 use Rattle.crush_print.proofs.ItemLines.{item_no_larger}
@@ -20,4 +20,4 @@ loop-item-preserved g c = λ t u tables.
 pub returns : goal.returns
 returns g c = λ t u tables.
     c.loop-item.invariant t u tables
-    ∙ ap (λ l. map (place_change t u) c.args.rows.now.items ++ flat_map (left_of t u c.args.depth (Some c.args.bucket)) l) (take_all c.loop-item.item-index c.args.items.now (omega (arith, c.loop-item-test.false)))
+    ∙ ap (λ l. map (row_change c.args.both.now.maps) c.args.rows.now.items ++ flat_map (left_of t u c.args.depth (Some c.args.bucket)) l) (take_all c.loop-item.item-index c.args.items.now (omega (arith, c.loop-item-test.false)))

@@ -1,6 +1,6 @@
 use Rattle.std.proofs.Common.{arith, ap, map, ◌∙◌, ◌++◌}
 use Rattle.std.proofs.lemmas.List.{take_all}
-use Rattle.crush_since.specs.SeenChange.{place_change}
+use Rattle.crush_since.specs.SeenChange.{row_change}
 use Rattle.std.specs.Prelude.{None, flat_map}
 use Rattle.crush_since.specs.ChangeItems.{left_of}
 use Rattle.crush_print.proofs.WalkLaws.{one_more, more_steps}
@@ -14,4 +14,4 @@ loop-node-preserved g c = λ t u tables.
 pub returns : goal.returns
 returns g c = λ t u tables.
     c.loop-node.invariant t u tables
-    ∙ ap (λ l. map (place_change t u) c.args.rows.now.items ++ flat_map (λ r. left_of t u 0 None r.now) l) (take_all c.loop-node.node-index c.args.nodes.now (omega (arith, c.loop-node-test.false)))
+    ∙ ap (λ l. map (row_change c.args.both.now.maps) c.args.rows.now.items ++ flat_map (λ r. left_of t u 0 None r.now) l) (take_all c.loop-node.node-index c.args.nodes.now (omega (arith, c.loop-node-test.false)))

@@ -1,12 +1,12 @@
 use Rattle.std.proofs.Common.{◌∙◌, ap, length, refl}
 use Rattle.std.specs.Prelude.{ℕ, List, max}
 use Rattle.crush_since.specs.ChangeText.{id_word, class_word, was_word, weight_word, weight_or_dash}
-use Rattle.crush_since.specs.SeenChange.{place_change}
+use Rattle.crush_since.specs.SeenChange.{row_change}
 use Rattle.crush_print.proofs.WalkLaws.{widest-taken}
 use Rattle.crush_since.proofs.changes.widths.widths_of.Goals as goal
 
 pub loop-row-init : goal.loop-row-init
-loop-row-init g c = record { id = λ t u tables. refl; class = λ t u tables. refl; was = λ t u tables. refl; weight = λ t u tables. refl }
+loop-row-init g c = record { id = refl; class = refl; was = refl; weight = refl }
 
 pub loop-row-preserved : goal.loop-row-preserved
 loop-row-preserved g c =
@@ -16,11 +16,11 @@ loop-row-preserved g c =
     let lt = c.loop-row-test.true in
     let is = c.row-item.is in
     record {
-      id = λ t u tables. widest-taken (place_change t u) id_word 2 _ _ rows i x lt is (c.loop-row.invariant.id t u tables) (c.in_ok-id.ensures ∙ ap (λ y. max c.loop-row.id (length (id_word y))) (c.change_at-change.ensures t u tables));
-      class = λ t u tables. widest-taken (place_change t u) class_word 5 _ _ rows i x lt is (c.loop-row.invariant.class t u tables)
-          (c.wider-class.ensures ∙ ap (λ (w : List ℕ). max c.loop-row.class (length w)) c.class_bytes.ensures ∙ ap (λ y. max c.loop-row.class (length (class_word y))) (c.change_at-change.ensures t u tables));
-      was = λ t u tables. widest-taken (place_change t u) was_word 3 _ _ rows i x lt is (c.loop-row.invariant.was t u tables)
-          (c.in_ok-was.ensures ∙ ap (λ w. max c.loop-row.was (length (weight_or_dash w))) c.weighed.ensures ∙ ap (λ y. max c.loop-row.was (length (was_word y))) (c.change_at-change.ensures t u tables));
-      weight = λ t u tables. widest-taken (place_change t u) weight_word 6 _ _ rows i x lt is (c.loop-row.invariant.weight t u tables)
-          (c.in_ok-weight.ensures ∙ ap (λ w. max c.loop-row.weight (length (weight_or_dash w))) c.weighs.ensures ∙ ap (λ y. max c.loop-row.weight (length (weight_word y))) (c.change_at-change.ensures t u tables));
+      id = widest-taken (row_change c.args.maps.now) id_word 2 _ _ rows i x lt is c.loop-row.invariant.id (c.in_ok-id.ensures ∙ ap (λ y. max c.loop-row.id (length (id_word y))) c.change_of-change.ensures);
+      class = widest-taken (row_change c.args.maps.now) class_word 5 _ _ rows i x lt is c.loop-row.invariant.class
+          (c.wider-class.ensures ∙ ap (λ (w : List ℕ). max c.loop-row.class (length w)) c.class_bytes.ensures ∙ ap (λ y. max c.loop-row.class (length (class_word y))) c.change_of-change.ensures);
+      was = widest-taken (row_change c.args.maps.now) was_word 3 _ _ rows i x lt is c.loop-row.invariant.was
+          (c.in_ok-was.ensures ∙ ap (λ w. max c.loop-row.was (length (weight_or_dash w))) c.weighed.ensures ∙ ap (λ y. max c.loop-row.was (length (was_word y))) c.change_of-change.ensures);
+      weight = widest-taken (row_change c.args.maps.now) weight_word 6 _ _ rows i x lt is c.loop-row.invariant.weight
+          (c.in_ok-weight.ensures ∙ ap (λ w. max c.loop-row.weight (length (weight_or_dash w))) c.weighs.ensures ∙ ap (λ y. max c.loop-row.weight (length (weight_word y))) c.change_of-change.ensures);
     }

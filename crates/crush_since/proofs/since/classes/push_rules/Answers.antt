@@ -6,7 +6,6 @@ use Rattle.crush_since.proofs.RuleLaws.{seen_more}
 use Rattle.crush_edits.specs.Setting.{RuleData}
 use Rattle.crush_since.specs.Classes.{entry_class, step_class, rule_classes, reweighed_line, untaken_line}
 use Rattle.crush_since.specs.CollectedSeen.{item_data, use_data}
-use Rattle.crush_since.specs.Listing.{entry_data}
 use Rattle.crush_since.proofs.since.classes.push_rules.Goals as goal
 
 pub loop-rule-preserved : goal.loop-rule-preserved

@@ -3,7 +3,6 @@ use Rattle.crush_print.proofs.WalkLaws.{one_more}
 use Rattle.crush_since.proofs.RuleLaws.{seen_more}
 use Rattle.crush_since.specs.Classes.{entry_class, step_class, rule_classes, reweighed_line, untaken_line}
 use Rattle.crush_since.specs.CollectedSeen.{item_data, use_data}
-use Rattle.crush_since.specs.Listing.{entry_data}
 use Rattle.crush_since.proofs.since.classes.push_steps.Goals as goal
 
 pub loop-step-preserved : goal.loop-step-preserved

@@ -3,7 +3,6 @@ use Rattle.std.specs.Prelude.{flat_map}
 use Rattle.crush_edits.specs.SettingSeen.{rule_data, step_data}
 use Rattle.crush_since.specs.Classes.{entry_class, step_class, rule_classes, reweighed_line, untaken_line}
 use Rattle.crush_since.specs.CollectedSeen.{item_data, use_data}
-use Rattle.crush_since.specs.Listing.{entry_data}
 use Rattle.crush_since.proofs.since.classes.push_steps.Given as goal
 
 abbrev pub invariant-loop-step : goal.invariant-loop-step

@@ -1,9 +1,10 @@
 use Rattle.crush_edits.specs.SettingSeen.{rule_data}
-use Rattle.crush_print.proofs.ItemLines.{lines_more, one_more}
+use Rattle.crush_print.proofs.WalkLaws.{one_more}
 use Rattle.crush_since.specs.Emptied.{emptied_of}
+use Rattle.crush_since.proofs.RuleLaws.{seen_more}
 use Rattle.crush_since.proofs.since.emptied.push_rules.Goals as goal
 
 pub loop-rule-preserved : goal.loop-rule-preserved
 loop-rule-preserved g c = λ t u a b.
     one_more _ _ _ _ _ _ (c.loop-rule.invariant t u a b) (c.in_ok-push_rule.ensures t u a b)
-    (lines_more (emptied_of t u) rule_data c.args.rules.now c.loop-rule.rule-index c.rule-item.result c.loop-rule-test.true c.rule-item.is)
+    (seen_more (emptied_of c.args.identity t u) rule_data c.args.rules.now c.loop-rule.rule-index c.rule-item.result c.loop-rule-test.true c.rule-item.is)

@@ -1,9 +1,10 @@
 use Rattle.crush_edits.specs.SettingSeen.{step_data}
-use Rattle.crush_print.proofs.ItemLines.{lines_more, one_more}
+use Rattle.crush_print.proofs.WalkLaws.{one_more}
 use Rattle.crush_since.specs.Emptied.{emptied_by}
+use Rattle.crush_since.proofs.RuleLaws.{seen_more}
 use Rattle.crush_since.proofs.since.emptied.push_steps.Goals as goal
 
 pub loop-step-preserved : goal.loop-step-preserved
 loop-step-preserved g c = λ t u a b.
     one_more _ _ _ _ _ _ (c.loop-step.invariant t u a b) (c.in_ok-push_step.ensures t u a b)
-    (lines_more (emptied_by t u c.args.rule.now) step_data c.args.steps.now c.loop-step.step-index c.step-item.result c.loop-step-test.true c.step-item.is)
+    (seen_more (emptied_by c.args.identity t u c.args.rule.now) step_data c.args.steps.now c.loop-step.step-index c.step-item.result c.loop-step-test.true c.step-item.is)

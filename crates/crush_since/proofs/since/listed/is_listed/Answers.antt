@@ -3,7 +3,7 @@ use Rattle.std.specs.Prelude.{not}
 use Rattle.std.specs.Option.{option_map}
 use Rattle.crush_since.specs.Changes.{has_some}
 use Rattle.crush_since.specs.ItemParts.{item_line}
-use Rattle.crush_since.specs.SeenItem.{seen_data}
+use Rattle.crush_items.specs.SeenItem.{seen_data}
 use Rattle.crush_since.proofs.ToldLaws.{both_told}
 use Rattle.crush_since.proofs.since.listed.is_listed.Goals as goal
 

@@ -1,6 +1,6 @@
 use Rattle.std.proofs.Common.{◌≡◌, ◌≤◌, ◌<◌, ◌∙◌, ◌++◌, List, ℕ, length, drop, ap, sym, subst, append-nil}
 use Rattle.std.specs.Option.{option_map}
-use Rattle.crush_since.specs.SeenItem.{seen_data}
+use Rattle.crush_items.specs.SeenItem.{seen_data}
 use Rattle.crush_since.specs.ItemParts.{behind, parts, line_text, listed_name}
 use Rattle.crush_since.proofs.PartLaws.{marked, no_line, some_line, some_there, none_there}
 use Rattle.crush_since.proofs.since.parts.push_line.Goals as goal

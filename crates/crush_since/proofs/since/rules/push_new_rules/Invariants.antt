@@ -1,10 +1,13 @@
-use Rattle.std.proofs.Common.{◌≡◌, ◌++◌, take, map}
+use Rattle.std.proofs.Common.{◌≡◌, ◌++◌, List, take, map}
 use Rattle.std.specs.Prelude.{flat_map}
-use Rattle.crush_edits.specs.SettingSeen.{rule_data, step_data}
-use Rattle.crush_since.specs.Rules.{new_rule, gone_rule, rule_change_line}
+use Rattle.crush_edits.specs.SettingSeen.{rule_data}
+use Rattle.crush_model.specs.Stands.{Stands}
+use Rattle.crush_model.specs.Table.{Row}
+use Rattle.crush_since.specs.Rules.{new_rule}
+use Rattle.crush_since.specs.RulesByName.{same_rule_by}
 use Rattle.crush_since.specs.RulesSeen.{rule_change_data}
-use Rattle.crush_since.specs.Settings.{same_rule}
 use Rattle.crush_since.proofs.since.rules.push_new_rules.Given as goal
 
 abbrev pub invariant-loop-rule : goal.invariant-loop-rule
-invariant-loop-rule l = map rule_change_data l.changes.items ≡ map rule_change_data l.fn.changes.items ++ flat_map (new_rule same_rule (map rule_data l.old)) (map rule_data (take l.rule-index l.new))
+invariant-loop-rule g l = (t u : List Row) → Stands l.old.forest t → Stands l.new.forest u
+    → map rule_change_data l.changes.items ≡ map rule_change_data l.fn.changes.items ++ flat_map (new_rule (same_rule_by l.identity t u) (map rule_data l.before)) (map rule_data (take l.rule-index l.after))

@@ -1,0 +1,8 @@
+use Rattle.std.proofs.Common.{◌≡◌, take}
+use Rattle.std.specs.Prelude.{filter}
+use Rattle.crush_compare.specs.Within.{has_item_within}
+use Rattle.crush_compare.proofs.below.pairs_within.Given as goal
+
+-- the pairs so far that have an item within
+abbrev pub invariant-loop-pair : goal.invariant-loop-pair
+invariant-loop-pair l = l.within.items ≡ filter (has_item_within l.old l.new) (take l.pair-index l.pairs)

@@ -1,0 +1,102 @@
+//! The pairs by ids of a part of two maps.
+
+ghost use Rattle.std.specs.Prelude.{◌≡◌, ◌∷◌, ◌++◌, ◌<◌, ◌^◌, [], List, IfOk, OnOk, filter, length, map as each};
+ghost use Rattle.crush_model.specs.Stands.{Stands};
+ghost use Rattle.crush_model.specs.Table.{Row};
+ghost use Rattle.crush_items.specs.ById.{AreById};
+ghost use Rattle.crush_items.specs.Items.{HasEntries, item_entry, item_step};
+ghost use Rattle.crush_items.specs.Tree.{tree_rows};
+ghost use Rattle.crush_compare.specs.IdPairs.{entries_at, id_entries};
+ghost use Rattle.crush_compare.specs.PartIds.{part_ids};
+ghost use Rattle.crush_compare.specs.Within.{IsRunOf, has_item_within, is_within};
+
+use crate::by_id::{Pair, pairs_by_key};
+use crush_items::{ById, Items, Run};
+use crush_units::ItemId;
+use std::alloc::{AllocError, Allocator, Global};
+
+/// Returns the pairs by ids of the item with the id `under`, and of all items that are below it in
+/// either map, in the order of the ids.
+pub(crate) fn pairs_below<A: Allocator, B: Allocator>(
+    alloc: Global,
+    old: &Items<'_, A>,
+    new: &Items<'_, B>,
+    under: ItemId,
+) -> Result<Vec<Pair>, AllocError>
+    requires old { length old.now.all.items < 2 ^ 32 }
+    requires new { length new.now.all.items < 2 ^ 32 }
+    ensures { IfOk result (λ pairs. (t u : List Row) → Stands old.now.map.now.forest t
+        → Stands new.now.map.now.forest u
+        → HasEntries t (each item_entry old.now.all.items)
+        → HasEntries u (each item_entry new.now.all.items)
+        → each item_step old.now.all.items ≡ tree_rows t
+        → each item_step new.now.all.items ≡ tree_rows u
+        → each (entries_at (each item_entry old.now.all.items) (each item_entry new.now.all.items))
+        pairs.items ≡ each (id_entries t u) (part_ids t u under)) }
+{
+    let before = old.by_id(alloc)?;
+    let after = new.by_id(alloc)?;
+    let old_places = before.places.as_slice();
+    let new_places = after.places.as_slice();
+    let pairs = pairs_by_key(alloc, old_places, new_places)?;
+    let old_run = run_of(old, &before, &under);
+    let new_run = run_of(new, &after, &under);
+    pairs_within(alloc, &old_run, &new_run, pairs.as_slice())
+}
+
+/// Returns the positions of the item with this id and of all items below it; none if the map doesn't
+/// have the item. `by_id` has the places of the map's items.
+fn run_of<A: Allocator>(items: &Items<'_, A>, by_id: &ById, under: &ItemId) -> Run
+    requires few { length items.now.all.items < 2 ^ 32 }
+    ensures { (t : List Row) → Stands items.now.map.now.forest t
+        → AreById t (each item_entry items.now.all.items) by_id.now.places.items
+        → HasEntries t (each item_entry items.now.all.items)
+        → each item_step items.now.all.items ≡ tree_rows t
+        → IsRunOf t (each item_entry items.now.all.items) under.now result }
+{
+    match by_id.find(*under) {
+        Some(place) => items.run(place.at),
+        None => Run { from: 0, to: 0 },
+    }
+}
+
+/// Returns the pairs that have an item in the run of its map.
+pub(crate) fn pairs_within(
+    alloc: Global,
+    old: &Run,
+    new: &Run,
+    pairs: &[Pair],
+) -> Result<Vec<Pair>, AllocError>
+    ensures { IfOk result (λ within. within.items ≡ filter (has_item_within old.now new.now) pairs.now) }
+{
+    let mut within = Vec::new(alloc);
+    for pair in pairs {
+        push_if_within(old, new, *pair, &mut within)?;
+    }
+    Ok(within)
+}
+
+fn push_if_within(
+    old: &Run,
+    new: &Run,
+    pair: Pair,
+    within: &mut Vec<Pair>,
+) -> Result<(), AllocError>
+    ensures { OnOk result (within.new.items
+        ≡ within.old.items ++ filter (has_item_within old.now new.now) (pair ∷ [])) }
+{
+    if is_within(old, pair.before) || is_within(new, pair.after) {
+        within.push(pair)?;
+    }
+    Ok(())
+}
+
+/// Returns whether there is a position, and it is in the run.
+fn is_within(run: &Run, at: Option<u32>) -> bool
+    ensures { result ≡ is_within run.now at }
+{
+    match at {
+        Some(at) => run.from <= at && at < run.to,
+        None => false,
+    }
+}

@@ -1,5 +1,0 @@
-use Rattle.crush_names.proofs.SinceItself.{nothing_by_names_since_itself}
-use Rattle.crush_names.proofs.law.nothing_changes_by_names_since_itself.Goals as goal
-
-pub returns : goal.returns
-returns c = nothing_by_names_since_itself

@@ -1,5 +1,0 @@
-use Rattle.crush_names.proofs.AlikeLaws.{nothing_stays_where_alike}
-use Rattle.crush_names.proofs.law.nothing_stays_where_maps_are_alike.Goals as goal
-
-pub returns : goal.returns
-returns c = nothing_stays_where_alike

@@ -1,0 +1,23 @@
+-- The tree of one class: a part of the tree of a map, in which only the devices of the class count.
+use Rattle.std.specs.Prelude.{ℕ, List, [], ◌∷◌, Option, Some, None, flat_map}
+use Rattle.crush_model.specs.Table.{Row}
+use Rattle.crush_edits.specs.Setting.{SettingData}
+use Rattle.crush_items.specs.Tree.{WalkStepData}
+use Rattle.crush_print.specs.ClassWeights.{weight_of_class}
+use Rattle.crush_print.specs.TreePart.{part_steps}
+use Rattle.crush_print.specs.TreeText.{steps_text}
+use Rattle.crush_print.specs.declared.part.TreePart.{TreePart}
+
+-- the step with this weight, as a list; nothing without a weight
+abbrev pub weighed : Option ℕ → WalkStepData → List WalkStepData
+weighed None s = []
+weighed (Some w) s = record s { item = record s.item { weight = w } } ∷ []
+
+-- CLASS STEPS: the steps of the part, each with the weight that the devices of the class have there; without the steps of items that
+-- neither are a device of the class nor have one below them
+unfoldable pub class_steps : TreePart → List ℕ → List Row → List WalkStepData
+class_steps p c t = flat_map (λ (s : WalkStepData). weighed (weight_of_class t c s.item.id) s) (part_steps p t)
+
+-- the text of these steps
+unfoldable pub class_tree_text : SettingData → TreePart → List ℕ → List Row → List ℕ
+class_tree_text s p c t = steps_text s (class_steps p c t)

@@ -1,0 +1,102 @@
+//! Trees of one class, and the weights of the class of which their lines are made.
+
+use crate::maps::map_of;
+use crush_map::CrushMap;
+use crush_print::{TreePart, class_weights, has_class, write_tree_of_class};
+use crush_units::Weight;
+use std::alloc::Global;
+use std::process::Abort;
+
+const CLASSED: &[u8] = b"\
+    device 0 osd.0 class ssd\n\
+    device 1 osd.1 class hdd\n\
+    device 2 osd.2 class ssd\n\
+    device 3 osd.3\n\
+    device 4 osd.4 class ssd\n\
+    device 5 osd.5 class hdd\n\
+    type 0 osd\n\
+    type 1 host\n\
+    type 3 rack\n\
+    type 11 root\n\
+    host h1 { id -2 alg straw2 hash 0 item osd.0 weight 1.0 item osd.1 weight 2.0 }\n\
+    rack r1 { id -4 alg straw2 hash 0 item h1 weight 3.0 }\n\
+    host h2 { id -3 alg straw2 hash 0 item osd.2 weight 0.5 item osd.3 weight 4.0 }\n\
+    host h3 { id -5 alg straw2 hash 0 item osd.5 weight 1.0 }\n\
+    root default { id -1 alg straw2 hash 0 item r1 weight 3.0 item h2 weight 4.5 item h3 weight 1.0 }\n";
+
+fn part_of(map: &CrushMap<Global>, under: &str, down_to: &str) -> TreePart {
+    TreePart {
+        under: map.locate(under),
+        down_to: map.setting().kind_number(down_to.as_bytes()),
+    }
+}
+
+fn is_tree(
+    rt: &(impl Abort + AllocGlobal),
+    class: &str,
+    under: &str,
+    down_to: &str,
+    tree: &[u8],
+) -> bool {
+    let map = map_of(rt, CLASSED);
+    let part = part_of(&map, under, down_to);
+    let mut told = Vec::new(rt.alloc());
+    write_tree_of_class(rt.alloc(), &map, part, class, &mut told).expect(rt, "no tree");
+    let is = told.as_slice() == tree;
+    drop(told);
+    drop(map);
+    is
+}
+
+#[test]
+fn only_devices_of_the_class_count(rt: HostRuntime) {
+    let tree = b"\
+        ID  CLASS  WEIGHT   TYPE NAME\n\
+        -1         1.50000  root default\n\
+        -4         1.00000      rack r1\n\
+        -2         1.00000          host h1\n \
+        0    ssd  1.00000              osd.0\n\
+        -3         0.50000      host h2\n \
+        2    ssd  0.50000          osd.2\n \
+        4    ssd  0.00000  osd.4\n";
+    assert!(rt; is_tree(&rt, "ssd", "", "", tree));
+}
+
+#[test]
+fn a_rack_counts_the_class_below_its_hosts(rt: HostRuntime) {
+    let tree = b"\
+        ID  CLASS  WEIGHT   TYPE NAME\n\
+        -4         2.00000  rack r1\n\
+        -2         2.00000      host h1\n";
+    assert!(rt; is_tree(&rt, "hdd", "r1", "host", tree));
+}
+
+#[test]
+fn a_host_without_the_class_has_no_line(rt: HostRuntime) {
+    let tree = b"ID  CLASS  WEIGHT  TYPE NAME\n";
+    assert!(rt; is_tree(&rt, "hdd", "h2", "", tree));
+}
+
+#[test]
+fn a_class_is_that_of_a_device(rt: HostRuntime) {
+    let map = map_of(&rt, CLASSED);
+    let is = has_class(&map, "ssd") && has_class(&map, "hdd") && !has_class(&map, "nvme");
+    drop(map);
+    assert!(rt; is);
+}
+
+#[test]
+fn each_item_weighs_what_its_devices_of_the_class_weigh(rt: HostRuntime) {
+    let map = map_of(&rt, CLASSED);
+    let weights = class_weights(rt.alloc(), &map, "hdd").expect(&rt, "no weights");
+    let (two, one) = (
+        Some(Weight::from_units(131_072)),
+        Some(Weight::from_units(65_536)),
+    );
+    let all = Some(Weight::from_units(196_608));
+    let is = weights.as_slice()
+        == [all, two, two, None, two, None, None, None, one, one, None].as_slice();
+    drop(weights);
+    drop(map);
+    assert!(rt; is);
+}

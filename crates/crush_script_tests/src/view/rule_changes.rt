@@ -1,0 +1,204 @@
+//! Differences between the rules and the classes of two maps, as values.
+
+use crate::maps::map_of;
+use crush_compare::{Devices, Identity};
+use crush_map::CrushMap;
+use crush_since::{ClassChange, RuleChange, class_changes, rule_changes, write_since_by_name};
+use std::alloc::Global;
+use std::process::Abort;
+
+const BY_NAMES: Identity = Identity::Names(Devices::ByName);
+
+/// The root main takes the id of the root default, which is empty. So by ids the rule gone takes
+/// what holds the host, and by names it takes nothing. The rule kept takes main in both maps.
+const BEFORE: &[u8] = b"\
+    device 0 osd.0 class hdd\n\
+    device 1 osd.1 class ssd\n\
+    type 1 host\n\
+    type 11 root\n\
+    host h1 { id -2 alg straw2 hash 0 item osd.0 weight 1.0 item osd.1 weight 2.0 }\n\
+    root default { id -1 alg straw2 hash 0 item h1 }\n\
+    root main { id -3 alg straw2 hash 0 }\n\
+    rule gone { id 0 type replicated step take default step emit }\n\
+    rule kept { id 1 type replicated step take main step emit }\n\
+    rule fast { id 2 type replicated step take default class ssd step emit }\n";
+
+const AFTER: &[u8] = b"\
+    device 0 osd.0 class hdd\n\
+    device 1 osd.1 class nvme\n\
+    type 1 host\n\
+    type 11 root\n\
+    host h1 { id -2 alg straw2 hash 0 item osd.0 weight 1.5 item osd.1 weight 2.0 }\n\
+    root main { id -1 alg straw2 hash 0 item h1 }\n\
+    root default { id -3 alg straw2 hash 0 }\n\
+    rule kept { id 1 type replicated step take main step emit }\n\
+    rule fast { id 2 type replicated step take default class ssd step emit }\n\
+    rule made { id 0 type replicated step take default step emit }\n";
+
+/// One word for each difference, with its names.
+fn push_word(rt: &(impl Abort + AllocGlobal), change: &RuleChange<'_>, words: &mut Vec<u8>) {
+    match change {
+        RuleChange::New(name) => push(rt, &[b"new ", name.as_bytes()], words),
+        RuleChange::Differs(name) => push(rt, &[b"differs ", name.as_bytes()], words),
+        RuleChange::Gone(name) => push(rt, &[b"gone ", name.as_bytes()], words),
+        RuleChange::OtherOrder => push(rt, &[b"order"], words),
+        RuleChange::TakesNothing {
+            rule,
+            bucket,
+            class,
+        } => {
+            push(
+                rt,
+                &[b"empty ", rule.as_bytes(), b" ", bucket.as_bytes()],
+                words,
+            );
+            if let Some(class) = class {
+                push(rt, &[b" ", class.as_bytes()], words);
+            }
+        }
+    }
+    push(rt, &[b"\n"], words);
+}
+
+fn push(rt: &(impl Abort + AllocGlobal), parts: &[&[u8]], words: &mut Vec<u8>) {
+    for part in parts {
+        words.extend_from_slice(part).expect(rt, "no memory");
+    }
+}
+
+fn has_rule_changes(
+    rt: &(impl Abort + AllocGlobal),
+    identity: Identity,
+    old: &CrushMap<Global>,
+    new: &CrushMap<Global>,
+    words: &[u8],
+) -> bool {
+    let changes = rule_changes(rt.alloc(), identity, old, new).expect(rt, "no memory");
+    let mut found = Vec::new(rt.alloc());
+    for change in changes.as_slice() {
+        push_word(rt, change, &mut found);
+    }
+    found.as_slice() == words
+}
+
+fn is_changed_so(
+    rt: &(impl Abort + AllocGlobal),
+    identity: Identity,
+    old: &[u8],
+    new: &[u8],
+    words: &[u8],
+) -> bool {
+    let old = map_of(rt, old);
+    let new = map_of(rt, new);
+    let is = has_rule_changes(rt, identity, &old, &new, words);
+    drop(old);
+    drop(new);
+    is
+}
+
+#[test]
+fn rules_are_compared_by_the_ids_of_buckets(rt: HostRuntime) {
+    let words = b"differs kept\ndiffers fast\nnew made\ngone gone\n";
+    assert!(rt; is_changed_so(&rt, Identity::Ids, BEFORE, AFTER, words));
+}
+
+#[test]
+fn rules_are_compared_by_the_names_of_buckets(rt: HostRuntime) {
+    let words = b"new made\ngone gone\nempty fast default ssd\nempty made default\n";
+    assert!(rt; is_changed_so(&rt, BY_NAMES, BEFORE, AFTER, words));
+}
+
+const TWO_RULES: &[u8] = b"\
+    type 11 root\n\
+    root a { id -1 alg straw2 hash 0 }\n\
+    rule x { id 0 type replicated step take a step emit }\n\
+    rule y { id 1 type replicated step take a step emit }\n";
+
+const TURNED: &[u8] = b"\
+    type 11 root\n\
+    root a { id -1 alg straw2 hash 0 }\n\
+    rule y { id 1 type replicated step take a step emit }\n\
+    rule x { id 0 type replicated step take a step emit }\n";
+
+#[test]
+fn another_order_is_one_difference(rt: HostRuntime) {
+    assert!(rt; is_changed_so(&rt, Identity::Ids, TWO_RULES, TURNED, b"order\n"));
+}
+
+#[test]
+fn equal_rules_have_no_differences(rt: HostRuntime) {
+    assert!(rt; is_changed_so(&rt, BY_NAMES, TWO_RULES, TWO_RULES, b""));
+}
+
+fn is_class(
+    class: &ClassChange<'_>,
+    name: &[u8],
+    was: u128,
+    is: u128,
+    is_new: bool,
+    is_taken: bool,
+) -> bool {
+    class.name.as_bytes() == name
+        && class.was == was
+        && class.is == is
+        && class.is_new == is_new
+        && class.is_taken == is_taken
+}
+
+fn has_class_changes(
+    rt: &(impl Abort + AllocGlobal),
+    old: &CrushMap<Global>,
+    new: &CrushMap<Global>,
+) -> bool {
+    let changes = class_changes(rt.alloc(), old, new).expect(rt, "no memory");
+    match changes.as_slice() {
+        [hdd, nvme, ssd] => {
+            is_class(hdd, b"hdd", 65536, 98304, false, false)
+                && is_class(nvme, b"nvme", 0, 131072, true, false)
+                && is_class(ssd, b"ssd", 131072, 0, false, true)
+        }
+        _ => false,
+    }
+}
+
+#[test]
+fn classes_that_weigh_another_sum_are_values(rt: HostRuntime) {
+    let old = map_of(&rt, BEFORE);
+    let new = map_of(&rt, AFTER);
+    let has = has_class_changes(&rt, &old, &new);
+    drop(old);
+    drop(new);
+    assert!(rt; has);
+}
+
+fn ends_with_lines(
+    rt: &(impl Abort + AllocGlobal),
+    old: &CrushMap<Global>,
+    new: &CrushMap<Global>,
+    lines: &[u8],
+) -> bool {
+    let mut text = Vec::new(rt.alloc());
+    write_since_by_name(rt.alloc(), old, new, &mut text).expect(rt, "no memory");
+    text.as_slice().ends_with(lines)
+}
+
+#[test]
+fn lines_beside_the_items_follow_in_order(rt: HostRuntime) {
+    let lines = b"\
+        rule made is new\n\
+        rule gone is gone\n\
+        rule fast takes nothing: default~ssd weighs 0.00000\n\
+        rule made takes nothing: default weighs 0.00000\n\
+        class hdd weighed 1.00000, weighs 1.50000\n\
+        class nvme weighed 0.00000, weighs 2.00000\n\
+        class ssd weighed 2.00000, weighs 0.00000\n\
+        class nvme is new, and no rule takes it\n\
+        total 3.00000 to 3.50000\n\
+        0 made, 0 removed, 0 renamed, 1 moved, 4 of other weight, 1 of other class\n";
+    let old = map_of(&rt, BEFORE);
+    let new = map_of(&rt, AFTER);
+    let has = ends_with_lines(&rt, &old, &new, lines);
+    drop(old);
+    drop(new);
+    assert!(rt; has);
+}

@@ -1,0 +1,12 @@
+use Rattle.std.proofs.Common.{◌≡◌, take}
+use Rattle.crush_compare.specs.Comparison.{pair_items}
+use Rattle.crush_since.specs.CountedByName.{pairs_tally}
+use Rattle.crush_since.proofs.TallyLaws.{AtMost}
+use Rattle.crush_since.proofs.names.since.counting.tally_of.Given as goal
+
+-- the counts of the pairs so far
+abbrev pub invariant-loop-pair : goal.invariant-loop-pair
+invariant-loop-pair g l = record {
+  most : AtMost l.pair-index l.tally;
+  counts : l.tally ≡ pairs_tally (pair_items l.both) (take l.pair-index l.pairs);
+}

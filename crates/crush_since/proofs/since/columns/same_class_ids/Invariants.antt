@@ -1,9 +1,0 @@
-use Rattle.std.proofs.Common.{◌≡◌, true, take}
-use Rattle.crush_nodes.specs.Seen.{shadow_data}
-use Rattle.crush_since.specs.ItemParts.{same_class_id}
-use Rattle.crush_since.proofs.PairLaws.{same_seen}
-use Rattle.crush_since.proofs.since.columns.same_class_ids.Given as goal
-
--- all pairs so far are the same
-abbrev pub invariant-loop-index : goal.invariant-loop-index
-invariant-loop-index g l = same_seen same_class_id shadow_data shadow_data (take l.index l.before) (take l.index l.after) ≡ true

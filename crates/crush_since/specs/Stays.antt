@@ -1,0 +1,130 @@
+-- What differs between a map and the one that is wanted, told by names: docs/dev/names.md has the same in words.
+use Rattle.std.specs.Prelude.{ℕ, Bool, List, [], ◌∷◌, ◌++◌, Option, None, Some, flat_map, codes, bytes_eq, unwrap_or}
+use Rattle.crush_units.specs.declared.id.ItemId.{ItemId}
+use Rattle.crush_units.specs.declared.id.ItemId.TheVariants.{Device, Bucket}
+use Rattle.crush_units.specs.Weight.{weight_text}
+use Rattle.crush_edits.specs.Setting.{SettingData}
+use Rattle.crush_compare.specs.Equal.{same_text}
+use Rattle.crush_items.specs.ItemData.{ItemData}
+use Rattle.crush_compare.specs.NamedColumns.{same_type}
+use Rattle.crush_compare.specs.SameItem.{same_algs}
+use Rattle.crush_compare.specs.Weights.{same_weight}
+use Rattle.crush_since.specs.ItemParts.{part, behind}
+use Rattle.crush_since.specs.ItemWords.{type_word, class_or_none, alg_word}
+use Rattle.crush_since.specs.Settings.{tunables_line, kinds_line}
+use Rattle.crush_since.specs.Since.{PlainMap}
+use Rattle.crush_compare.specs.declared.identity.Devices.TheVariants.{ById}
+use Rattle.crush_since.specs.NamedRules.{named_rules_line}
+use Rattle.crush_compare.specs.NamedPairs.{PairData, pairs}
+
+-- where an item stands: the name of the bucket that holds it, or that none does
+abbrev pub place_in : ItemId → Option ℕ → Option (List ℕ) → List ℕ
+place_in i (Some p) holder = unwrap_or holder []
+place_in (Device d) None holder = codes "(unplaced)"
+place_in (Bucket b) None holder = codes "(root)"
+
+unfoldable pub place_word : ItemData → List ℕ
+place_word x = place_in x.view.id x.view.parent x.holder
+
+abbrev pub item_type : SettingData → ItemData → List ℕ
+item_type s x = type_word s x.view.id x.view.kind
+
+-- whether two items are in buckets of the same name, or neither is in a bucket
+unfoldable pub same_place : ItemData → ItemData → Bool
+same_place x y = bytes_eq (place_word x) (place_word y)
+
+-- PARTS: `WORD A, wanted B`, or with another word between, where a column differs
+abbrev pub both : Bool → List ℕ → List ℕ → List ℕ → List ℕ → List (List ℕ)
+both same word a between b = part same (word ++ a ++ between ++ b)
+
+abbrev pub both_types : List ℕ → SettingData → SettingData → ItemData → ItemData → List (List ℕ)
+both_types between s p x y = both (same_type x.view.id (item_type s x) (item_type p y)) (codes "type ") (item_type s x) between (item_type p y)
+
+abbrev pub both_places : List ℕ → List ℕ → ItemData → ItemData → List (List ℕ)
+both_places word between x y = both (same_place x y) word (place_word x) between (place_word y)
+
+abbrev pub both_weights : Bool → List ℕ → ItemData → ItemData → List (List ℕ)
+both_weights same between x y = both same (codes "weight ") (weight_text x.view.weight) between (weight_text y.view.weight)
+
+abbrev pub both_classes : List ℕ → ItemData → ItemData → List (List ℕ)
+both_classes between x y = both (same_text x.view.class y.view.class) (codes "class ") (class_or_none x.view.class) between (class_or_none y.view.class)
+
+abbrev pub both_algs : List ℕ → ItemData → ItemData → List (List ℕ)
+both_algs between x y = both (same_algs x.view.alg y.view.alg) (codes "alg ") (alg_word x.view.alg) between (alg_word y.view.alg)
+
+-- what stays, column by column
+abbrev pub type_part : SettingData → SettingData → ItemData → ItemData → List (List ℕ)
+type_part s p x y = both_types (codes ", wanted ") s p x y
+
+abbrev pub place_part : ItemData → ItemData → List (List ℕ)
+place_part x y = both_places (codes "in ") (codes ", wanted in ") x y
+
+abbrev pub weight_part : ItemData → ItemData → List (List ℕ)
+weight_part x y = both_weights (same_weight x.view.id x.view.weight y.view.weight) (codes ", wanted ") x y
+
+abbrev pub class_part : ItemData → ItemData → List (List ℕ)
+class_part x y = both_classes (codes ", wanted ") x y
+
+abbrev pub alg_part : ItemData → ItemData → List (List ℕ)
+alg_part x y = both_algs (codes ", wanted ") x y
+
+-- what there is to tell of an item that both have, column by column
+abbrev pub differing : SettingData → SettingData → ItemData → ItemData → List (List ℕ)
+differing s p x y = type_part s p x y ++ place_part x y ++ weight_part x y ++ class_part x y ++ alg_part x y
+
+-- as what and where an item is wanted
+unfoldable pub wanted_word : SettingData → ItemData → List ℕ
+wanted_word p y = item_type p y ++ codes " in " ++ place_word y
+
+abbrev pub lacking : SettingData → ItemData → List (List ℕ)
+lacking p y = (codes "wanted as " ++ wanted_word p y) ∷ []
+
+-- of a wanted item, by what the map has of its name
+abbrev pub wanted_parts : SettingData → SettingData → Option ItemData → ItemData → List (List ℕ)
+wanted_parts s p None y = lacking p y
+wanted_parts s p (Some x) y = differing s p x y
+
+-- of an item that is wanted, and of one that isn't
+abbrev pub stay_parts : SettingData → SettingData → Option ItemData → Option ItemData → List (List ℕ)
+stay_parts s p before (Some y) = wanted_parts s p before y
+stay_parts s p (Some x) None = codes "not wanted" ∷ []
+stay_parts s p None None = []
+
+-- the name after, or before of what isn't wanted
+abbrev pub pair_name : Option ItemData → Option ItemData → List ℕ
+pair_name before (Some y) = y.view.name
+pair_name (Some x) None = x.view.name
+pair_name None None = []
+
+-- LINES: a name with its parts, joined by `; `, if there are any
+abbrev pub stay_line : List ℕ → List (List ℕ) → List ℕ
+stay_line name [] = []
+stay_line name (p ∷ rest) = name ++ codes ": " ++ (p ++ behind rest) ++ codes "\n"
+
+-- the same of parts that stand each behind `; `
+abbrev pub stay_text_line : List ℕ → List ℕ → List ℕ
+stay_text_line name [] = []
+stay_text_line name (b ∷ []) = []
+stay_text_line name (b ∷ c ∷ text) = name ++ codes ": " ++ text ++ codes "\n"
+
+unfoldable pub stay_pair : SettingData → SettingData → PairData → List ℕ
+stay_pair s p pair = stay_line (pair_name pair.before pair.after) (stay_parts s p pair.before pair.after)
+
+-- the names of the wanted map in the order of its tree, and then those that it lacks in the order of the map's
+unfoldable pub stay_lines : Option (List ℕ) → PlainMap → PlainMap → List ℕ
+stay_lines under old new = flat_map (stay_pair old.setting new.setting) (pairs ById under old.table new.table)
+
+unfoldable pub named_setting_lines : PlainMap → PlainMap → List ℕ
+named_setting_lines old new = tunables_line old.setting new.setting ++ kinds_line old.setting new.setting ++ named_rules_line old new
+
+-- settings are told of whole maps
+abbrev pub settings_beside : Option (List ℕ) → PlainMap → PlainMap → List ℕ
+settings_beside None old new = named_setting_lines old new
+settings_beside (Some n) old new = []
+
+-- STAYS of a part: a line for each item of it that differs by its name; of everything also one each where tunables, types and rules do
+unfoldable pub stays_part : Option (List ℕ) → PlainMap → PlainMap → List ℕ
+stays_part under old new = stay_lines under old new ++ settings_beside under old new
+
+abbrev pub stays : PlainMap → PlainMap → List ℕ
+stays old new = stays_part None old new

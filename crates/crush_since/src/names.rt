@@ -1,0 +1,11 @@
+//! What differs between two maps whose items are matched by their names, and not by their ids.
+
+mod aside;
+mod law;
+mod since;
+mod staying;
+
+pub use aside::{Counts, count_aside, push_aside};
+pub use law::{nothing_changes_by_names_since_itself, nothing_stays_where_maps_are_alike};
+pub use since::{is_changed_by_name, write_since_by_name, write_since_by_name_part};
+pub use staying::{stays, stays_part};

@@ -1,0 +1,249 @@
+//! What differs, by names, between a map and the map that is wanted.
+
+ghost use Rattle.std.specs.Prelude.{◌≡◌, ◌++◌, List, OnOk, IfOk, flat_map};
+ghost use Rattle.std.specs.Option.{option_map};
+ghost use Rattle.crush_model.specs.Stands.{Stands};
+ghost use Rattle.crush_model.specs.Table.{Row};
+ghost use Rattle.crush_items.specs.SeenItem.{seen_data};
+ghost use Rattle.crush_compare.specs.Comparison.{pair_items};
+ghost use Rattle.crush_since.specs.ItemParts.{behind};
+ghost use Rattle.crush_since.specs.Since.{plain_map};
+ghost use Rattle.crush_since.specs.Stays.{differing, named_setting_lines, pair_name, settings_beside, stay_lines, stay_pair, stay_parts, stay_text_line, stays, stays_part, wanted_parts};
+
+pub(crate) mod columns;
+mod rules;
+
+use crate::since::{push_kinds, push_part, push_tunables};
+use columns::{push_alg, push_class, push_far_weight, push_lacking, push_place, push_type};
+use crush_compare::{Comparison, Devices, Pair};
+use crush_items::Seen;
+use crush_map::{CrushMap, Setting};
+use crush_units::put_all;
+use rules::push_rules;
+use std::alloc::{AllocError, Allocator, Global};
+
+/// Returns what differs, by names, between a map and the map that is wanted. There is a line for
+/// each item of the wanted map that the map doesn't have or has otherwise, in the order of the
+/// wanted map's tree. Then there is a line for each item that isn't wanted, in the order of the
+/// map's tree, and a line each if the tunables, the types or the rules differ. Ids are no
+/// difference, nor are weights of devices that are at most one unit (1/65536 TiB) apart. An `Err`
+/// says that memory ran out.
+pub fn stays<A: Allocator, B: Allocator>(
+    alloc: Global,
+    map: &CrushMap<A>,
+    wanted: &CrushMap<B>,
+) -> Result<Vec<u8>, AllocError>
+    ensures { IfOk result (λ lines. (t u : List Row)
+        → Stands map.now.forest t → Stands wanted.now.forest u
+        → lines.items ≡ stays (plain_map map.now.setting t) (plain_map wanted.now.setting u)) }
+{
+    stays_part(alloc, None, map, wanted)
+}
+
+/// Returns the lines of [`stays`] for the items of a part: the item that has the name `under` and all
+/// items below it, in either map. There are no lines for settings. Without a name, this is
+/// [`stays`]. An `Err` says that memory ran out.
+pub fn stays_part<A: Allocator, B: Allocator>(
+    alloc: Global,
+    under: Option<&str>,
+    map: &CrushMap<A>,
+    wanted: &CrushMap<B>,
+) -> Result<Vec<u8>, AllocError>
+    ensures { IfOk result (λ lines. (t u : List Row)
+        → Stands map.now.forest t → Stands wanted.now.forest u
+        → lines.items ≡ stays_part (option_map (λ n. n.now) under.entry) (plain_map map.now.setting t)
+        (plain_map wanted.now.setting u)) }
+{
+    let mut lines = Vec::new(alloc);
+    push_lines(alloc, under, map, wanted, &mut lines)?;
+    push_beside(under, map, wanted, &mut lines)?;
+    Ok(lines)
+}
+
+fn push_lines<A: Allocator, B: Allocator>(
+    alloc: Global,
+    under: Option<&str>,
+    map: &CrushMap<A>,
+    wanted: &CrushMap<B>,
+    lines: &mut Vec<u8>,
+) -> Result<(), AllocError>
+    ensures { (t u : List Row) → Stands map.now.forest t → Stands wanted.now.forest u
+        → OnOk result (lines.new.items ≡ lines.old.items
+        ++ stay_lines (option_map (λ n. n.now) under.entry) (plain_map map.now.setting t)
+        (plain_map wanted.now.setting u)) }
+{
+    let both = Comparison::by_names_part(alloc, Devices::ById, under, map, wanted)?;
+    push_pairs(alloc, &both, both.pairs.as_slice(), lines)
+}
+
+fn push_pairs<A: Allocator, B: Allocator>(
+    alloc: Global,
+    both: &Comparison<'_, A, B>,
+    pairs: &[Pair],
+    lines: &mut Vec<u8>,
+) -> Result<(), AllocError>
+    ensures { OnOk result (lines.new.items ≡ lines.old.items ++ flat_map
+        (λ p. stay_pair both.now.old.map.now.setting both.now.new.map.now.setting
+        (pair_items both.now p)) pairs.now) }
+{
+    for pair in pairs {
+        push_pair(alloc, both, pair, lines)?;
+    }
+    Ok(())
+}
+
+fn push_pair<A: Allocator, B: Allocator>(
+    alloc: Global,
+    both: &Comparison<'_, A, B>,
+    pair: &Pair,
+    lines: &mut Vec<u8>,
+) -> Result<(), AllocError>
+    ensures { OnOk result (lines.new.items ≡ lines.old.items
+        ++ stay_pair both.now.old.map.now.setting both.now.new.map.now.setting
+        (pair_items both.now pair.now)) }
+{
+    let map = both.old.map.setting();
+    let wanted = both.new.map.setting();
+    push_stay_pair(
+        alloc,
+        map,
+        wanted,
+        &both.before(*pair),
+        &both.after(*pair),
+        lines,
+    )
+}
+
+fn push_stay_pair(
+    alloc: Global,
+    map: &Setting,
+    wanted: &Setting,
+    here: &Option<Seen<'_>>,
+    there: &Option<Seen<'_>>,
+    lines: &mut Vec<u8>,
+) -> Result<(), AllocError>
+    ensures { OnOk result (lines.new.items ≡ lines.old.items ++ stay_pair map.now wanted.now
+        (record {
+          before = option_map seen_data here.now;
+          after = option_map seen_data there.now;
+        })) }
+{
+    let mut parts = Vec::new(alloc);
+    push_parts(alloc, map, wanted, here, there, &mut parts)?;
+    push_line(pair_name(here, there), parts.as_slice(), lines)
+}
+
+fn push_parts(
+    alloc: Global,
+    map: &Setting,
+    wanted: &Setting,
+    here: &Option<Seen<'_>>,
+    there: &Option<Seen<'_>>,
+    parts: &mut Vec<u8>,
+) -> Result<(), AllocError>
+    ensures { OnOk result (parts.new.items ≡ parts.old.items ++ behind (stay_parts map.now
+        wanted.now (option_map seen_data here.now) (option_map seen_data there.now))) }
+{
+    match there {
+        Some(there) => push_wanted_parts(alloc, map, wanted, here, there, parts),
+        None => match here {
+            Some(_) => push_part(false, &[b"not wanted".as_slice()], parts),
+            None => Ok(()),
+        },
+    }
+}
+
+fn push_wanted_parts(
+    alloc: Global,
+    map: &Setting,
+    wanted: &Setting,
+    here: &Option<Seen<'_>>,
+    there: &Seen<'_>,
+    parts: &mut Vec<u8>,
+) -> Result<(), AllocError>
+    ensures { OnOk result (parts.new.items ≡ parts.old.items ++ behind (wanted_parts map.now
+        wanted.now (option_map seen_data here.now) (seen_data there.now))) }
+{
+    match here {
+        Some(here) => push_differing(alloc, map, wanted, here, there, parts),
+        None => push_lacking(wanted, there, parts),
+    }
+}
+
+fn push_differing(
+    alloc: Global,
+    map: &Setting,
+    wanted: &Setting,
+    here: &Seen<'_>,
+    there: &Seen<'_>,
+    parts: &mut Vec<u8>,
+) -> Result<(), AllocError>
+    ensures { OnOk result (parts.new.items ≡ parts.old.items
+        ++ behind (differing map.now wanted.now (seen_data here.now) (seen_data there.now))) }
+{
+    push_type(b", wanted ", map, wanted, here, there, parts)?;
+    push_place(b"in ", b", wanted in ", here, there, parts)?;
+    push_far_weight(alloc, here, there, parts)?;
+    push_class(b", wanted ", here, there, parts)?;
+    push_alg(b", wanted ", here, there, parts)?;
+    Ok(())
+}
+
+/// Returns the name of the item of a pair.
+pub(crate) fn pair_name<'a>(before: &Option<Seen<'a>>, after: &Option<Seen<'a>>) -> &'a [u8]
+    ensures { result.now
+        ≡ pair_name (option_map seen_data before.now) (option_map seen_data after.now) }
+{
+    match after {
+        Some(after) => after.view.name.as_bytes(),
+        None => match before {
+            Some(before) => before.view.name.as_bytes(),
+            None => b"".as_slice(),
+        },
+    }
+}
+
+/// Appends the line of an item, if there are any parts. Each part is after a semicolon and a space.
+pub(crate) fn push_line(name: &[u8], parts: &[u8], lines: &mut Vec<u8>) -> Result<(), AllocError>
+    ensures { OnOk result (lines.new.items ≡ lines.old.items ++ stay_text_line name.now parts.now) }
+{
+    match parts {
+        [_, _, text @ ..] => put_all(
+            lines,
+            &[name, b": ".as_slice(), text, b"\n".as_slice()],
+        ).map_err(|_| AllocError),
+        _ => Ok(()),
+    }
+}
+
+#[tactic(auto, unfolding(crate::specs::Stays::named_setting_lines))]
+fn push_settings<A: Allocator, B: Allocator>(
+    map: &CrushMap<A>,
+    wanted: &CrushMap<B>,
+    lines: &mut Vec<u8>,
+) -> Result<(), AllocError>
+    ensures { (t u : List Row) → Stands map.now.forest t → Stands wanted.now.forest u
+        → OnOk result (lines.new.items ≡ lines.old.items
+        ++ named_setting_lines (plain_map map.now.setting t) (plain_map wanted.now.setting u)) }
+{
+    push_tunables(map.setting(), wanted.setting(), lines)?;
+    push_kinds(map.setting(), wanted.setting(), lines)?;
+    push_rules(map, wanted, lines)
+}
+
+fn push_beside<A: Allocator, B: Allocator>(
+    under: Option<&str>,
+    map: &CrushMap<A>,
+    wanted: &CrushMap<B>,
+    lines: &mut Vec<u8>,
+) -> Result<(), AllocError>
+    ensures { (t u : List Row) → Stands map.now.forest t → Stands wanted.now.forest u
+        → OnOk result (lines.new.items ≡ lines.old.items
+        ++ settings_beside (option_map (λ n. n.now) under.entry) (plain_map map.now.setting t)
+        (plain_map wanted.now.setting u)) }
+{
+    match under {
+        Some(_) => Ok(()),
+        None => push_settings(map, wanted, lines),
+    }
+}
