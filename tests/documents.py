@@ -28,10 +28,10 @@ from against_reference import run
 from at_once import made_by
 from chance import Dice, random_job
 from explained import by_id, tree_rows
-from looking import run_in_turn, since_text, total, type_name
+from looking import class_weights, classes_taken, run_in_turn, since_text, total, type_name
 from model import is_change, run_call
 from parts import cut, part_ids
-from planned import commands_of, made_by as made_by_plan, stays
+from planned import aside_counts, commands_of, made_by as made_by_plan, stays
 from plans import TUNABLES, after_script, any_map, expect
 from reading import read_job, read_map
 
@@ -104,10 +104,37 @@ def tree_value(map, part):
     return {"nodes": told[False], "stray": told[True]}
 
 
+def class_ids_value(map, name):
+    """The class ids of a bucket; none for a device."""
+    return None if map.is_device(name) else [{"class": kind, "id": number} for number, kind in map.items[name].get("ids", ())]
+
+
 def seen_value(map, name):
     """What a map has of an item, if it has it."""
-    return name and without_none({"class": map.items[name].get("class"), "name": name, "parent": map.parent(name),
+    return name and without_none({"alg": map.items[name].get("alg"), "class": map.items[name].get("class"),
+                                  "class_ids": class_ids_value(map, name), "name": name, "parent": map.parent(name),
                                   "type": type_name(map, name), "weight": map.weight(name)})
+
+
+def rule_changes_value(text):
+    """The rules that differ or that take nothing, by the lines of a text."""
+    for line in text.splitlines():
+        differs = re.fullmatch(r"rule (\S+) (?:is )?(new|differs|gone)", line)
+        emptied = re.fullmatch(r"rule (\S+) takes nothing: ([^\s~]+)(?:~(\S+))? weighs 0.00000", line)
+        if differs:
+            yield {"change": differs[2], "name": differs[1]}
+        elif emptied:
+            yield without_none({"bucket": emptied[2], "change": "takes nothing", "class": emptied[3], "name": emptied[1]})
+        elif line == "rules stand in another order":
+            yield {"change": "other order"}
+
+
+def class_changes_value(old, new):
+    """The classes that weigh another sum, and those that are new though no rule takes them."""
+    was, now, taken = class_weights(old), class_weights(new), classes_taken(new)
+    other = {kind for kind in {*was, *now} if was.get(kind, 0) != now.get(kind, 0)}
+    return [{"is": now.get(kind, 0), "name": kind, "taken": kind in taken, "was": was.get(kind, 0)}
+            for kind in sorted(other | {*now} - {*was} - taken)]
 
 
 def since_value(old, new, under):
@@ -121,8 +148,8 @@ def since_value(old, new, under):
         return {"items": items}
     counts = {words.removeprefix("of other "): int(count) for count, words in re.findall(r"(\d+) ([a-z ]+)", text.splitlines()[-1])}
     differ = {what: f"\n{what} differ\n" in f"\n{text}" for what in ("tunables", "types")}
-    differ["rules"] = bool(re.search(r"(?m)^rule \S+ (is new|differs|is gone)$|^rules stand in another order$", text))
-    return {"counts": counts, "items": items, "total": [total(old), total(new)], **differ}
+    return {"classes": class_changes_value(old, new), "counts": counts, "items": items, "rules": list(rule_changes_value(text)),
+            "total": [total(old), total(new)], **differ}
 
 
 def command_value(words):
@@ -234,8 +261,9 @@ def values(program, folder, dice, map, wanted):
     yield ["--since", "MAP", "--under", under], {"since": since_value(wanted, map, under)}
     for words in ([], ["--by-name"]):
         commands = commands_of(printed(program, folder, ["--in-turn", UNTOLD, "--to", "MAP", *words, "JOB"]))
-        rest = stays(made_by_plan(map, commands), wanted)
-        yield ["--to", "MAP", *words], {"plan": [command_value(words) for words in commands], "stays": rest}
+        made = made_by_plan(map, commands)
+        yield ["--to", "MAP", *words], {"aside": aside_counts(made, wanted), "plan": [command_value(words) for words in commands],
+                                        "stays": stays(made, wanted)}
 
 
 def check(program, folder, dice, job, other, counts):

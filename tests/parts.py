@@ -6,6 +6,8 @@ Of the map after the scripts of a job, in turn, and of another map, the same aft
 in common but names, it is looked whether
 
 - `--tree --under NAME --down-to TYPE`, with either word or both, is the tree of the model cut so, with the weights of the whole
+- `--tree --class CLASS`, with and without those words, has of the same items those that are a device of the class or have one
+  below them, with the weights of these devices
 - `--since MAP --under NAME` has of the model's lines those of items that stand below NAME, or stood below the item of its id
 - `--since MAP --by-name`, with `--under NAME` and without, has the lines of docs/dev/names.md, which this page has too (`changed_lines`)
 - `--to MAP --under NAME`, by ids and by names, has only commands of items of the part: each item that a command names stood
@@ -14,7 +16,7 @@ in common but names, it is looked whether
   creates a bucket outside of the part. A second run prints the same, and with `--strict`, of the map alone, what stays ends it
 
 Each is run with `--exit-code`: the status is 6 where something is told, of trees where the scripts changed the map, and else 0.
-A NAME or TYPE that isn't there ends by `no item` or `no type`, which is counted as missing. The status is 1 where anything
+A NAME, TYPE or CLASS that isn't there ends by `no item`, `no type` or `no class`, which is counted as missing. The status is 1 where anything
 is otherwise. The seed may be any word; without one it is drawn.
 """
 
@@ -28,7 +30,8 @@ import tempfile
 from against_reference import run
 from chance import KINDS, NAMES, Dice, random_job
 from explained import by_id, tree_rows
-from looking import run_in_turn, since_text, total, tree_text, type_name
+from looking import (changed_rules, class_lines, run_in_turn, since_text, total, tree_text, type_name,
+                     weight_as)
 from model import Map, is_change, number_of, text_of
 from planned import aside, commands_of, made_by, place, rule_lines, stays
 from plans import after_script, any_map, expect, with_settings
@@ -61,6 +64,24 @@ def cut(map, under, kind):
 
     tops = [name for name in map.items if not map.parent(name)] if under is None else [under]
     return Cut(map, [name for top in tops for name in names_below(top)], closed)
+
+
+class OfClass(Map):
+    """Those items of a cut map that are a device of a class or have one below them in the whole map, and what these weigh."""
+
+    def __init__(self, part, of_class):
+        super().__init__(part.types)
+        own = {name: devices_of(part.whole, name, of_class) for name in part.items}
+        self.weights = {name: sum(part.whole.weight(device) for device in devices) for name, devices in own.items()}
+        self.items = {name: dict(item, kids=[kid for kid in item["kids"] if own[kid]]) for name, item in part.items.items() if own[name]}
+
+    def weight(self, name):
+        return self.weights[name]
+
+
+def devices_of(map, name, of_class):
+    """The devices of a class that are an item or below it."""
+    return [own for own in [name, *map.below(name)] if map.items[own].get("class") == of_class]
 
 
 def names_at(map, name):
@@ -129,12 +150,25 @@ def changed_lines(old, new, under):
     return lines, counts
 
 
+def emptied_by_name(old, new):
+    """The lines of the new map's rules that take a bucket which the old map has by its name, and which weighed something
+    there and weighs nothing now."""
+    for rule in new.rules:
+        for step, number in rule["lines"]:
+            taken = number is not None and new.with_id(number)
+            if taken and taken in old.items and not old.is_device(taken):
+                kind = step.partition(" class ")[2] or None
+                if weight_as(old, old.items[taken]["id"], kind) and not weight_as(new, number, kind):
+                    yield f"rule {rule['name']} takes nothing: {taken}{f'~{kind}' if kind else ''} weighs {text_of(0)}"
+
+
 def since_by_name(old, new, under):
     """The text of what has changed by names, and whether any of it tells of a difference."""
     lines, counts = changed_lines(old, new, under)
     if under is None:
         lines += ["tunables differ"] * (list(old.tunables) != list(new.tunables)) + ["types differ"] * (old.types != new.types)
-        lines += ["rules differ"] * (rule_lines(old) != rule_lines(new))
+        lines += changed_rules(*([*zip((rule["name"] for rule in map.rules), rule_lines(map))] for map in (old, new)))
+        lines += [*emptied_by_name(old, new), *class_lines(old, new)]
     last = [] if under else [f"total {text_of(total(old))} to {text_of(total(new))}",
                              ", ".join(f"{count} {heading}" for heading, count in counts.items())]
     return "".join(line + "\n" for line in lines + last), bool(lines)
@@ -207,13 +241,19 @@ def check_plan(ran, map, wanted, under, words):
     return len(commands), len(rest)
 
 
-def missing(map, under, kind):
+def missing(map, under, kind, of_class=None):
     """How a run ends of which a name isn't there, or nothing."""
     if under is not None and under not in map.items:
         return 1, "", f"crushedit: no item {under}\n"
     if kind is not None and number_of(map, kind) is None:
         return 1, "", f"crushedit: no type {kind}\n"
+    if of_class is not None and of_class not in classes_of(map):
+        return 1, "", f"crushedit: no class {of_class}\n"
     return None
+
+
+def classes_of(map):
+    return {item["class"] for item in map.items.values() if item.get("class")}
 
 
 def any_name(dice, map):
@@ -229,10 +269,18 @@ def any_part(dice, map):
     return (None if kind and dice.random() < 0.2 else under), kind
 
 
+def with_classes(dice, map):
+    """The map, in which half of the devices without a class got one."""
+    for name, item in map.items.items():
+        if map.is_device(name) and not item.get("class") and dice.random() < 0.5:
+            item["class"] = dice.choice(["hdd", "ssd"])
+    return map
+
+
 def job_of(dice, index):
     """A job, and the text of the map to compare with: of each four one has nothing in common with the job's."""
     front, *sections = random_job(dice)[0].partition("%")
-    map = with_settings(dice, read_map(front)[0])
+    map = with_classes(dice, with_settings(dice, read_map(front)[0]))
     other = any_map(dice) if index % 4 == 3 else after_script(dice, map)
     return map.text() + "".join(sections), other.text()
 
@@ -262,6 +310,12 @@ class Trial:
         text = "" if lacks else tree_text(cut(self.map, under, kind))
         self.compare("trees", ["--tree", *words], text, self.has_changed, lacks)
 
+    def tree_of_class(self, under, kind, of_class):
+        lacks = missing(self.map, under, kind, of_class)
+        words = (["--under", under] if under else []) + (["--down-to", kind] if kind else [])
+        text = "" if lacks else tree_text(OfClass(cut(self.map, under, kind), of_class))
+        self.compare("trees of classes", ["--tree", "--class", of_class, *words], text, self.has_changed, lacks)
+
     def changes(self, under):
         text = since_part(self.wanted, self.map, under)
         self.compare("parts of changes", ["--since", "MAP", "--under", under], text, text != "")
@@ -276,7 +330,9 @@ class Trial:
 
     def check(self, dice):
         for _ in range(TREES):
-            self.tree(*any_part(dice, self.map))
+            part = any_part(dice, self.map)
+            self.tree(*part)
+            self.tree_of_class(*part, dice.choice([*sorted(classes_of(self.map)) * 3, NOWHERE]))
         self.compare("changes by names", ["--since", "MAP", "--by-name"], *since_by_name(self.wanted, self.map, None))
         under = any_name(dice, self.map)
         self.changes(under)

@@ -52,13 +52,18 @@ def stays(map, wanted):
     return lines + ["rules differ"] * (rule_lines(map) != rule_lines(wanted))
 
 
-def aside(map, wanted):
-    """The lines of ids that differ, of buckets that both have."""
+def aside_counts(map, wanted):
+    """How many of the buckets that both have differ in their ids, and how many in their class ids."""
     both = [name for name in wanted.items if not wanted.is_device(name) and counterpart(map, wanted, name)]
     pairs = [(map.items[name], wanted.items[name]) for name in both]
-    ids = sum(one["id"] != other["id"] for one, other in pairs)
-    class_ids = sum(list(one.get("ids", ())) != list(other.get("ids", ())) for one, other in pairs)
-    return [f"{what} of {count} buckets differ" for what, count in (("ids", ids), ("class ids", class_ids)) if count]
+    return {"ids": sum(one["id"] != other["id"] for one, other in pairs),
+            "class_ids": sum(list(one.get("ids", ())) != list(other.get("ids", ())) for one, other in pairs)}
+
+
+def aside(map, wanted):
+    """The lines of ids that differ, of buckets that both have."""
+    counts = aside_counts(map, wanted)
+    return [f"{what} of {count} buckets differ" for what, count in (("ids", counts["ids"]), ("class ids", counts["class_ids"])) if count]
 
 
 def made_by(map, commands):

@@ -20,7 +20,7 @@ from sources import PROGRAMS, TOP  # noqa: E402
 # What the library offers, whether or not the program calls it: its surface, as docs/dev/CALLING.md and docs/dev/SIGNATURES.md
 # tell it, the tests by which a caller meets what a call requires, and what contracts of others name.
 OFFERED = {
-    "crush_units": {"LONGEST_SHORT_NAME", "is_name_byte"},
+    "crush_units": {"LONGEST_SHORT_NAME", "Weight::exact_text", "is_name_byte"},
     "crush_nodes": {"Node::has_room"},
     "crush_index": {"Hashing::keyed"},
     "crush_builder": {"MapBuilder::is_idle", "MapBuilder::is_begun", "MapBuilder::is_numbered", "MapBuilder::is_filling"},
@@ -32,11 +32,13 @@ OFFERED = {
         "CrushMap::culprit", "CrushMap::class_of", "CrushMap::contains", "CrushMap::kind_of", "CrushMap::weight_of_class",
     },
     "crush_items": {"ById::find", "Item::class_ids", "Item::seen", "Item::view", "Items::by_id", "Items::class_ids", "Items::of", "Items::run", "Items::seen"},
-    "crush_compare": {"Comparison::after", "Comparison::before", "Comparison::by_ids", "Comparison::by_names", "Comparison::difference"},
-    "crush_print": {"buckets", "devices", "TreePart::whole", "WalkStep::view", "walk", "walk_below", "walk_part", "write_tree"},
-    "crush_since": {"count_changes", "is_changed", "is_part_changed", "same_kinds", "same_rules", "same_tunables", "since_part_text", "listed_ids"},
+    "crush_compare": {"Comparison::after", "Comparison::before", "Comparison::by_ids", "Comparison::by_names", "Comparison::by_names_part", "Comparison::difference"},
+    "crush_print": {"buckets", "devices", "TreePart::whole", "WalkStep::view", "walk", "walk_below", "walk_part", "class_weights", "sorted_buckets", "sorted_devices", "write_tree"},
+    "crush_since": {
+        "count_changes", "is_changed", "is_changed_by_name", "is_part_changed", "same_kinds", "same_rules", "same_tunables", "since_part_text", "stays", "write_since_by_name",
+        "write_since_by_name_part",
+    },
     "crush_json": {"write_map_document", "write_plan_document", "write_since_document", "write_tree_document"},
-    "crush_names": {"is_changed_by_name", "is_in", "stays", "write_since_by_name", "write_since_by_name_part"},
     "crush_reasons": {"explained_text"},
     "crush_plan": {"Plan::count_differences", "find_plan", "plan_text"},
     "crush_editor": {
