@@ -32,8 +32,8 @@ impl Model for DeviceId {
 }
 
 /// A bucket's id: a number from -1 down to -2147483648. In contracts its value is its distance
-/// below 0, which is 1 for the id -1. Ids of buckets are ordered by their numbers below 0: the id -2
-/// is less than the id -1.
+/// below 0, which is 1 for the id -1. Ids of buckets are ordered by their numbers, not by these
+/// distances: the id -2 is less than the id -1.
 #[derive(Clone, Copy, Debug, PartialEq, Eq, Hash)]
 pub struct BucketId {
     below: u32,

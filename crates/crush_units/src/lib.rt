@@ -1,8 +1,8 @@
 //! The values of a CRUSH map: ids, types, names, weights and bucket algorithms. Each is a type that
 //! can't hold an invalid value. [`limits`] has the limits of these values and of a map's size.
 //!
-//! `{}` prints an id, a name or a weight as it is written in a map's text. Only names of more than
-//! 30 bytes allocate memory. [`Reader`] splits a map's text into words. [`put`] and [`put_all`]
+//! `{}` prints each of these values as it is written in a map's text. Only names of more than 30
+//! bytes allocate memory. [`Reader`] splits a map's text into words. [`put`] and [`put_all`]
 //! write bytes, and fail with a [`WriteFault`].
 #![tactic(auto)]
 

@@ -1,5 +1,5 @@
 //! The limits of values and of a map's size. The limits of numbers are Ceph's own. The other limits
-//! are chosen far above what clusters have, and so that counts and sums fit their types.
+//! are far above what clusters have, and low enough that counts and sums fit their types.
 
 /// The number of units in a weight of 1.0: 2^16, because Ceph's weights have 16 bits after the
 /// point.

@@ -22,7 +22,7 @@ pub enum Token<'a> {
     Bad { place: usize },
 }
 
-/// A text, and the index of the byte from which on it is still to be read.
+/// A text, and the index of the first byte that hasn't been read yet.
 #[derive(Clone, Copy)]
 struct Lexer<'a> {
     text: &'a [u8],
