@@ -44,7 +44,7 @@ fn fault_of(rt: &impl AllocGlobal, text: &[u8]) -> Option<TextFault> {
 }
 
 fn is_refused(rt: &impl AllocGlobal, text: &[u8], kind: TextFaultKind, place: usize) -> bool {
-    fault_of(rt, text) == Some(TextFault { kind, place })
+    fault_of(rt, text).is_some_and(|fault| fault.kind == kind && fault.place == place)
 }
 
 fn is_refused_behind(

@@ -13,7 +13,7 @@ use Rattle.crush_text.specs.Form.{Form, done, word, optional, ahead}
 use Rattle.crush_text.specs.Grammar.{next}
 use Rattle.crush_text.specs.Tests.{word_tests, word_for}
 use Rattle.crush_text.specs.Rows.{IsFault, IsRight}
-use Rattle.crush_text.specs.Flow.{State, between, amid, ◌>>=◌, arrive, take, step, placed, unfinished, stop_at, run, outcome, takes_statement, Reaches}
+use Rattle.crush_text.specs.Flow.{State, expected_form, expected_at, between, amid, ◌>>=◌, arrive, take, step, placed, unfinished, stop_at, run, outcome, takes_statement, Reaches}
 use Rattle.crush_text.specs.Document.{SpellsForm, SpellsNext, Spell, IsWhole, start, IsDocument}
 use Rattle.crush_text.specs.Flaw.{FaultyForm, FaultyNext, IsFaulty, IsFlaw, IsOutOfMemory}
 use Rattle.crush_text.specs.InTime.{IsRightUpTo}
@@ -143,7 +143,7 @@ stops : (s : State) (stop : Stop) (r : Result Draft TextFault) → stop_at s sto
 stops s stop (Ok d) e = (refl, e)
 stops (between q) (ended p) (Err f) e = by_it (takes_statement q.mode) refl e
   where
-    by_it : (b : Bool) → takes_statement q.mode ≡ b → cond b (Ok q.draft) (unfinished p) ≡ Err f → (f ≡ record { kind = Ended; place = p }) × (takes_statement q.mode ≡ false)
+    by_it : (b : Bool) → takes_statement q.mode ≡ b → cond b (Ok q.draft) (unfinished p (expected_form (next q))) ≡ Err f → (f ≡ record { kind = Ended; place = p; expected = expected_form (next q) }) × (takes_statement q.mode ≡ false)
     by_it true k e = absurd cc
     by_it false k e = (cc, k)
 stops (amid d g) (ended p) (Err f) e = (cc, refl)
@@ -155,25 +155,25 @@ unfolding run
 tells [] s stop r e = record { before = []; others = []; all = refl; last = s; spelled = refl; ends = stops s stop r e }
 tells (w ∷ ws) s stop r e = by_it (step s w.text ws) refl e (λ u k. tells ws u stop r k)
   where
-    by_it : (j : Result State TextFaultKind) → step s w.text ws ≡ j → (placed w.place j >>= λ m. run m ws stop) ≡ r → ((u : State) → run u ws stop ≡ r → Read u ws stop r) → Read s (w ∷ ws) stop r
+    by_it : (j : Result State TextFaultKind) → step s w.text ws ≡ j → (placed w.place (expected_at s) j >>= λ m. run m ws stop) ≡ r → ((u : State) → run u ws stop ≡ r → Read u ws stop r) → Read s (w ∷ ws) stop r
     by_it (Ok u) k e go =
         let t = go u e in
         record { before = w ∷ t.before; others = t.others; all = ap (λ (l : List Word). w ∷ l) t.all; last = t.last; spelled = (u, subst (λ (l : List Word). SpellsNext s w.text l u) t.all (step_ok s w.text ws u k), t.spelled); ends = t.ends }
-    by_it (Err f) k e go = record { before = []; others = w ∷ ws; all = refl; last = s; spelled = refl; ends = subst (Ends s (w ∷ ws) stop) e (step_err s w.text ws f k, refl) }
+    by_it (Err f) k e go = record { before = []; others = w ∷ ws; all = refl; last = s; spelled = refl; ends = subst (Ends s (w ∷ ws) stop) e (step_err s w.text ws f k, refl, refl) }
 
 -- words that are spelled are read
 spelled_run : (ws others : List Word) (s m : State) (stop : Stop) → Spell s ws others m → run s (ws ++ others) stop ≡ run m others stop
 unfolding run
 spelled_run [] others s m stop h = ap (λ x. run x others stop) h
-spelled_run (w ∷ ws) others s m stop h = ap (λ j. placed w.place j >>= λ x. run x (ws ++ others) stop) (spells_step s w.text (ws ++ others) h.0 h.1) ∙ spelled_run ws others h.0 m stop h.2
+spelled_run (w ∷ ws) others s m stop h = ap (λ j. placed w.place (expected_at s) j >>= λ x. run x (ws ++ others) stop) (spells_step s w.text (ws ++ others) h.0 h.1) ∙ spelled_run ws others h.0 m stop h.2
 
 -- and a fault of the next word is the result
 faulty_run : (s : State) (others : List Word) (stop : Stop) (f : TextFault) → IsFaulty s others stop f → run s others stop ≡ Err f
 unfolding run
-faulty_run (between q) [] (ended p) f h = ap (λ b. cond b (Ok q.draft) (unfinished p)) h.1 ∙ ap (λ x. Err x) (sym h.0)
+faulty_run (between q) [] (ended p) f h = ap (λ b. cond b (Ok q.draft) (unfinished p (expected_form (next q)))) h.1 ∙ ap (λ x. Err x) (sym h.0)
 faulty_run (amid d g) [] (ended p) f h = ap (λ x. Err x) (sym h.0)
 faulty_run s [] (bad p) f h = ap (λ x. Err x) (sym h)
-faulty_run s (w ∷ ws) stop f h = ap (λ j. placed w.place j >>= λ x. run x ws stop) (faulty_step s w.text ws f.kind h.0) ∙ ap (λ p. Err (record { kind = f.kind; place = p })) (sym h.1)
+faulty_run s (w ∷ ws) stop f h = ap (λ j. placed w.place (expected_at s) j >>= λ x. run x ws stop) (faulty_step s w.text ws f.kind h.0) ∙ (λ i. Err (record { kind = f.kind; place = sym h.1 i; expected = sym h.2 i }))
 
 -- the words up to a place that is reached
 record ReadUpTo (s : State) (ws : List Word) (place : ℕ) : Type 0 where
@@ -209,7 +209,7 @@ right_up_to t place h = let k = up_to t.words start place h in record { before =
 whole_stop : (m : State) (stop : Stop) (d : Draft) → stop_at m stop ≡ Ok d → IsWhole m d × ((p : ℕ) × (stop ≡ ended p))
 whole_stop (between q) (ended p) d e = by_it (takes_statement q.mode) refl e
   where
-    by_it : (b : Bool) → takes_statement q.mode ≡ b → cond b (Ok q.draft) (unfinished p) ≡ Ok d → ((q.draft ≡ d) × (takes_statement q.mode ≡ true)) × ((n : ℕ) × (ended p ≡ ended n))
+    by_it : (b : Bool) → takes_statement q.mode ≡ b → cond b (Ok q.draft) (unfinished p (expected_form (next q))) ≡ Ok d → ((q.draft ≡ d) × (takes_statement q.mode ≡ true)) × ((n : ℕ) × (ended p ≡ ended n))
     by_it true k e = ((cc, k), (p, refl))
     by_it false k e = absurd cc
 whole_stop (amid x g) (ended p) d e = absurd cc
@@ -217,7 +217,7 @@ whole_stop m (bad p) d e = absurd cc
 
 -- and if the text may end, its end gives the draft
 stop_whole : (m : State) (d : Draft) (p : ℕ) → IsWhole m d → stop_at m (ended p) ≡ Ok d
-stop_whole (between q) d p h = ap (λ b. cond b (Ok q.draft) (unfinished p)) h.1 ∙ ap (λ (x : Draft). Ok x) h.0
+stop_whole (between q) d p h = ap (λ b. cond b (Ok q.draft) (unfinished p (expected_form (next q)))) h.1 ∙ ap (λ (x : Draft). Ok x) h.0
 stop_whole (amid x g) d p h = absurd h
 
 -- what is read is a document

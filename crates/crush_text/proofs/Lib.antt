@@ -1,11 +1,16 @@
+pub mod Alike
 pub mod FirstWords
+pub mod Follows
 pub mod Judged
+pub mod Keywords
 pub mod Laws
 pub mod LineByLine
 pub mod LineEnds
+pub mod OptionalParts
 pub mod Reached
 pub mod Refused
 pub mod Reserved
+pub mod Respelled
 pub mod Steps
 pub mod TheTable
 pub mod Unbegun

@@ -7,10 +7,12 @@ use Rattle.crush_text.specs.declared.fault.TextFaultKind.{TextFaultKind}
 use Rattle.crush_text.specs.declared.fault.TextFaultKind.TheVariants.{Ended}
 use Rattle.crush_text.specs.declared.fault.TextFault.{TextFault}
 use Rattle.crush_text.specs.Role.{El}
-use Rattle.crush_text.specs.Form.{Mode, first, at, Form, done, word, optional, ahead}
+use Rattle.crush_text.specs.declared.expected.Optional.{Optional}
+use Rattle.crush_text.specs.Expected.{expected}
+use Rattle.crush_text.specs.Form.{Mode, first, at, passing, Form, done, word, optional, ahead}
 use Rattle.crush_text.specs.Grammar.{line_forms}
 use Rattle.crush_text.specs.Tests.{word_for}
-use Rattle.crush_text.specs.Flow.{◌>>=◌, placed, between, amid, arrive, step, takes_statement, run, outcome}
+use Rattle.crush_text.specs.Flow.{◌>>=◌, expected_form, placed, between, amid, arrive, step, takes_statement, run, outcome}
 use Rattle.crush_text.specs.Reads.{next_at, word_at, and_rest, line_at, then_on}
 
 -- the same for whichever of two forms is chosen
@@ -28,31 +30,31 @@ line_goes d (word r more) [] (bad p) = refl
 line_goes d (word r more) (w ∷ ws) stop = by_it (word_for d r w.text) (λ v. line_goes d (more v) ws stop)
   where
     by_it : (j : Result (El r) TextFaultKind) → ((v : El r) → run (arrive d ws (more v)) ws stop ≡ then_on (line_at d (more v) (record { words = ws; stop = stop })))
-        → (placed w.place (j >>= λ v. Ok (arrive d ws (more v))) >>= λ m. run m ws stop) ≡ then_on ((placed w.place j >>= and_rest (record { words = ws; stop = stop })) >>= λ x. line_at d (more x.0) x.1)
+        → (placed w.place (expected r) (j >>= λ v. Ok (arrive d ws (more v))) >>= λ m. run m ws stop) ≡ then_on ((placed w.place (expected r) j >>= and_rest (record { words = ws; stop = stop })) >>= λ x. line_at d (more x.0) x.1)
     by_it (Ok v) go = go v
     by_it (Err f) go = refl
 line_goes d (optional k f g) ws stop = either_goes (begins_with_key k ws) d f g (record { words = ws; stop = stop }) (line_goes d f ws stop) (line_goes d g ws stop)
 line_goes d (ahead k f g) ws stop = either_goes (begins_with_key k (drop 1 ws)) d f g (record { words = ws; stop = stop }) (line_goes d f ws stop) (line_goes d g ws stop)
 
 -- each line begins with a word
-begins_so : (d : Draft) (m : Mode) (ws : List Word) → arrive d ws (line_forms d m) ≡ amid d (line_forms d m)
-begins_so d first ws = refl
-begins_so d m ws = refl
+begins_so : (d : Draft) (k : Optional) (m : Mode) (ws : List Word) → arrive d ws (line_forms d k m) ≡ amid d (line_forms d k m)
+begins_so d k first ws = refl
+begins_so d k m ws = refl
 
 -- if the text can't end here, the result is that of the next line
-pub next_goes : (m : Mode) (d : Draft) (t : Text) → takes_statement m ≡ false → outcome (between (at m d)) t ≡ then_on (line_at d (line_forms d m) t)
+pub next_goes : (m : Mode) (k : Optional) (d : Draft) (t : Text) → takes_statement m ≡ false → outcome (between (passing k (at m d))) t ≡ then_on (line_at d (line_forms d k m) t)
 unfolding outcome run step
-next_goes m d t amid_line = begun_so t.words t.stop ∙ ap (λ s. run s t.words t.stop) (sym (begins_so d m t.words)) ∙ line_goes d (line_forms d m) t.words t.stop
+next_goes m k d t amid_line = begun_so t.words t.stop ∙ ap (λ s. run s t.words t.stop) (sym (begins_so d k m t.words)) ∙ line_goes d (line_forms d k m) t.words t.stop
   where
-    begun_so : (ws : List Word) (stop : Stop) → run (between (at m d)) ws stop ≡ run (amid d (line_forms d m)) ws stop
-    begun_so [] (ended p) = ap (λ b. cond b (Ok d) (Err (record { kind = Ended; place = p }))) amid_line
+    begun_so : (ws : List Word) (stop : Stop) → run (between (passing k (at m d))) ws stop ≡ run (amid d (line_forms d k m)) ws stop
+    begun_so [] (ended p) = ap (λ b. cond b (Ok d) (Err (record { kind = Ended; place = p; expected = expected_form (line_forms d k m) }))) amid_line
     begun_so [] (bad p) = refl
     begun_so (w ∷ ws) stop = refl
 
 -- if there is a next word, a line begins with it
-pub word_goes : (m : Mode) (d : Draft) (w : Word) (ws : List Word) (stop : Stop) → outcome (between (at m d)) (record { words = w ∷ ws; stop = stop }) ≡ then_on (line_at d (line_forms d m) (record { words = w ∷ ws; stop = stop }))
+pub word_goes : (m : Mode) (k : Optional) (d : Draft) (w : Word) (ws : List Word) (stop : Stop) → outcome (between (passing k (at m d))) (record { words = w ∷ ws; stop = stop }) ≡ then_on (line_at d (line_forms d k m) (record { words = w ∷ ws; stop = stop }))
 unfolding outcome run step
-word_goes m d w ws stop = ap (λ s. run s (w ∷ ws) stop) (sym (begins_so d m (w ∷ ws))) ∙ line_goes d (line_forms d m) (w ∷ ws) stop
+word_goes m k d w ws stop = ap (λ s. run s (w ∷ ws) stop) (sym (begins_so d k m (w ∷ ws))) ∙ line_goes d (line_forms d k m) (w ∷ ws) stop
 
 -- if two results are equal, a fault of one is a fault of the other
 pub fails_so : {A Y : Type 0} (f : TextFault) (all mid : Result Y TextFault) → all ≡ mid → ⊥ ⊎ (mid ≡ Err f) → A ⊎ (all ≡ Err f)

@@ -8,6 +8,8 @@ use Rattle.crush_units.specs.declared.limits.TheConstants.{LARGEST_TUNABLE}
 use Rattle.crush_text.specs.declared.fault.TextFaultKind.TheVariants.{Unexpected}
 use Rattle.crush_text.specs.declared.fault.TextFault.{TextFault}
 use Rattle.crush_text.specs.Role.{Role, El, value, key, any_word, number, tunable_name, type_number, type_name, device_id, new_name, bucket_id, id_class}
+use Rattle.crush_text.specs.declared.expected.Expected.TheVariants as expect
+use Rattle.crush_text.specs.Expected.{expected}
 use Rattle.crush_text.specs.Form.{first, numbered, at, Form, done, word, optional}
 use Rattle.crush_text.specs.Grammar.{tunable_line, type_line, device_line, device_class, class_id_line}
 use Rattle.crush_text.specs.Tests.{Test, ◌when◌, a_word, word_tests, unless, word_for}
@@ -27,23 +29,23 @@ pub still_amid : {test : Pending → Bool} {b c : BuilderData} → c ≡ b → I
 still_amid {test = test} e h = subst (IsAmid test) (sym e) h
 
 -- if there is no next word, reading it in any role gives the same fault
-pub next_fails : (d : Draft) (r : Role) (t : Text) (f : TextFault) → next_at t ≡ Err f → word_at d r t ≡ Err f
+pub next_fails : (d : Draft) (r : Role) (t : Text) (f : TextFault) → next_at (expected r) t ≡ Err f → word_at d r t ≡ Err f
 unfolding word_at
-next_fails d r t f h = ap (λ q. q >>= λ x. placed x.0.place (word_for d r x.0.text) >>= and_rest x.1) h
+next_fails d r t f h = ap (λ q. q >>= λ x. placed x.0.place (expected r) (word_for d r x.0.text) >>= and_rest x.1) h
 
 -- if reading any word except a brace fails, so does reading a word in a role that has this test first
-pub operand_fails : (d : Draft) (r : Role) (t : Text) (f : TextFault) → ((w : List ℕ) → (more : List Test) × (word_tests d r w ≡ a_word w more)) → word_at d any_word t ≡ Err f → word_at d r t ≡ Err f
+pub operand_fails : (d : Draft) (r : Role) (t : Text) (f : TextFault) → ((w : List ℕ) → (more : List Test) × (word_tests d r w ≡ a_word w more)) → word_at d (any_word (expected r)) t ≡ Err f → word_at d r t ≡ Err f
 unfolding word_at
-operand_fails d r t f words h = by_word (next_at t) h
+operand_fails d r t f words h = by_word (next_at (expected r) t) h
   where
-    by_brace : (b : Bool) (w : Word) (rest : Text) (more : List Test) → (placed w.place (unless ((Unexpected when b) ∷ []) w.text) >>= and_rest rest) ≡ Err f → (placed w.place (unless ((Unexpected when b) ∷ more) (value d r w.text)) >>= and_rest rest) ≡ Err f
-    by_brace true w rest more e = let k : record { kind = Unexpected; place = w.place } ≡ f = cc in ap (λ (x : TextFault). Err x) k
+    by_brace : (b : Bool) (w : Word) (rest : Text) (more : List Test) → (placed w.place (expected r) (unless ((Unexpected when b) ∷ []) w.text) >>= and_rest rest) ≡ Err f → (placed w.place (expected r) (unless ((Unexpected when b) ∷ more) (value d r w.text)) >>= and_rest rest) ≡ Err f
+    by_brace true w rest more e = let k : record { kind = Unexpected; place = w.place; expected = expected r } ≡ f = cc in ap (λ (x : TextFault). Err x) k
     by_brace false w rest more e = absurd cc
 
-    by_word : (q : Result (Word × Text) TextFault) → (q >>= λ x. placed x.0.place (word_for d any_word x.0.text) >>= and_rest x.1) ≡ Err f → (q >>= λ x. placed x.0.place (word_for d r x.0.text) >>= and_rest x.1) ≡ Err f
+    by_word : (q : Result (Word × Text) TextFault) → (q >>= λ x. placed x.0.place (expected r) (word_for d (any_word (expected r)) x.0.text) >>= and_rest x.1) ≡ Err f → (q >>= λ x. placed x.0.place (expected r) (word_for d r x.0.text) >>= and_rest x.1) ≡ Err f
     by_word (Err g) e = let k : g ≡ f = cc in ap (λ (x : TextFault). Err x) k
     by_word (Ok x) e = let j = words x.0.text in
-        ap (λ ts. placed x.0.place (unless ts (value d r x.0.text)) >>= and_rest x.1) j.1 ∙ by_brace (is_brace_word x.0.text) x.0 x.1 j.0 e
+        ap (λ ts. placed x.0.place (expected r) (unless ts (value d r x.0.text)) >>= and_rest x.1) j.1 ∙ by_brace (is_brace_word x.0.text) x.0 x.1 j.0 e
 
 -- a line whose first word is at fault
 pub word_err : (d : Draft) (r : Role) (more : El r → Form) (t : Text) (f : TextFault) → word_at d r t ≡ Err f → line_at d (word r more) t ≡ Err f
@@ -79,7 +81,7 @@ unfolding line_at
 device_reads d n x t t1 t2 a b = rw (a, b) refl
 
 -- the class of a device, after the key
-pub class_reads : (d : Draft) (n : ℕ) (x c : List ℕ) (t rest : Text) → word_at d any_word t ≡ Ok (c, rest) → line_at d (word any_word (λ y. done (at first (with_device d n x (Some y))))) t ≡ Ok (at first (with_device d n x (Some c)), rest)
+pub class_reads : (d : Draft) (n : ℕ) (x c : List ℕ) (t rest : Text) → word_at d (any_word expect.Class) t ≡ Ok (c, rest) → line_at d (word (any_word expect.Class) (λ y. done (at first (with_device d n x (Some y))))) t ≡ Ok (at first (with_device d n x (Some c)), rest)
 unfolding line_at
 class_reads d n x c t rest is = ap (λ q. q >>= λ y. Ok (at first (with_device d n x (Some y.0)), y.1)) is
 

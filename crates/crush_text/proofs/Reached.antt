@@ -8,14 +8,18 @@ use Rattle.crush_text.specs.declared.fault.TextFaultKind.{TextFaultKind}
 use Rattle.crush_text.specs.declared.fault.TextFaultKind.TheVariants.{Unexpected, OutOfMemory}
 use Rattle.crush_text.specs.declared.fault.TextFault.{TextFault}
 use Rattle.crush_text.specs.Role.{Role, El, key}
-use Rattle.crush_text.specs.Form.{Mode, first, Progress, at, Form, done, word, optional, ahead}
+use Rattle.crush_text.specs.declared.expected.Expected.{Expected}
+use Rattle.crush_text.specs.declared.expected.Expected.TheVariants.{Memory}
+use Rattle.crush_text.specs.declared.expected.Optional.{Optional}
+use Rattle.crush_text.specs.Expected.{expected}
+use Rattle.crush_text.specs.Form.{Mode, first, Progress, at, passing, Form, done, word, optional, ahead}
 use Rattle.crush_text.specs.Grammar.{line_forms}
 use Rattle.crush_text.specs.Tests.{◌when◌, unless, word_for}
 use Rattle.crush_text.specs.Flow.{State, ◌>>=◌, placed, between, amid, arrive, step, takes_statement, outcome, Reaches}
 use Rattle.crush_text.specs.Flaw.{IsOutOfMemory}
 use Rattle.crush_text.specs.Reads.{and_rest, next_of, next_at, word_at, line_at, then_on, LeadsOn, Fails, FailsIn}
 use Rattle.crush_text.specs.ReadsWords.{StoodAt}
-use Rattle.crush_text.specs.ReadsLines.{Goes}
+use Rattle.crush_text.specs.ReadsLines.{Ending, Goes}
 use Rattle.crush_text.proofs.LineByLine.{line_goes, next_goes}
 
 -- the state after a word that has no fault
@@ -33,33 +37,33 @@ taken : (d : Draft) (r : Role) (v : El r) (t rest : Text) → word_at d r t ≡ 
 unfolding word_at next_at
 taken d r v t rest e = by_words t.words t.stop refl e
   where
-    by_value : (w : Word) (ws : List Word) (stop : Stop) → t.words ≡ w ∷ ws → (j : Result (El r) TextFaultKind) → word_for d r w.text ≡ j → (placed w.place j >>= and_rest (record { words = ws; stop = stop })) ≡ Ok (v, rest) → Taken d r v t rest
+    by_value : (w : Word) (ws : List Word) (stop : Stop) → t.words ≡ w ∷ ws → (j : Result (El r) TextFaultKind) → word_for d r w.text ≡ j → (placed w.place (expected r) j >>= and_rest (record { words = ws; stop = stop })) ≡ Ok (v, rest) → Taken d r v t rest
     by_value w ws stop is (Ok x) k e =
         let same : (let y : El r × Text = (x, record { words = ws; stop = stop }) in y) ≡ (v, rest) = cc in
         record { word = w; words = is ∙ ap (λ (y : El r × Text). w ∷ y.1.words) same; value = k ∙ ap (λ (y : El r × Text). Ok y.0) same }
     by_value w ws stop is (Err f) k e = absurd cc
 
-    by_words : (ws : List Word) (stop : Stop) → t.words ≡ ws → (next_of ws stop >>= λ x. placed x.0.place (word_for d r x.0.text) >>= and_rest x.1) ≡ Ok (v, rest) → Taken d r v t rest
+    by_words : (ws : List Word) (stop : Stop) → t.words ≡ ws → (next_of (expected r) ws stop >>= λ x. placed x.0.place (expected r) (word_for d r x.0.text) >>= and_rest x.1) ≡ Ok (v, rest) → Taken d r v t rest
     by_words [] (ended p) is e = absurd cc
     by_words [] (bad p) is e = absurd cc
     by_words (w ∷ ws) stop is e = by_value w ws stop is (word_for d r w.text) refl e
 
 -- the place of a word that was read
-stood : (t rest : Text) (p : ℕ) (w : Word) (ws : List Word) → t.words ≡ w ∷ ws → StoodAt t rest p → p ≡ w.place
+stood : (e : Expected) (t rest : Text) (p : ℕ) (w : Word) (ws : List Word) → t.words ≡ w ∷ ws → StoodAt e t rest p → p ≡ w.place
 unfolding next_at
-stood t rest p w ws is h = by_it (ap (λ l. next_of l t.stop) (sym is) ∙ h.1)
+stood e t rest p w ws is h = by_it (ap (λ l. next_of e l t.stop) (sym is) ∙ h.1)
   where
-    by_it : next_of (w ∷ ws) t.stop ≡ Ok (record { place = p; text = h.0 }, rest) → p ≡ w.place
-    by_it e = let same : (let y : Word × Text = (w, record { words = ws; stop = t.stop }) in y) ≡ (record { place = p; text = h.0 }, rest) = cc in sym (ap (λ (y : Word × Text). y.0.place) same)
+    by_it : next_of e (w ∷ ws) t.stop ≡ Ok (record { place = p; text = h.0 }, rest) → p ≡ w.place
+    by_it same_ok = let same : (let y : Word × Text = (w, record { words = ws; stop = t.stop }) in y) ≡ (record { place = p; text = h.0 }, rest) = cc in sym (ap (λ (y : Word × Text). y.0.place) same)
 
 -- a key that is next is taken
 pub key_taken : (d : Draft) (k : List ℕ) (t : Text) → true ≡ begins k t → word_at d (key k) t ≡ Ok (tt, past t)
 unfolding word_at next_at
 key_taken d k t e = by_words t.words t.stop e
   where
-    by_words : (ws : List Word) (stop : Stop) → true ≡ begins_with_key k ws → (next_of ws stop >>= λ x. placed x.0.place (word_for d (key k) x.0.text) >>= and_rest x.1) ≡ Ok (tt, record { words = drop 1 ws; stop = stop })
+    by_words : (ws : List Word) (stop : Stop) → true ≡ begins_with_key k ws → (next_of (expected (key k)) ws stop >>= λ x. placed x.0.place (expected (key k)) (word_for d (key k) x.0.text) >>= and_rest x.1) ≡ Ok (tt, record { words = drop 1 ws; stop = stop })
     by_words [] stop e = absurd cc
-    by_words (w ∷ ws) stop e = ap (λ b. placed w.place (unless ((Unexpected when not b) ∷ []) tt) >>= and_rest (record { words = ws; stop = stop })) (sym e)
+    by_words (w ∷ ws) stop e = ap (λ b. placed w.place (expected (key k)) (unless ((Unexpected when not b) ∷ []) tt) >>= and_rest (record { words = ws; stop = stop })) (sym e)
 
 -- an optional part, if its key is read when it is the next word
 pub part_taken : (d : Draft) (k : List ℕ) (f g : Form) (t rest : Text) (b : Bool) → b ≡ begins k t → rest ≡ (if b then past t else t) → line_at d (optional k (word (key k) (λ _. f)) g) t ≡ (if b then line_at d f rest else line_at d g rest)
@@ -68,10 +72,10 @@ part_taken d k f g t rest true e is = ap (λ c. if c then line_at d (word (key k
 part_taken d k f g t rest false e is = ap (λ c. if c then line_at d (word (key k) (λ _. f)) t else line_at d g t) (sym e) ∙ ap (λ u. line_at d g u) (sym is)
 
 -- A WORD that was read is reached
-pub reaches_word : (d : Draft) (r : Role) (more : El r → Form) (v : El r) (t rest stop : Text) (p : ℕ) → word_at d r t ≡ Ok (v, rest) → StoodAt t stop p → Reaches p (arrive d t.words (word r more)) t.words
-reaches_word d r more v t rest stop p e h =
+pub reaches_word : (d : Draft) (r : Role) (more : El r → Form) (v : El r) (e : Expected) (t rest stop : Text) (p : ℕ) → word_at d r t ≡ Ok (v, rest) → StoodAt e t stop p → Reaches p (arrive d t.words (word r more)) t.words
+reaches_word d r more v due t rest stop p e h =
     let k = taken d r v t rest e in
-    subst (λ (ws : List Word). Reaches p (amid d (word r more)) ws) (sym k.words) (_, stepped d r more v k.word.text rest.words k.value, inl (stood t stop p k.word rest.words k.words h))
+    subst (λ (ws : List Word). Reaches p (amid d (word r more)) ws) (sym k.words) (_, stepped d r more v k.word.text rest.words k.value, inl (stood due t stop p k.word rest.words k.words h))
 
 -- and so is each place that is reached after it
 pub reaches_on : (d : Draft) (r : Role) (more : El r → Form) (v : El r) (t rest : Text) (p : ℕ) → word_at d r t ≡ Ok (v, rest) → Reaches p (arrive d rest.words (more v)) rest.words → Reaches p (arrive d t.words (word r more)) t.words
@@ -115,15 +119,15 @@ unfolding outcome
 line_leads d f q t rest e = record { same = line_goes d f t.words t.stop ∙ ap then_on e; reaches = λ p h. reaches_behind d f q t rest p e h }
 
 -- if the text can't end here, reading leads to the next line
-pub next_leads : (m : Mode) (d : Draft) (t : Text) → takes_statement m ≡ false → LeadsOn (between (at m d)) t (arrive d t.words (line_forms d m)) t
+pub next_leads : (m : Mode) (k : Optional) (d : Draft) (t : Text) → takes_statement m ≡ false → LeadsOn (between (passing k (at m d))) t (arrive d t.words (line_forms d k m)) t
 unfolding outcome step
-next_leads m d t amid_line = record { same = next_goes m d t amid_line ∙ sym (line_goes d (line_forms d m) t.words t.stop); reaches = λ p h. by_mode m t.words p h }
+next_leads m k d t amid_line = record { same = next_goes m k d t amid_line ∙ sym (line_goes d (line_forms d k m) t.words t.stop); reaches = λ p h. by_mode m t.words p h }
   where
-    by_words : (n : Mode) (ws : List Word) (p : ℕ) → Reaches p (amid d (line_forms d n)) ws → Reaches p (between (at n d)) ws
+    by_words : (n : Mode) (ws : List Word) (p : ℕ) → Reaches p (amid d (line_forms d k n)) ws → Reaches p (between (passing k (at n d))) ws
     by_words n [] p h = h
     by_words n (w ∷ ws) p h = h
 
-    by_mode : (n : Mode) (ws : List Word) (p : ℕ) → Reaches p (arrive d ws (line_forms d n)) ws → Reaches p (between (at n d)) ws
+    by_mode : (n : Mode) (ws : List Word) (p : ℕ) → Reaches p (arrive d ws (line_forms d k n)) ws → Reaches p (between (passing k (at n d))) ws
     by_mode first ws p h = by_words first ws p h
     by_mode n ws p h = by_words n ws p h
 
@@ -135,7 +139,7 @@ pub no_words : (s : State) (t : Text) → LeadsOn s t s t
 no_words s t = record { same = refl; reaches = λ p h. h }
 
 -- out of memory at a place that is reached
-pub out_of_memory_here : (f : TextFault) (p : ℕ) (s : State) (ws : List Word) → f ≡ record { kind = OutOfMemory; place = p } → Reaches p s ws → IsOutOfMemory f × Reaches f.place s ws
+pub out_of_memory_here : (f : TextFault) (p : ℕ) (s : State) (ws : List Word) → f ≡ record { kind = OutOfMemory; place = p; expected = Memory } → Reaches p s ws → IsOutOfMemory f × Reaches f.place s ws
 out_of_memory_here f p s ws e h = (ap (λ (x : TextFault). x.kind) e, subst (λ (q : ℕ). Reaches q s ws) (sym (ap (λ (x : TextFault). x.place) e)) h)
 
 -- a fault after words without a fault is a fault of them all
@@ -150,6 +154,6 @@ fails_line f d g t (inl h) = inl h
 fails_line f d g t (inr h) = inr (line_goes d g t.words t.stop ∙ ap then_on h)
 
 -- the result of a call that reads on where an earlier one ended
-pub goes_on : {X : Type 0} (m : X → Mode) (r : Result X TextFault) (b : BuilderData) (rest : Text) (s n : State) (t u : Text) → LeadsOn s t n u → Goes m r b rest n u → Goes m r b rest s t
+pub goes_on : {X : Type 0} (m : X → Ending) (r : Result X TextFault) (b : BuilderData) (rest : Text) (s n : State) (t u : Text) → LeadsOn s t n u → Goes m r b rest n u → Goes m r b rest s t
 goes_on m (Ok x) b rest s n t u a h = (h.0, h.1, leads_then s n _ t u rest a h.2)
 goes_on m (Err f) b rest s n t u a h = fails_then f s n t u a h

@@ -11,13 +11,15 @@ use Rattle.crush_text.specs.declared.fault.TextFault.{TextFault}
 use Rattle.crush_text.specs.declared.fault.TextFaultKind.TheVariants.{OutOfMemory}
 use Rattle.crush_text.specs.declared.reader.MapReader.{MapReader}
 use Rattle.crush_text.specs.Role.{Role, El}
-use Rattle.crush_text.specs.Form.{Mode, first, ruled, at, Form}
+use Rattle.crush_text.specs.declared.expected.Expected.TheVariants.{Memory}
+use Rattle.crush_text.specs.declared.reader.statement.Before.{Before}
+use Rattle.crush_text.specs.Form.{first, ruled, at, passing, Form}
 use Rattle.crush_text.specs.Grammar.{rule_line, line_forms}
 use Rattle.crush_text.specs.Flow.{State, between, arrive, Reaches}
 use Rattle.crush_text.specs.Reads.{word_at, line_at, number_behind, Fails, FailsIn}
 use Rattle.crush_text.specs.ReadsWords.{ReadsWord, ReadsValue, FindsWord, FindsValue}
-use Rattle.crush_text.specs.ReadsLines.{ReadsLine, ReadsOn}
-use Rattle.crush_text.specs.ReadsRules.{ReadsHead, ReadsSize, GivesStep, ReadsStepLine, ReadsSteps}
+use Rattle.crush_text.specs.ReadsLines.{Ending, ending, ReadsLine, ReadsOn}
+use Rattle.crush_text.specs.ReadsRules.{left_by, ReadsHead, ReadsSize, GivesStep, ReadsStepLine, ReadsSteps}
 use Rattle.crush_text.specs.ReadsStatements.{behind, ReadsNext, ReadsAll}
 use Rattle.crush_text.proofs.Reached.{out_of_memory_here}
 
@@ -37,24 +39,24 @@ pub finds_no_value : {A : _} {X : Type 0} (r : Role) {view : X → El r} (old ne
 finds_no_value r old new f kept h = record { reads = no_value r _ _ _ f h; kept = kept }
 
 -- a function that reads a line fails
-pub no_line : {A : _} {X : Type 0} (form : Draft → Form) (mode : X → Mode) (old new : MapReader A) (f : TextFault) → ((d : Draft) → IsDraft old.builder d → FailsIn f d (form d) old.text) → ReadsLine form mode old new (Err f)
+pub no_line : {A : _} {X : Type 0} (form : Draft → Form) (mode : X → Ending) (old new : MapReader A) (f : TextFault) → ((d : Draft) → IsDraft old.builder d → FailsIn f d (form d) old.text) → ReadsLine form mode old new (Err f)
 no_line form mode old new f h = record { reads = h; stands = tt; shorter = tt }
 
 -- the builder makes what the line says; or memory runs out, which is reported at a place that the line reaches
-pub line_or_memory : {A : _} {E P : Type 0} {form : Draft → Form} {mode : Unit {0} → Mode} {old new : MapReader A} (made : Result (Unit {0}) E) (told : E → TextFault → Type 0) (x : Result (Unit {0}) TextFault) (place : ℕ)
-    → MatchResult made (λ u. x ≡ Ok u) (λ e. IsErrAnd x (told e)) → ((e : E) (f : TextFault) → told e f → f ≡ record { kind = OutOfMemory; place = place }) → ((d : Draft) → IsDraft old.builder d → Reaches place (arrive d old.text.words (form d)) old.text.words)
+pub line_or_memory : {A : _} {E P : Type 0} {form : Draft → Form} {mode : Unit {0} → Ending} {old new : MapReader A} (made : Result (Unit {0}) E) (told : E → TextFault → Type 0) (x : Result (Unit {0}) TextFault) (place : ℕ)
+    → MatchResult made (λ u. x ≡ Ok u) (λ e. IsErrAnd x (told e)) → ((e : E) (f : TextFault) → told e f → f ≡ record { kind = OutOfMemory; place = place; expected = Memory }) → ((d : Draft) → IsDraft old.builder d → Reaches place (arrive d old.text.words (form d)) old.text.words)
     → OnOk made P → (P → ReadsLine form mode old new (Ok tt)) → ReadsLine form mode old new x
 line_or_memory (Ok u) told x place is want here ok reads = rw is (reads ok)
 line_or_memory (Err e) told (Ok u) place is want here ok reads = absurd is
 line_or_memory {form = form} {mode = mode} {old = old} {new = new} (Err e) told (Err f) place is want here ok reads = no_line form mode old new f (λ d h. inl (out_of_memory_here f place (arrive d old.text.words (form d)) old.text.words (want e f is) (here d h)))
 
 -- a function that reads lines fails
-pub no_lines : {A : _} {X : Type 0} (from : Draft → State) (mode : X → Mode) (old new : MapReader A) (f : TextFault) → ((d : Draft) → IsDraft old.builder d → Fails f (from d) old.text) → ReadsOn from mode old new (Err f)
+pub no_lines : {A : _} {X : Type 0} (from : Draft → State) (mode : X → Ending) (old new : MapReader A) (f : TextFault) → ((d : Draft) → IsDraft old.builder d → Fails f (from d) old.text) → ReadsOn from mode old new (Err f)
 no_lines from mode old new f h = record { reads = h; stands = tt; shorter = tt }
 
 -- the builder makes what the lines say, or memory runs out
-pub lines_or_memory : {A : _} {E P : Type 0} {from : Draft → State} {mode : Unit {0} → Mode} {old new : MapReader A} (made : Result (Unit {0}) E) (told : E → TextFault → Type 0) (x : Result (Unit {0}) TextFault) (place : ℕ)
-    → MatchResult made (λ u. x ≡ Ok u) (λ e. IsErrAnd x (told e)) → ((e : E) (f : TextFault) → told e f → f ≡ record { kind = OutOfMemory; place = place }) → ((d : Draft) → IsDraft old.builder d → Reaches place (from d) old.text.words)
+pub lines_or_memory : {A : _} {E P : Type 0} {from : Draft → State} {mode : Unit {0} → Ending} {old new : MapReader A} (made : Result (Unit {0}) E) (told : E → TextFault → Type 0) (x : Result (Unit {0}) TextFault) (place : ℕ)
+    → MatchResult made (λ u. x ≡ Ok u) (λ e. IsErrAnd x (told e)) → ((e : E) (f : TextFault) → told e f → f ≡ record { kind = OutOfMemory; place = place; expected = Memory }) → ((d : Draft) → IsDraft old.builder d → Reaches place (from d) old.text.words)
     → OnOk made P → (P → ReadsOn from mode old new (Ok tt)) → ReadsOn from mode old new x
 lines_or_memory (Ok u) told x place is want here ok reads = rw is (reads ok)
 lines_or_memory (Err e) told (Ok u) place is want here ok reads = absurd is
@@ -71,15 +73,15 @@ no_size key old new f h = record { most = tt; gives = h; shorter = tt }
 pub no_step : {A : _} (form : Draft → RuleData → Form) (old new : MapReader A) (f : TextFault) → new.builder ≡ old.builder → ((d : Draft) (r : RuleData) → IsDraft old.builder d → FailsIn f d (form d r) old.text) → GivesStep form old new (Err f)
 no_step form old new f kept h = record { form = tt; gives = h; free = tt; kept = kept; shorter = tt }
 
-pub no_step_line : {A : _} (r q : Rule) (old new : MapReader A) (f : TextFault) → new.builder ≡ old.builder → ((d : Draft) → IsDraft old.builder d → FailsIn f d (line_forms d (ruled (kept_rule d r))) old.text) → ReadsStepLine r q old new (Err f)
+pub no_step_line : {A : _} (r q : Rule) (old new : MapReader A) (f : TextFault) → new.builder ≡ old.builder → ((d : Draft) → IsDraft old.builder d → FailsIn f d (line_forms d (left_by r) (ruled (kept_rule d r))) old.text) → ReadsStepLine r q old new (Err f)
 no_step_line r q old new f kept h = record { right = tt; reads = h; kept = kept; shorter = tt }
 
-pub no_steps : {A : _} (r q : Rule) (old new : MapReader A) (f : TextFault) → new.builder ≡ old.builder → ((d : Draft) → IsDraft old.builder d → Fails f (between (at (ruled (kept_rule d r)) d)) old.text) → ReadsSteps r q old new (Err f)
+pub no_steps : {A : _} (r q : Rule) (old new : MapReader A) (f : TextFault) → new.builder ≡ old.builder → ((d : Draft) → IsDraft old.builder d → Fails f (between (passing (left_by r) (at (ruled (kept_rule d r)) d))) old.text) → ReadsSteps r q old new (Err f)
 no_steps r q old new f kept h = record { right = tt; reads = h; kept = kept; shorter = tt }
 
 -- no statement
-pub no_next : {A : _} (late : Bool) (old new : MapReader A) (f : TextFault) → ((d : Draft) → IsDraft old.builder d → Fails f (between (at (behind late) d)) old.text) → ReadsNext late old new (Err f)
-no_next late old new f h = record { idle = tt; reads = h; shorter = tt }
+pub no_next : {A : _} (before : Before) (old new : MapReader A) (f : TextFault) → ((d : Draft) → IsDraft old.builder d → Fails f (between (ending (behind before) d)) old.text) → ReadsNext before old new (Err f)
+no_next before old new f h = record { idle = tt; reads = h; shorter = tt }
 
 pub no_end : {A : _} (old new : MapReader A) (f : TextFault) → ((d : Draft) → IsDraft old.builder d → Fails f (between (at first d)) old.text) → ReadsAll old new (Err f)
 no_end old new f h = record { idle = tt; reads = h }

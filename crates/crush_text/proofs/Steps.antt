@@ -1,10 +1,13 @@
 -- The lines of class ids and of rules, word by word.
 use Rattle.std.proofs.Common.{◌≡◌, ◌+◌, ◌<◌, arith, None, false, ℕ, Bool, List, [], ◌∷◌, ◌++◌, length, map, Result, Ok, Err, refl, sym, ap, ◌∙◌, inl, inr, true, subst, ◌⊎◌}
-use Rattle.std.specs.Prelude.{Some, codes, nat_le, unwrap_or, Option, IfOk, IfErr}
+use Rattle.std.specs.Prelude.{◌-◌, slice_get, Some, codes, nat_le, unwrap_or, Option, IfOk, IfErr}
 use Rattle.crush_builder.specs.declared.fault.BuildFault.{BuildFault}
 use Rattle.crush_builder.specs.declared.fault.RulePart.TheVariants.{Step as AtStep}
 use Rattle.std.proofs.lemmas.List.{map-append}
 use Rattle.std.proofs.lemmas.Bool.{lt-leb}
+use Rattle.std.proofs.lemmas.List.{length_push}
+use Rattle.std.proofs.lemmas.Option.{slice_get-get_or}
+use Rattle.std.proofs.Math.Seq.{get_or-append_seam}
 use Rattle.crush_edits.specs.declared.rule.Step.{Step}
 use Rattle.crush_edits.specs.Setting.{RuleData}
 use Rattle.crush_builder.specs.Built.{Draft}
@@ -16,13 +19,17 @@ use Rattle.crush_text.specs.Room.{IsHead}
 use Rattle.crush_units.specs.Words.{Text}
 use Rattle.crush_text.specs.declared.fault.TextFault.{TextFault}
 use Rattle.crush_text.specs.Role.{StepWord, bucket_of_word, taken_bucket, key, any_word, id_or_alg, rule_name, rule_id_key, rule_id, step_or_end, step_word}
-use Rattle.crush_text.specs.Form.{numbered, ruled, at, Progress, Form, done, word}
+use Rattle.crush_text.specs.declared.expected.Expected.{Expected}
+use Rattle.crush_text.specs.declared.expected.Expected.TheVariants as expect
+use Rattle.crush_text.specs.declared.expected.Optional.{Optional}
+use Rattle.crush_text.specs.declared.expected.Optional.TheVariants.{Nothing}
+use Rattle.crush_text.specs.Form.{numbered, ruled, at, passing, Progress, Form, done, word}
 use Rattle.crush_text.specs.Grammar.{id_or_alg_line, new_rule, rule_line, sizes, step_behind, step_or_brace, line_forms}
 use Rattle.crush_text.specs.Flow.{◌>>=◌, arrive, Reaches}
 use Rattle.crush_text.specs.Flaw.{IsOutOfMemory}
-use Rattle.crush_text.specs.Reads.{Gives, GivesLine, FailsIn, word_at, line_at}
+use Rattle.crush_text.specs.Reads.{left_by_step, Gives, GivesLine, FailsIn, word_at, line_at}
 use Rattle.crush_text.specs.ReadsWords.{StoodAt}
-use Rattle.crush_text.specs.ReadsRules.{IsRightSoFar}
+use Rattle.crush_text.specs.ReadsRules.{left_after, left_last, left_by, IsRightSoFar}
 use Rattle.crush_text.proofs.LineEnds.{still}
 use Rattle.crush_text.proofs.Reached.{reaches_word, reaches_on}
 
@@ -43,12 +50,12 @@ gives_line view (Ok x) d g t h = h
 gives_line view (Err f) d g t h = inr h
 
 -- a class id or the algorithm, as the first word says
-pub id_or_alg_goes : (d : Draft) (more : Bool) (t rest : Text) → word_at d id_or_alg t ≡ Ok (more, rest) → line_at d (line_forms d numbered) t ≡ line_at d (id_or_alg_line d more) rest
+pub id_or_alg_goes : (d : Draft) (more : Bool) (t rest : Text) → word_at d id_or_alg t ≡ Ok (more, rest) → line_at d (line_forms d Nothing numbered) t ≡ line_at d (id_or_alg_line d more) rest
 unfolding line_at
 id_or_alg_goes d more t rest is = ap (λ q. q >>= λ x. line_at d (id_or_alg_line d x.0) x.1) is
 
 -- and a fault after that word
-pub id_or_alg_fails : (f : TextFault) (d : Draft) (more : Bool) (t rest : Text) → word_at d id_or_alg t ≡ Ok (more, rest) → FailsIn f d (id_or_alg_line d more) rest → FailsIn f d (line_forms d numbered) t
+pub id_or_alg_fails : (f : TextFault) (d : Draft) (more : Bool) (t rest : Text) → word_at d id_or_alg t ≡ Ok (more, rest) → FailsIn f d (id_or_alg_line d more) rest → FailsIn f d (line_forms d Nothing numbered) t
 id_or_alg_fails f d more t rest is (inl h) = inl (h.0, reaches_on d id_or_alg (id_or_alg_line d) more t rest f.place is h.1)
 id_or_alg_fails f d more t rest is (inr h) = inr (id_or_alg_goes d more t rest is ∙ h)
 
@@ -67,34 +74,38 @@ bucket_taken d x t rest e = e ∙ ap (λ (n : ℕ). Ok (n, rest)) (by_it (comple
 
 -- the head of a rule up to its sizes
 pub head_goes : (d : Draft) (x : List ℕ) (n : ℕ) (k : List ℕ) (t t1 t2 t3 t4 t5 t6 : Text) → word_at d rule_name t ≡ Ok (x, t1) → word_at d (key (codes "{")) t1 ≡ Ok (tt, t2) → word_at d rule_id_key t2 ≡ Ok (tt, t3)
-    → word_at d rule_id t3 ≡ Ok (n, t4) → word_at d (key (codes "type")) t4 ≡ Ok (tt, t5) → word_at d any_word t5 ≡ Ok (k, t6) → line_at d (rule_line d) t ≡ line_at d (sizes d x n k) t6
+    → word_at d rule_id t3 ≡ Ok (n, t4) → word_at d (key (codes "type")) t4 ≡ Ok (tt, t5) → word_at d (any_word expect.RuleType) t5 ≡ Ok (k, t6) → line_at d (rule_line d) t ≡ line_at d (sizes d x n k) t6
 unfolding line_at
 head_goes d x n k t t1 t2 t3 t4 t5 t6 a b c e f h = rw (a, b, c, e, f, h) refl
 
 -- the name of a rule and the word after `type` are reached without a fault
 pub kind_reached : (d : Draft) (x : List ℕ) (n : ℕ) (k : List ℕ) (t t1 t2 t3 t4 t5 t6 : Text) (p : ℕ) → word_at d rule_name t ≡ Ok (x, t1) → word_at d (key (codes "{")) t1 ≡ Ok (tt, t2) → word_at d rule_id_key t2 ≡ Ok (tt, t3)
-    → word_at d rule_id t3 ≡ Ok (n, t4) → word_at d (key (codes "type")) t4 ≡ Ok (tt, t5) → word_at d any_word t5 ≡ Ok (k, t6) → StoodAt t5 t6 p → Reaches p (arrive d t.words (rule_line d)) t.words
+    → word_at d rule_id t3 ≡ Ok (n, t4) → word_at d (key (codes "type")) t4 ≡ Ok (tt, t5) → word_at d (any_word expect.RuleType) t5 ≡ Ok (k, t6) → StoodAt expect.RuleType t5 t6 p → Reaches p (arrive d t.words (rule_line d)) t.words
 kind_reached d x n k t t1 t2 t3 t4 t5 t6 p a b c e f h is =
     reaches_on d rule_name _ x t t1 p a
     (reaches_on d (key (codes "{")) _ tt t1 t2 p b
     (reaches_on d rule_id_key _ tt t2 t3 p c
-    (reaches_on d rule_id (λ m. word (key (codes "type")) (λ _. word any_word (λ y. sizes d x m y))) n t3 t4 p e
-    (reaches_on d (key (codes "type")) (λ _. word any_word (λ y. sizes d x n y)) tt t4 t5 p f
-    (reaches_word d any_word (λ y. sizes d x n y) k t5 t6 t6 p h is)))))
+    (reaches_on d rule_id (λ m. word (key (codes "type")) (λ _. word (any_word expect.RuleType) (λ y. sizes d x m y))) n t3 t4 p e
+    (reaches_on d (key (codes "type")) (λ _. word (any_word expect.RuleType) (λ y. sizes d x n y)) tt t4 t5 p f
+    (reaches_word d (any_word expect.RuleType) (λ y. sizes d x n y) k expect.RuleType t5 t6 t6 p h is)))))
 
 -- a step or the brace, as the first word says
-pub step_or_end_goes : (d : Draft) (r : RuleData) (n : ℕ) (more : Bool) (t rest : Text) → n ≡ length r.steps → word_at d (step_or_end n) t ≡ Ok (more, rest) → line_at d (line_forms d (ruled r)) t ≡ line_at d (step_or_brace d r more) rest
+pub step_or_end_goes : (d : Draft) (k : Optional) (r : RuleData) (n : ℕ) (more : Bool) (t rest : Text) → n ≡ length r.steps → word_at d (step_or_end n k) t ≡ Ok (more, rest) → line_at d (line_forms d k (ruled r)) t ≡ line_at d (step_or_brace d r more) rest
 unfolding line_at
-step_or_end_goes d r n more t rest e is = ap (λ (m : ℕ). word_at d (step_or_end m) t >>= λ x. line_at d (step_or_brace d r x.0) x.1) (sym e) ∙ ap (λ q. q >>= λ x. line_at d (step_or_brace d r x.0) x.1) is
+step_or_end_goes d k r n more t rest e is = ap (λ (m : ℕ). word_at d (step_or_end m k) t >>= λ x. line_at d (step_or_brace d r x.0) x.1) (sym e) ∙ ap (λ q. q >>= λ x. line_at d (step_or_brace d r x.0) x.1) is
 
 -- and a fault of the step after that word
-pub step_fails : (f : TextFault) (d : Draft) (r : RuleData) (n : ℕ) (t rest : Text) → n ≡ length r.steps → word_at d (step_or_end n) t ≡ Ok (true, rest) → FailsIn f d (word step_word (step_behind d r)) rest → FailsIn f d (line_forms d (ruled r)) t
-step_fails f d r n t rest e is (inl h) = inl (h.0, reaches_on d (step_or_end (length r.steps)) (step_or_brace d r) true t rest f.place (subst (λ (m : ℕ). word_at d (step_or_end m) t ≡ Ok (true, rest)) e is) h.1)
-step_fails f d r n t rest e is (inr h) = inr (step_or_end_goes d r n true t rest e is ∙ h)
+pub step_fails : (f : TextFault) (d : Draft) (k : Optional) (r : RuleData) (n : ℕ) (t rest : Text) → n ≡ length r.steps → word_at d (step_or_end n k) t ≡ Ok (true, rest) → FailsIn f d (word step_word (step_behind d r)) rest → FailsIn f d (line_forms d k (ruled r)) t
+step_fails f d k r n t rest e is (inl h) = inl (h.0, reaches_on d (step_or_end (length r.steps) k) (step_or_brace d r) true t rest f.place (subst (λ (m : ℕ). word_at d (step_or_end m k) t ≡ Ok (true, rest)) e is) h.1)
+step_fails f d k r n t rest e is (inr h) = inr (step_or_end_goes d k r n true t rest e is ∙ h)
+
+-- what was left out before that word, by another name
+pub word_left : (d : Draft) (j k : Optional) (n : ℕ) (t : Text) (y : Result (Bool × Text) TextFault) → j ≡ k → word_at d (step_or_end n j) t ≡ y → word_at d (step_or_end n k) t ≡ y
+word_left d j k n t y same h = ap (λ (x : Optional). word_at d (step_or_end n x) t) (sym same) ∙ h
 
 -- that word is reached
-pub step_or_end_reached : (d : Draft) (r : RuleData) (n : ℕ) (more : Bool) (t rest : Text) (p : ℕ) → n ≡ length r.steps → word_at d (step_or_end n) t ≡ Ok (more, rest) → StoodAt t rest p → Reaches p (arrive d t.words (line_forms d (ruled r))) t.words
-step_or_end_reached d r n more t rest p e is at_it = reaches_word d (step_or_end (length r.steps)) (step_or_brace d r) more t rest rest p (subst (λ (m : ℕ). word_at d (step_or_end m) t ≡ Ok (more, rest)) e is) at_it
+pub step_or_end_reached : (d : Draft) (k : Optional) (due : Expected) (r : RuleData) (n : ℕ) (more : Bool) (t rest : Text) (p : ℕ) → n ≡ length r.steps → word_at d (step_or_end n k) t ≡ Ok (more, rest) → StoodAt due t rest p → Reaches p (arrive d t.words (line_forms d k (ruled r))) t.words
+step_or_end_reached d k due r n more t rest p e is at_it = reaches_word d (step_or_end (length r.steps) k) (step_or_brace d r) more due t rest rest p (subst (λ (m : ℕ). word_at d (step_or_end m k) t ≡ Ok (more, rest)) e is) at_it
 
 -- one more step, as it is kept
 pub steps_kept : (d : Draft) (old new : List Step) (s : Step) → new ≡ old ++ s ∷ [] → map (kept_step d) old ++ kept_step d s ∷ [] ≡ map (kept_step d) new
@@ -104,11 +115,29 @@ steps_kept d old new s e = sym (ap (map (kept_step d)) e ∙ map-append (kept_st
 kept_head : (d : Draft) (x : List ℕ) (n : ℕ) (k : List ℕ) (least most : Option ℕ) (r : Rule) → IsHead x n k least most r → kept_rule d r ≡ new_rule x n k least most
 kept_head d x n k least most r h = rw (h.name, h.id, h.kind, h.min_size, h.max_size, h.steps) refl
 
+-- and what it has left out
+head_left : {x k : List ℕ} {n : ℕ} (least most : Option ℕ) (r : Rule) → IsHead x n k least most r → left_by r ≡ left_last [] least most
+head_left least most r h = λ i. left_last (h.steps i) (h.min_size i) (h.max_size i)
+
+-- one more step is the last
+last_is : (old : List Step) (s : Step) → slice_get (old ++ s ∷ []) (length (old ++ s ∷ []) - 1) ≡ Some s
+last_is old s =
+    let n : length (old ++ s ∷ []) ≡ length old + 1 = length_push old s in
+    let i : length (old ++ s ∷ []) - 1 ≡ length old = omega (arith, n) in
+    ap (slice_get (old ++ s ∷ [])) i ∙ slice_get-get_or (old ++ s ∷ []) (length old) s (omega (arith, n)) ∙ ap (λ (x : Step). Some x) (get_or-append_seam old s [] s)
+
+left_behind : (old : List Step) (s : Step) (least most : Option ℕ) → left_last (old ++ s ∷ []) least most ≡ left_by_step s
+left_behind old s least most = ap (λ (o : Option Step). left_after o least most) (last_is old s)
+
+-- and so it is left out by the rule
+pub left_kept : (old new : List Step) (s : Step) (least most : Option ℕ) → new ≡ old ++ s ∷ [] → left_by_step s ≡ left_last new least most
+left_kept old new s least most e = sym (ap (λ (l : List Step). left_last l least most) e ∙ left_behind old s least most)
+
 -- which is what its words say
-pub head_made : (d : Draft) (x : List ℕ) (n : ℕ) (k : List ℕ) (least most : Option ℕ) (r : Result Rule TextFault) (t u : Text) (a b : ℕ) → line_at d (rule_line d) t ≡ line_at d (done (at (ruled (new_rule x n k least most)) d)) u
+pub head_made : (d : Draft) (x : List ℕ) (n : ℕ) (k : List ℕ) (least most : Option ℕ) (r : Result Rule TextFault) (t u : Text) (a b : ℕ) → line_at d (rule_line d) t ≡ line_at d (done (passing (left_last [] least most) (at (ruled (new_rule x n k least most)) d))) u
     → Reaches a (arrive d t.words (rule_line d)) t.words → Reaches b (arrive d t.words (rule_line d)) t.words → IfOk r (IsHead x n k least most) → IfErr r (λ f. IsOutOfMemory f × ((f.place ≡ a) ⊎ (f.place ≡ b)))
-    → GivesLine (λ q. (at (ruled (kept_rule d q)) d, u)) r d (rule_line d) t
-head_made d x n k least most (Ok r) t u a b e ra rb h m = e ∙ done_reads d _ u ∙ ap (λ v. Ok (at (ruled v) d, u)) (sym (kept_head d x n k least most r h))
+    → GivesLine (λ q. (passing (left_by q) (at (ruled (kept_rule d q)) d), u)) r d (rule_line d) t
+head_made d x n k least most (Ok r) t u a b e ra rb h m = e ∙ done_reads d _ u ∙ (λ i. Ok (passing (sym (head_left least most r h) i) (at (ruled (sym (kept_head d x n k least most r h) i)) d), u))
 head_made d x n k least most (Err f) t u a b e ra rb h (w, inl q) = inl (w, subst (λ (p : ℕ). Reaches p (arrive d t.words (rule_line d)) t.words) (sym q) ra)
 head_made d x n k least most (Err f) t u a b e ra rb h (w, inr q) = inl (w, subst (λ (p : ℕ). Reaches p (arrive d t.words (rule_line d)) t.words) (sym q) rb)
 

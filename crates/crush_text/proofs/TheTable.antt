@@ -204,12 +204,12 @@ module _ (d : Draft) (w : List ℕ) where
 
   unexpected : (r : Role) → Decides (fires Unexpected (word_tests d r w)) (IsUnexpected r w)
   unexpected (key k) = Decides-not _ (bytes_eq-Decides w k)
-  unexpected (opening late) = Decides-or _ _ (brace_tells w) (Decides-or _ _ (bytes_eq-Decides w _) (Decides-and _ _ (itself late) (first_tells w)))
+  unexpected (opening late or) = Decides-or _ _ (brace_tells w) (Decides-or _ _ (bytes_eq-Decides w _) (Decides-and _ _ (itself late) (first_tells w)))
   unexpected (type_name n) = Decides-or _ _ (brace_tells w) (Decides-and _ _ (itself (is_reserved w)) (Decides-not _ (Decides-eqb n 0)))
   unexpected id_or_alg = none_of_two w _ _
-  unexpected (item_or_end any) = nor_third any w _ _ _
+  unexpected (item_or_end any or) = nor_third any w _ _ _
   unexpected rule_id_key = none_of_two w _ _
-  unexpected (step_or_end k) = none_of_two w _ _
+  unexpected (step_or_end k or) = none_of_two w _ _
   unexpected step_word = no_step_tells w
   unexpected step_order = none_of_two w _ _
   unexpected r = brace_tells w
@@ -247,7 +247,7 @@ module _ (d : Draft) (w : List ℕ) where
   no_class late e = (or_parts (bytes_eq w (codes "class")) _ (or_parts (is_brace_word w) _ e).1).0
 
   unknown_type : (r : Role) → Means UnknownType (word_tests d r w) (IsUnknownType d r w)
-  unknown_type (opening late) = (λ e none. unknown_row d w (no_class late (none Unexpected (omega arith))) ((isnt (is_known d w)).0 e), λ h. (isnt (is_known d w)).1 (row_unknown d w h))
+  unknown_type (opening late or) = (λ e none. unknown_row d w (no_class late (none Unexpected (omega arith))) ((isnt (is_known d w)).0 e), λ h. (isnt (is_known d w)).1 (row_unknown d w h))
   unknown_type step_type = alone _ _ _ (none_tells (kind_number d.setting w))
   unknown_type r = alone _ _ _ no_row
 
@@ -266,8 +266,8 @@ module _ (d : Draft) (w : List ℕ) where
   other_algorithm r = no_row
 
   left_out : (r : Role) → Means LeftOut (word_tests d r w) (IsLeftOut r w)
-  left_out (opening late) = alone _ _ _ (bytes_eq-Decides w _)
-  left_out (item_or_end any) = (λ e none. let is = (bytes_eq-Decides w _).0 e in (behind_item any w is (none Unexpected (omega arith)), is), λ h. (bytes_eq-Decides w _).1 h.1)
+  left_out (opening late or) = alone _ _ _ (bytes_eq-Decides w _)
+  left_out (item_or_end any or) = (λ e none. let is = (bytes_eq-Decides w _).0 e in (behind_item any w is (none Unexpected (omega arith)), is), λ h. (bytes_eq-Decides w _).1 h.1)
   left_out step_word = alone _ _ _ (bytes_eq-Decides w _)
   left_out r = alone _ _ _ no_row
 
@@ -276,12 +276,12 @@ module _ (d : Draft) (w : List ℕ) where
   no_bucket r = no_row
 
   too_many : (r : Role) → Means TooMany (word_tests d r w) (IsTooMany d r w)
-  too_many (opening late) = (
+  too_many (opening late or) = (
     λ e none. full_row d w (no_class late (none Unexpected (omega arith))) (none LeftOut (omega arith)) (not_not (is_known d w) (none UnknownType (omega arith))) e,
     λ h. row_full d w h,
   )
   too_many id_or_alg = alone _ _ _ (Decides-and _ _ (bytes_eq-Decides w _) (itself _))
-  too_many (step_or_end k) = alone _ _ _ (Decides-and _ _ (bytes_eq-Decides w _) (le_tells MOST_STEPS k))
+  too_many (step_or_end k or) = alone _ _ _ (Decides-and _ _ (bytes_eq-Decides w _) (le_tells MOST_STEPS k))
   too_many r = alone _ _ _ no_row
 
   -- whether it is too large with an item without a weight, or with one of this weight

@@ -7,6 +7,8 @@ use Rattle.crush_text.specs.declared.fault.TextFaultKind.{TextFaultKind}
 use Rattle.crush_text.specs.declared.fault.TextFaultKind.TheVariants.{BadWord, Unexpected, UnknownType, LeftOut, TooMany, OutOfMemory}
 use Rattle.crush_text.specs.declared.fault.TextFault.{TextFault}
 use Rattle.crush_text.specs.declared.statement_kind.StatementKind.{StatementKind}
+use Rattle.crush_text.specs.declared.expected.Expected.TheVariants as expect
+use Rattle.crush_text.specs.declared.expected.Optional.TheVariants.{Nothing}
 use Rattle.crush_text.specs.Role.{opening, opened}
 use Rattle.crush_text.specs.Grammar.{statement}
 use Rattle.crush_text.specs.Tests.{◌when◌, unless, word_for, is_out_of_place}
@@ -31,16 +33,16 @@ judged false false false false false true v = refl
 judged false false false false false false v = refl
 
 -- are those of an empty map
-word_judged : (w : List ℕ) → word_for empty_draft (opening false) w ≡ verdict (is_out_of_place false w) (bytes_eq w (codes "choose_args")) (opens_alone w) (opened empty_draft w)
+word_judged : (w : List ℕ) → word_for empty_draft (opening false Nothing) w ≡ verdict (is_out_of_place false w) (bytes_eq w (codes "choose_args")) (opens_alone w) (opened empty_draft w)
 word_judged w = judged (is_out_of_place false w) (bytes_eq w (codes "tunable")) (bytes_eq w (codes "device")) (bytes_eq w (codes "type")) (bytes_eq w (codes "rule")) (bytes_eq w (codes "choose_args")) (opened empty_draft w)
 
 -- a first word at fault
 pub first_fails : (place : ℕ) (w : List ℕ) (o k s : Bool) (f : TextFaultKind) → is_out_of_place false w ≡ o → bytes_eq w (codes "choose_args") ≡ k → opens_alone w ≡ s → verdict o k s (opened empty_draft w) ≡ Err f
-    → FailsFirst (record { kind = f; place = place }) place w
-first_fails place w o k s f a b c e = inr (ap (placed place) (word_judged w ∙ (λ i. verdict (a i) (b i) (c i) (opened empty_draft w)) ∙ e))
+    → FailsFirst (record { kind = f; place = place; expected = expect.Statement false Nothing }) place w
+first_fails place w o k s f a b c e = inr (ap (placed place (expect.Statement false Nothing)) (word_judged w ∙ (λ i. verdict (a i) (b i) (c i) (opened empty_draft w)) ∙ e))
 
 -- one that isn't
-pub first_memory : (place : ℕ) (w : List ℕ) → is_out_of_place false w ≡ false → bytes_eq w (codes "choose_args") ≡ false → opens_alone w ≡ true → FailsFirst (record { kind = OutOfMemory; place = place }) place w
+pub first_memory : (place : ℕ) (w : List ℕ) → is_out_of_place false w ≡ false → bytes_eq w (codes "choose_args") ≡ false → opens_alone w ≡ true → FailsFirst (record { kind = OutOfMemory; place = place; expected = expect.Memory }) place w
 first_memory place w a b c = inl (refl, refl, (opened empty_draft w, word_judged w ∙ (λ i. verdict (a i) (b i) (c i) (opened empty_draft w))))
 
 -- the fault of the first word is that of the text
@@ -48,12 +50,12 @@ pub text_unopened : (t rest : Text) (place : ℕ) (w : List ℕ) (f : TextFault)
 unfolding step
 text_unopened t rest place w f is (inl (want, here, (o, e))) =
     inl (want, inl (subst (λ (u : Text). Reaches f.place start u.words) (sym is) (_, ap (λ j. j >>= λ v. Ok (arrive empty_draft rest.words (statement empty_draft v))) e, inl here)))
-text_unopened t rest place w f is (inr e) = inr (opening_err empty_draft false t rest place w f is (sym e))
+text_unopened t rest place w f is (inr e) = inr (opening_err empty_draft (record { late = false; or = Nothing }) t rest place w f is (sym e))
 
 -- and the end of one without words
-pub text_empty : (t : Text) (place : ℕ) → t ≡ stopped (ended place) → FailsText (record { kind = OutOfMemory; place = place }) t
+pub text_empty : (t : Text) (place : ℕ) → t ≡ stopped (ended place) → FailsText (record { kind = OutOfMemory; place = place; expected = expect.Memory }) t
 text_empty t place is = inl (refl, inr is)
 
 -- or a byte that no text may have
-pub text_bad : (t : Text) (place : ℕ) → t ≡ stopped (bad place) → FailsText (record { kind = BadWord; place = place }) t
-text_bad t place is = inr (opening_bad empty_draft false t place is)
+pub text_bad : (t : Text) (place : ℕ) → t ≡ stopped (bad place) → FailsText (record { kind = BadWord; place = place; expected = expect.Statement false Nothing }) t
+text_bad t place is = inr (opening_bad empty_draft (record { late = false; or = Nothing }) t place is)

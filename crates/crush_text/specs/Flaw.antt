@@ -8,7 +8,7 @@ use Rattle.crush_units.specs.Words.{Word, Stop, ended, bad, Text, words}
 use Rattle.crush_text.specs.Form.{Form, done, word, optional, ahead}
 use Rattle.crush_text.specs.Grammar.{next}
 use Rattle.crush_text.specs.Rows.{IsFault}
-use Rattle.crush_text.specs.Flow.{State, between, amid, takes_statement}
+use Rattle.crush_text.specs.Flow.{State, between, amid, takes_statement, expected_at}
 use Rattle.crush_text.specs.Document.{Spell, start}
 
 -- the word w has the fault f if this form is required next: the fault of the word's role; or `Unexpected` if the form requires no word, which reading never reaches
@@ -30,17 +30,17 @@ is_whole (amid d f) = false
 
 -- the fault f is `Ended` at this place, since the text ends inside a statement
 abbrev pub IsEnded : State → ℕ → TextFault → Type 0
-IsEnded s place f = (f ≡ record { kind = Ended; place = place }) × (is_whole s ≡ false)
+IsEnded s place f = (f ≡ record { kind = Ended; place = place; expected = expected_at s }) × (is_whole s ≡ false)
 
 -- the fault f is `BadWord` at this place: a byte that no text may contain, or a word that is too long
-abbrev pub IsBadWord : ℕ → TextFault → Type 0
-IsBadWord place f = f ≡ record { kind = BadWord; place = place }
+abbrev pub IsBadWord : State → ℕ → TextFault → Type 0
+IsBadWord s place f = f ≡ record { kind = BadWord; place = place; expected = expected_at s }
 
--- the next word has the fault f, or the end of the words has it if there is no next word
+-- the next word has the fault f, or the end of the words has it if there is no next word. The fault says what is expected in the state s
 abbrev pub IsFaulty : State → List Word → Stop → TextFault → Type 0
 IsFaulty s [] (ended place) f = IsEnded s place f
-IsFaulty s [] (bad place) f = IsBadWord place f
-IsFaulty s (w ∷ ws) stop f = FaultyNext f.kind s w.text × (f.place ≡ w.place)
+IsFaulty s [] (bad place) f = IsBadWord s place f
+IsFaulty s (w ∷ ws) stop f = FaultyNext f.kind s w.text × (f.place ≡ w.place) × (f.expected ≡ expected_at s)
 
 -- A FLAW of a text: the words before it spell lines and perhaps a part of a line, and the next word, or the end of the words, has this fault
 pub record IsFlaw (t : Text) (f : TextFault) : Type 0 where

@@ -8,6 +8,9 @@ use Rattle.crush_text.specs.declared.fault.TextFault.{TextFault}
 use Rattle.crush_text.specs.Form.{Mode, first, second, Progress, Form, done, word, optional, ahead}
 use Rattle.crush_text.specs.Grammar.{next}
 use Rattle.crush_text.specs.Tests.{word_for}
+use Rattle.crush_text.specs.declared.expected.Expected.{Expected}
+use Rattle.crush_text.specs.declared.expected.Expected.TheVariants.{Memory}
+use Rattle.crush_text.specs.Expected.{expected}
 
 infixl 10 ◌>>=◌
 -- one step after the other; the first error is the result
@@ -38,10 +41,22 @@ unfoldable pub step : State → List ℕ → List Word → Result State TextFaul
 step (between p) w rest = take p.draft (next p) w rest
 step (amid d f) w rest = take d f w rest
 
--- the same result, with this place added to a fault
-abbrev pub placed : {A : Type 0} → ℕ → Result A TextFaultKind → Result A TextFault
-placed place (Ok x) = Ok x
-placed place (Err kind) = Err (record { kind = kind; place = place })
+-- what is expected as the next word of this form. Reading only reaches forms that begin with a word, so the other values are never used
+abbrev pub expected_form : Form → Expected
+expected_form (word r more) = expected r
+expected_form (done p) = Memory
+expected_form (optional k f g) = Memory
+expected_form (ahead k f g) = Memory
+
+-- what is expected in this state
+abbrev pub expected_at : State → Expected
+expected_at (between p) = expected_form (next p)
+expected_at (amid d f) = expected_form f
+
+-- the same result, with this place and what is expected there added to a fault
+abbrev pub placed : {A : Type 0} → ℕ → Expected → Result A TextFaultKind → Result A TextFault
+placed place e (Ok x) = Ok x
+placed place e (Err kind) = Err (record { kind = kind; place = place; expected = e })
 
 -- whether a statement may begin in this mode, and so the text may end
 abbrev pub takes_statement : Mode → Bool
@@ -50,23 +65,23 @@ takes_statement second = true
 takes_statement m = false
 
 -- the fault that the text ends inside a statement
-abbrev pub unfinished : ℕ → Result Draft TextFault
-unfinished place = Err (record { kind = Ended; place = place })
+abbrev pub unfinished : ℕ → Expected → Result Draft TextFault
+unfinished place e = Err (record { kind = Ended; place = place; expected = e })
 
 -- the result if the text ends in this state: the draft, or the fault that it ends inside a statement
 abbrev pub end_at : ℕ → State → Result Draft TextFault
-end_at place (between p) = if takes_statement p.mode then Ok p.draft else unfinished place
-end_at place (amid d f) = unfinished place
+end_at place (between p) = if takes_statement p.mode then Ok p.draft else unfinished place (expected_form (next p))
+end_at place (amid d f) = unfinished place (expected_form f)
 
 -- the result if there are no more words: by the end of the text, or the fault of a bad byte or a word that is too long
 abbrev pub stop_at : State → Stop → Result Draft TextFault
 stop_at s (ended place) = end_at place s
-stop_at s (bad place) = Err (record { kind = BadWord; place = place })
+stop_at s (bad place) = Err (record { kind = BadWord; place = place; expected = expected_at s })
 
 -- the result of reading these words from the state s: the draft that they build, or the first fault
 unfoldable pub run : State → List Word → Stop → Result Draft TextFault
 run s [] stop = stop_at s stop
-run s (w ∷ ws) stop = placed w.place (step s w.text ws) >>= λ m. run m ws stop
+run s (w ∷ ws) stop = placed w.place (expected_at s) (step s w.text ws) >>= λ m. run m ws stop
 
 -- the same for the rest of a text
 unfoldable pub outcome : State → Text → Result Draft TextFault

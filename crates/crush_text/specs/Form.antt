@@ -2,6 +2,8 @@
 use Rattle.std.specs.Prelude.{ℕ, Bool, List}
 use Rattle.crush_edits.specs.Setting.{RuleData}
 use Rattle.crush_builder.specs.Built.{Draft}
+use Rattle.crush_text.specs.declared.expected.Optional.{Optional}
+use Rattle.crush_text.specs.declared.expected.Optional.TheVariants.{Nothing}
 use Rattle.crush_text.specs.Role.{Role, El}
 
 -- which lines may come next. `first`: a statement, before the first bucket or rule. `second`: a statement, after a bucket or a rule. `begun`: the line of a bucket's id. `numbered`: a class id
@@ -14,14 +16,19 @@ pub data Mode : Type 0 where
   filling : Bool → Mode
   ruled : RuleData → Mode
 
--- the draft that the lines so far have built, and which lines may come next
+-- the draft that the lines so far have built, which lines may come next, and which optional part the last line has passed over at its end
 pub record Progress : Type 0 where
   pub mode : Mode
   pub draft : Draft
+  pub passed : Optional
 
--- the progress with the mode m and the draft d
+-- the progress with the mode m and the draft d, after a line that has passed over nothing
 abbrev pub at : Mode → Draft → Progress
-at m d = record { mode = m; draft = d }
+at m d = record { mode = m; draft = d; passed = Nothing }
+
+-- the same progress, after a line that has passed over the optional part k
+abbrev pub passing : Optional → Progress → Progress
+passing k p = record p { passed = k }
 
 -- the form of the rest of a line. `done`: the line is complete, with this progress. `word`: a word of this role, and then the form that depends on its value. `optional`: the first form if the next word is the key,
 -- otherwise the second. `ahead`: the first form if the word after the next one is the key, otherwise the second

@@ -7,8 +7,11 @@ use Rattle.crush_builder.specs.Built.{Draft, with_tunable, with_kind, with_devic
 use Rattle.crush_units.specs.declared.limits.TheConstants.{LARGEST_RULE_NUMBER, LARGEST_TUNABLE}
 use Rattle.crush_text.specs.declared.statement_kind.StatementKind.{StatementKind}
 use Rattle.crush_text.specs.declared.statement_kind.StatementKind.TheVariants as statement_kinds
+use Rattle.crush_text.specs.declared.expected.Optional.{Optional}
+use Rattle.crush_text.specs.declared.expected.Optional.TheVariants.{Class, Hash, Weight, MaxSize, Sizes}
+use Rattle.crush_text.specs.declared.expected.Expected.TheVariants as expect
 use Rattle.crush_text.specs.Role.{key, any_word, number, opening, tunable_name, type_number, type_name, device_id, new_name, bucket_id, id_or_alg, id_class, algorithm, item_or_end, item, lone_item, weight, rule_name, rule_id_key, rule_id, step_or_end, step_word, StepWord, takes, chooses, sets, emits, taken_bucket, step_order, step_count, step_type}
-use Rattle.crush_text.specs.Form.{Mode, first, second, begun, numbered, filling, ruled, Progress, at, Form, done, optional, ahead, ◌>>=◌, ◌>>◌}
+use Rattle.crush_text.specs.Form.{Mode, first, second, begun, numbered, filling, ruled, Progress, at, passing, Form, done, optional, ahead, ◌>>=◌, ◌>>◌}
 
 -- `tunable` NAME N
 abbrev pub tunable_line : Draft → Form
@@ -29,9 +32,9 @@ abbrev pub device_class : Draft → ℕ → List ℕ → Form
 device_class d n x = optional (codes "class")
     (do
       key (codes "class")
-      c ← any_word
+      c ← any_word expect.Class
       done (at first (with_device d n x (Some c))))
-    (done (at first (with_device d n x None)))
+    (done (passing Class (at first (with_device d n x None))))
 
 -- `device` N NAME [`class` CLASS]
 abbrev pub device_line : Draft → Form
@@ -71,7 +74,7 @@ alg_line d = do
         key (codes "hash")
         number 0
         done (at (filling false) (with_alg d a)))
-      (done (at (filling false) (with_alg d a)))
+      (done (passing Hash (at (filling false) (with_alg d a))))
 
 -- a class id if `more`, otherwise the algorithm
 abbrev pub id_or_alg_line : Draft → Bool → Form
@@ -94,7 +97,7 @@ weighed_item d = do
 abbrev pub weightless_item : Draft → Form
 weightless_item d = do
   i ← lone_item
-  done (at (filling true) (with_next_item d i None))
+  done (passing Weight (at (filling true) (with_next_item d i None)))
 
 -- NAME [`weight` WEIGHT], after `item`
 abbrev pub item_line : Draft → Form
@@ -108,6 +111,11 @@ item_or_brace d more = if more then item_line d else done (at second (with_end d
 abbrev pub new_rule : List ℕ → ℕ → List ℕ → Option ℕ → Option ℕ → RuleData
 new_rule x n k least most = record { name = x; id = n; kind = k; min_size = least; max_size = most; steps = [] }
 
+-- the sizes of pools that a rule's head without a greatest size has passed over
+abbrev pub sizes_left : Option ℕ → Optional
+sizes_left None = Sizes
+sizes_left (Some n) = MaxSize
+
 -- [`max_size` N]
 abbrev pub max_size : Draft → List ℕ → ℕ → List ℕ → Option ℕ → Form
 max_size d x n k least = optional (codes "max_size")
@@ -115,7 +123,7 @@ max_size d x n k least = optional (codes "max_size")
       key (codes "max_size")
       most ← number LARGEST_RULE_NUMBER
       done (at (ruled (new_rule x n k least (Some most))) d))
-    (done (at (ruled (new_rule x n k least None)) d))
+    (done (passing (sizes_left least) (at (ruled (new_rule x n k least None)) d)))
 
 -- [`min_size` N] [`max_size` N]
 abbrev pub sizes : Draft → List ℕ → ℕ → List ℕ → Form
@@ -134,7 +142,7 @@ rule_line d = do
   rule_id_key
   n ← rule_id
   key (codes "type")
-  k ← any_word
+  k ← any_word expect.RuleType
   sizes d x n k
 
 -- the rule r with the step s after its other steps
@@ -152,9 +160,9 @@ take_step d r = do
   optional (codes "class")
       (do
         key (codes "class")
-        c ← any_word
+        c ← any_word expect.Class
         step_done d r (take b (Some c)))
-      (step_done d r (take b None))
+      (done (passing Class (at (ruled (with_step r (take b None))) d)))
 
 -- (`firstn` | `indep`) INT `type` TYPE, after `choose`, or after `chooseleaf` if `leaf`
 abbrev pub choose_step : Draft → RuleData → Bool → Form
@@ -190,15 +198,15 @@ statement d statement_kinds.Device = device_line d
 statement d (statement_kinds.Bucket k) = bucket_line d k
 statement d statement_kinds.Rule = rule_line d
 
--- the lines that may come next in this mode
-abbrev pub line_forms : Draft → Mode → Form
-line_forms d first = opening false >>= statement d
-line_forms d second = opening true >>= statement d
-line_forms d begun = id_line d
-line_forms d numbered = id_or_alg >>= id_or_alg_line d
-line_forms d (filling any) = item_or_end any >>= item_or_brace d
-line_forms d (ruled r) = step_or_end (length r.steps) >>= step_or_brace d r
+-- the lines that may come next in this mode, after a line that has passed over the optional part k
+abbrev pub line_forms : Draft → Optional → Mode → Form
+line_forms d k first = opening false k >>= statement d
+line_forms d k second = opening true k >>= statement d
+line_forms d k begun = id_line d
+line_forms d k numbered = id_or_alg >>= id_or_alg_line d
+line_forms d k (filling any) = item_or_end any k >>= item_or_brace d
+line_forms d k (ruled r) = step_or_end (length r.steps) k >>= step_or_brace d r
 
 -- the lines that may come next after this progress
 abbrev pub next : Progress → Form
-next p = line_forms p.draft p.mode
+next p = line_forms p.draft p.passed p.mode

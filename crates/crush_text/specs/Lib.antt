@@ -1,7 +1,9 @@
 pub mod Document
+pub mod Expected
 pub mod Fault
 pub mod Flaw
 pub mod Flow
+pub mod Follows
 pub mod Form
 pub mod Grammar
 pub mod Reads

@@ -3,6 +3,7 @@ use Rattle.std.specs.Prelude.{◌≡◌, ◌⊎◌, ℕ, List, [], ◌∷◌, Bo
 use Rattle.crush_units.specs.declared.id.ItemId.{ItemId}
 use Rattle.crush_model.specs.Lawful.{is_too_heavy}
 use Rattle.crush_edits.specs.declared.rule.Step.{Step}
+use Rattle.crush_edits.specs.declared.rule.Step.TheVariants.{Take}
 use Rattle.crush_edits.specs.Setting.{RuleData}
 use Rattle.crush_builder.specs.Built.{Draft}
 use Rattle.crush_builder.specs.Rules.{kept_step}
@@ -15,7 +16,11 @@ use Rattle.crush_text.specs.declared.reader.step.FirstOfStep.{FirstOfStep}
 use Rattle.crush_text.specs.declared.reader.step.FirstOfStep.TheVariants as steps
 use Rattle.crush_units.specs.declared.limits.TheConstants.{LARGEST_RULE_NUMBER}
 use Rattle.crush_text.specs.Role.{Role, El, units, key, number, StepWord, takes, chooses, sets, emits}
-use Rattle.crush_text.specs.Form.{ruled, Progress, at, Form, done, word, optional, ahead}
+use Rattle.crush_text.specs.declared.expected.Expected.{Expected}
+use Rattle.crush_text.specs.declared.expected.Optional.{Optional}
+use Rattle.crush_text.specs.declared.expected.Optional.TheVariants.{Nothing, Class}
+use Rattle.crush_text.specs.Expected.{expected}
+use Rattle.crush_text.specs.Form.{ruled, Progress, at, passing, Form, done, word, optional, ahead}
 use Rattle.crush_text.specs.Tests.{unless, weight_tests, word_for}
 use Rattle.crush_text.specs.Grammar.{with_step}
 use Rattle.crush_text.specs.Flow.{State, ◌>>=◌, placed, between, arrive, outcome, Reaches}
@@ -29,19 +34,19 @@ word_of w = record { place = w.place; text = w.text.now }
 abbrev pub and_rest : {A : Type 0} → Text → A → Result (A × Text) TextFault
 and_rest t a = Ok (a, t)
 
--- the first of these words and the rest; the fault of the end if there is none
-abbrev pub next_of : List Word → Stop → Result (Word × Text) TextFault
-next_of [] (ended place) = Err (record { kind = Ended; place = place })
-next_of [] (bad place) = Err (record { kind = BadWord; place = place })
-next_of (w ∷ ws) stop = and_rest (record { words = ws; stop = stop }) w
+-- the first of these words and the rest; the fault of the end if there is none. e is expected here
+abbrev pub next_of : Expected → List Word → Stop → Result (Word × Text) TextFault
+next_of e [] (ended place) = Err (record { kind = Ended; place = place; expected = e })
+next_of e [] (bad place) = Err (record { kind = BadWord; place = place; expected = e })
+next_of e (w ∷ ws) stop = and_rest (record { words = ws; stop = stop }) w
 
--- the next word of a text and the rest
-unfoldable pub next_at : Text → Result (Word × Text) TextFault
-next_at t = next_of t.words t.stop
+-- the next word of a text and the rest, where e is expected
+unfoldable pub next_at : Expected → Text → Result (Word × Text) TextFault
+next_at e t = next_of e t.words t.stop
 
 -- the value that the next word has in the role r, and the rest of the text; or the word's fault
 unfoldable pub word_at : Draft → (r : Role) → Text → Result (El r × Text) TextFault
-word_at d r t = next_at t >>= λ x. placed x.0.place (word_for d r x.0.text) >>= and_rest x.1
+word_at d r t = next_at (expected r) t >>= λ x. placed x.0.place (expected r) (word_for d r x.0.text) >>= and_rest x.1
 
 -- the progress after a line of this form, and the rest of the text; or the first fault
 unfoldable pub line_at : Draft → Form → Text → Result (Progress × Text) TextFault
@@ -77,9 +82,14 @@ first_of_step (steps.Choose leaf) = chooses leaf
 first_of_step (steps.Set w) = sets w.text.now
 first_of_step steps.Emit = emits
 
+-- the optional part that a step leaves out at its end
+abbrev pub left_by_step : Step → Optional
+left_by_step (Take name None) = Class
+left_by_step s = Nothing
+
 -- the progress after the step s of the rule r, in the form in which a map keeps steps
 abbrev pub behind_step : Draft → RuleData → Step → Progress
-behind_step d r s = at (ruled (with_step r (kept_step d s))) d
+behind_step d r s = passing (left_by_step s) (at (ruled (with_step r (kept_step d s))) d)
 
 -- the function returned the value and the rest of text that `read` gives, or the fault that it gives
 abbrev pub Gives : {X Y : Type 0} → (X → Y) → Result X TextFault → Result Y TextFault → Type 0

@@ -1,5 +1,5 @@
 -- What the contracts of the functions that read a rule promise.
-use Rattle.std.specs.Prelude.{◌≡◌, ℕ, ◌<◌, ◌≤◌, List, Option, Some, None, Result, Ok, Err, IfOk, IfSome, OnOk, length}
+use Rattle.std.specs.Prelude.{◌≡◌, ℕ, ◌<◌, ◌≤◌, ◌-◌, slice_get, List, Option, Some, None, Result, Ok, Err, IfOk, IfSome, OnOk, length}
 use Rattle.crush_edits.specs.declared.rule.Rule.{Rule}
 use Rattle.crush_edits.specs.declared.rule.Step.{Step}
 use Rattle.crush_edits.specs.Setting.{RuleData}
@@ -10,17 +10,33 @@ use Rattle.crush_text.specs.declared.fault.TextFault.{TextFault}
 use Rattle.crush_units.specs.Words.{Text}
 use Rattle.crush_text.specs.declared.reader.MapReader.{MapReader}
 use Rattle.crush_units.specs.declared.limits.TheConstants.{LARGEST_RULE_NUMBER}
-use Rattle.crush_text.specs.Form.{second, ruled, at, Form}
-use Rattle.crush_text.specs.Grammar.{rule_line, line_forms}
+use Rattle.crush_text.specs.declared.expected.Optional.{Optional}
+use Rattle.crush_text.specs.declared.expected.Optional.TheVariants.{Nothing}
+use Rattle.crush_text.specs.Form.{second, ruled, at, passing, Form}
+use Rattle.crush_text.specs.Grammar.{sizes_left, rule_line, line_forms}
 use Rattle.crush_text.specs.Flow.{State, between, arrive, Reaches}
 use Rattle.crush_text.specs.Room.{IsFreeRule}
-use Rattle.crush_text.specs.Reads.{line_at, number_behind, behind_step, GivesOn, LeadsOn, Fails, FailsIn, GivesLine}
+use Rattle.crush_text.specs.Reads.{line_at, number_behind, left_by_step, behind_step, GivesOn, LeadsOn, Fails, FailsIn, GivesLine}
 
--- what the result of a function that read a line of a rule says, if the rule is r after it. `None`: the line was a step, with which the rule is r. A place: the line was the rule's closing brace, at this place, and the rule r was added. A fault is one of the line
-abbrev pub StepGoes : Result (Option ℕ) TextFault → Draft → RuleData → Text → Form → Text → Type 0
-StepGoes (Ok None) d r rest g t = line_at d g t ≡ Ok (at (ruled r) d, rest)
-StepGoes (Ok (Some place)) d r rest g t = (line_at d g t ≡ Ok (at second (add_rule d r), rest)) × Reaches place (arrive d t.words g) t.words
-StepGoes (Err f) d r rest g t = FailsIn f d g t
+-- the optional part that the last step of a rule has left out; if there is no step, the sizes of pools that the rule's head has left out
+abbrev pub left_after : Option Step → Option ℕ → Option ℕ → Optional
+left_after (Some s) least most = left_by_step s
+left_after None least None = sizes_left least
+left_after None least (Some most) = Nothing
+
+-- the same for these steps
+abbrev pub left_last : List Step → Option ℕ → Option ℕ → Optional
+left_last steps least most = left_after (slice_get steps (length steps - 1)) least most
+
+-- the same for the rule r, as far as it was read
+abbrev pub left_by : Rule → Optional
+left_by r = left_last r.steps.items r.min_size r.max_size
+
+-- what the result of a function that read a line of a rule says, if the rule is r after it. `None`: the line was a step, with which the rule is r, and which left out the part k. A place: the line was the rule's closing brace, at this place, and the rule r was added. A fault is one of the line
+abbrev pub StepGoes : Result (Option ℕ) TextFault → Draft → RuleData → Optional → Text → Form → Text → Type 0
+StepGoes (Ok None) d r k rest g t = line_at d g t ≡ Ok (passing k (at (ruled r) d), rest)
+StepGoes (Ok (Some place)) d r k rest g t = (line_at d g t ≡ Ok (at second (add_rule d r), rest)) × Reaches place (arrive d t.words g) t.words
+StepGoes (Err f) d r k rest g t = FailsIn f d g t
 
 -- the rule r, as far as it was read, can be added: its words and numbers have the right form, its name and its id are free, and its steps name buckets and types that exist
 pub record IsRightSoFar (b : BuilderData) (r : Rule) : Type 0 where
@@ -30,7 +46,7 @@ pub record IsRightSoFar (b : BuilderData) (r : Rule) : Type 0 where
 -- THE HEAD of a rule was read, up to its first step: the rule can be added, and it is what its lines give. The builder is unchanged
 pub record ReadsHead {A : _} (old new : MapReader A) (x : Result Rule TextFault) : Type 0 where
   pub right : IfOk x (IsRightSoFar new.builder)
-  pub gives : (d : Draft) → IsDraft old.builder d → GivesLine (λ r. (at (ruled (kept_rule d r)) d, new.text)) x d (rule_line d) old.text
+  pub gives : (d : Draft) → IsDraft old.builder d → GivesLine (λ r. (passing (left_by r) (at (ruled (kept_rule d r)) d), new.text)) x d (rule_line d) old.text
   pub kept : new.builder ≡ old.builder
   pub shorter : OnOk x (length new.text.words ≤ length old.text.words)
 
@@ -56,13 +72,13 @@ StepsGo (Err f) d r rest s t = Fails f s t
 -- a line of the rule r was read, a step or the closing brace, and the rule is q after it. After success q can be added. The builder is unchanged
 pub record ReadsStepLine {A : _} (r q : Rule) (old new : MapReader A) (x : Result (Option ℕ) TextFault) : Type 0 where
   pub right : OnOk x (IsRightSoFar new.builder q)
-  pub reads : (d : Draft) → IsDraft old.builder d → StepGoes x d (kept_rule d q) new.text (line_forms d (ruled (kept_rule d r))) old.text
+  pub reads : (d : Draft) → IsDraft old.builder d → StepGoes x d (kept_rule d q) (left_by q) new.text (line_forms d (left_by r) (ruled (kept_rule d r))) old.text
   pub kept : new.builder ≡ old.builder
   pub shorter : OnOk x (length new.text.words < length old.text.words)
 
 -- all steps of the rule r and its closing brace were read, and the rule is q after them. After success q can be added. The builder is unchanged
 pub record ReadsSteps {A : _} (r q : Rule) (old new : MapReader A) (x : Result ℕ TextFault) : Type 0 where
   pub right : OnOk x (IsRightSoFar new.builder q)
-  pub reads : (d : Draft) → IsDraft old.builder d → StepsGo x d (kept_rule d q) new.text (between (at (ruled (kept_rule d r)) d)) old.text
+  pub reads : (d : Draft) → IsDraft old.builder d → StepsGo x d (kept_rule d q) new.text (between (passing (left_by r) (at (ruled (kept_rule d r)) d))) old.text
   pub kept : new.builder ≡ old.builder
   pub shorter : OnOk x (length new.text.words ≤ length old.text.words)

@@ -9,6 +9,9 @@ use Rattle.crush_text.specs.declared.reader.MapReader.{MapReader}
 use Rattle.crush_text.specs.declared.reader.word.PlacedWord.{PlacedWord}
 use Rattle.crush_text.specs.declared.statement_kind.StatementKind.{StatementKind}
 use Rattle.crush_text.specs.declared.statement_kind.StatementKind.TheVariants as statement_kinds
+use Rattle.crush_text.specs.declared.expected.Expected.TheVariants as expect
+use Rattle.crush_text.specs.declared.expected.Optional.TheVariants.{Nothing}
+use Rattle.crush_text.specs.declared.reader.statement.Before.{Before}
 use Rattle.crush_text.specs.Role.{opening}
 use Rattle.crush_text.specs.Form.{Mode, first, second, at}
 use Rattle.crush_text.specs.Tests.{word_for, comes_first}
@@ -17,22 +20,26 @@ use Rattle.crush_text.specs.Document.{start}
 use Rattle.crush_text.specs.Flaw.{IsOutOfMemory}
 use Rattle.crush_text.specs.Room.{HasRoom}
 use Rattle.crush_text.specs.Reads.{LeadsOn, Fails}
-use Rattle.crush_text.specs.ReadsLines.{IsIdle}
+use Rattle.crush_text.specs.ReadsLines.{IsIdle, Ending, ending}
 
 -- the mode after a statement: only buckets and rules may follow if `late`, otherwise all statements may
-abbrev pub behind : Bool → Mode
-behind late = if late then second else first
+abbrev pub mode_behind : Bool → Mode
+mode_behind late = if late then second else first
 
--- what the result of a function that read the next statement says. `None`: the text ended here, and the builder has its draft. A Bool: the statement leads to the next one, in the mode that depends on the Bool. A fault is one of reading
-abbrev pub NextGoes : Result (Option Bool) TextFault → BuilderData → Text → State → Text → Type 0
+-- how a statement ends, after which the next one is read so
+abbrev pub behind : Before → Ending
+behind b = (mode_behind b.late, b.or)
+
+-- what the result of a function that read the next statement says. `None`: the text ended here, and the builder has its draft. Otherwise the statement leads to the next one, which is read as is returned. A fault is one of reading
+abbrev pub NextGoes : Result (Option Before) TextFault → BuilderData → Text → State → Text → Type 0
 NextGoes (Ok None) builder rest s t = (e : Draft) × IsDraft builder e × (outcome s t ≡ Ok e)
-NextGoes (Ok (Some late)) builder rest s t = (e : Draft) × IsDraft builder e × LeadsOn s t (between (at (behind late) e)) rest
+NextGoes (Ok (Some b)) builder rest s t = (e : Draft) × IsDraft builder e × LeadsOn s t (between (ending (behind b) e)) rest
 NextGoes (Err f) builder rest s t = Fails f s t
 
 -- A STATEMENT was read, or the end of the text. After success the builder is between two statements; after a statement the text is shorter
-pub record ReadsNext {A : _} (late : Bool) (old new : MapReader A) (x : Result (Option Bool) TextFault) : Type 0 where
+pub record ReadsNext {A : _} (before : Before) (old new : MapReader A) (x : Result (Option Before) TextFault) : Type 0 where
   pub idle : OnOk x (IsIdle new.builder)
-  pub reads : (d : Draft) → IsDraft old.builder d → NextGoes x new.builder new.text (between (at (behind late) d)) old.text
+  pub reads : (d : Draft) → IsDraft old.builder d → NextGoes x new.builder new.text (between (ending (behind before) d)) old.text
   pub shorter : IfOk x (λ more. IfSome more (λ _. length new.text.words < length old.text.words))
 
 -- what the result of a function that read all statements says: after success the builder has the draft that the text gives; a fault is one of reading
@@ -57,8 +64,8 @@ pub record CanOpen (o : StatementKind) (w : List ℕ) (b : BuilderData) : Type 0
   pub room : (d : Draft) → IsDraft b d → HasRoom d o
 
 -- the result x says which kind of statement the word w begins, or which fault it has: whatever draft the builder has, this is what reading gives. After success there is room for one more of this kind
-pub record Opens (w : PlacedWord) (late : Bool) (b : BuilderData) (x : Result StatementKind TextFault) : Type 0 where
-  pub opens : (d : Draft) → IsDraft b d → x ≡ placed w.place (word_for d (opening late) w.text.now)
+pub record Opens (w : PlacedWord) (before : Before) (b : BuilderData) (x : Result StatementKind TextFault) : Type 0 where
+  pub opens : (d : Draft) → IsDraft b d → x ≡ placed w.place (expect.Statement before.late before.or) (word_for d (opening before.late before.or) w.text.now)
   pub known : (d : Draft) → IsDraft b d → IfOk x (λ o. IsKnown d o w.text.now)
   pub room : IfOk x (λ o. (d : Draft) → IsDraft b d → HasRoom d o)
 
@@ -68,7 +75,7 @@ opens_alone w = comes_first w || bytes_eq w (codes "rule")
 
 -- f is the fault of the word w as the first word of a text; or w has no fault, and f is out of memory at w's place
 abbrev pub FailsFirst : TextFault → ℕ → List ℕ → Type 0
-FailsFirst f place w = (IsOutOfMemory f × (f.place ≡ place) × ((o : StatementKind) × (word_for empty_draft (opening false) w ≡ Ok o))) ⊎ (placed place (word_for empty_draft (opening false) w) ≡ Err f)
+FailsFirst f place w = (IsOutOfMemory f × (f.place ≡ place) × ((o : StatementKind) × (word_for empty_draft (opening false Nothing) w ≡ Ok o))) ⊎ (placed place (expect.Statement false Nothing) (word_for empty_draft (opening false Nothing) w) ≡ Err f)
 
 -- f is the fault of reading the text t; or it is out of memory, at a word that has no fault and no faulty word before it, or at the end of a text without words
 abbrev pub FailsText : TextFault → Text → Type 0

@@ -10,13 +10,16 @@ use Rattle.crush_text.specs.declared.reader.MapReader.{MapReader}
 use Rattle.crush_text.specs.declared.reader.word.PlacedWord.{PlacedWord}
 use Rattle.crush_text.specs.declared.reader.step.FirstOfStep.{FirstOfStep}
 use Rattle.crush_text.specs.declared.reader.step.FirstOfStep.TheVariants as steps
+use Rattle.crush_text.specs.declared.expected.Expected.{Expected}
+use Rattle.crush_text.specs.declared.expected.Expected.TheVariants as expect
+use Rattle.crush_text.specs.Expected.{expected}
 use Rattle.crush_text.specs.Role.{Role, El, value}
 use Rattle.crush_text.specs.Room.{IsFreeWord, IsInRange, IsFreeValue}
 use Rattle.crush_text.specs.Reads.{word_of, next_at, word_at, Gives}
 
--- the next word was read: it is a brace or a name, and after success the text is shorter
-pub record TakesWord (old new : Text) (x : Result PlacedWord TextFault) : Type 0 where
-  pub gives : Gives (λ w. (word_of w, new)) x (next_at old)
+-- the next word was read, where e is expected: it is a brace or a name, and after success the text is shorter
+pub record TakesWord (e : Expected) (old new : Text) (x : Result PlacedWord TextFault) : Type 0 where
+  pub gives : Gives (λ w. (word_of w, new)) x (next_at e old)
   pub formed : IfOk x (λ w. (is_brace_word w.text.now || is_name w.text.now) ≡ true)
   pub shorter : OnOk x (length new.words < length old.words)
 
@@ -27,7 +30,7 @@ AnyDraft d = Unit {0}
 -- A WORD was read in the role r: for each of these drafts the result is the word that has the role's value, or the word's fault. A word that is returned is a name, is no brace, and may be here
 pub record ReadsWord (r : Role) (drafts : Draft → Type 0) (old new : Text) (x : Result PlacedWord TextFault) : Type 0 where
   pub gives : (d : Draft) → drafts d → Gives (λ w. (value d r w.text.now, new)) x (word_at d r old)
-  pub next : IfOk x (λ w. next_at old ≡ Ok (word_of w, new))
+  pub next : IfOk x (λ w. next_at (expected r) old ≡ Ok (word_of w, new))
   pub plain : IfOk x (λ w. is_brace_word w.text.now ≡ false)
   pub named : IfOk x (λ w. IsName w.text.now)
   pub free : IfOk x (λ w. (d : Draft) → drafts d → IsFreeWord d r w.text.now)
@@ -50,13 +53,13 @@ pub record FindsValue {A : _} {X : Type 0} (r : Role) (view : X → El r) (old n
   pub reads : ReadsValue r view (IsDraft old.builder) old.text new.text x
   pub kept : new.builder ≡ old.builder
 
--- the word that was read from the text `old` is at this place
-abbrev pub StoodAt : Text → Text → ℕ → Type 0
-StoodAt old new place = (text : List ℕ) × (next_at old ≡ Ok (record { place = place; text = text }, new))
+-- the word that was read from the text `old`, where e is expected, is at this place
+abbrev pub StoodAt : Expected → Text → Text → ℕ → Type 0
+StoodAt e old new place = (text : List ℕ) × (next_at e old ≡ Ok (record { place = place; text = text }, new))
 
 -- if the first word of a step begins with `set_`, then it is a name, and its place is the one in the text
 abbrev pub IsFirstOfStep : Text → Text → FirstOfStep → Type 0
 IsFirstOfStep old new steps.Take = Unit {0}
 IsFirstOfStep old new (steps.Choose leaf) = Unit {0}
-IsFirstOfStep old new (steps.Set w) = IsName w.text.now × (starts_with nat_eq w.text.now (codes "set_") ≡ true) × StoodAt old new w.place
+IsFirstOfStep old new (steps.Set w) = IsName w.text.now × (starts_with nat_eq w.text.now (codes "set_") ≡ true) × StoodAt expect.StepWord old new w.place
 IsFirstOfStep old new steps.Emit = Unit {0}

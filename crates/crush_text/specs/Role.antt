@@ -15,14 +15,16 @@ use Rattle.crush_builder.specs.Rules.{complete_bucket_named}
 use Rattle.crush_text.specs.declared.statement_kind.StatementKind.{StatementKind}
 use Rattle.crush_text.specs.declared.statement_kind.StatementKind.TheVariants as statement_kinds
 use Rattle.crush_units.specs.Numbers.{signed_value}
+use Rattle.crush_text.specs.declared.expected.Expected.{Expected}
+use Rattle.crush_text.specs.declared.expected.Optional.{Optional}
 
--- what a word is for. The Bool of `opening` says that a bucket or a rule was read before; the Bool of `item_or_end` says that an item of the bucket was read before. The number of `number` is the greatest that is allowed,
--- the number of `type_name` is the type's, and the number of `step_or_end` is how many steps the rule has so far. The name of an item is an `item` if a weight follows it, otherwise a `lone_item`
+-- what a word is for. An `any_word` can be any word but a brace, and says what is expected there. The Bool of `opening` says that a bucket or a rule was read before; the Bool of `item_or_end` says that an item of the bucket was read before. The number of `number` is the greatest that is allowed,
+-- the number of `type_name` is the type's, and the number of `step_or_end` is how many steps the rule has so far. `opening`, `item_or_end` and `step_or_end` also say which optional part the words before have just left out. The name of an item is an `item` if a weight follows it, otherwise a `lone_item`
 pub data Role : Type 0 where
   key : List ℕ → Role
-  any_word : Role
+  any_word : Expected → Role
   number : ℕ → Role
-  opening : Bool → Role
+  opening : Bool → Optional → Role
   tunable_name : Role
   type_number : Role
   type_name : ℕ → Role
@@ -32,14 +34,14 @@ pub data Role : Type 0 where
   id_or_alg : Role
   id_class : Role
   algorithm : Role
-  item_or_end : Bool → Role
+  item_or_end : Bool → Optional → Role
   item : Role
   lone_item : Role
   weight : ItemId → Role
   rule_name : Role
   rule_id_key : Role
   rule_id : Role
-  step_or_end : ℕ → Role
+  step_or_end : ℕ → Optional → Role
   step_word : Role
   taken_bucket : Role
   step_order : Role
@@ -57,9 +59,9 @@ pub data StepWord : Type 0 where
 -- the type of the value that a word of this role has
 abbrev pub El : Role → Type 0
 El (key k) = Unit {0}
-El any_word = List ℕ
+El (any_word e) = List ℕ
 El (number most) = ℕ
-El (opening late) = StatementKind
+El (opening late or) = StatementKind
 El tunable_name = List ℕ
 El type_number = ℕ
 El (type_name n) = List ℕ
@@ -69,14 +71,14 @@ El bucket_id = ℕ
 El id_or_alg = Bool
 El id_class = List ℕ
 El algorithm = Alg
-El (item_or_end any) = Bool
+El (item_or_end any or) = Bool
 El item = ItemId
 El lone_item = ItemId
 El (weight i) = ℕ
 El rule_name = List ℕ
 El rule_id_key = Unit {0}
 El rule_id = ℕ
-El (step_or_end k) = Bool
+El (step_or_end k or) = Bool
 El step_word = StepWord
 El taken_bucket = ℕ
 El step_order = Bool
@@ -125,9 +127,9 @@ step_said w =
 -- the value of the word w in the role r; it counts only if the word has no fault
 abbrev pub value : Draft → (r : Role) → List ℕ → El r
 value d (key k) w = tt
-value d any_word w = w
+value d (any_word e) w = w
 value d (number most) w = digits_value 10 w
-value d (opening late) w = opened d w
+value d (opening late or) w = opened d w
 value d tunable_name w = w
 value d type_number w = digits_value 10 w
 value d (type_name n) w = w
@@ -137,14 +139,14 @@ value d bucket_id w = digits_value 10 (drop 1 w)
 value d id_or_alg w = bytes_eq w (codes "id")
 value d id_class w = w
 value d algorithm w = unwrap_or (alg_of_text w) Straw2
-value d (item_or_end any) w = bytes_eq w (codes "item")
+value d (item_or_end any or) w = bytes_eq w (codes "item")
 value d item w = item_of d w
 value d lone_item w = item_of d w
 value d (weight i) w = units w
 value d rule_name w = w
 value d rule_id_key w = tt
 value d rule_id w = digits_value 10 w
-value d (step_or_end k) w = bytes_eq w (codes "step")
+value d (step_or_end k or) w = bytes_eq w (codes "step")
 value d step_word w = step_said w
 value d taken_bucket w = bucket_of_word d w
 value d step_order w = bytes_eq w (codes "firstn")

@@ -41,12 +41,12 @@ IsNoStepWord w = (w ≢ codes "take") × IsNeither w (codes "choose") (codes "ch
 -- UNEXPECTED: a word or a brace that the grammar doesn't allow here, or a name that only type 0 may have
 abbrev pub IsUnexpected : Role → List ℕ → Type 0
 IsUnexpected (key k) w = w ≢ k
-IsUnexpected (opening late) w = IsBrace w ⊎ ((w ≡ codes "class") ⊎ ((late ≡ true) × ComesFirst w))
+IsUnexpected (opening late or) w = IsBrace w ⊎ ((w ≡ codes "class") ⊎ ((late ≡ true) × ComesFirst w))
 IsUnexpected (type_name n) w = IsBrace w ⊎ ((is_reserved w ≡ true) × (n ≢ 0))
 IsUnexpected id_or_alg w = IsNeither w (codes "id") (codes "alg")
-IsUnexpected (item_or_end any) w = (w ≢ codes "item") × (w ≢ codes "}") × (any ≡ true → w ≢ codes "pos")
+IsUnexpected (item_or_end any or) w = (w ≢ codes "item") × (w ≢ codes "}") × (any ≡ true → w ≢ codes "pos")
 IsUnexpected rule_id_key w = IsNeither w (codes "id") (codes "ruleset")
-IsUnexpected (step_or_end k) w = IsNeither w (codes "step") (codes "}")
+IsUnexpected (step_or_end k or) w = IsNeither w (codes "step") (codes "}")
 IsUnexpected step_word w = IsNoStepWord w
 IsUnexpected step_order w = IsNeither w (codes "firstn") (codes "indep")
 IsUnexpected r w = IsBrace w
@@ -92,7 +92,7 @@ IsDuplicateName d r w = ⊥
 -- UNKNOWN TYPE: the first word of a statement that is none of the reserved words, and is either not the name of a declared type or the name of type 0;
 -- or a type in a step that isn't declared
 abbrev pub IsUnknownType : Draft → Role → List ℕ → Type 0
-IsUnknownType d (opening late) w = (is_reserved w ≡ false) × (is_bucket_kind d.setting (kind_of_word d w) ≡ false)
+IsUnknownType d (opening late or) w = (is_reserved w ≡ false) × (is_bucket_kind d.setting (kind_of_word d w) ≡ false)
 IsUnknownType d step_type w = kind_number d.setting w ≡ None
 IsUnknownType d r w = ⊥
 
@@ -119,8 +119,8 @@ IsOtherAlgorithm r w = ⊥
 
 -- LEFT OUT: what isn't supported: `choose_args` as the first word of a statement, `pos` after an item, `choosemsr` as the first word of a step
 abbrev pub IsLeftOut : Role → List ℕ → Type 0
-IsLeftOut (opening late) w = w ≡ codes "choose_args"
-IsLeftOut (item_or_end any) w = (any ≡ true) × (w ≡ codes "pos")
+IsLeftOut (opening late or) w = w ≡ codes "choose_args"
+IsLeftOut (item_or_end any or) w = (any ≡ true) × (w ≡ codes "pos")
 IsLeftOut step_word w = w ≡ codes "choosemsr"
 IsLeftOut r w = ⊥
 
@@ -144,9 +144,9 @@ IsOneTooMany d w =
 
 -- TOO MANY: one more tunable, type, device, bucket, class id, rule or step than a map may have
 abbrev pub IsTooMany : Draft → Role → List ℕ → Type 0
-IsTooMany d (opening late) w = IsOneTooMany d w
+IsTooMany d (opening late or) w = IsOneTooMany d w
 IsTooMany d id_or_alg w = (w ≡ codes "id") × (is_full_of_class_ids d ≡ true)
-IsTooMany d (step_or_end k) w = (w ≡ codes "step") × (MOST_STEPS ≤ k)
+IsTooMany d (step_or_end k or) w = (w ≡ codes "step") × (MOST_STEPS ≤ k)
 IsTooMany d r w = ⊥
 
 -- SUM TOO LARGE: with this item the weight of a bucket or the total weight is out of range. The fault is at the item's name if it has no weight, otherwise at its weight, if that is one that the item may have

@@ -81,9 +81,9 @@ is_step_word w = bytes_eq w (codes "take") || (is_either w (codes "choose") (cod
 -- the tests of the word w in each role
 abbrev pub word_tests : Draft → Role → List ℕ → List Test
 word_tests d (key k) w = (Unexpected when not (bytes_eq w k)) ∷ []
-word_tests d any_word w = a_word w []
+word_tests d (any_word e) w = a_word w []
 word_tests d (number most) w = a_number most w []
-word_tests d (opening late) w = (Unexpected when is_out_of_place late w) ∷ (UnknownType when not (is_known d w)) ∷ (LeftOut when bytes_eq w (codes "choose_args")) ∷ (TooMany when is_full d w) ∷ []
+word_tests d (opening late or) w = (Unexpected when is_out_of_place late w) ∷ (UnknownType when not (is_known d w)) ∷ (LeftOut when bytes_eq w (codes "choose_args")) ∷ (TooMany when is_full d w) ∷ []
 word_tests d tunable_name w = a_word w ((DuplicateName when has_tunable d.setting w) ∷ [])
 word_tests d type_number w = a_number LAST_TYPE w ((DuplicateId when has_kind_number d.setting (digits_value 10 w)) ∷ [])
 word_tests d (type_name n) w = (Unexpected when is_brace_word w || (is_reserved w && not (n == 0))) ∷ (DuplicateName when has_kind_name d.setting w) ∷ []
@@ -93,14 +93,14 @@ word_tests d bucket_id w = a_word w ((BadNumber when not (is_negative w)) ∷ (D
 word_tests d id_or_alg w = (Unexpected when not (is_either w (codes "id") (codes "alg"))) ∷ (TooMany when bytes_eq w (codes "id") && is_full_of_class_ids d) ∷ []
 word_tests d id_class w = a_word w ((DuplicateName when has_class d w) ∷ [])
 word_tests d algorithm w = a_word w ((OtherAlgorithm when not (is_some (alg_of_text w))) ∷ [])
-word_tests d (item_or_end any) w = (Unexpected when not (is_either w (codes "item") (codes "}") || (any && bytes_eq w (codes "pos")))) ∷ (LeftOut when bytes_eq w (codes "pos")) ∷ []
+word_tests d (item_or_end any or) w = (Unexpected when not (is_either w (codes "item") (codes "}") || (any && bytes_eq w (codes "pos")))) ∷ (LeftOut when bytes_eq w (codes "pos")) ∷ []
 word_tests d item w = item_tests d w []
 word_tests d lone_item w = item_tests d w ((SumTooLarge when is_too_heavy (with_next_item d (item_of d w) None).table) ∷ [])
 word_tests d (weight i) w = a_word w ((BadWeight when not (is_weight_for i (weight_of_text w))) ∷ (SumTooLarge when is_too_heavy (with_next_item d i (Some (units w))).table) ∷ [])
 word_tests d rule_name w = a_word w ((DuplicateName when has_rule_name d.setting w) ∷ [])
 word_tests d rule_id_key w = (Unexpected when not (is_either w (codes "id") (codes "ruleset"))) ∷ []
 word_tests d rule_id w = a_number LARGEST_RULE_NUMBER w ((DuplicateId when has_rule_id d.setting (digits_value 10 w)) ∷ [])
-word_tests d (step_or_end k) w = (Unexpected when not (is_either w (codes "step") (codes "}"))) ∷ (TooMany when bytes_eq w (codes "step") && nat_le MOST_STEPS k) ∷ []
+word_tests d (step_or_end k or) w = (Unexpected when not (is_either w (codes "step") (codes "}"))) ∷ (TooMany when bytes_eq w (codes "step") && nat_le MOST_STEPS k) ∷ []
 word_tests d step_word w = (Unexpected when not (is_step_word w || bytes_eq w (codes "choosemsr"))) ∷ (LeftOut when bytes_eq w (codes "choosemsr")) ∷ []
 word_tests d taken_bucket w = a_word w ((UnknownBucketInRule when not (is_some (complete_bucket_named d w))) ∷ [])
 word_tests d step_order w = (Unexpected when not (is_either w (codes "firstn") (codes "indep"))) ∷ []

@@ -3,6 +3,7 @@
 ghost use Rattle.std.specs.Prelude.{◌≡◌, Some};
 ghost use Rattle.crush_text.specs.Fault.{fault_name, fault_number};
 
+use crate::expected::Expected;
 use std::fmt::{self, Display, Formatter};
 use thiserror::Error;
 
@@ -55,6 +56,8 @@ pub struct TextFault {
     /// The index, from 0, of the bad byte or of the first byte of the word at fault. It is at most
     /// the length of the text.
     pub place: usize,
+    /// What the grammar expects at this place, after the words before it.
+    pub expected: Expected,
 }
 
 impl TextFaultKind {

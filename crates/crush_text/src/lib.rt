@@ -5,10 +5,12 @@
 //! text is.
 #![tactic(auto)]
 
+mod expected;
 mod fault;
 mod reader;
 mod statement_kind;
 
+pub use expected::{Expected, Keyword, Optional};
 pub use fault::{TextFault, TextFaultKind};
 pub use reader::{read_map, read_map_in};
 pub use statement_kind::StatementKind;

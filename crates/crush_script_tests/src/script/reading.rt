@@ -3,7 +3,7 @@
 use crate::script::{PLAIN_EXAMPLE_MAP, text_of};
 use crush_map::CrushMap;
 use crush_script::JobFault;
-use crush_text::{TextFault, TextFaultKind, read_map};
+use crush_text::{Expected, TextFault, TextFaultKind, read_map};
 use std::alloc::Global;
 
 fn has_id(map: &CrushMap<Global>, name: &str, number: Option<i32>) -> bool {
@@ -35,7 +35,11 @@ fn the_plain_example_map_is_read_and_printed(rt: HostRuntime) {
 #[test]
 fn faults_are_told(rt: HostRuntime) {
     let kind = TextFaultKind::OutOfMemory;
-    let text = TextFault { kind, place: 102 };
+    let text = TextFault {
+        kind,
+        place: 102,
+        expected: Expected::Memory,
+    };
     let line = JobFault::NoSuchCommand(3);
     let whole = JobFault::TooLong;
     let told = format!(in rt.alloc(); "{text}, {line}, {whole}").expect(&rt, "no memory");

@@ -4,6 +4,7 @@ ghost use Rattle.std.specs.Prelude.{◌≡◌, false, IfOk, Some, None, drop, if
 ghost use Rattle.std.specs.Str.Parse.{digits_value};
 ghost use Rattle.crush_builder.specs.Building.{is_begun, is_numbered};
 ghost use Rattle.crush_units.specs.Numbers.{is_negative};
+ghost use Rattle.crush_text.specs.declared.expected.Optional.TheVariants.{Nothing};
 ghost use Rattle.crush_text.specs.Role.{bucket_id, id_or_alg, id_class, algorithm, kind_of_word};
 ghost use Rattle.crush_text.specs.Form.{second, begun, numbered, filling, at};
 ghost use Rattle.crush_text.specs.Grammar.{bucket_line, id_line, class_id_line, alg_line, line_forms};
@@ -11,6 +12,7 @@ ghost use Rattle.crush_text.specs.Flow.{between, arrive};
 ghost use Rattle.crush_text.specs.ReadsWords.{StoodAt, FindsWord, FindsValue, ReadsValue, AnyDraft};
 ghost use Rattle.crush_text.specs.ReadsLines.{IsAmid, behind_id, ReadsLine, ReadsOn, HasRoomForId, HasRoomForBucket};
 
+use crate::expected::{Expected, Keyword, Optional};
 use crate::fault::{TextFault, TextFaultKind};
 use crate::reader::MapReader;
 use crate::reader::roles::{read_key, read_number, read_word};
@@ -25,18 +27,18 @@ impl<'a, A: Allocator + Clone> MapReader<'a, A> {
     pub(crate) fn bucket(&mut self, kind: &[u8]) -> Result<(), TextFault>
         requires { HasRoomForBucket kind.now self.old.builder }
         ensures { ReadsOn (λ d. arrive d self.old.text.words (bucket_line d (kind_of_word d kind.now)))
-            (λ _. second) self.old self.new result }
+            (λ _. (second, Nothing)) self.old self.new result }
     {
         self.bucket_name(kind)?;
         self.id_line()?;
-        self.class_ids()?;
-        self.items()
+        let or = self.class_ids()?;
+        self.items(or)
     }
 
     #[tactic(auto, unfolding(crate::specs::Reads::line_at))]
     fn bucket_name(&mut self, kind: &[u8]) -> Result<(), TextFault>
         requires { HasRoomForBucket kind.now self.old.builder }
-        ensures { ReadsLine (λ d. bucket_line d (kind_of_word d kind.now)) (λ _. begun)
+        ensures { ReadsLine (λ d. bucket_line d (kind_of_word d kind.now)) (λ _. (begun, Nothing))
             self.old self.new result }
     {
         let name = self.new_name()?;
@@ -49,10 +51,10 @@ impl<'a, A: Allocator + Clone> MapReader<'a, A> {
     #[tactic(auto, unfolding(crate::specs::Reads::line_at))]
     fn id_line(&mut self) -> Result<(), TextFault>
         requires { IsAmid is_begun self.old.builder }
-        ensures { ReadsLine id_line (λ _. numbered) self.old self.new result }
+        ensures { ReadsLine id_line (λ _. (numbered, Nothing)) self.old self.new result }
     {
-        read_key(&mut self.text, b"{")?;
-        read_key(&mut self.text, b"id")?;
+        read_key(&mut self.text, Keyword::Brace)?;
+        read_key(&mut self.text, Keyword::Id)?;
         let id = self.bucket_id()?;
         let Ok(()) = self.builder.id(id) else {
             unreachable!()
@@ -60,58 +62,68 @@ impl<'a, A: Allocator + Clone> MapReader<'a, A> {
         Ok(())
     }
 
-    /// Reads the class ids and, after them, the algorithm.
-    fn class_ids(&mut self) -> Result<(), TextFault>
+    /// Reads the class ids and, after them, the algorithm. Returns whether its hash was left out.
+    fn class_ids(&mut self) -> Result<Optional, TextFault>
         requires { IsAmid is_numbered self.old.builder }
-        ensures { ReadsOn (λ d. between (at numbered d)) (λ _. filling false)
+        ensures { ReadsOn (λ d. between (at numbered d)) (λ k. (filling false, k))
             self.old self.new result }
     {
-        'ids: while self.class_id_or_alg()? {}
-        Ok(())
+        'ids: loop {
+            if let Some(or) = self.class_id_or_alg()? {
+                return Ok(or);
+            }
+        }
     }
 
-    /// Reads a class id or the algorithm, and returns whether it was a class id.
+    /// Reads a class id and returns `None`, or reads the algorithm and returns whether its hash was
+    /// left out.
     #[tactic(auto, unfolding(crate::specs::Reads::line_at))]
-    fn class_id_or_alg(&mut self) -> Result<bool, TextFault>
+    fn class_id_or_alg(&mut self) -> Result<Option<Optional>, TextFault>
         requires { IsAmid is_numbered self.old.builder }
-        ensures { ReadsLine (λ d. line_forms d numbered) behind_id self.old self.new result }
+        ensures { ReadsLine (λ d. line_forms d Nothing numbered) behind_id self.old self.new result }
     {
         let more = self.id_or_alg()?;
         if !more {
-            self.alg()?;
-            return Ok(false);
+            let or = self.alg()?;
+            return Ok(Some(or));
         }
         self.class_id()?;
-        Ok(true)
+        Ok(None)
     }
 
     /// Reads `-N class CLASS`, after `id`.
     #[tactic(auto, unfolding(crate::specs::Reads::line_at))]
     fn class_id(&mut self) -> Result<(), TextFault>
         requires { HasRoomForId self.old.builder }
-        ensures { ReadsLine class_id_line (λ _. numbered) self.old self.new result }
+        ensures { ReadsLine class_id_line (λ _. (numbered, Nothing)) self.old self.new result }
     {
         let id = self.bucket_id()?;
-        read_key(&mut self.text, b"class")?;
+        read_key(&mut self.text, Keyword::Class)?;
         let class = self.id_class()?;
         self.builder
             .class_id(id, class.text)
             .map_err(|fault| out_of_memory_at(class.place, fault))
     }
 
-    /// Reads an algorithm, after `alg`, and its hash if there is one. Only hash 0 is supported.
+    /// Reads an algorithm, after `alg`, and its hash if there is one. Returns whether the hash was
+    /// left out. Only hash 0 is supported.
     #[tactic(auto, unfolding(crate::specs::Reads::line_at))]
-    fn alg(&mut self) -> Result<(), TextFault>
+    fn alg(&mut self) -> Result<Optional, TextFault>
         requires { IsAmid is_numbered self.old.builder }
-        ensures { ReadsLine alg_line (λ _. filling false) self.old self.new result }
+        ensures { ReadsLine alg_line (λ k. (filling false, k)) self.old self.new result }
     {
         let (alg, place) = read_algorithm(&mut self.text)?;
         if self.text.take_key(b"hash") {
             read_number(&mut self.text, 0)?;
+            return match self.builder.alg(alg) {
+                Ok(()) => Ok(Optional::Nothing),
+                Err(fault) => Err(out_of_memory_at(place, fault)),
+            };
         }
-        self.builder
-            .alg(alg)
-            .map_err(|fault| out_of_memory_at(place, fault))
+        match self.builder.alg(alg) {
+            Ok(()) => Ok(Optional::Hash),
+            Err(fault) => Err(out_of_memory_at(place, fault)),
+        }
     }
 
     /// Reads an id that no bucket has yet: `-` and a number from 1 to 2147483648.
@@ -119,12 +131,12 @@ impl<'a, A: Allocator + Clone> MapReader<'a, A> {
     fn bucket_id(&mut self) -> Result<BucketId, TextFault>
         ensures { FindsValue bucket_id (λ b. b) self.old self.new result }
     {
-        let word = read_word(&mut self.text)?;
+        let word = read_word(&mut self.text, Expected::BucketId)?;
         let Some(id) = below_zero(word.text) else {
-            return Err(word.fault(TextFaultKind::BadNumber));
+            return Err(word.fault(TextFaultKind::BadNumber, Expected::BucketId));
         };
         if self.builder.has_bucket_id(id) {
-            return Err(word.fault(TextFaultKind::DuplicateId));
+            return Err(word.fault(TextFaultKind::DuplicateId, Expected::BucketId));
         }
         Ok(id)
     }
@@ -134,17 +146,17 @@ impl<'a, A: Allocator + Clone> MapReader<'a, A> {
     fn id_or_alg(&mut self) -> Result<bool, TextFault>
         ensures { FindsValue id_or_alg (λ more. more) self.old self.new result }
     {
-        let word = next_word(&mut self.text)?;
+        let word = next_word(&mut self.text, Expected::IdOrAlg)?;
         if word.is(b"id") {
             if self.builder.is_full_of_class_ids() {
-                return Err(word.fault(TextFaultKind::TooMany));
+                return Err(word.fault(TextFaultKind::TooMany, Expected::IdOrAlg));
             }
             return Ok(true);
         }
         if word.is(b"alg") {
             return Ok(false);
         }
-        Err(word.fault(TextFaultKind::Unexpected))
+        Err(word.fault(TextFaultKind::Unexpected, Expected::IdOrAlg))
     }
 
     /// Reads a class for which the bucket has no class id yet.
@@ -152,9 +164,9 @@ impl<'a, A: Allocator + Clone> MapReader<'a, A> {
     fn id_class(&mut self) -> Result<PlacedWord<'a>, TextFault>
         ensures { FindsWord id_class self.old self.new result }
     {
-        let word = read_word(&mut self.text)?;
+        let word = read_word(&mut self.text, Expected::IdClass)?;
         if self.builder.has_class(word.text) {
-            return Err(word.fault(TextFaultKind::DuplicateName));
+            return Err(word.fault(TextFaultKind::DuplicateName, Expected::IdClass));
         }
         Ok(word)
     }
@@ -175,11 +187,11 @@ fn below_zero(text: &[u8]) -> Option<BucketId>
 #[tactic(auto, unfolding(crate::specs::Reads::word_at))]
 fn read_algorithm(reader: &mut Reader<'_>) -> Result<(Alg, usize), TextFault>
     ensures alg { ReadsValue algorithm (λ x. x.0) AnyDraft reader.old reader.new result }
-    ensures stood { IfOk result (λ x. StoodAt reader.old reader.new x.1) }
+    ensures stood { IfOk result (λ x. StoodAt Expected.Algorithm reader.old reader.new x.1) }
 {
-    let word = read_word(reader)?;
+    let word = read_word(reader, Expected::Algorithm)?;
     match Alg::read(word.text) {
         Some(alg) => Ok((alg, word.place)),
-        None => Err(word.fault(TextFaultKind::OtherAlgorithm)),
+        None => Err(word.fault(TextFaultKind::OtherAlgorithm, Expected::Algorithm)),
     }
 }

@@ -6,6 +6,7 @@ ghost use Rattle.crush_text.specs.Grammar.{device_line};
 ghost use Rattle.crush_text.specs.ReadsWords.{FindsValue};
 ghost use Rattle.crush_text.specs.ReadsLines.{ReadsLine, HasRoomFor};
 
+use crate::expected::{Expected, Optional};
 use crate::fault::{TextFault, TextFaultKind};
 use crate::reader::MapReader;
 use crate::reader::roles::read_word;
@@ -17,24 +18,28 @@ use crush_units::number::number_up_to;
 use std::alloc::Allocator;
 
 impl<'a, A: Allocator + Clone> MapReader<'a, A> {
-    /// Reads `N NAME [class CLASS]`, after `device`.
+    /// Reads `N NAME [class CLASS]`, after `device`, and returns whether the class was left out.
     #[tactic(auto, unfolding(crate::specs::Reads::line_at))]
-    pub(crate) fn device(&mut self) -> Result<(), TextFault>
+    pub(crate) fn device(&mut self) -> Result<Optional, TextFault>
         requires { HasRoomFor StatementKind.Device self.old.builder }
-        ensures { ReadsLine device_line (λ _. first) self.old self.new result }
+        ensures { ReadsLine device_line (λ k. (first, k)) self.old self.new result }
     {
         let id = self.device_id()?;
         let name = self.new_name()?;
         if self.text.take_key(b"class") {
-            let class = read_word(&mut self.text)?;
-            return self
+            let class = read_word(&mut self.text, Expected::Class)?;
+            return match self
                 .builder
                 .device_unchecked(id, name.text, Some(class.text))
-                .map_err(|_| memory_at(class.place));
+            {
+                Ok(()) => Ok(Optional::Nothing),
+                Err(_) => Err(memory_at(class.place)),
+            };
         }
-        self.builder
-            .device_unchecked(id, name.text, None)
-            .map_err(|_| memory_at(name.place))
+        match self.builder.device_unchecked(id, name.text, None) {
+            Ok(()) => Ok(Optional::Class),
+            Err(_) => Err(memory_at(name.place)),
+        }
     }
 
     /// Reads an id that no device has yet.
@@ -42,13 +47,13 @@ impl<'a, A: Allocator + Clone> MapReader<'a, A> {
     fn device_id(&mut self) -> Result<DeviceId, TextFault>
         ensures { FindsValue device_id (λ n. n) self.old self.new result }
     {
-        let word = read_word(&mut self.text)?;
+        let word = read_word(&mut self.text, Expected::DeviceId)?;
         let Some(id) = number_up_to(LAST_DEVICE_ID, word.text).and_then(DeviceId::from_number)
         else {
-            return Err(word.fault(TextFaultKind::BadNumber));
+            return Err(word.fault(TextFaultKind::BadNumber, Expected::DeviceId));
         };
         if self.builder.has_device(id) {
-            return Err(word.fault(TextFaultKind::DuplicateId));
+            return Err(word.fault(TextFaultKind::DuplicateId, Expected::DeviceId));
         }
         Ok(id)
     }

@@ -3,6 +3,7 @@
 ghost use Rattle.std.specs.Prelude.{◌≡◌};
 ghost use Rattle.crush_text.specs.ReadsStatements.{FailsText, FailsFirst, opens_alone};
 
+use crate::expected::{Expected, Optional};
 use crate::fault::{TextFault, TextFaultKind};
 use crate::reader::statement::{comes_first, is_out_of_place};
 use crate::reader::word::{PlacedWord, memory_at};
@@ -19,6 +20,10 @@ pub(crate) fn fault_without_memory(reader: &mut Reader<'_>) -> TextFault
         Token::Bad { place } => TextFault {
             kind: TextFaultKind::BadWord,
             place,
+            expected: Expected::Statement {
+                late: false,
+                or: Optional::Nothing,
+            },
         },
     }
 }
@@ -28,14 +33,18 @@ pub(crate) fn fault_without_memory(reader: &mut Reader<'_>) -> TextFault
 fn unopened(word: PlacedWord<'_>) -> TextFault
     ensures { FailsFirst result word.entry.place word.entry.text.now }
 {
+    let expected = Expected::Statement {
+        late: false,
+        or: Optional::Nothing,
+    };
     if is_out_of_place(word, false) {
-        word.fault(TextFaultKind::Unexpected)
+        word.fault(TextFaultKind::Unexpected, expected)
     } else if word.is(b"choose_args") {
-        word.fault(TextFaultKind::LeftOut)
+        word.fault(TextFaultKind::LeftOut, expected)
     } else if opens_alone(word) {
         memory_at(word.place)
     } else {
-        word.fault(TextFaultKind::UnknownType)
+        word.fault(TextFaultKind::UnknownType, expected)
     }
 }
 

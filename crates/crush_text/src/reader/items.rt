@@ -4,8 +4,11 @@ ghost use Rattle.std.specs.Prelude.{◌≡◌, true, false, IfOk, IfSome, Some};
 ghost use Rattle.crush_builder.specs.Built.{Draft};
 ghost use Rattle.crush_builder.specs.Building.{IsDraft, is_filling, item_named};
 ghost use Rattle.crush_builder.specs.Faults.{is_closed, is_heavy_device};
-ghost use Rattle.crush_text.specs.Role.{item_or_end, item};
-ghost use Rattle.crush_text.specs.Form.{second, filling, at};
+ghost use Rattle.crush_text.specs.declared.expected.Expected.TheVariants.{ItemName};
+ghost use Rattle.crush_text.specs.declared.expected.Optional.TheVariants.{Nothing};
+ghost use Rattle.crush_text.specs.Expected.{expected};
+ghost use Rattle.crush_text.specs.Role.{item_or_end, item, weight};
+ghost use Rattle.crush_text.specs.Form.{second, filling, at, passing};
 ghost use Rattle.crush_text.specs.Grammar.{item_line, item_weight_line, line_forms};
 ghost use Rattle.crush_text.specs.Flow.{between, placed};
 ghost use Rattle.crush_text.specs.Tests.{word_for};
@@ -14,6 +17,7 @@ ghost use Rattle.crush_text.specs.Reads.{parsed_weight};
 ghost use Rattle.crush_text.specs.ReadsWords.{ReadsValue, AnyDraft};
 ghost use Rattle.crush_text.specs.ReadsLines.{IsAmid, behind_item, ReadsLine, ReadsOn, CanTake, PutsItem};
 
+use crate::expected::{Expected, Optional};
 use crate::fault::{TextFault, TextFaultKind};
 use crate::reader::MapReader;
 use crate::reader::word::{PlacedWord, next_word, out_of_memory_at};
@@ -22,75 +26,94 @@ use crush_units::{ItemId, Reader, Weight};
 use std::alloc::Allocator;
 
 impl<'a, A: Allocator + Clone> MapReader<'a, A> {
-    /// Reads the items, and the bucket's closing brace after them.
-    pub(crate) fn items(&mut self) -> Result<(), TextFault>
+    /// Reads the items, and the bucket's closing brace after them. `or` says whether the hash was
+    /// left out before them.
+    pub(crate) fn items(&mut self, or: Optional) -> Result<(), TextFault>
         requires { IsAmid is_filling self.old.builder }
-        ensures { ReadsOn (λ d. between (at (filling false) d)) (λ _. second)
+        ensures { ReadsOn (λ d. between (passing or (at (filling false) d))) (λ _. (second, Nothing))
             self.old self.new result }
     {
         let mut any = false;
-        'items: while self.item_or_end(any)? {
+        let mut left = or;
+        'items: while let Some(next) = self.item_or_end(any, left)? {
             any = true;
+            left = next;
         }
         Ok(())
     }
 
-    /// Reads an item or the closing brace, and returns whether it was an item. `any` says that an
-    /// item was read before it.
+    /// Reads an item and returns whether its weight was left out, or reads the closing brace and
+    /// returns `None`. `any` says that an item was read before, and `or` what was left out there.
     #[tactic(auto, unfolding(crate::specs::Reads::line_at))]
-    fn item_or_end(&mut self, any: bool) -> Result<bool, TextFault>
+    fn item_or_end(&mut self, any: bool, or: Optional) -> Result<Option<Optional>, TextFault>
         requires { IsAmid is_filling self.old.builder }
-        ensures { ReadsLine (λ d. line_forms d (filling any)) behind_item self.old self.new result }
+        ensures { ReadsLine (λ d. line_forms d or (filling any)) behind_item
+            self.old self.new result }
     {
-        let more = read_item_or_end(&mut self.text, any)?;
+        let more = read_item_or_end(&mut self.text, any, or)?;
         if !more {
             self.builder.end();
-            return Ok(false);
+            return Ok(None);
         }
-        self.item()?;
-        Ok(true)
+        let left = self.item()?;
+        Ok(Some(left))
     }
 
-    /// Reads `NAME [weight WEIGHT]`, after `item`. If the item has no weight, a sum that is too
-    /// large is reported at its name, otherwise at its weight.
-    fn item(&mut self) -> Result<(), TextFault>
+    /// Reads `NAME [weight WEIGHT]`, after `item`, and returns whether the weight was left out. If
+    /// the item has no weight, a sum that is too large is reported at its name, otherwise at its
+    /// weight.
+    fn item(&mut self) -> Result<Optional, TextFault>
         requires { IsAmid is_filling self.old.builder }
-        ensures { ReadsLine item_line (λ _. filling true) self.old self.new result }
+        ensures { ReadsLine item_line (λ k. (filling true, k)) self.old self.new result }
     {
-        let name = next_word(&mut self.text)?;
+        let name = next_word(&mut self.text, Expected::ItemName)?;
         let item = free_item(name, &self.builder)?;
         if self.text.take_key(b"weight") {
-            return self.weight(item);
+            self.weight(item)?;
+            return Ok(Optional::Nothing);
         }
-        add_item(name, item, None, &mut self.builder)
+        add_item(name, item, (None, Expected::ItemName), &mut self.builder)?;
+        Ok(Optional::Weight)
     }
 
     /// Reads the item's weight, and puts the item into the bucket.
     fn weight(&mut self, item: ItemId) -> Result<(), TextFault>
         requires { CanTake item self.old.builder }
-        ensures { ReadsLine (λ d. item_weight_line d item) (λ _. filling true)
+        ensures { ReadsLine (λ d. item_weight_line d item) (λ _. (filling true, Nothing))
             self.old self.new result }
     {
-        let word = next_word(&mut self.text)?;
+        let expected = weight_of(&item);
+        let word = next_word(&mut self.text, expected)?;
         let weight = parsed_weight(word, &item)?;
-        add_item(word, item, Some(weight), &mut self.builder)
+        add_item(word, item, (Some(weight), expected), &mut self.builder)
     }
 }
 
-/// Puts the item into the bucket that is being read; a fault has the place of `word`.
+/// Returns that the weight of this item is expected.
+fn weight_of(item: &ItemId) -> Expected
+    ensures { result ≡ expected (weight item.now) }
+{
+    Expected::Weight {
+        device: matches!(item, ItemId::Device(_)),
+    }
+}
+
+/// Puts the item into the bucket that is being read; a fault has the place of `word`. `weight` is
+/// the weight, if there is one, and what is expected at the word.
 fn add_item<A: Allocator>(
     word: PlacedWord<'_>,
     item: ItemId,
-    weight: Option<Weight>,
+    weight: (Option<Weight>, Expected),
     builder: &mut MapBuilder<A>,
 ) -> Result<(), TextFault>
     requires can { CanTake item builder.old }
-    requires light { is_heavy_device item weight ≡ false }
-    ensures { PutsItem item weight word.entry.place builder.old builder.new result }
+    requires light { is_heavy_device item weight.0 ≡ false }
+    ensures { PutsItem item weight.0 word.entry.place weight.1 builder.old builder.new result }
 {
+    let (weight, expected) = weight;
     match builder.item_unchecked(item, weight) {
         Ok(()) => Ok(()),
-        Err(BuildFault::SumTooLarge) => Err(word.fault(TextFaultKind::SumTooLarge)),
+        Err(BuildFault::SumTooLarge) => { Err(word.fault(TextFaultKind::SumTooLarge, expected)) },
         Err(fault) => Err(out_of_memory_at(word.place, fault)),
     }
 }
@@ -98,36 +121,39 @@ fn add_item<A: Allocator>(
 /// Returns the weight that the word spells for this item. A device's is at most 2147483647 units.
 fn parsed_weight(word: PlacedWord<'_>, item: &ItemId) -> Result<Weight, TextFault>
     ensures weighs { (d : Draft)
-        → result ≡ placed word.entry.place (parsed_weight d item.now word.entry.text.now) }
+        → result ≡ placed word.entry.place (expected (weight item.now)) (parsed_weight d item.now word.entry.text.now) }
     ensures light { IfOk result (λ w. is_heavy_device item.now (Some w) ≡ false) }
 {
+    let expected = weight_of(item);
     if word.is_brace() {
-        return Err(word.fault(TextFaultKind::Unexpected));
+        return Err(word.fault(TextFaultKind::Unexpected, expected));
     }
     let Ok(weight) = Weight::read_bytes(word.text) else {
-        return Err(word.fault(TextFaultKind::BadWeight));
+        return Err(word.fault(TextFaultKind::BadWeight, expected));
     };
     if matches!(item, ItemId::Device(_)) && !weight.is_device_weight() {
-        return Err(word.fault(TextFaultKind::BadWeight));
+        return Err(word.fault(TextFaultKind::BadWeight, expected));
     }
     Ok(weight)
 }
 
 /// Reads `item` or `}`, and returns whether it was `item`. `pos` after an item is refused, since
-/// positions aren't supported.
+/// positions aren't supported. `or` says what was left out before.
 #[tactic(auto, unfolding(crate::specs::Reads::word_at))]
-fn read_item_or_end(reader: &mut Reader<'_>, any: bool) -> Result<bool, TextFault>
-    ensures { ReadsValue (item_or_end any) (λ more. more) AnyDraft reader.old reader.new result }
+fn read_item_or_end(reader: &mut Reader<'_>, any: bool, or: Optional) -> Result<bool, TextFault>
+    ensures { ReadsValue (item_or_end any or) (λ more. more) AnyDraft
+        reader.old reader.new result }
 {
-    let word = next_word(reader)?;
+    let expected = Expected::ItemOrEnd { or };
+    let word = next_word(reader, expected)?;
     if word.is(b"item") {
         Ok(true)
     } else if word.is(b"}") {
         Ok(false)
     } else if any && word.is(b"pos") {
-        Err(word.fault(TextFaultKind::LeftOut))
+        Err(word.fault(TextFaultKind::LeftOut, expected))
     } else {
-        Err(word.fault(TextFaultKind::Unexpected))
+        Err(word.fault(TextFaultKind::Unexpected, expected))
     }
 }
 
@@ -138,15 +164,17 @@ fn free_item<A: Allocator>(
     builder: &MapBuilder<A>,
 ) -> Result<ItemId, TextFault>
     ensures gives { (d : Draft) → IsDraft builder.now d
-        → result ≡ placed word.entry.place (word_for d item word.entry.text.now) }
+        → result ≡ placed word.entry.place ItemName (word_for d item word.entry.text.now) }
     ensures free { IfOk result (λ i. (d : Draft) → IsDraft builder.now d → IsFreeItem d i) }
 {
     if word.is_brace() {
-        return Err(word.fault(TextFaultKind::Unexpected));
+        return Err(word.fault(TextFaultKind::Unexpected, Expected::ItemName));
     }
     match item_named(builder, word.text) {
-        None => Err(word.fault(TextFaultKind::UnknownItem)),
-        Some(id) if builder.is_placed(id) => Err(word.fault(TextFaultKind::SecondParent)),
+        None => Err(word.fault(TextFaultKind::UnknownItem, Expected::ItemName)),
+        Some(id) if builder.is_placed(id) => {
+            Err(word.fault(TextFaultKind::SecondParent, Expected::ItemName))
+        },
         Some(id) => Ok(id),
     }
 }

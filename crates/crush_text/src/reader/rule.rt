@@ -1,6 +1,6 @@
 //! Reads a rule.
 
-ghost use Rattle.std.specs.Prelude.{◌≡◌, ◌⊎◌, ◌≤◌, ◌<◌, length, true, IfOk, IfErr, IfSome, OnOk, Ok};
+ghost use Rattle.std.specs.Prelude.{None, ◌≡◌, ◌⊎◌, ◌≤◌, ◌<◌, length, true, IfOk, IfErr, IfSome, OnOk, Ok};
 ghost use Rattle.crush_units.specs.Name.{IsName};
 ghost use Rattle.crush_builder.specs.Built.{Draft};
 ghost use Rattle.crush_builder.specs.Rules.{IsRuleForm};
@@ -8,19 +8,22 @@ ghost use Rattle.crush_units.specs.declared.limits.TheConstants.{LARGEST_RULE_NU
 ghost use Rattle.crush_units.specs.declared.limits.TheConstants.{MOST_STEPS};
 ghost use Rattle.crush_text.specs.Flaw.{IsOutOfMemory};
 ghost use Rattle.crush_text.specs.Room.{IsHead};
+ghost use Rattle.crush_text.specs.declared.expected.Expected.TheVariants.{StepOrEnd};
+ghost use Rattle.crush_text.specs.declared.expected.Optional.TheVariants.{Nothing};
 ghost use Rattle.crush_text.specs.Role.{rule_name, rule_id_key, rule_id, step_or_end};
 ghost use Rattle.crush_text.specs.Form.{second};
 ghost use Rattle.crush_text.specs.Grammar.{rule_line};
 ghost use Rattle.crush_text.specs.Flow.{arrive};
-ghost use Rattle.crush_text.specs.Reads.{Gives, is_step, word_at, next_at, word_of};
+ghost use Rattle.crush_text.specs.Reads.{Gives, left_by_step, is_step, word_at, next_at, word_of};
 ghost use Rattle.crush_text.specs.ReadsWords.{FindsWord, FindsValue, ReadsValue, AnyDraft};
 ghost use Rattle.crush_text.specs.ReadsLines.{ReadsOn, HasRoomFor};
-ghost use Rattle.crush_text.specs.ReadsRules.{ReadsSteps, IsRightSoFar, ReadsStepLine, ReadsHead, ReadsSize};
+ghost use Rattle.crush_text.specs.ReadsRules.{left_after, left_by, ReadsSteps, IsRightSoFar, ReadsStepLine, ReadsHead, ReadsSize};
 
+use crate::expected::{Expected, Keyword, Optional};
 use crate::fault::{TextFault, TextFaultKind};
 use crate::reader::MapReader;
 use crate::reader::roles::{read_key, read_number, read_word};
-use crate::reader::word::{PlacedWord, next_word, out_of_memory_at};
+use crate::reader::word::{PlacedWord, memory_at, next_word, out_of_memory_at};
 use crate::statement_kind::StatementKind;
 use crush_map::{Rule, Step};
 use crush_units::Reader;
@@ -33,7 +36,7 @@ impl<'a, A: Allocator> MapReader<'a, A> {
     /// the machine's memory and the map doesn't have it.
     pub(crate) fn rule(&mut self) -> Result<(), TextFault>
         requires { HasRoomFor StatementKind.Rule self.old.builder }
-        ensures { ReadsOn (λ d. arrive d self.old.text.words (rule_line d)) (λ _. second)
+        ensures { ReadsOn (λ d. arrive d self.old.text.words (rule_line d)) (λ _. (second, Nothing))
             self.old self.new result }
     {
         let mut draft = self.rule_head()?;
@@ -49,11 +52,11 @@ impl<'a, A: Allocator> MapReader<'a, A> {
         ensures { ReadsHead self.old self.new result }
     {
         let name = self.rule_name()?;
-        read_key(&mut self.text, b"{")?;
+        read_key(&mut self.text, Keyword::Brace)?;
         read_rule_id_key(&mut self.text)?;
         let id = self.rule_id()?;
-        read_key(&mut self.text, b"type")?;
-        let kind = read_word(&mut self.text)?;
+        read_key(&mut self.text, Keyword::Type)?;
+        let kind = read_word(&mut self.text, Expected::RuleType)?;
         let min_size = read_size(&mut self.text, b"min_size")?;
         let max_size = read_size(&mut self.text, b"max_size")?;
         rule_head_values(name, id, kind, (min_size, max_size), self.global)
@@ -78,13 +81,13 @@ impl<'a, A: Allocator> MapReader<'a, A> {
         requires { IsRightSoFar self.old.builder rule.old }
         ensures { ReadsStepLine rule.old rule.new self.old self.new result }
     {
-        let word = read_step_or_end(&mut self.text, &rule.steps)?;
+        let word = read_step_or_end(&mut self.text, &rule.steps, left_by(rule))?;
         if !word.is_step() {
             return Ok(Some(word.place));
         }
         let step = self.step()?;
         let Ok(()) = rule.steps.push(step) else {
-            return Err(word.fault(TextFaultKind::OutOfMemory));
+            return Err(memory_at(word.place));
         };
         Ok(None)
     }
@@ -93,9 +96,9 @@ impl<'a, A: Allocator> MapReader<'a, A> {
     fn rule_name(&mut self) -> Result<PlacedWord<'a>, TextFault>
         ensures { FindsWord rule_name self.old self.new result }
     {
-        let word = read_word(&mut self.text)?;
+        let word = read_word(&mut self.text, Expected::RuleName)?;
         if self.builder.has_rule_name(word.text) {
-            return Err(word.fault(TextFaultKind::DuplicateName));
+            return Err(word.fault(TextFaultKind::DuplicateName, Expected::RuleName));
         }
         Ok(word)
     }
@@ -104,12 +107,12 @@ impl<'a, A: Allocator> MapReader<'a, A> {
     fn rule_id(&mut self) -> Result<u32, TextFault>
         ensures { FindsValue rule_id (λ n. n) self.old self.new result }
     {
-        let word = read_word(&mut self.text)?;
+        let word = read_word(&mut self.text, Expected::RuleId)?;
         let Some(id) = number_up_to(LARGEST_RULE_NUMBER, word.text) else {
-            return Err(word.fault(TextFaultKind::BadNumber));
+            return Err(word.fault(TextFaultKind::BadNumber, Expected::RuleId));
         };
         if self.builder.has_rule_id(id) {
-            return Err(word.fault(TextFaultKind::DuplicateId));
+            return Err(word.fault(TextFaultKind::DuplicateId, Expected::RuleId));
         }
         Ok(id)
     }
@@ -159,25 +162,58 @@ fn read_size(reader: &mut Reader<'_>, size: &[u8]) -> Result<Option<u32>, TextFa
     Ok(Some(number))
 }
 
-/// Reads `step`, for which the rule must have room, or `}`.
+/// Returns the optional part that was left out before the next step or the closing brace.
+fn left_by(rule: &Rule) -> Optional
+    ensures { result ≡ left_by rule.now }
+{
+    match rule.steps.last() {
+        Some(step) => left_by_step(step),
+        None => left_sizes(rule.min_size, rule.max_size),
+    }
+}
+
+/// Returns the optional part that the step has left out at its end.
+fn left_by_step(step: &Step) -> Optional
+    ensures { result ≡ left_by_step step.now }
+{
+    match step {
+        Step::Take(_, None) => Optional::Class,
+        _ => Optional::Nothing,
+    }
+}
+
+/// Returns which sizes of pools the head of a rule with these sizes has left out at its end.
+fn left_sizes(least: Option<u32>, most: Option<u32>) -> Optional
+    ensures { result ≡ left_after None least most }
+{
+    match (least, most) {
+        (_, Some(_)) => Optional::Nothing,
+        (Some(_), None) => Optional::MaxSize,
+        (None, None) => Optional::Sizes,
+    }
+}
+
+/// Reads `step`, for which the rule must have room, or `}`. `or` says what was left out before.
 #[tactic(auto, unfolding(crate::specs::Reads::word_at))]
 fn read_step_or_end<'a>(
     reader: &mut Reader<'a>,
     steps: &[Step],
+    or: Optional,
 ) -> Result<PlacedWord<'a>, TextFault>
     ensures gives { (d : Draft)
         → Gives (λ x. (is_step x.text.now, reader.new)) result
-        (word_at d (step_or_end (length steps.now)) reader.old) }
-    ensures next { IfOk result (λ x. next_at reader.old ≡ Ok (word_of x, reader.new)) }
+        (word_at d (step_or_end (length steps.now) or) reader.old) }
+    ensures next { IfOk result (λ x. next_at (StepOrEnd or) reader.old ≡ Ok (word_of x, reader.new)) }
     ensures room { IfOk result (λ x. is_step x.text.now ≡ true → length steps.now < MOST_STEPS) }
     ensures shorter { OnOk result (length reader.new.words < length reader.old.words) }
 {
-    let word = next_word(reader)?;
+    let expected = Expected::StepOrEnd { or };
+    let word = next_word(reader, expected)?;
     if !word.is_step() && !word.is(b"}") {
-        return Err(word.fault(TextFaultKind::Unexpected));
+        return Err(word.fault(TextFaultKind::Unexpected, expected));
     }
     if word.is_step() && steps.len() >= MOST_STEPS {
-        return Err(word.fault(TextFaultKind::TooMany));
+        return Err(word.fault(TextFaultKind::TooMany, expected));
     }
     Ok(word)
 }
@@ -195,10 +231,10 @@ impl<'a> PlacedWord<'a> {
 fn read_rule_id_key(reader: &mut Reader<'_>) -> Result<(), TextFault>
     ensures { ReadsValue rule_id_key (λ x. x) AnyDraft reader.old reader.new result }
 {
-    let word = next_word(reader)?;
+    let word = next_word(reader, Expected::IdOrRuleset)?;
     if word.is(b"id") || word.is(b"ruleset") {
         Ok(())
     } else {
-        Err(word.fault(TextFaultKind::Unexpected))
+        Err(word.fault(TextFaultKind::Unexpected, Expected::IdOrRuleset))
     }
 }

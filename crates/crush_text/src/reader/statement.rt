@@ -2,6 +2,7 @@
 
 ghost use Rattle.std.specs.Prelude.{◌≡◌, Ok, Err, false, if◌then◌else◌, IfOk};
 ghost use Rattle.crush_text.specs.declared.fault.TextFaultKind.TheVariants.{TooMany};
+ghost use Rattle.crush_text.specs.declared.expected.Expected.TheVariants.{Statement};
 ghost use Rattle.crush_text.specs.Role.{opening};
 ghost use Rattle.crush_text.specs.Grammar.{statement};
 ghost use Rattle.crush_text.specs.Tests.{is_out_of_place, comes_first};
@@ -9,6 +10,7 @@ ghost use Rattle.crush_text.specs.Flow.{arrive, placed};
 ghost use Rattle.crush_text.specs.ReadsLines.{IsIdle, ReadsOn};
 ghost use Rattle.crush_text.specs.ReadsStatements.{behind, ReadsNext, ReadsAll, Opens, CanOpen};
 
+use crate::expected::{Expected, Optional};
 use crate::fault::{TextFault, TextFaultKind};
 use crate::reader::MapReader;
 use crate::reader::word::PlacedWord;
@@ -16,42 +18,69 @@ use crate::statement_kind::StatementKind;
 use crush_units::Token;
 use std::alloc::Allocator;
 
+/// What was read before a statement.
+#[derive(Clone, Copy)]
+pub(crate) struct Before {
+    /// Whether a bucket or a rule was read, so that only buckets and rules may follow.
+    pub(crate) late: bool,
+    /// The optional part that was left out at the end.
+    pub(crate) or: Optional,
+}
+
+impl Before {
+    /// Returns that the first word of a statement is expected.
+    pub(crate) fn expected(self) -> Expected
+        ensures { result ≡ Statement self.late self.or }
+    {
+        Expected::Statement {
+            late: self.late,
+            or: self.or,
+        }
+    }
+}
+
 impl<'a, A: Allocator + Clone> MapReader<'a, A> {
     /// Reads all statements, to the end of the text.
     pub(crate) fn statements(&mut self) -> Result<(), TextFault>
         requires { IsIdle self.old.builder }
         ensures { ReadsAll self.old self.new result }
     {
-        let mut late = false;
-        'statements: while let Some(more) = self.next_statement(late)? {
-            late = more;
+        let mut before = Before {
+            late: false,
+            or: Optional::Nothing,
+        };
+        'statements: while let Some(more) = self.next_statement(before)? {
+            before = more;
         }
         Ok(())
     }
 
-    /// Reads the next statement, and returns whether only buckets and rules may follow it; returns
-    /// `None` at the end of the text. `late` says that a bucket or a rule was read before.
-    fn next_statement(&mut self, late: bool) -> Result<Option<bool>, TextFault>
+    /// Reads the next statement, and returns what was read before the one after it; returns `None`
+    /// at the end of the text.
+    fn next_statement(&mut self, before: Before) -> Result<Option<Before>, TextFault>
         requires { IsIdle self.old.builder }
-        ensures { ReadsNext late self.old self.new result }
+        ensures { ReadsNext before self.old self.new result }
     {
         match self.text.next() {
             Token::Word { place, text } => {
-                let opening = self.opening_of(PlacedWord { place, text }, late)?;
-                let late = self.statement(opening, text)?;
-                Ok(Some(late))
+                let opening = self.opening_of(PlacedWord { place, text }, before)?;
+                let next = self.statement(opening, text)?;
+                Ok(Some(next))
             }
             Token::End { .. } => Ok(None),
             Token::Bad { place } => Err(TextFault {
                 kind: TextFaultKind::BadWord,
                 place,
+                expected: Expected::Statement {
+                    late: before.late,
+                    or: before.or,
+                },
             }),
         }
     }
 
-    /// Reads the statement after its first word, and returns whether only buckets and rules may
-    /// follow it.
-    fn statement(&mut self, opening: StatementKind, word: &[u8]) -> Result<bool, TextFault>
+    /// Reads the statement after its first word, and returns what was read before the next one.
+    fn statement(&mut self, opening: StatementKind, word: &[u8]) -> Result<Before, TextFault>
         requires { CanOpen opening word.now self.old.builder }
         ensures { ReadsOn (λ d. arrive d self.old.text.words (statement d opening)) behind
             self.old self.new result }
@@ -59,38 +88,51 @@ impl<'a, A: Allocator + Clone> MapReader<'a, A> {
         match opening {
             StatementKind::Tunable => {
                 self.tunable()?;
-                Ok(false)
+                Ok(Before {
+                    late: false,
+                    or: Optional::Nothing,
+                })
             }
             StatementKind::Device => {
-                self.device()?;
-                Ok(false)
+                let or = self.device()?;
+                Ok(Before { late: false, or })
             }
             StatementKind::Type => {
                 self.kind()?;
-                Ok(false)
+                Ok(Before {
+                    late: false,
+                    or: Optional::Nothing,
+                })
             }
             StatementKind::Bucket(_) => {
                 self.bucket(word)?;
-                Ok(true)
+                Ok(Before {
+                    late: true,
+                    or: Optional::Nothing,
+                })
             }
             StatementKind::Rule => {
                 self.rule()?;
-                Ok(true)
+                Ok(Before {
+                    late: true,
+                    or: Optional::Nothing,
+                })
             }
         }
     }
 
     /// Returns which kind of statement the word begins, if the map has room for one more of this
-    /// kind. `late` says that a bucket or a rule was read before.
-    fn opening_of(&self, word: PlacedWord<'_>, late: bool) -> Result<StatementKind, TextFault>
-        ensures { Opens word.entry late self.now.builder result }
+    /// kind.
+    fn opening_of(&self, word: PlacedWord<'_>, before: Before) -> Result<StatementKind, TextFault>
+        ensures { Opens word.entry before self.now.builder result }
     {
-        if is_out_of_place(word, late) {
-            return Err(word.fault(TextFaultKind::Unexpected));
+        if is_out_of_place(word, before.late) {
+            return Err(word.fault(TextFaultKind::Unexpected, before.expected()));
         }
         if word.is(b"tunable") {
             return with_room(
                 word,
+                before,
                 StatementKind::Tunable,
                 self.builder.is_full_of_tunables(),
             );
@@ -98,28 +140,40 @@ impl<'a, A: Allocator + Clone> MapReader<'a, A> {
         if word.is(b"device") {
             return with_room(
                 word,
+                before,
                 StatementKind::Device,
                 self.builder.is_full_of_devices(),
             );
         }
         if word.is(b"type") {
-            return with_room(word, StatementKind::Type, self.builder.is_full_of_kinds());
+            return with_room(
+                word,
+                before,
+                StatementKind::Type,
+                self.builder.is_full_of_kinds(),
+            );
         }
         if word.is(b"rule") {
-            return with_room(word, StatementKind::Rule, self.builder.is_full_of_rules());
+            return with_room(
+                word,
+                before,
+                StatementKind::Rule,
+                self.builder.is_full_of_rules(),
+            );
         }
         if word.is(b"choose_args") {
-            return Err(word.fault(TextFaultKind::LeftOut));
+            return Err(word.fault(TextFaultKind::LeftOut, before.expected()));
         }
         match self.builder.kind_number(word.text) {
             Some(kind) if self.builder.is_bucket_kind(kind) => {
                 with_room(
                     word,
+                    before,
                     StatementKind::Bucket(kind),
                     self.builder.is_full_of_buckets(),
                 )
             }
-            _ => Err(word.fault(TextFaultKind::UnknownType)),
+            _ => Err(word.fault(TextFaultKind::UnknownType, before.expected())),
         }
     }
 }
@@ -142,14 +196,16 @@ pub(crate) fn comes_first(word: PlacedWord<'_>) -> bool
 /// Returns `opening`, or `TooMany` at the word if the map is full of this kind of statement.
 fn with_room(
     word: PlacedWord<'_>,
+    before: Before,
     opening: StatementKind,
     full: bool,
 ) -> Result<StatementKind, TextFault>
-    ensures opens { result ≡ placed word.entry.place (if full then Err TooMany else Ok opening) }
+    ensures opens { result ≡ placed word.entry.place (Statement before.late before.or)
+        (if full then Err TooMany else Ok opening) }
     ensures room { IfOk result (λ o. (o ≡ opening) × (full ≡ false)) }
 {
     if full {
-        return Err(word.fault(TextFaultKind::TooMany));
+        return Err(word.fault(TextFaultKind::TooMany, before.expected()));
     }
     Ok(opening)
 }

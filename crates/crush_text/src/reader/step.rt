@@ -13,6 +13,7 @@ ghost use Rattle.crush_text.specs.Reads.{Gives, behind_step, first_of_step, line
 ghost use Rattle.crush_text.specs.ReadsWords.{IsFirstOfStep, FindsWord, ReadsValue, AnyDraft};
 ghost use Rattle.crush_text.specs.ReadsRules.{GivesStep};
 
+use crate::expected::{Expected, Keyword};
 use crate::fault::{TextFault, TextFaultKind};
 use crate::reader::MapReader;
 use crate::reader::roles::{read_key, read_number, read_word};
@@ -63,7 +64,7 @@ impl<'a, A: Allocator> MapReader<'a, A> {
         if !self.text.take_key(b"class") {
             return Ok(Step::Take(bucket, None));
         }
-        let class = read_word(&mut self.text)?;
+        let class = read_word(&mut self.text, Expected::Class)?;
         let class = class.owned_name(self.global)?;
         Ok(Step::Take(bucket, Some(class)))
     }
@@ -75,7 +76,7 @@ impl<'a, A: Allocator> MapReader<'a, A> {
     {
         let firstn = read_order(&mut self.text)?;
         let count = read_count(&mut self.text)?;
-        read_key(&mut self.text, b"type")?;
+        read_key(&mut self.text, Keyword::Type)?;
         let kind = self.step_type()?;
         let kind = kind.owned_name(self.global)?;
         Ok(Step::Choose {
@@ -91,10 +92,10 @@ impl<'a, A: Allocator> MapReader<'a, A> {
     fn taken_bucket(&mut self) -> Result<PlacedWord<'a>, TextFault>
         ensures { FindsWord taken_bucket self.old self.new result }
     {
-        let word = read_word(&mut self.text)?;
+        let word = read_word(&mut self.text, Expected::TakenBucket)?;
         match self.builder.bucket_named(word.text) {
             Some(_) => Ok(word),
-            None => Err(word.fault(TextFaultKind::UnknownBucketInRule)),
+            None => Err(word.fault(TextFaultKind::UnknownBucketInRule, Expected::TakenBucket)),
         }
     }
 
@@ -103,10 +104,10 @@ impl<'a, A: Allocator> MapReader<'a, A> {
     fn step_type(&mut self) -> Result<PlacedWord<'a>, TextFault>
         ensures { FindsWord step_type self.old self.new result }
     {
-        let word = read_word(&mut self.text)?;
+        let word = read_word(&mut self.text, Expected::StepType)?;
         match self.builder.kind_number(word.text) {
             Some(_) => Ok(word),
-            None => Err(word.fault(TextFaultKind::UnknownType)),
+            None => Err(word.fault(TextFaultKind::UnknownType, Expected::StepType)),
         }
     }
 }
@@ -132,7 +133,7 @@ fn read_first<'a>(reader: &mut Reader<'a>) -> Result<FirstOfStep<'a>, TextFault>
     ensures word { ReadsValue step_word first_of_step AnyDraft reader.old reader.new result }
     ensures form { IfOk result (IsFirstOfStep reader.old reader.new) }
 {
-    let word = next_word(reader)?;
+    let word = next_word(reader, Expected::StepWord)?;
     if word.is(b"take") {
         Ok(FirstOfStep::Take)
     } else if word.is(b"choose") {
@@ -144,9 +145,9 @@ fn read_first<'a>(reader: &mut Reader<'a>) -> Result<FirstOfStep<'a>, TextFault>
     } else if sets(word.text) {
         Ok(FirstOfStep::Set(word))
     } else if word.is(b"choosemsr") {
-        Err(word.fault(TextFaultKind::LeftOut))
+        Err(word.fault(TextFaultKind::LeftOut, Expected::StepWord))
     } else {
-        Err(word.fault(TextFaultKind::Unexpected))
+        Err(word.fault(TextFaultKind::Unexpected, Expected::StepWord))
     }
 }
 
@@ -163,13 +164,13 @@ fn sets(text: &[u8]) -> bool
 fn read_order(reader: &mut Reader<'_>) -> Result<bool, TextFault>
     ensures { ReadsValue step_order (λ b. b) AnyDraft reader.old reader.new result }
 {
-    let word = next_word(reader)?;
+    let word = next_word(reader, Expected::FirstnOrIndep)?;
     if word.is(b"firstn") {
         Ok(true)
     } else if word.is(b"indep") {
         Ok(false)
     } else {
-        Err(word.fault(TextFaultKind::Unexpected))
+        Err(word.fault(TextFaultKind::Unexpected, Expected::FirstnOrIndep))
     }
 }
 
@@ -178,10 +179,10 @@ fn read_order(reader: &mut Reader<'_>) -> Result<bool, TextFault>
 fn read_count(reader: &mut Reader<'_>) -> Result<i32, TextFault>
     ensures { ReadsValue step_count (λ n. n) AnyDraft reader.old reader.new result }
 {
-    let word = read_word(reader)?;
+    let word = read_word(reader, Expected::Count)?;
     match signed_number(word.text) {
         Some(count) => Ok(count),
-        None => Err(word.fault(TextFaultKind::BadNumber)),
+        None => Err(word.fault(TextFaultKind::BadNumber, Expected::Count)),
     }
 }
 

@@ -1,11 +1,13 @@
 //! Reads the line of a type.
 
+ghost use Rattle.crush_text.specs.declared.expected.Optional.TheVariants.{Nothing};
 ghost use Rattle.crush_text.specs.Role.{type_number, type_name};
 ghost use Rattle.crush_text.specs.Form.{first};
 ghost use Rattle.crush_text.specs.Grammar.{type_line};
 ghost use Rattle.crush_text.specs.ReadsWords.{FindsWord, FindsValue};
 ghost use Rattle.crush_text.specs.ReadsLines.{ReadsLine, HasRoomFor};
 
+use crate::expected::Expected;
 use crate::fault::{TextFault, TextFaultKind};
 use crate::reader::MapReader;
 use crate::reader::roles::read_word;
@@ -22,7 +24,7 @@ impl<'a, A: Allocator> MapReader<'a, A> {
     #[tactic(auto, unfolding(crate::specs::Reads::line_at))]
     pub(crate) fn kind(&mut self) -> Result<(), TextFault>
         requires { HasRoomFor StatementKind.Type self.old.builder }
-        ensures { ReadsLine type_line (λ _. first) self.old self.new result }
+        ensures { ReadsLine type_line (λ _. (first, Nothing)) self.old self.new result }
     {
         let number = self.type_number()?;
         let name = self.type_name(number)?;
@@ -36,13 +38,13 @@ impl<'a, A: Allocator> MapReader<'a, A> {
     fn type_number(&mut self) -> Result<TypeId, TextFault>
         ensures { FindsValue type_number (λ n. n) self.old self.new result }
     {
-        let word = read_word(&mut self.text)?;
+        let word = read_word(&mut self.text, Expected::TypeNumber)?;
         let Some(number) = number_up_to(LAST_TYPE, word.text) else {
-            return Err(word.fault(TextFaultKind::BadNumber));
+            return Err(word.fault(TextFaultKind::BadNumber, Expected::TypeNumber));
         };
         let number = TypeId::new(number as u16);
         if self.builder.has_kind_number(number) {
-            return Err(word.fault(TextFaultKind::DuplicateId));
+            return Err(word.fault(TextFaultKind::DuplicateId, Expected::TypeNumber));
         }
         Ok(number)
     }
@@ -53,12 +55,12 @@ impl<'a, A: Allocator> MapReader<'a, A> {
     fn type_name(&mut self, number: TypeId) -> Result<PlacedWord<'a>, TextFault>
         ensures { FindsWord (type_name number) self.old self.new result }
     {
-        let word = next_word(&mut self.text)?;
+        let word = next_word(&mut self.text, Expected::TypeName)?;
         if word.is_brace() || (is_reserved(word.text) && number.number() != 0) {
-            return Err(word.fault(TextFaultKind::Unexpected));
+            return Err(word.fault(TextFaultKind::Unexpected, Expected::TypeName));
         }
         if self.builder.has_kind_name(word.text) {
-            return Err(word.fault(TextFaultKind::DuplicateName));
+            return Err(word.fault(TextFaultKind::DuplicateName, Expected::TypeName));
         }
         Ok(word)
     }

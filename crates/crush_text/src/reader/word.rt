@@ -4,8 +4,10 @@ ghost use Rattle.std.specs.Prelude.{◌≡◌, IfOk, IfErr, bytes_eq};
 ghost use Rattle.crush_units.specs.Name.{IsName};
 ghost use Rattle.crush_units.specs.Words.{is_brace_word};
 ghost use Rattle.crush_text.specs.declared.fault.TextFaultKind.TheVariants.{OutOfMemory};
+ghost use Rattle.crush_text.specs.declared.expected.Expected.TheVariants.{Memory};
 ghost use Rattle.crush_text.specs.ReadsWords.{TakesWord};
 
+use crate::expected::Expected;
 use crate::fault::{TextFault, TextFaultKind};
 use crush_builder::BuildFault;
 use crush_units::{Name, Reader, Token};
@@ -18,31 +20,38 @@ pub(crate) struct PlacedWord<'a> {
     pub(crate) text: &'a [u8],
 }
 
-/// Reads the next word, which may be a brace. The end of the text is a fault.
+/// Reads the next word, which may be a brace. The end of the text is a fault; `expected` says what
+/// the grammar expects here.
 #[tactic(auto, unfolding(crate::specs::Reads::next_at))]
-pub(crate) fn next_word<'a>(reader: &mut Reader<'a>) -> Result<PlacedWord<'a>, TextFault>
-    ensures { TakesWord reader.old reader.new result }
+pub(crate) fn next_word<'a>(
+    reader: &mut Reader<'a>,
+    expected: Expected,
+) -> Result<PlacedWord<'a>, TextFault>
+    ensures { TakesWord expected reader.old reader.new result }
 {
     match reader.next() {
         Token::Word { place, text } => Ok(PlacedWord { place, text }),
         Token::End { place } => Err(TextFault {
             kind: TextFaultKind::Ended,
             place,
+            expected,
         }),
         Token::Bad { place } => Err(TextFault {
             kind: TextFaultKind::BadWord,
             place,
+            expected,
         }),
     }
 }
 
 /// Returns the fault that memory ran out at this place.
 pub(crate) fn memory_at(place: usize) -> TextFault
-    ensures { result ≡ record { kind = OutOfMemory; place = place } }
+    ensures { result ≡ record { kind = OutOfMemory; place = place; expected = Memory } }
 {
     TextFault {
         kind: TextFaultKind::OutOfMemory,
         place,
+        expected: Expected::Memory,
     }
 }
 
@@ -50,7 +59,7 @@ pub(crate) fn memory_at(place: usize) -> TextFault
 /// so the builder's only possible fault is out of memory.
 pub(crate) fn out_of_memory_at(place: usize, fault: BuildFault) -> TextFault
     requires { fault ≡ BuildFault.OutOfMemory }
-    ensures { result ≡ record { kind = OutOfMemory; place = place } }
+    ensures { result ≡ record { kind = OutOfMemory; place = place; expected = Memory } }
 {
     let BuildFault::OutOfMemory = fault else {
         unreachable!()
@@ -59,13 +68,14 @@ pub(crate) fn out_of_memory_at(place: usize, fault: BuildFault) -> TextFault
 }
 
 impl<'a> PlacedWord<'a> {
-    /// Returns a fault of this kind at the word's place.
-    pub(crate) fn fault(self, kind: TextFaultKind) -> TextFault
-        ensures { result ≡ record { kind = kind; place = self.entry.place } }
+    /// Returns a fault of this kind at the word's place, where this is expected.
+    pub(crate) fn fault(self, kind: TextFaultKind, expected: Expected) -> TextFault
+        ensures { result ≡ record { kind = kind; place = self.entry.place; expected = expected } }
     {
         TextFault {
             kind,
             place: self.place,
+            expected,
         }
     }
 
@@ -86,11 +96,11 @@ impl<'a> PlacedWord<'a> {
         requires { IsName self.text.now }
         ensures name { IfOk result (λ name. name ≡ self.entry.text.now) }
         ensures memory { IfErr result
-            (λ f. f ≡ record { kind = OutOfMemory; place = self.entry.place }) }
+            (λ f. f ≡ record { kind = OutOfMemory; place = self.entry.place; expected = Memory }) }
     {
         match Name::read(global, self.text) {
             Ok(name) => Ok(name),
-            Err(_) => Err(self.fault(TextFaultKind::OutOfMemory)),
+            Err(_) => Err(memory_at(self.place)),
         }
     }
 }

@@ -1,16 +1,15 @@
 -- The algorithm's line word by word, with a hash and without.
-use Rattle.std.proofs.Common.{rules, Bool, sym, ap, ◌∙◌}
+use Rattle.std.proofs.Common.{inl, rules, Bool, sym, ap, ◌∙◌}
 use Rattle.std.specs.Prelude.{if◌then◌else◌}
 use Rattle.crush_units.specs.Words.{past}
 use Rattle.std.proofs.lemmas.Result.{err_from_is_err_and}
 use Rattle.crush_builder.specs.Built.{with_alg}
 use Rattle.crush_text.proofs.LineByLine.{fails_so}
 use Rattle.crush_text.proofs.LineEnds.{word_fails, word_reads}
-use Rattle.crush_text.proofs.Reached.{part_taken, reaches_word}
+use Rattle.crush_text.proofs.Reached.{part_taken, out_of_memory_here, reaches_word}
 use Rattle.crush_text.proofs.Steps.{done_reads}
-use Rattle.crush_text.proofs.Refused.{no_line, line_or_memory}
+use Rattle.crush_text.proofs.Refused.{no_line}
 use Rattle.crush_text.proofs.reader.MapReader.alg.Goals as goal
-use Rattle.crush_text.proofs.reader.MapReader.alg.Goals.{then-take_key+in_ok-read_number, else-take_key}
 
 pub returns-in_err-alg : goal.returns-in_err-alg
 returns-in_err-alg g c =
@@ -22,24 +21,24 @@ returns-in_err-read_number g c =
     let p = err_from_is_err_and c.from_residual-in_err-read_number.result c.from_residual-in_err-read_number.ensures.1 in
     rw (p.1, p.2) (no_line _ _ _ _ _ (λ d h. fails_so _ _ _ (word_reads d _ _ _ _ _ (c.in_ok-alg.ensures.alg.gives d tt) ∙ part_taken d _ _ _ _ _ _ (sym c.if-take_key.true ∙ c.take_key.ensures.answer) (c.take_key.ensures.rest ∙ ap (λ (b : Bool). if b then past c.read_algorithm.new.reader else c.read_algorithm.new.reader) c.if-take_key.true)) (word_fails d _ _ _ _ (c.in_err-read_number.ensures.gives d tt))))
 
-pub returns : goal.returns
-returns g c =
-    line_or_memory c.alg.result _ c.map_err.result c.in_ok-alg.place c.map_err.ensures.cases (λ e f told. search rules)
-    (λ d h. reaches_word d _ _ _ _ _ _ _ (c.in_ok-alg.ensures.alg.gives d tt) c.in_ok-alg.ensures.stood)
-    c.alg.ensures.ok
-    (λ ok. elim c.if-take_key.branch [
-      | then-take_key+in_ok-read_number w ↦ record {
-        reads = λ d h. (
-          with_alg d _,
-          ok d (rw w.self-is h),
-          rw w.self-is (word_reads d _ _ _ _ _ (c.in_ok-alg.ensures.alg.gives d tt) ∙ part_taken d _ _ _ _ _ _ (sym w.if-take_key.true ∙ c.take_key.ensures.answer) (c.take_key.ensures.rest ∙ ap (λ (b : Bool). if b then past c.read_algorithm.new.reader else c.read_algorithm.new.reader) w.if-take_key.true) ∙ word_reads d _ _ _ _ _ (w.in_ok-read_number.ensures.gives d tt) ∙ done_reads d _ _),
-        );
-        stands = search rules;
-        shorter = search rules;
-      }
-      | else-take_key w ↦ record {
-        reads = λ d h. (with_alg d _, ok d (rw w.self-is h), rw w.self-is (word_reads d _ _ _ _ _ (c.in_ok-alg.ensures.alg.gives d tt) ∙ part_taken d _ _ _ _ _ _ (sym w.if-take_key.false ∙ c.take_key.ensures.answer) (c.take_key.ensures.rest ∙ ap (λ (b : Bool). if b then past c.read_algorithm.new.reader else c.read_algorithm.new.reader) w.if-take_key.false) ∙ done_reads d _ _));
-        stands = search rules;
-        shorter = search rules;
-      }
-    ])
+pub returns-in-Ok : goal.returns-in-Ok
+returns-in-Ok g c = record {
+  reads = λ d h.
+      (with_alg d _, c.in-Ok.ensures.ok d h, word_reads d _ _ _ _ _ (c.in_ok-alg.ensures.alg.gives d tt) ∙ part_taken d _ _ _ _ _ _ (sym c.if-take_key.true ∙ c.take_key.ensures.answer) (c.take_key.ensures.rest ∙ ap (λ (b : Bool). if b then past c.read_algorithm.new.reader else c.read_algorithm.new.reader) c.if-take_key.true) ∙ word_reads d _ _ _ _ _ (c.in_ok-read_number.ensures.gives d tt) ∙ done_reads d _ _);
+  stands = search rules;
+  shorter = search rules;
+}
+
+pub returns-in-Err : goal.returns-in-Err
+returns-in-Err g c = no_line _ _ _ _ _ (λ d h. inl (out_of_memory_here _ _ _ _ c.out_of_memory_at.ensures (reaches_word d _ _ _ _ _ _ _ _ (c.in_ok-alg.ensures.alg.gives d tt) c.in_ok-alg.ensures.stood)))
+
+pub returns-in-Ok-alg : goal.returns-in-Ok-alg
+returns-in-Ok-alg g c = record {
+  reads = λ d h.
+      (with_alg d _, c.in-Ok-alg.ensures.ok d h, word_reads d _ _ _ _ _ (c.in_ok-alg.ensures.alg.gives d tt) ∙ part_taken d _ _ _ _ _ _ (sym c.if-take_key.false ∙ c.take_key.ensures.answer) (c.take_key.ensures.rest ∙ ap (λ (b : Bool). if b then past c.read_algorithm.new.reader else c.read_algorithm.new.reader) c.if-take_key.false) ∙ done_reads d _ _);
+  stands = search rules;
+  shorter = search rules;
+}
+
+pub returns-in-Err-alg : goal.returns-in-Err-alg
+returns-in-Err-alg g c = no_line _ _ _ _ _ (λ d h. inl (out_of_memory_here _ _ _ _ c.out_of_memory_at-in-Err-alg.ensures (reaches_word d _ _ _ _ _ _ _ _ (c.in_ok-alg.ensures.alg.gives d tt) c.in_ok-alg.ensures.stood)))

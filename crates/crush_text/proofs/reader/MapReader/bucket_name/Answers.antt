@@ -24,7 +24,7 @@ pub returns : goal.returns
 unfolding line_at
 returns g c =
     line_or_memory c.begin.result _ c.map_err.result c.in_ok-name.name.place c.map_err.ensures.cases (λ e f told. search rules)
-    (λ d h. reaches_word d _ _ _ _ _ _ _ (c.in_ok-name.ensures.reads.gives d h) (_, c.in_ok-name.ensures.reads.next))
+    (λ d h. reaches_word d _ _ _ _ _ _ _ _ (c.in_ok-name.ensures.reads.gives d h) (_, c.in_ok-name.ensures.reads.next))
     c.begin.ensures.ok
     (λ ok. record {
       reads = λ d h.

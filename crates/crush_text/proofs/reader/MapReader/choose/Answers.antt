@@ -40,5 +40,5 @@ returns-in_err-kind-2 g c =
     (reaches_on d _ _ _ _ _ _ (c.in_ok-firstn.ensures.gives d tt)
     (reaches_on d _ _ _ _ _ _ (c.in_ok-count.ensures.gives d tt)
     (reaches_on d _ _ _ _ _ _ (c.in_ok-read_key.ensures.gives d tt)
-    (reaches_word d _ _ _ _ _ _ _ (c.in_ok-kind.ensures.reads.gives d h) (_, c.in_ok-kind.ensures.reads.next))))))
+    (reaches_word d _ _ _ _ _ _ _ _ (c.in_ok-kind.ensures.reads.gives d h) (_, c.in_ok-kind.ensures.reads.next))))))
     )))

@@ -39,7 +39,7 @@ map_err-requires g c =
 pub returns : goal.returns
 returns g c =
     line_or_memory c.class_id.result _ c.map_err.result c.in_ok-class.class.place c.map_err.ensures.cases (λ e f told. search rules)
-    (λ d h. reaches_on d _ _ _ _ _ _ (c.in_ok-id.ensures.reads.gives d h) (reaches_on d _ _ _ _ _ _ (c.in_ok-read_key.ensures.gives d tt) (reaches_word d _ _ _ _ _ _ _ (c.in_ok-class.ensures.reads.gives d (still c.in_ok-id.ensures.kept h)) (_, c.in_ok-class.ensures.reads.next))))
+    (λ d h. reaches_on d _ _ _ _ _ _ (c.in_ok-id.ensures.reads.gives d h) (reaches_on d _ _ _ _ _ _ (c.in_ok-read_key.ensures.gives d tt) (reaches_word d _ _ _ _ _ _ _ _ (c.in_ok-class.ensures.reads.gives d (still c.in_ok-id.ensures.kept h)) (_, c.in_ok-class.ensures.reads.next))))
     c.class_id.ensures.ok
     (λ ok. record {
       reads = λ d h.

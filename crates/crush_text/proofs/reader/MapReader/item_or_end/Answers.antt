@@ -11,7 +11,7 @@ pub returns-then-not-more : goal.returns-then-not-more
 unfolding line_at
 returns-then-not-more g c = record {
   reads = λ d h.
-      (with_end d, c.end.ensures d h, item_or_end_goes d _ _ _ _ (c.in_ok-more.ensures.gives d tt ∙ ap (λ (b : Bool). Ok (b, c.read_item_or_end.new.reader)) c.if-not-more.true));
+      (with_end d, c.end.ensures d h, item_or_end_goes d _ _ _ _ _ (c.in_ok-more.ensures.gives d tt ∙ ap (λ (b : Bool). Ok (b, c.read_item_or_end.new.reader)) c.if-not-more.true));
   stands = let d = c.requires.some in record { part = (c.end.ensures d.0 d.1).pending; some = (with_end d.0, c.end.ensures d.0 d.1) };
   shorter = search rules;
 }
@@ -19,14 +19,14 @@ returns-then-not-more g c = record {
 pub returns : goal.returns
 returns g c = record {
   reads = λ d h.
-      let k = c.in_ok-item.ensures.reads d h in
-      (k.0, k.1, item_or_end_goes d _ _ _ _ (c.in_ok-more.ensures.gives d tt ∙ ap (λ (b : Bool). Ok (b, c.read_item_or_end.new.reader)) c.if-not-more.false) ∙ k.2);
-  stands = c.in_ok-item.ensures.stands;
+      let k = c.in_ok-left.ensures.reads d h in
+      (k.0, k.1, item_or_end_goes d _ _ _ _ _ (c.in_ok-more.ensures.gives d tt ∙ ap (λ (b : Bool). Ok (b, c.read_item_or_end.new.reader)) c.if-not-more.false) ∙ k.2);
+  stands = c.in_ok-left.ensures.stands;
   shorter = search rules;
 }
 
-pub returns-in_err-item : goal.returns-in_err-item
-returns-in_err-item g c =
-    let p = err_from_is_err_and c.from_residual-in_err-item.result c.from_residual-in_err-item.ensures.1 in
+pub returns-in_err-left : goal.returns-in_err-left
+returns-in_err-left g c =
+    let p = err_from_is_err_and c.from_residual-in_err-left.result c.from_residual-in_err-left.ensures.1 in
     rw (p.1, p.2) (no_line _ _ _ _ _ (λ d h.
-    (item_or_end_fails _ d c.args.any true _ _ (c.in_ok-more.ensures.gives d tt ∙ ap (λ (b : Bool). Ok (b, c.read_item_or_end.new.reader)) c.if-not-more.false) (c.in_err-item.ensures.reads d h))))
+    (item_or_end_fails _ d c.args.any c.args.or true _ _ (c.in_ok-more.ensures.gives d tt ∙ ap (λ (b : Bool). Ok (b, c.read_item_or_end.new.reader)) c.if-not-more.false) (c.in_err-left.ensures.reads d h))))

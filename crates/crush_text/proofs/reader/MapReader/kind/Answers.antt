@@ -38,7 +38,7 @@ map_err-requires g c =
 pub returns : goal.returns
 returns g c =
     line_or_memory c.kind.result _ c.map_err.result c.in_ok-name.name.place c.map_err.ensures.cases (λ e f told. search rules)
-    (λ d h. reaches_on d _ _ _ _ _ _ (c.in_ok-number.ensures.reads.gives d h) (reaches_word d _ _ _ _ _ _ _ (c.in_ok-name.ensures.reads.gives d (still c.in_ok-number.ensures.kept h)) (_, c.in_ok-name.ensures.reads.next)))
+    (λ d h. reaches_on d _ _ _ _ _ _ (c.in_ok-number.ensures.reads.gives d h) (reaches_word d _ _ _ _ _ _ _ _ (c.in_ok-name.ensures.reads.gives d (still c.in_ok-number.ensures.kept h)) (_, c.in_ok-name.ensures.reads.next)))
     c.kind.ensures.ok
     (λ ok. record {
       reads = λ d h.

@@ -1,8 +1,9 @@
 -- The head of a rule, and its sizes.
-use Rattle.std.proofs.Common.{rules, ◌∙◌, inr}
+use Rattle.std.proofs.Common.{[], rules, ◌∙◌, inr}
 use Rattle.std.proofs.lemmas.Result.{err_from_is_err_and}
-use Rattle.crush_text.specs.Form.{ruled, at, done}
+use Rattle.crush_text.specs.Form.{ruled, at, passing, done}
 use Rattle.crush_text.specs.Grammar.{max_size, new_rule}
+use Rattle.crush_text.specs.ReadsRules.{left_last}
 use Rattle.crush_text.proofs.LineByLine.{fails_so}
 use Rattle.crush_text.proofs.LineEnds.{still, word_fails, word_reads}
 use Rattle.crush_text.proofs.Reached.{reaches_word}
@@ -59,7 +60,7 @@ returns-in_err-max_size g c =
     rw (p.1, p.2) (no_head _ _ _ (c.in_ok-id.ensures.kept ∙ c.in_ok-name.ensures.kept) (λ d h.
     let head = head_goes d _ _ _ _ _ _ _ _ _ _ (c.in_ok-name.ensures.reads.gives d h) (c.in_ok-read_key.ensures.gives d tt) (c.in_ok-read_rule_id_key.ensures.gives d tt) (c.in_ok-id.ensures.reads.gives d (still c.in_ok-name.ensures.kept h)) (c.in_ok-read_key-2.ensures.gives d tt) (c.in_ok-kind.ensures.gives d tt) in
     let least = c.in_ok-min_size.ensures.gives d (max_size d c.in_ok-name.name.text.now c.in_ok-id.id c.in_ok-kind.kind.text.now) in
-    (inr (head ∙ least ∙ c.in_err-max_size.ensures.gives d (λ o. done (at (ruled (new_rule c.in_ok-name.name.text.now c.in_ok-id.id c.in_ok-kind.kind.text.now c.in_ok-min_size.min_size o)) d))))))
+    (inr (head ∙ least ∙ c.in_err-max_size.ensures.gives d (λ o. done (passing (left_last [] c.in_ok-min_size.min_size o) (at (ruled (new_rule c.in_ok-name.name.text.now c.in_ok-id.id c.in_ok-kind.kind.text.now c.in_ok-min_size.min_size o)) d)))))))
 
 pub returns : goal.returns
 returns g c = record {
@@ -67,9 +68,9 @@ returns g c = record {
   gives = λ d h.
       let head = head_goes d _ _ _ _ _ _ _ _ _ _ (c.in_ok-name.ensures.reads.gives d h) (c.in_ok-read_key.ensures.gives d tt) (c.in_ok-read_rule_id_key.ensures.gives d tt) (c.in_ok-id.ensures.reads.gives d (still c.in_ok-name.ensures.kept h)) (c.in_ok-read_key-2.ensures.gives d tt) (c.in_ok-kind.ensures.gives d tt) in
       let least = c.in_ok-min_size.ensures.gives d (max_size d c.in_ok-name.name.text.now c.in_ok-id.id c.in_ok-kind.kind.text.now) in
-      let most = c.in_ok-max_size.ensures.gives d (λ o. done (at (ruled (new_rule c.in_ok-name.name.text.now c.in_ok-id.id c.in_ok-kind.kind.text.now c.in_ok-min_size.min_size o)) d)) in
+      let most = c.in_ok-max_size.ensures.gives d (λ o. done (passing (left_last [] c.in_ok-min_size.min_size o) (at (ruled (new_rule c.in_ok-name.name.text.now c.in_ok-id.id c.in_ok-kind.kind.text.now c.in_ok-min_size.min_size o)) d))) in
       head_made d _ _ _ _ _ _ _ _ _ _ (head ∙ least ∙ most)
-      (reaches_word d _ _ _ _ _ _ _ (c.in_ok-name.ensures.reads.gives d h) (_, c.in_ok-name.ensures.reads.next))
+      (reaches_word d _ _ _ _ _ _ _ _ (c.in_ok-name.ensures.reads.gives d h) (_, c.in_ok-name.ensures.reads.next))
       (kind_reached d _ _ _ _ _ _ _ _ _ _ _ (c.in_ok-name.ensures.reads.gives d h) (c.in_ok-read_key.ensures.gives d tt) (c.in_ok-read_rule_id_key.ensures.gives d tt) (c.in_ok-id.ensures.reads.gives d (still c.in_ok-name.ensures.kept h)) (c.in_ok-read_key-2.ensures.gives d tt) (c.in_ok-kind.ensures.gives d tt) (_, c.in_ok-kind.ensures.next))
       c.rule_head_values.ensures.head c.rule_head_values.ensures.memory;
   kept = (c.in_ok-id.ensures.kept ∙ c.in_ok-name.ensures.kept);

@@ -1,5 +1,5 @@
 -- A statement by its first word.
-use Rattle.std.proofs.Common.{◌≡◌, ℕ, List, Option, Ok, Err, false, ap, subst, arith}
+use Rattle.std.proofs.Common.{◌≡◌, refl, ℕ, List, Option, Ok, Err, false, ap, subst, arith}
 use Rattle.std.proofs.lemmas.Result.{err_from_is_err_and}
 use Rattle.std.specs.Prelude.{unwrap_or}
 use Rattle.crush_builder.specs.Built.{Draft}
@@ -14,7 +14,9 @@ use Rattle.crush_text.specs.Form.{first, second, at}
 use Rattle.crush_text.specs.Flow.{between, arrive}
 use Rattle.crush_text.specs.Grammar.{bucket_line, statement}
 use Rattle.crush_text.specs.Reads.{LeadsOn, Fails}
-use Rattle.crush_text.specs.ReadsLines.{ReadsLine, ReadsOn, HasRoomFor}
+use Rattle.crush_text.specs.declared.expected.Optional.{Optional}
+use Rattle.crush_text.specs.declared.expected.Optional.TheVariants.{Nothing}
+use Rattle.crush_text.specs.ReadsLines.{Ending, ending, TakesLinesOf, ReadsLine, ReadsOn, HasRoomFor}
 use Rattle.crush_text.specs.ReadsStatements.{behind, IsKnown, CanOpen}
 use Rattle.crush_text.specs.Room.{HasRoom}
 use Rattle.crush_text.proofs.Reached.{line_leads, fails_line}
@@ -22,46 +24,46 @@ use Rattle.crush_text.proofs.Refused.{no_lines}
 use Rattle.crush_text.proofs.reader.MapReader.statement.Goals as goal
 
 -- a statement of one line was read, after which all statements may follow
-one_line : {A : _} (o s : StatementKind) (old new : MapReader A) → o ≡ s → ReadsLine (λ d. statement d s) (λ (x : Unit {0}). first) old new (Ok tt) → ReadsOn (λ d. arrive d old.text.words (statement d o)) behind old new (Ok false)
-one_line o s old new is h = rw is (record {
+one_line : {A : _} {X : Type 0} (mode : X → Ending) (x : X) (or : Optional) (o s : StatementKind) (old new : MapReader A) → mode x ≡ (first, or) → o ≡ s → ReadsLine (λ d. statement d s) mode old new (Ok x) → ReadsOn (λ d. arrive d old.text.words (statement d o)) behind old new (Ok (record { late = false; or = or }))
+one_line mode x or o s old new ends is h = rw is (record {
   reads = λ d at.
       let k = h.reads d at in
-      (k.0, k.1, line_leads d (statement d s) _ _ _ k.2);
-  stands = h.stands;
+      (k.0, k.1, subst (λ (m : Ending). LeadsOn (arrive d old.text.words (statement d s)) old.text (between (ending m k.0)) new.text) ends (line_leads d (statement d s) _ _ _ k.2));
+  stands = subst (λ (m : Ending). TakesLinesOf m.0 new.builder) ends h.stands;
   shorter = let lt = h.shorter in omega (arith, lt);
 })
 
 -- or it has a fault
-no_one_line : {A : _} (o s : StatementKind) (old new : MapReader A) (f : TextFault) → o ≡ s → ReadsLine (λ d. statement d s) (λ (x : Unit {0}). first) old new (Err f) → ReadsOn (λ d. arrive d old.text.words (statement d o)) behind old new (Err f)
-no_one_line o s old new f is h = rw is (no_lines _ _ _ _ _ (λ d at. fails_line _ d (statement d s) _ (h.reads d at)))
+no_one_line : {A : _} {X : Type 0} (mode : X → Ending) (o s : StatementKind) (old new : MapReader A) (f : TextFault) → o ≡ s → ReadsLine (λ d. statement d s) mode old new (Err f) → ReadsOn (λ d. arrive d old.text.words (statement d o)) behind old new (Err f)
+no_one_line mode o s old new f is h = rw is (no_lines _ _ _ _ _ (λ d at. fails_line _ d (statement d s) _ (h.reads d at)))
 
 -- there is room for the statement that a first word begins
 room_for : {w : List ℕ} {b : BuilderData} (o s : StatementKind) → o ≡ s → CanOpen o w b → HasRoomFor s b
 room_for o s is h = record { idle = h.idle; room = λ d at. subst (HasRoom d) is (h.room d at) }
 
 pub returns-in_ok-tunable-in-Tunable : goal.returns-in_ok-tunable-in-Tunable
-returns-in_ok-tunable-in-Tunable g c = one_line _ statement_kinds.Tunable _ _ c.in-Tunable.is c.in_ok-tunable-in-Tunable.ensures
+returns-in_ok-tunable-in-Tunable g c = one_line (λ _. (first, Nothing)) tt Nothing _ statement_kinds.Tunable _ _ refl c.in-Tunable.is c.in_ok-tunable-in-Tunable.ensures
 
 pub returns-in_err-tunable-in-Tunable : goal.returns-in_err-tunable-in-Tunable
 returns-in_err-tunable-in-Tunable g c =
     let p = err_from_is_err_and c.from_residual.result c.from_residual.ensures.1 in
-    rw (p.1, p.2) (no_one_line _ statement_kinds.Tunable _ _ _ c.in-Tunable.is c.in_err-tunable-in-Tunable.ensures)
+    rw (p.1, p.2) (no_one_line (λ _. (first, Nothing)) _ statement_kinds.Tunable _ _ _ c.in-Tunable.is c.in_err-tunable-in-Tunable.ensures)
 
-pub returns-in_ok-device-in-Device : goal.returns-in_ok-device-in-Device
-returns-in_ok-device-in-Device g c = one_line _ statement_kinds.Device _ _ c.in-Device.is c.in_ok-device-in-Device.ensures
+pub returns-in_ok-or-in-Device : goal.returns-in_ok-or-in-Device
+returns-in_ok-or-in-Device g c = one_line (λ k. (first, k)) _ _ _ statement_kinds.Device _ _ refl c.in-Device.is c.in_ok-or-in-Device.ensures
 
-pub returns-in_err-device-in-Device : goal.returns-in_err-device-in-Device
-returns-in_err-device-in-Device g c =
-    let p = err_from_is_err_and c.from_residual-in_err-device-in-Device.result c.from_residual-in_err-device-in-Device.ensures.1 in
-    rw (p.1, p.2) (no_one_line _ statement_kinds.Device _ _ _ c.in-Device.is c.in_err-device-in-Device.ensures)
+pub returns-in_err-or-in-Device : goal.returns-in_err-or-in-Device
+returns-in_err-or-in-Device g c =
+    let p = err_from_is_err_and c.from_residual-in_err-or-in-Device.result c.from_residual-in_err-or-in-Device.ensures.1 in
+    rw (p.1, p.2) (no_one_line (λ k. (first, k)) _ statement_kinds.Device _ _ _ c.in-Device.is c.in_err-or-in-Device.ensures)
 
 pub returns-in_ok-kind-in-Type : goal.returns-in_ok-kind-in-Type
-returns-in_ok-kind-in-Type g c = one_line _ statement_kinds.Type _ _ c.in-Type.is c.in_ok-kind-in-Type.ensures
+returns-in_ok-kind-in-Type g c = one_line (λ _. (first, Nothing)) tt Nothing _ statement_kinds.Type _ _ refl c.in-Type.is c.in_ok-kind-in-Type.ensures
 
 pub returns-in_err-kind-in-Type : goal.returns-in_err-kind-in-Type
 returns-in_err-kind-in-Type g c =
     let p = err_from_is_err_and c.from_residual-in_err-kind-in-Type.result c.from_residual-in_err-kind-in-Type.ensures.1 in
-    rw (p.1, p.2) (no_one_line _ statement_kinds.Type _ _ _ c.in-Type.is c.in_err-kind-in-Type.ensures)
+    rw (p.1, p.2) (no_one_line (λ _. (first, Nothing)) _ statement_kinds.Type _ _ _ c.in-Type.is c.in_err-kind-in-Type.ensures)
 
 -- a bucket's type by its name
 by_name : (d : Draft) (w : List ℕ) (k : ℕ) → IsKnown d (statement_kinds.Bucket k) w → kind_of_word d w ≡ k

@@ -27,7 +27,7 @@ returns-in_err-name-in-Set g c =
     let p = err_from_is_err_and c.from_residual-in_err-name-in-Set.result c.from_residual-in_err-name-in-Set.ensures.1 in
     rw (p.1, p.2) (no_step _ _ _ _ refl (λ d r h.
     let form = subst (IsFirstOfStep c.args.self.now.text c.read_first.new.reader) c.in-Set.is c.in_ok-read_first.ensures.form in
-    (inl (out_of_memory_here _ _ _ _ c.in_err-name-in-Set.ensures.memory (reaches_word d step_word (step_behind d r) _ _ _ _ _ (c.in_ok-read_first.ensures.word.gives d tt) form.2)))))
+    (inl (out_of_memory_here _ _ _ _ c.in_err-name-in-Set.ensures.memory (reaches_word d step_word (step_behind d r) _ _ _ _ _ _ (c.in_ok-read_first.ensures.word.gives d tt) form.2)))))
 
 pub returns-in-Take : goal.returns-in-Take
 returns-in-Take g c = record {

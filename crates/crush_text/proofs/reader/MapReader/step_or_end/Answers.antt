@@ -7,10 +7,11 @@ use Rattle.crush_edits.specs.declared.rule.Step.{Step}
 use Rattle.crush_edits.specs.Setting.{StepData}
 use Rattle.crush_builder.specs.Building.{IsDraft}
 use Rattle.crush_builder.specs.Rules.{kept_rule, kept_step}
-use Rattle.crush_text.specs.Form.{ruled, at}
+use Rattle.crush_text.specs.Form.{ruled, at, passing}
+use Rattle.crush_text.specs.ReadsRules.{left_by}
 use Rattle.crush_text.proofs.LineEnds.{still}
 use Rattle.crush_text.proofs.Reached.{out_of_memory_here}
-use Rattle.crush_text.proofs.Steps.{step_or_end_goes, step_or_end_reached, step_fails, done_reads, steps_kept, steps_free}
+use Rattle.crush_text.proofs.Steps.{word_left, step_or_end_goes, step_or_end_reached, step_fails, done_reads, left_kept, steps_kept, steps_free}
 use Rattle.crush_text.proofs.Refused.{no_step_line}
 use Rattle.crush_text.proofs.reader.MapReader.step_or_end.Goals as goal
 
@@ -18,15 +19,15 @@ pub returns-in_err-step : goal.returns-in_err-step
 returns-in_err-step g c =
     let p = err_from_is_err_and c.from_residual-in_err-step.result c.from_residual-in_err-step.ensures.1 in
     rw (p.1, p.2) (no_step_line _ _ _ _ _ c.in_err-step.ensures.kept (λ d h.
-    (step_fails _ d (kept_rule d c.args.rule.now) _ _ _ (ap length c.deref.ensures.value ∙ sym (length-map c.args.rule.now.steps.items (kept_step d))) (c.in_ok-word.ensures.gives d ∙ ap (λ (b : Bool). Ok (b, c.read_step_or_end.new.reader)) (sym c.is_step.ensures ∙ c.if-not-is_step.false)) (c.in_err-step.ensures.gives d (kept_rule d c.args.rule.now) h))))
+    (step_fails _ d (left_by c.args.rule.now) (kept_rule d c.args.rule.now) _ _ _ (ap length c.deref.ensures.value ∙ sym (length-map c.args.rule.now.steps.items (kept_step d))) (word_left d _ _ _ _ _ c.left_by.ensures (c.in_ok-word.ensures.gives d) ∙ ap (λ (b : Bool). Ok (b, c.read_step_or_end.new.reader)) (sym c.is_step.ensures ∙ c.if-not-is_step.false)) (c.in_err-step.ensures.gives d (kept_rule d c.args.rule.now) h))))
 
 pub returns-then-not-is_step : goal.returns-then-not-is_step
 returns-then-not-is_step g c = record {
   right = c.requires;
   kept = refl;
   reads = λ d h. (
-    step_or_end_goes d (kept_rule d c.args.rule.now) _ false _ _ (ap length c.deref.ensures.value ∙ sym (length-map c.args.rule.now.steps.items (kept_step d))) (c.in_ok-word.ensures.gives d ∙ ap (λ (b : Bool). Ok (b, c.read_step_or_end.new.reader)) (sym c.is_step.ensures ∙ c.if-not-is_step.true)) ∙ done_reads d _ _,
-    step_or_end_reached d (kept_rule d c.args.rule.now) _ _ _ _ _ (ap length c.deref.ensures.value ∙ sym (length-map c.args.rule.now.steps.items (kept_step d))) (c.in_ok-word.ensures.gives d) (_, c.in_ok-word.ensures.next),
+    step_or_end_goes d (left_by c.args.rule.now) (kept_rule d c.args.rule.now) _ false _ _ (ap length c.deref.ensures.value ∙ sym (length-map c.args.rule.now.steps.items (kept_step d))) (word_left d _ _ _ _ _ c.left_by.ensures (c.in_ok-word.ensures.gives d) ∙ ap (λ (b : Bool). Ok (b, c.read_step_or_end.new.reader)) (sym c.is_step.ensures ∙ c.if-not-is_step.true)) ∙ done_reads d _ _,
+    step_or_end_reached d (left_by c.args.rule.now) _ (kept_rule d c.args.rule.now) _ _ _ _ _ (ap length c.deref.ensures.value ∙ sym (length-map c.args.rule.now.steps.items (kept_step d))) (word_left d _ _ _ _ _ c.left_by.ensures (c.in_ok-word.ensures.gives d)) (_, c.in_ok-word.ensures.next),
   );
   shorter = search rules;
 }
@@ -34,7 +35,7 @@ returns-then-not-is_step g c = record {
 pub returns-in_default : goal.returns-in_default
 returns-in_default g c =
     no_step_line _ _ _ _ _ c.in_ok-step.ensures.kept (λ d h.
-    inl (out_of_memory_here _ _ _ _ c.fault.ensures (step_or_end_reached d (kept_rule d c.args.rule.now) _ _ _ _ _ (ap length c.deref.ensures.value ∙ sym (length-map c.args.rule.now.steps.items (kept_step d))) (c.in_ok-word.ensures.gives d) (_, c.in_ok-word.ensures.next))))
+    inl (out_of_memory_here _ _ _ _ c.memory_at.ensures (step_or_end_reached d (left_by c.args.rule.now) _ (kept_rule d c.args.rule.now) _ _ _ _ _ (ap length c.deref.ensures.value ∙ sym (length-map c.args.rule.now.steps.items (kept_step d))) (word_left d _ _ _ _ _ c.left_by.ensures (c.in_ok-word.ensures.gives d)) (_, c.in_ok-word.ensures.next))))
 
 pub returns : goal.returns
 returns g c = record {
@@ -51,9 +52,9 @@ returns g c = record {
         };
   };
   reads = λ d h.
-      let line = step_or_end_goes d (kept_rule d c.args.rule.now) _ _ _ _ (ap length c.deref.ensures.value ∙ sym (length-map c.args.rule.now.steps.items (kept_step d))) (c.in_ok-word.ensures.gives d ∙ ap (λ (b : Bool). Ok (b, c.read_step_or_end.new.reader)) (sym c.is_step.ensures ∙ c.if-not-is_step.false)) in
+      let line = step_or_end_goes d (left_by c.args.rule.now) (kept_rule d c.args.rule.now) _ _ _ _ (ap length c.deref.ensures.value ∙ sym (length-map c.args.rule.now.steps.items (kept_step d))) (word_left d _ _ _ _ _ c.left_by.ensures (c.in_ok-word.ensures.gives d) ∙ ap (λ (b : Bool). Ok (b, c.read_step_or_end.new.reader)) (sym c.is_step.ensures ∙ c.if-not-is_step.false)) in
       line ∙ c.in_ok-step.ensures.gives d (kept_rule d c.args.rule.now) h
-      ∙ ap (λ (l : List StepData). Ok (at (ruled (record (kept_rule d c.args.rule.now) { steps = l })) d, c.step.new.self.text)) (steps_kept d c.args.rule.now.steps.items c.push.new.self.items c.in_ok-step.step c.in-Ok.ensures.items);
+      ∙ (λ i. Ok (passing (left_kept c.args.rule.now.steps.items c.push.new.self.items c.in_ok-step.step c.args.rule.now.min_size c.args.rule.now.max_size c.in-Ok.ensures.items i) (at (ruled (record (kept_rule d c.args.rule.now) { steps = steps_kept d c.args.rule.now.steps.items c.push.new.self.items c.in_ok-step.step c.in-Ok.ensures.items i })) d), c.step.new.self.text));
   kept = c.in_ok-step.ensures.kept;
   shorter = search rules;
 }

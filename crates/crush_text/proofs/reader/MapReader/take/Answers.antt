@@ -5,7 +5,9 @@ use Rattle.crush_units.specs.Words.{past}
 use Rattle.std.proofs.lemmas.Result.{err_from_is_err_and}
 use Rattle.crush_edits.specs.Setting.{take}
 use Rattle.crush_builder.specs.Rules.{complete_bucket_named, taken_number}
-use Rattle.crush_text.specs.Grammar.{step_done}
+use Rattle.crush_text.specs.declared.expected.Optional.TheVariants.{Class}
+use Rattle.crush_text.specs.Form.{ruled, at, passing, done}
+use Rattle.crush_text.specs.Grammar.{with_step}
 use Rattle.crush_text.proofs.LineByLine.{fails_so}
 use Rattle.crush_text.proofs.LineEnds.{word_fails, word_reads}
 use Rattle.crush_text.proofs.Reached.{part_taken, out_of_memory_here, reaches_word, reaches_on, reaches_taken}
@@ -29,7 +31,7 @@ pub returns-in_err-bucket-2 : goal.returns-in_err-bucket-2
 returns-in_err-bucket-2 g c =
     let p = err_from_is_err_and c.from_residual-in_err-bucket-2.result c.from_residual-in_err-bucket-2.ensures.1 in
     rw (p.1, p.2) (no_step _ _ _ _ c.in_ok-bucket.ensures.kept (λ d r h.
-    (inl (out_of_memory_here _ _ _ _ c.in_err-bucket-2.ensures.memory (reaches_word d _ _ _ _ _ _ _ (bucket_taken d c.in_ok-bucket.bucket.text.now _ _ (c.in_ok-bucket.ensures.reads.gives d h)) (_, c.in_ok-bucket.ensures.reads.next))))))
+    (inl (out_of_memory_here _ _ _ _ c.in_err-bucket-2.ensures.memory (reaches_word d _ _ _ _ _ _ _ _ (bucket_taken d c.in_ok-bucket.bucket.text.now _ _ (c.in_ok-bucket.ensures.reads.gives d h)) (_, c.in_ok-bucket.ensures.reads.next))))))
 
 pub returns-in_err-class-2 : goal.returns-in_err-class-2
 returns-in_err-class-2 g c =
@@ -38,7 +40,7 @@ returns-in_err-class-2 g c =
     (
     inl (out_of_memory_here _ _ _ _ c.in_err-class-2.ensures.memory
     (reaches_on d _ _ _ _ _ _ (bucket_taken d c.in_ok-bucket.bucket.text.now _ _ (c.in_ok-bucket.ensures.reads.gives d h))
-    (reaches_taken d _ _ (step_done d r (take (taken_number (complete_bucket_named d c.in_ok-bucket.bucket.text.now)) None)) _ _ _ _ (sym c.if-not-take_key.false ∙ c.take_key.ensures.answer) (c.take_key.ensures.rest ∙ ap (λ (b : Bool). if b then past c.taken_bucket.new.self.text else c.taken_bucket.new.self.text) c.if-not-take_key.false) (reaches_word d _ _ _ _ _ _ _ (c.in_ok-class.ensures.gives d tt) (_, c.in_ok-class.ensures.next)))))
+    (reaches_taken d _ _ (done (passing Class (at (ruled (with_step r (take (taken_number (complete_bucket_named d c.in_ok-bucket.bucket.text.now)) None))) d))) _ _ _ _ (sym c.if-not-take_key.false ∙ c.take_key.ensures.answer) (c.take_key.ensures.rest ∙ ap (λ (b : Bool). if b then past c.taken_bucket.new.self.text else c.taken_bucket.new.self.text) c.if-not-take_key.false) (reaches_word d _ _ _ _ _ _ _ _ (c.in_ok-class.ensures.gives d tt) (_, c.in_ok-class.ensures.next)))))
     )))
 
 pub returns : goal.returns

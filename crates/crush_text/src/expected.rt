@@ -1,0 +1,137 @@
+//! What the grammar of a map's text expects at a place.
+
+ghost use Rattle.std.specs.Prelude.{◌≡◌};
+ghost use Rattle.crush_text.specs.Expected.{keyword_word};
+
+/// A keyword of the grammar, where no other word is allowed.
+#[derive(Clone, Copy, Debug, PartialEq, Eq)]
+pub enum Keyword {
+    /// `{`
+    Brace,
+    /// `id`
+    Id,
+    /// `class`
+    Class,
+    /// `type`
+    Type,
+    /// `hash`
+    Hash,
+    /// `weight`
+    Weight,
+    /// `min_size`
+    MinSize,
+    /// `max_size`
+    MaxSize,
+}
+
+impl Keyword {
+    /// Returns the keyword as it is written in a map's text.
+    pub fn text(self) -> &'static str
+        ensures { result.now ≡ keyword_word self }
+    {
+        match self {
+            Keyword::Brace => "{",
+            Keyword::Id => "id",
+            Keyword::Class => "class",
+            Keyword::Type => "type",
+            Keyword::Hash => "hash",
+            Keyword::Weight => "weight",
+            Keyword::MinSize => "min_size",
+            Keyword::MaxSize => "max_size",
+        }
+    }
+}
+
+/// The optional part of a line that could also come at a place, because the words before the place
+/// have just left it out.
+#[derive(Clone, Copy, Debug, PartialEq, Eq)]
+pub enum Optional {
+    /// No optional part was left out.
+    Nothing,
+    /// `class` and a class.
+    Class,
+    /// `hash` and 0.
+    Hash,
+    /// `weight` and a weight.
+    Weight,
+    /// `max_size` and a number.
+    MaxSize,
+    /// `min_size` and a number, and then perhaps `max_size` and a number.
+    Sizes,
+}
+
+/// What the grammar expects at the place of a fault.
+#[derive(Clone, Copy, Debug, PartialEq, Eq)]
+pub enum Expected {
+    /// The first word of a statement.
+    Statement {
+        /// Whether a bucket or a rule was read before. Then only buckets and rules may follow.
+        late: bool,
+        /// The optional part that was just left out.
+        or: Optional,
+    },
+    /// This keyword.
+    Keyword(Keyword),
+    /// A number from 0 to `most`.
+    Number {
+        /// The largest number that is allowed.
+        most: u32,
+    },
+    /// The name of a tunable.
+    TunableName,
+    /// The number of a type.
+    TypeNumber,
+    /// The name of a type.
+    TypeName,
+    /// The id of a device.
+    DeviceId,
+    /// The name of a new device or bucket.
+    NewName,
+    /// The id of a bucket, or a class id of a bucket.
+    BucketId,
+    /// The class of a device, or the class in a `take` step.
+    Class,
+    /// The class of a class id.
+    IdClass,
+    /// `id` or `alg`.
+    IdOrAlg,
+    /// The name of an algorithm.
+    Algorithm,
+    /// A weight.
+    Weight {
+        /// Whether it is the weight of a device.
+        device: bool,
+    },
+    /// The name of an item.
+    ItemName,
+    /// `item` or `}`.
+    ItemOrEnd {
+        /// The optional part that was just left out.
+        or: Optional,
+    },
+    /// The name of a rule.
+    RuleName,
+    /// `id` or `ruleset`.
+    IdOrRuleset,
+    /// The id of a rule.
+    RuleId,
+    /// The kind of pools that a rule serves, for example `replicated`.
+    RuleType,
+    /// `step` or `}`.
+    StepOrEnd {
+        /// The optional part that was just left out.
+        or: Optional,
+    },
+    /// The first word of a step, after `step`.
+    StepWord,
+    /// The name of a bucket that a step takes.
+    TakenBucket,
+    /// `firstn` or `indep`.
+    FirstnOrIndep,
+    /// How many items a step chooses.
+    Count,
+    /// The name of the type of which a step chooses items.
+    StepType,
+    /// No word: memory ran out.
+    Memory,
+}
