@@ -98,10 +98,10 @@ def commented(said, indent=""):
 
 
 def braced(text, at):
-    """The text between the brace behind a place and the one that closes it."""
+    """The text between the brace behind a place and the one that closes it. Braces in comments and literals don't count."""
     begin, depth = text.index("{", at), 0
-    for found in re.compile(r"[{}]").finditer(text, begin):
-        depth += 1 if found[0] == "{" else -1
+    for found in re.compile(r"""//.*|"(?:[^"\\]|\\.)*"|'(?:[^'\\]|\\.)'|[{}]""").finditer(text, begin):
+        depth += {"{": 1, "}": -1}.get(found[0], 0)
         if depth == 0:
             return text[begin + 1 : found.start()]
     raise ValueError(text[at : at + 60])
