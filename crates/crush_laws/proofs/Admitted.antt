@@ -37,6 +37,10 @@ use Rattle.crush_laws.proofs.Keeps.{Stage, no_brace}
 use Rattle.crush_laws.proofs.Lawful.{listable}
 use Rattle.crush_text.proofs.Laws.{word_right}
 use Rattle.crush_text.proofs.Reserved.{no_key}
+use Rattle.crush_laws.proofs.LeftOut.{opening_right}
+use Rattle.crush_text.specs.declared.expected.Expected.{Expected}
+use Rattle.crush_text.specs.declared.expected.Optional.TheVariants.{Nothing}
+use Rattle.crush_text.specs.declared.expected.Optional.{Optional}
 
 -- none of the tests holds
 abbrev pub Pass : List Test → Type 0
@@ -71,8 +75,8 @@ pub right_number : (d : Draft) (most : ℕ) (w : List ℕ) → is_number most w 
 right_number d most w h = passed d (number most) w (no_brace (is_number most) w refl refl h, (not_from_true _ h, tt))
 
 -- a name, where the form allows any word
-pub right_any : (d : Draft) (w : List ℕ) → IsName w → IsRight d any_word w
-right_any d w form = passed d any_word w (name_no_brace w form, tt)
+pub right_any : (d : Draft) (e : Expected) (w : List ℕ) → IsName w → IsRight d (any_word e) w
+right_any d e w form = passed d (any_word e) w (name_no_brace w form, tt)
 
 -- a word of the grammar
 pub right_key : (d : Draft) (k w : List ℕ) → w ≡ k → IsRight d (key k) w
@@ -134,9 +138,9 @@ module _ (d : Draft) (m : IsMap d) where
   )
 
   -- a word that says whether an item or the end follows
-  right_item_or_end : (any : Bool) (w : List ℕ) → IsFor d (item_or_end any) w → IsRight d (item_or_end any) w
-  right_item_or_end any w (inl e) = subst (IsRight d (item_or_end any)) (sym e) (passed d (item_or_end any) (codes "item") (refl, (refl, tt)))
-  right_item_or_end any w (inr e) = subst (IsRight d (item_or_end any)) (sym e) (passed d (item_or_end any) (codes "}") (refl, (refl, tt)))
+  right_item_or_end : (any : Bool) (k : Optional) (w : List ℕ) → IsFor d (item_or_end any k) w → IsRight d (item_or_end any k) w
+  right_item_or_end any k w (inl e) = subst (IsRight d (item_or_end any k)) (sym e) (passed d (item_or_end any k) (codes "item") (refl, (refl, tt)))
+  right_item_or_end any k w (inr e) = subst (IsRight d (item_or_end any k)) (sym e) (passed d (item_or_end any k) (codes "}") (refl, (refl, tt)))
 
   -- an algorithm
   right_alg : (w : List ℕ) → IsFor d algorithm w → IsRight d algorithm w
@@ -208,8 +212,8 @@ module _ (d : Draft) (m : IsMap d) where
   right_id_or_alg s w (inr e) p = subst (IsRight d id_or_alg) (sym e) (passed d id_or_alg (codes "alg") (refl, (refl, tt)))
 
   -- one of these
-  right_numbered : Stage numbered d → Rightly d (line_forms d numbered)
-  right_numbered s = λ w fw pw. (right_id_or_alg s w fw pw, by_it (bytes_eq w (codes "id")))
+  right_numbered : (k : Optional) → Stage numbered d → Rightly d (line_forms d k numbered)
+  right_numbered k s = λ w fw pw. (right_id_or_alg s w fw pw, by_it (bytes_eq w (codes "id")))
     where
       by_it : (b : Bool) → Rightly d (id_or_alg_line d b)
       by_it true = right_class_id s
@@ -237,7 +241,7 @@ module _ (d : Draft) (m : IsMap d) where
     λ x fx px.
         let f = device_built idle (digits_value 10 n) x px in (
           right_name x f.form f.name,
-          (λ k fk pk. (right_key d (codes "class") k fk, λ c fc pc. (right_any d c (class_form d (digits_value 10 n) x c pc.0.map), tt)), tt),
+          (λ k fk pk. (right_key d (codes "class") k fk, λ c fc pc. (right_any d _ c (class_form d (digits_value 10 n) x c pc.0.map), tt)), tt),
         ),
   )
 
@@ -299,7 +303,7 @@ module _ (d : Draft) (m : IsMap d) where
           λ c fc pc. (
             right_key d (codes "type") c fc,
             λ k fk pk. (
-              right_any d k (head_built x (digits_value 10 n) k pk).2.rule.kind,
+              right_any d _ k (head_built x (digits_value 10 n) k pk).2.rule.kind,
               (λ e fe pe. (right_key d (codes "min_size") e fe, λ u fu pu. (right_number d LARGEST_RULE_NUMBER u fu, right_max x (digits_value 10 n) k (Some (digits_value 10 u)))), right_max x (digits_value 10 n) k None),
             ),
           ),
@@ -318,11 +322,11 @@ module _ (d : Draft) (m : IsMap d) where
     step_built emits h = (emit, step_free d r emit h.1)
 
     -- a word that says whether a step or the end follows
-    right_step_or_end : (w : List ℕ) → IsFor d (step_or_end (length r.steps)) w → Possible d (step_or_brace d r (bytes_eq w (codes "step"))) → IsRight d (step_or_end (length r.steps)) w
-    right_step_or_end w (inl e) p =
+    right_step_or_end : (k : Optional) (w : List ℕ) → IsFor d (step_or_end (length r.steps) k) w → Possible d (step_or_brace d r (bytes_eq w (codes "step"))) → IsRight d (step_or_end (length r.steps) k) w
+    right_step_or_end k w (inl e) p =
         let q : Possible d (step_or_brace d r true) = subst (λ (x : List ℕ). Possible d (step_or_brace d r (bytes_eq x (codes "step")))) e p in
-        subst (IsRight d (step_or_end (length r.steps))) (sym e) (passed d (step_or_end (length r.steps)) (codes "step") (refl, ((step_built (step_said q.0) q.2).1.few, tt)))
-    right_step_or_end w (inr e) p = subst (IsRight d (step_or_end (length r.steps))) (sym e) (passed d (step_or_end (length r.steps)) (codes "}") (refl, (refl, tt)))
+        subst (IsRight d (step_or_end (length r.steps) k)) (sym e) (passed d (step_or_end (length r.steps) k) (codes "step") (refl, ((step_built (step_said q.0) q.2).1.few, tt)))
+    right_step_or_end k w (inr e) p = subst (IsRight d (step_or_end (length r.steps) k)) (sym e) (passed d (step_or_end (length r.steps) k) (codes "}") (refl, (refl, tt)))
 
     -- a step's first word
     right_step_word : (w : List ℕ) → IsFor d step_word w → IsRight d step_word w
@@ -359,7 +363,7 @@ module _ (d : Draft) (m : IsMap d) where
 
     -- a step
     right_step : (w : StepWord) → Rightly d (step_behind d r w)
-    right_step takes = λ b fb pb. (right_taken b fb, (λ k fk pk. (right_key d (codes "class") k fk, λ c fc pc. (right_any d c (step_free d r (take (bucket_of_word d b) (Some c)) pc.1).step, tt)), tt))
+    right_step takes = λ b fb pb. (right_taken b fb, (λ k fk pk. (right_key d (codes "class") k fk, λ c fc pc. (right_any d _ c (step_free d r (take (bucket_of_word d b) (Some c)) pc.1).step, tt)), tt))
     right_step (chooses leaf) = λ o fo po. (
       right_order o fo,
       λ n fn pn. (
@@ -374,8 +378,8 @@ module _ (d : Draft) (m : IsMap d) where
     right_step emits = tt
 
     -- a step, or the end
-    right_ruled : Rightly d (line_forms d (ruled r))
-    right_ruled = λ w fw pw. (right_step_or_end w fw pw, by_it (bytes_eq w (codes "step")))
+    right_ruled : (k : Optional) → Rightly d (line_forms d k (ruled r))
+    right_ruled k = λ w fw pw. (right_step_or_end k w fw pw, by_it (bytes_eq w (codes "step")))
       where
         by_it : (b : Bool) → Rightly d (step_or_brace d r b)
         by_it true = λ w fw pw. (right_step_word w fw, right_step (step_said w))
@@ -383,36 +387,36 @@ module _ (d : Draft) (m : IsMap d) where
 
   -- a statement by its first word
   abbrev Opened : Bool → List ℕ → Type 0
-  Opened late w = Possible d (statement d (value d (opening late) w)) → IsRight d (opening late) w × Rightly d (statement d (value d (opening late) w))
+  Opened late w = Possible d (statement d (value d (opening late Nothing) w)) → IsRight d (opening late Nothing) w × Rightly d (statement d (value d (opening late Nothing) w))
 
   -- of a tunable
   opened_tunable : Opened false (codes "tunable")
-  opened_tunable = λ p. let f = tunable_free d p.0 (digits_value 10 p.2.0) p.2.2.0.map in (passed d (opening false) (codes "tunable") (refl, (refl, (refl, (f.few, tt)))), right_tunable)
+  opened_tunable = λ p. let f = tunable_free d p.0 (digits_value 10 p.2.0) p.2.2.0.map in (passed d (opening false Nothing) (codes "tunable") (refl, (refl, (refl, (f.few, tt)))), right_tunable)
 
   -- of a device
   opened_device : d.pending ≡ nothing → Opened false (codes "device")
-  opened_device idle = λ p. let f = device_built idle (digits_value 10 p.0) p.2.0 p.2.2 in (passed d (opening false) (codes "device") (refl, (refl, (refl, (f.few, tt)))), right_device idle)
+  opened_device idle = λ p. let f = device_built idle (digits_value 10 p.0) p.2.0 p.2.2 in (passed d (opening false Nothing) (codes "device") (refl, (refl, (refl, (f.few, tt)))), right_device idle)
 
   -- of a type
   opened_type : Opened false (codes "type")
-  opened_type = λ p. let f = kind_free d (digits_value 10 p.0) p.2.0 p.2.2.0.map in (passed d (opening false) (codes "type") (refl, (refl, (refl, (f.few, tt)))), right_type)
+  opened_type = λ p. let f = kind_free d (digits_value 10 p.0) p.2.0 p.2.2.0.map in (passed d (opening false Nothing) (codes "type") (refl, (refl, (refl, (f.few, tt)))), right_type)
 
   -- of a rule
   opened_rule : (late : Bool) → Opened late (codes "rule")
   opened_rule late = λ p.
       let f = (head_built p.0 (digits_value 10 p.2.2.2.0) p.2.2.2.2.2.0 p.2.2.2.2.2.2).2 in
-      (passed d (opening late) (codes "rule") (and_right late false refl, (refl, (refl, (f.few, tt)))), right_rule)
+      (passed d (opening late Nothing) (codes "rule") (and_right late false refl, (refl, (refl, (f.few, tt)))), right_rule)
 
   -- of a bucket
   opened_bucket : d.pending ≡ nothing → (late : Bool) (w : List ℕ) → 0 < kind_of_word d w → Opened late w
   opened_bucket idle late w some =
       let t = type_named d.setting.kinds w m.fits.setting.kinds some in
       let n = no_key w t.free in
-      let is : value d (opening late) w ≡ statement_kinds.Bucket (kind_of_word d w) = opens d w (kind_of_word d w) t.free refl in
-      subst (λ (o : StatementKind). Possible d (statement d o) → IsRight d (opening late) w × Rightly d (statement d o)) (sym is) (λ p.
+      let is : value d (opening late Nothing) w ≡ statement_kinds.Bucket (kind_of_word d w) = opens d w (kind_of_word d w) t.free refl in
+      subst (λ (o : StatementKind). Possible d (statement d o) → IsRight d (opening late Nothing) w × Rightly d (statement d o)) (sym is) (λ p.
       let known : is_bucket_kind d.setting (kind_of_word d w) ≡ true = p.2.0.pending.known in
       let full : is_full_of_buckets d ≡ false = lt-leb MOST_BUCKETS (bucket_count d.table) p.2.0.pending.few in (
-        passed d (opening late) w (
+        passed d (opening late Nothing) w (
           or_from _ _ (name_no_brace w t.form) (or_from _ _ n.class (and_right late _ (or_from _ _ n.tunable (or_from _ _ n.device n.kind)))),
           (not_from_true _ (or_right _ _ (or_right _ _ known)), (n.weights, (rw (n.tunable, n.device, n.kind, n.rule) full, tt))),
         ),
@@ -420,7 +424,7 @@ module _ (d : Draft) (m : IsMap d) where
       ))
 
   -- so it is of each
-  right_statement : (late : Bool) → d.pending ≡ nothing → Rightly d (word (opening late) (statement d))
+  right_statement : (late : Bool) → d.pending ≡ nothing → Rightly d (word (opening late Nothing) (statement d))
   right_statement late idle = λ w h. by_word late w h
     where
       by_early : (w : List ℕ) → (w ≡ codes "tunable") ⊎ ((w ≡ codes "device") ⊎ (w ≡ codes "type")) → Opened false w
@@ -428,20 +432,20 @@ module _ (d : Draft) (m : IsMap d) where
       by_early w (inr (inl e)) = subst (Opened false) (sym e) (opened_device idle)
       by_early w (inr (inr e)) = subst (Opened false) (sym e) opened_type
 
-      by_word : (late : Bool) (w : List ℕ) → IsFor d (opening late) w → Opened late w
+      by_word : (late : Bool) (w : List ℕ) → IsFor d (opening late Nothing) w → Opened late w
       by_word late w (inl h) = subst (λ (b : Bool). Opened b w) (sym h.0) (by_early w h.1)
       by_word late w (inr (inl e)) = subst (Opened late) (sym e) (opened_rule late)
       by_word late w (inr (inr some)) = opened_bucket idle late w some
 
   -- each line
-  pub right_lines : (mode : Mode) → Stage mode d → Rightly d (line_forms d mode)
-  right_lines first s = right_statement false s
-  right_lines second s = right_statement true s
-  right_lines begun s = right_id_line s
-  right_lines numbered s = right_numbered s
-  right_lines (filling any) s = λ w fw pw. (right_item_or_end any w fw, by_it (bytes_eq w (codes "item")))
+  pub right_lines : (mode : Mode) (k : Optional) → Stage mode d → Rightly d (line_forms d k mode)
+  right_lines first k s = λ w fw pw. let h = right_statement false s w fw pw in (opening_right d false Nothing k w h.0, h.1)
+  right_lines second k s = λ w fw pw. let h = right_statement true s w fw pw in (opening_right d true Nothing k w h.0, h.1)
+  right_lines begun k s = right_id_line s
+  right_lines numbered k s = right_numbered k s
+  right_lines (filling any) k s = λ w fw pw. (right_item_or_end any k w fw, by_it (bytes_eq w (codes "item")))
     where
       by_it : (b : Bool) → Rightly d (item_or_brace d b)
       by_it true = right_item any s
       by_it false = tt
-  right_lines (ruled r) s = right_ruled r
+  right_lines (ruled r) k s = right_ruled r k

@@ -24,25 +24,33 @@ use Rattle.crush_units.specs.Words.{Word, texts, begins_with_key}
 use Rattle.crush_text.specs.declared.statement_kind.StatementKind.TheVariants as statement_kinds
 use Rattle.crush_units.specs.Numbers.{is_number}
 use Rattle.crush_text.specs.Role.{value, kind_of_word, item_of, opened, units, units_or_none, key, any_word, number, type_name, new_name, bucket_id, id_class}
-use Rattle.crush_text.specs.Form.{Mode, first, second, begun, numbered, filling, at, Form, done, word, optional, ahead}
+use Rattle.crush_text.specs.Form.{Mode, first, second, begun, numbered, filling, at, Form, done, word, optional, ahead, passing}
 use Rattle.crush_text.specs.Grammar.{tunable_line, type_line, device_class, device_line, bucket_line, class_id_line, alg_line, weighed_item, item_weight_line, statement}
 use Rattle.crush_print.proofs.PrintedLines.{class_words}
 use Rattle.crush_text.specs.Flow.{State, between, amid, arrive}
 use Rattle.crush_text.specs.Document.{IsWhole}
 use Rattle.crush_laws.specs.Admitted.{IsLawfulDraft, IsLawfulState, LeadsFrom, WordLeads, Build}
+use Rattle.crush_text.specs.declared.expected.Expected.TheVariants as expect
+use Rattle.crush_text.specs.declared.expected.Optional.TheVariants.{Class}
+use Rattle.crush_laws.proofs.LeftOut.{forget, word_so, whole_so}
 
 -- words of these texts, each with the place 0
 abbrev pub plain : List (List ℕ) → List Word
 plain ts = map (λ (t : List ℕ). record { place = 0; text = t }) ts
 
--- WORDS LEAD from one state to another, if these other words follow
+-- WORDS LEAD from one state to another, if these other words follow; which optional part the last line has left out doesn't matter
 abbrev pub Goes : State → List (List ℕ) → List (List ℕ) → State → Type 0
-Goes s [] others m = s ≡ m
+Goes s [] others m = forget s ≡ forget m
 Goes s (w ∷ ws) others m = (u : State) × WordLeads s w (plain (ws ++ others)) u × IsLawfulState u × Goes u ws others m
+
+-- words lead on from two states that differ only in what was left out
+goes_so : (s m : State) (ts others : List (List ℕ)) (n : State) → forget s ≡ forget m → Goes m ts others n → Goes s ts others n
+goes_so s m [] others n is h = is ∙ h
+goes_so s m (w ∷ ts) others n is h = (h.0, word_so s m w (plain (ts ++ others)) h.0 is h.1, h.2, h.3)
 
 -- one way after another
 pub goes_both : (s : State) (a b others : List (List ℕ)) (m n : State) → Goes s a (b ++ others) m → Goes m b others n → Goes s (a ++ b) others n
-goes_both s [] b others m n f g = subst (λ x. Goes x b others n) (sym f) g
+goes_both s [] b others m n f g = goes_so s m b others n f g
 goes_both s (w ∷ a) b others m n f g = (f.0, subst (λ l. WordLeads s w (plain l) f.0) (sym (append_assoc a b others)) f.1, f.2, goes_both f.0 a b others m n f.3 g)
 
 -- the state to which a form leads depends on the words after it, and not on their places
@@ -84,7 +92,7 @@ plain_texts (t ∷ ts) = ap (λ l. t ∷ l) (plain_texts ts)
 
 -- what leads to the end builds the draft there
 pub goes_build : (s : State) (ts : List (List ℕ)) (ws : List Word) (m : State) (d : Draft) → texts ws ≡ ts → Goes s ts [] m → IsWhole m d → Build s ws d
-goes_build s [] [] m d e f w = subst (λ x. IsWhole x d) (sym f) w
+goes_build s [] [] m d e f w = whole_so s m d f w
 goes_build s [] (v ∷ ws) m d e f w = absurd cc
 goes_build s (t ∷ ts) [] m d e f w = absurd cc
 goes_build s (t ∷ ts) (v ∷ ws) m d e f w =
@@ -150,7 +158,7 @@ kind_goes d n x others le l = (
 
 -- the class after a device's name
 abbrev class_form : Draft → ℕ → List ℕ → Form
-class_form d n x = word (key (codes "class")) (λ _. word any_word (λ c. done (at first (with_device d n x (Some c)))))
+class_form d n x = word (key (codes "class")) (λ _. word (any_word expect.Class) (λ c. done (at first (with_device d n x (Some c)))))
 
 -- a device's line, after which no class follows
 pub device_goes : (d : Draft) (n : ℕ) (x : List ℕ) (class : Option (List ℕ)) (others : List (List ℕ)) → n < 10 ^ 10 → begins_with_key (codes "class") (plain others) ≡ false → IsLawfulDraft (with_device d n x class)
@@ -163,7 +171,7 @@ device_goes d n x None others le other l = (
     amid d (word new_name (λ y. device_class d n y)),
     (decimal_digits n le, ap (λ v. amid d (word new_name (λ y. device_class d v y))) (sym (decimal_value n le))),
     tt,
-    (between (at first (with_device d n x None)), (tt, sym (ap (λ b. if b then amid d (class_form d n x) else between (at first (with_device d n x None))) other)), (l, tt), refl),
+    (between (passing Class (at first (with_device d n x None))), (tt, sym (ap (λ b. if b then amid d (class_form d n x) else between (passing Class (at first (with_device d n x None)))) other)), (l, tt), refl),
   ),
 )
 device_goes d n x (Some c) others le other l = (
@@ -179,7 +187,7 @@ device_goes d n x (Some c) others le other l = (
       (tt, refl),
       tt,
       (
-        amid d (word any_word (λ y. done (at first (with_device d n x (Some y))))),
+        amid d (word (any_word expect.Class) (λ y. done (at first (with_device d n x (Some y))))),
         (refl, refl),
         tt,
         (between (at first (with_device d n x (Some c))), (tt, refl), (l, tt), refl),

@@ -17,11 +17,14 @@ use Rattle.crush_units.specs.Words.{Word, begins_with_key}
 use Rattle.crush_print.proofs.PrintedLines.{class_words, size_words, choice_word, order_word}
 use Rattle.crush_units.specs.Numbers.{is_signed, signed_value}
 use Rattle.crush_text.specs.Role.{bucket_of_word, key, any_word, number, rule_id_key, rule_id, step_word, sets, step_said, step_count, step_type}
-use Rattle.crush_text.specs.Form.{second, ruled, at, Form, done, word}
+use Rattle.crush_text.specs.Form.{second, ruled, at, Form, done, word, passing}
 use Rattle.crush_text.specs.Grammar.{new_rule, max_size, sizes, rule_line, with_step, step_done, take_step, choose_step, set_step, step_behind}
 use Rattle.crush_text.specs.Flow.{between, amid, arrive}
 use Rattle.crush_laws.specs.Admitted.{IsLawfulDraft, IsLawfulState, WordLeads}
 use Rattle.crush_laws.proofs.BuiltLines.{plain, Goes, goes_both, idle, decimal_digits, decimal_value, decimal_number}
+use Rattle.crush_text.specs.declared.expected.Expected.TheVariants as expect
+use Rattle.crush_text.specs.declared.expected.Optional.TheVariants.{Class}
+use Rattle.crush_laws.proofs.LeftOut.{forget}
 
 -- SIZES
 abbrev most_form : Draft → List ℕ → ℕ → List ℕ → Option ℕ → Form
@@ -33,7 +36,7 @@ least_form d x n k = word (key (codes "min_size")) (λ _. word (number LARGEST_R
 most_goes : (d : Draft) (x : List ℕ) (n : ℕ) (k : List ℕ) (least most : Option ℕ) (others : List (List ℕ)) → IfSome most (λ v. v ≤ LARGEST_RULE_NUMBER) → begins_with_key (codes "max_size") (plain others) ≡ false
     → IsLawfulState (between (at (ruled (new_rule x n k least most)) d))
     → Goes (arrive d (plain (size_words (codes "max_size") most ++ others)) (max_size d x n k least)) (size_words (codes "max_size") most) others (between (at (ruled (new_rule x n k least most)) d))
-most_goes d x n k least None others h other l = ap (λ b. if b then amid d (most_form d x n k least) else between (at (ruled (new_rule x n k least None)) d)) other
+most_goes d x n k least None others h other l = ap (λ b. forget (if b then amid d (most_form d x n k least) else between (passing (sizes_left least) (at (ruled (new_rule x n k least None)) d)))) other
 most_goes d x n k least (Some v) others h other l = (
   amid d (word (number LARGEST_RULE_NUMBER) (λ y. done (at (ruled (new_rule x n k least (Some y))) d))),
   (refl, refl),
@@ -43,7 +46,7 @@ most_goes d x n k least (Some v) others h other l = (
 
 most_lawful : (d : Draft) (x : List ℕ) (n : ℕ) (k : List ℕ) (least most : Option ℕ) (others : List (List ℕ)) → begins_with_key (codes "max_size") (plain others) ≡ false
     → IsLawfulState (between (at (ruled (new_rule x n k least most)) d)) → IsLawfulState (arrive d (plain (size_words (codes "max_size") most ++ others)) (max_size d x n k least))
-most_lawful d x n k least None others other l = subst IsLawfulState (sym (ap (λ b. if b then amid d (most_form d x n k least) else between (at (ruled (new_rule x n k least None)) d)) other)) l
+most_lawful d x n k least None others other l = subst IsLawfulState (sym (ap (λ b. if b then amid d (most_form d x n k least) else between (passing (sizes_left least) (at (ruled (new_rule x n k least None)) d))) other)) l
 most_lawful d x n k least (Some v) others other l = tt
 
 most_first : (most : Option ℕ) (others : List (List ℕ)) → begins_with_key (codes "min_size") (plain others) ≡ false → begins_with_key (codes "min_size") (plain (size_words (codes "max_size") most ++ others)) ≡ false
@@ -63,7 +66,7 @@ least_goes d x n k (Some v) rest h other l = (
 
 -- THE HEAD
 abbrev type_form : Draft → List ℕ → ℕ → Form
-type_form d x n = word (key (codes "type")) (λ _. word any_word (λ k. sizes d x n k))
+type_form d x n = word (key (codes "type")) (λ _. word (any_word expect.RuleType) (λ k. sizes d x n k))
 
 pub opens_rule : (late : Bool) (d : Draft) (rest : List Word) → WordLeads (between (at (idle late) d)) (codes "rule") rest (amid d (rule_line d))
 opens_rule true d rest = (inr (inl refl), refl)
@@ -116,7 +119,7 @@ rule_head_goes late d x n k least most others le hl hm other another l =
               (decimal_digits n le, ap (λ v. amid d (type_form d x v)) (sym (decimal_value n le))),
               tt,
               (
-                amid d (word any_word (λ y. sizes d x n y)),
+                amid d (word (any_word expect.RuleType) (λ y. sizes d x n y)),
                 (refl, refl),
                 tt,
                 (arrive d (plain (size_words (codes "min_size") least ++ (size_words (codes "max_size") most ++ others))) (sizes d x n k), (tt, ap (λ ws. arrive d (plain ws) (sizes d x n k)) (sym e)), lawful, refl),
@@ -141,10 +144,10 @@ take_goes d r x b None others named other l =
         (inl refl, refl),
         tt,
         (
-          between (at (ruled (with_step r (take b None))) d),
+          between (passing Class (at (ruled (with_step r (take b None))) d)),
           (
             named ∙ ap (λ v. Some v) (sym is),
-            sym (ap (λ c. if c then amid d (word (key (codes "class")) (λ _. word any_word (λ y. step_done d r (take (bucket_of_word d x) (Some y))))) else between (at (ruled (with_step r (take (bucket_of_word d x) None))) d)) other ∙ ap (λ v. between (at (ruled (with_step r (take v None))) d)) is),
+            sym (ap (λ c. if c then amid d (word (key (codes "class")) (λ _. word (any_word expect.Class) (λ y. step_done d r (take (bucket_of_word d x) (Some y))))) else between (passing Class (at (ruled (with_step r (take (bucket_of_word d x) None))) d))) other ∙ ap (λ v. between (passing Class (at (ruled (with_step r (take v None))) d))) is),
           ),
           l,
           refl,
@@ -161,11 +164,11 @@ take_goes d r x b (Some c) others named other l =
         (inl refl, refl),
         tt,
         (
-          amid d (word (key (codes "class")) (λ _. word any_word (λ y. step_done d r (take b (Some y))))),
-          (named ∙ ap (λ v. Some v) (sym is), ap (λ v. amid d (word (key (codes "class")) (λ _. word any_word (λ y. step_done d r (take v (Some y)))))) (sym is)),
+          amid d (word (key (codes "class")) (λ _. word (any_word expect.Class) (λ y. step_done d r (take b (Some y))))),
+          (named ∙ ap (λ v. Some v) (sym is), ap (λ v. amid d (word (key (codes "class")) (λ _. word (any_word expect.Class) (λ y. step_done d r (take v (Some y)))))) (sym is)),
           tt,
           (
-            amid d (word any_word (λ y. step_done d r (take b (Some y)))),
+            amid d (word (any_word expect.Class) (λ y. step_done d r (take b (Some y)))),
             (refl, refl),
             tt,
             (between (at (ruled (with_step r (take b (Some c)))) d), (tt, refl), l, refl),

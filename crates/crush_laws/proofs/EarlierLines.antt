@@ -29,6 +29,8 @@ use Rattle.crush_laws.proofs.EarlierTables.{row_back, item_back, types_back}
 use Rattle.crush_laws.proofs.EarlierSettings.{IsEarly, kind_back, tunable_back, rule_back, step_back}
 use Rattle.crush_laws.proofs.EarlierBuckets.{begin_back, number_back}
 use Rattle.crush_laws.proofs.Shapes.{IsTied, Shape, is_early, early_opening}
+use Rattle.crush_text.specs.declared.expected.Optional.TheVariants.{Nothing}
+use Rattle.crush_text.specs.declared.expected.Optional.{Optional}
 
 -- nothing is pending
 pub idle_draft : (d : Draft) → d.pending ≡ nothing → IsMap d → IsLawfulDraft d
@@ -82,7 +84,7 @@ module _ (d : Draft) where
     statement_back statement_kinds.Rule early p = head_map p.0 (digits_value 10 p.2.2.2.0) p.2.2.2.2.2.0 p.2.2.2.2.2.2
 
     -- by its first word
-    opening_back : (late : Bool) → (late ≡ false → All IsKind d.setting.kinds → IsEarly d) → Possible d (word (opening late) (statement d)) → IsMap d
+    opening_back : (late : Bool) → (late ≡ false → All IsKind d.setting.kinds → IsEarly d) → Possible d (word (opening late Nothing) (statement d)) → IsMap d
     opening_back late early (w, fw, p) = statement_back (opened d w) (λ is. early_opening d late early w fw is (kinds_before (opened d w) p)) p
 
     -- before an id
@@ -151,21 +153,21 @@ module _ (d : Draft) where
     step_before r emits s h = (h.0.map, step_back d r emit h.0.map s.1 h.1)
 
     -- before each line
-    pub line_back : (mode : Mode) → Shape mode d → Possible d (line_forms d mode) → IsLawfulDraft d × IsLawfulMode d mode
-    line_back first s p = (idle_draft d s.0 (opening_back false (λ _. s.1) p), tt)
-    line_back second s p = (idle_draft d s (opening_back true (λ e. let no : true ≡ false = e in absurd cc) p), tt)
-    line_back begun s p = (id_back s p, tt)
-    line_back numbered s (w, fw, p) = (by_it (bytes_eq w (codes "id")) p, tt)
+    pub line_back : (mode : Mode) (k : Optional) → Shape mode d → Possible d (line_forms d k mode) → IsLawfulDraft d × IsLawfulMode d mode
+    line_back first k s p = (idle_draft d s.0 (opening_back false (λ _. s.1) p), tt)
+    line_back second k s p = (idle_draft d s (opening_back true (λ e. let no : true ≡ false = e in absurd cc) p), tt)
+    line_back begun k s p = (id_back s p, tt)
+    line_back numbered k s (w, fw, p) = (by_it (bytes_eq w (codes "id")) p, tt)
       where
         by_it : (b : Bool) → Possible d (id_or_alg_line d b) → IsLawfulDraft d
         by_it true q = class_id_back s q
         by_it false q = alg_back s q
-    line_back (filling any) s (w, fw, p) = (filling_draft any s (by_it (bytes_eq w (codes "item")) p), tt)
+    line_back (filling any) k s (w, fw, p) = (filling_draft any s (by_it (bytes_eq w (codes "item")) p), tt)
       where
         by_it : (b : Bool) → Possible d (item_or_brace d b) → IsMap d
         by_it true q = item_map any s q
         by_it false q = record { lawful = q.0.map.lawful; fits = q.0.map.fits }
-    line_back (ruled r) s (w, fw, p) = let both = by_it (bytes_eq w (codes "step")) p in (idle_draft d s.0 both.0, both.1)
+    line_back (ruled r) k s (w, fw, p) = let both = by_it (bytes_eq w (codes "step")) p in (idle_draft d s.0 both.0, both.1)
       where
         by_it : (b : Bool) → Possible d (step_or_brace d r b) → IsMap d × IsMap (add_rule d r)
         by_it true (v, fv, q) = step_before r (step_said v) s q

@@ -10,7 +10,7 @@ use Rattle.crush_edits.specs.Fits.{Fits, IsThere}
 use Rattle.crush_builder.specs.Built.{Draft}
 use Rattle.crush_units.specs.Words.{Word, words, begins_with_key}
 use Rattle.crush_text.specs.Role.{value}
-use Rattle.crush_text.specs.Form.{Mode, first, second, begun, numbered, filling, ruled, Form, done, word, optional, ahead}
+use Rattle.crush_text.specs.Form.{Mode, first, second, begun, numbered, filling, ruled, Form, done, word, optional, ahead, passing, at}
 use Rattle.crush_text.specs.Grammar.{next}
 use Rattle.crush_text.specs.Flow.{State, between, amid, arrive, takes_statement}
 use Rattle.crush_text.specs.Document.{IsMap, start}
@@ -23,11 +23,12 @@ use Rattle.crush_laws.proofs.LawfulTexts.{MayEnd, may_end, maps_are_the_lawful_t
 use Rattle.crush_laws.proofs.EarlierLines.{idle_draft, line_back}
 use Rattle.crush_laws.proofs.EarlierTables.{IsLoose}
 use Rattle.crush_laws.proofs.Shapes.{Shape, IsShaped, Shapes, shapes_lines}
+use Rattle.crush_text.specs.declared.expected.Optional.TheVariants.{Nothing}
 
 -- WHAT THE WORDS KEEP
 -- what was read has the shape, and what is built of the rest of a line
 abbrev HasShape : State → Type 0
-HasShape (between p) = IsShaped p
+HasShape (between p) = IsShaped (passing Nothing p)
 HasShape (amid d f) = Shapes d f
 
 -- so it is of what is due next
@@ -46,7 +47,7 @@ form_shaped d (ahead c f g) w rest u k h = absurd h
 
 -- in a line or before one
 word_shaped : (s : State) (w : List ℕ) (rest : List Word) (u : State) → HasShape s → WordLeads s w rest u → HasShape u
-word_shaped (between p) w rest u k h = form_shaped p.draft (next p) w rest u (shapes_lines p.draft k.tied p.mode k.stage) h
+word_shaped (between p) w rest u k h = form_shaped p.draft (next p) w rest u (shapes_lines p.draft k.tied p.mode p.passed k.stage) h
 word_shaped (amid d f) w rest u k h = form_shaped d f w rest u k h
 
 -- FROM THE END BACKWARDS
@@ -68,7 +69,7 @@ form_before d (ahead k f g) w rest u h e = absurd h
 
 -- before a line, and in the middle of one
 state_before : (s : State) (w : List ℕ) (rest : List Word) (u : State) → HasShape s → WordLeads s w rest u → MayEnd u → MayEnd s
-state_before (between p) w rest u k h e = line_back p.draft k.tied p.mode k.stage (form_before p.draft (next p) w rest u h e)
+state_before (between p) w rest u k h e = line_back p.draft k.tied p.mode p.passed k.stage (form_before p.draft (next p) w rest u h e)
 state_before (amid d f) w rest u k h e = form_before d f w rest u h e
 
 -- what may end lawfully is lawful at the end of a line

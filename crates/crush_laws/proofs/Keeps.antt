@@ -37,7 +37,7 @@ use Rattle.crush_text.specs.declared.fault.TextFaultKind.TheVariants.{Unexpected
 use Rattle.crush_text.specs.declared.statement_kind.StatementKind.TheVariants as statement_kinds
 use Rattle.crush_units.specs.Numbers.{is_number, is_signed, signed_value}
 use Rattle.crush_text.specs.Role.{opening, device_id, new_name, weight, step_word, takes, chooses, sets, emits, value, kind_of_word, item_of, bucket_of_word, units_or_none, units}
-use Rattle.crush_text.specs.Form.{Mode, first, second, begun, numbered, filling, ruled, Progress, at, Form, done, word, optional, ahead}
+use Rattle.crush_text.specs.Form.{Mode, first, second, begun, numbered, filling, ruled, Progress, at, Form, done, word, optional, ahead, passing}
 use Rattle.crush_text.specs.Grammar.{tunable_line, type_line, device_line, bucket_line, id_line, class_id_line, alg_line, id_or_alg_line, item_line, rule_line, new_rule, with_step, step_behind, step_or_brace, statement, item_or_brace, line_forms, next}
 use Rattle.crush_text.specs.Rows.{IsBrace, IsNoWeightOf, BeginsBucket, IsOneTooMany, IsRight}
 use Rattle.crush_text.specs.Flow.{State, between, amid, arrive}
@@ -47,24 +47,27 @@ use Rattle.crush_text.proofs.Reserved.{not_reserved}
 use Rattle.crush_text.proofs.TheTable.{brace_tells}
 use Rattle.crush_laws.proofs.Lawful.{map_with_tunable, map_with_kind, map_with_device, kind_there, made_root, listable, IsLight, map_with_item}
 use Rattle.crush_laws.proofs.Ruled.{CanAdd, map_with_rule, can_begin, can_step}
+use Rattle.crush_laws.proofs.LeftOut.{opening_right}
+use Rattle.crush_text.specs.declared.expected.Optional.TheVariants.{Nothing}
+use Rattle.crush_text.specs.declared.expected.Optional.{Optional}
 
 -- a word of a text is a brace or a name
 abbrev pub IsWord : List ℕ → Type 0
 IsWord w = (is_brace_word w || is_name w) ≡ true
 
--- however a form goes on, what it builds has the property
+-- however a form goes on, what it builds has the property; which optional part it has left out doesn't matter
 abbrev Keeps : (Progress → Type 0) → Draft → Form → Type 0
-Keeps P d (done p) = P p
+Keeps P d (done p) = P (passing Nothing p)
 Keeps P d (word r more) = (w : List ℕ) → IsWord w → IsRight d r w → Keeps P d (more (value d r w))
 Keeps P d (optional k f g) = Keeps P d f × Keeps P d g
 Keeps P d (ahead k f g) = Keeps P d f × Keeps P d g
 
 -- and so has what was read, and what is built of the rest of a line
 abbrev pub Has : (Progress → Type 0) → State → Type 0
-Has P (between p) = P p
+Has P (between p) = P (passing Nothing p)
 Has P (amid d f) = Keeps P d f
 
-module _ (P : Progress → Type 0) (each : (p : Progress) → P p → Keeps P p.draft (next p)) where
+module _ (P : Progress → Type 0) (each : (p : Progress) → P (passing Nothing p) → Keeps P p.draft (next p)) where
   arrives : (d : Draft) (rest : List Word) (f : Form) → Keeps P d f → Has P (arrive d rest f)
   arrives d rest (done p) k = k
   arrives d rest (word r more) k = k
@@ -216,7 +219,7 @@ differs : (w k : List ℕ) → bytes_eq w k ≡ false → w ≢ k
 differs w k other e = let t = (bytes_eq-Decides w k).1 e in absurd cc
 
 -- a first word without a fault that begins nothing else begins a bucket
-pub begins_bucket : (d : Draft) (late : Bool) (w : List ℕ) → IsRight d (opening late) w → bytes_eq w (codes "tunable") ≡ false → bytes_eq w (codes "device") ≡ false → bytes_eq w (codes "type") ≡ false → bytes_eq w (codes "rule") ≡ false
+pub begins_bucket : (d : Draft) (late : Bool) (w : List ℕ) → IsRight d (opening late Nothing) w → bytes_eq w (codes "tunable") ≡ false → bytes_eq w (codes "device") ≡ false → bytes_eq w (codes "type") ≡ false → bytes_eq w (codes "rule") ≡ false
     → BeginsBucket d w
 begins_bucket d late w r tunable device kind rule =
     let free = not_reserved w (record {
@@ -339,8 +342,8 @@ module _ (d : Draft) (m : IsMap d) where
   keeps_alg s = λ a fa ra. (λ h fh rh. λ z fz rz. made _ s, made _ s)
 
   -- one of these
-  keeps_numbered : Stage numbered d → Keeps Good d (line_forms d numbered)
-  keeps_numbered s = λ w f r. by_it w (bytes_eq w (codes "id")) refl (r TooMany)
+  keeps_numbered : (k : Optional) → Stage numbered d → Keeps Good d (line_forms d k numbered)
+  keeps_numbered k s = λ w f r. by_it w (bytes_eq w (codes "id")) refl (r TooMany)
     where
       by_it : (w : List ℕ) (b : Bool) → bytes_eq w (codes "id") ≡ b → ((w ≡ codes "id") × (is_full_of_class_ids d ≡ true) → ⊥) → Keeps Good d (id_or_alg_line d b)
       by_it w true e few = keeps_class_id s (not_true _ (λ t. few ((bytes_eq-Decides w _).0 e, t)))
@@ -357,8 +360,8 @@ module _ (d : Draft) (m : IsMap d) where
       added x w there light over = let e = map_with_item d x (item_of d x) w s.0 m s.1 s.2 (some_of (item_named d x) there) light (not_true _ over) in record { map = e.map; stage = (s.0, s.1, e.root) }
 
   -- an item, or the end
-  keeps_items : (any : Bool) → Stage (filling any) d → Keeps Good d (line_forms d (filling any))
-  keeps_items any s = λ w f r. by_it (bytes_eq w (codes "item"))
+  keeps_items : (any : Bool) (k : Optional) → Stage (filling any) d → Keeps Good d (line_forms d k (filling any))
+  keeps_items any k s = λ w f r. by_it (bytes_eq w (codes "item"))
     where
       by_it : (b : Bool) → Keeps Good d (item_or_brace d b)
       by_it true = keeps_item any s
@@ -411,18 +414,18 @@ module _ (d : Draft) (m : IsMap d) where
         by_said false false false false ha hb hc he = is_set (not_false _ (λ none. q Unexpected (differs w _ ha, (differs w _ hb, differs w _ hc), differs w _ he, none, λ e. q LeftOut e)))
 
     -- a step, or the end
-    keeps_ruled : Keeps Good d (line_forms d (ruled r))
-    keeps_ruled = λ w f q. by_it w (bytes_eq w (codes "step")) refl (q TooMany)
+    keeps_ruled : (k : Optional) → Keeps Good d (line_forms d k (ruled r))
+    keeps_ruled k = λ w f q. by_it w (bytes_eq w (codes "step")) refl (q TooMany)
       where
         by_it : (w : List ℕ) (b : Bool) → bytes_eq w (codes "step") ≡ b → ((w ≡ codes "step") × (MOST_STEPS ≤ length r.steps) → ⊥) → Keeps Good d (step_or_brace d r b)
         by_it w true e few = let no : MOST_STEPS ≤ length r.steps → ⊥ = λ le. few ((bytes_eq-Decides w _).0 e, le) in keeps_step (omega (arith, no))
         by_it w false e few = record { map = map_with_rule d r m s.1; stage = s.0 }
 
   -- a statement by its first word
-  keeps_statement : (late : Bool) → d.pending ≡ nothing → Keeps Good d (word (opening late) (statement d))
+  keeps_statement : (late : Bool) → d.pending ≡ nothing → Keeps Good d (word (opening late Nothing) (statement d))
   keeps_statement late idle = λ w f r. by_it w r (bytes_eq w (codes "tunable")) (bytes_eq w (codes "device")) (bytes_eq w (codes "type")) (bytes_eq w (codes "rule")) refl refl refl refl (r TooMany)
     where
-      by_it : (w : List ℕ) → IsRight d (opening late) w → (a b c e : Bool) → bytes_eq w (codes "tunable") ≡ a → bytes_eq w (codes "device") ≡ b → bytes_eq w (codes "type") ≡ c → bytes_eq w (codes "rule") ≡ e
+      by_it : (w : List ℕ) → IsRight d (opening late Nothing) w → (a b c e : Bool) → bytes_eq w (codes "tunable") ≡ a → bytes_eq w (codes "device") ≡ b → bytes_eq w (codes "type") ≡ c → bytes_eq w (codes "rule") ≡ e
           → (IsOneTooMany d w → ⊥)
           → Keeps Good d (statement d (cond a statement_kinds.Tunable (cond b statement_kinds.Device (cond c statement_kinds.Type (cond e statement_kinds.Rule (statement_kinds.Bucket (kind_of_word d w)))))))
       by_it w r true b c e ha hb hc he few = keeps_tunable idle (not_true _ (λ t. few (inl ((bytes_eq-Decides w _).0 ha, t))))
@@ -434,13 +437,13 @@ module _ (d : Draft) (m : IsMap d) where
           keeps_bucket w opens.1 (not_true _ (λ t. few (inr (inr (inr (inr (opens, t)))))))
 
   -- each line
-  pub keeps_lines : (mode : Mode) → Stage mode d → Keeps Good d (line_forms d mode)
-  keeps_lines first s = keeps_statement false s
-  keeps_lines second s = keeps_statement true s
-  keeps_lines begun s = keeps_id s
-  keeps_lines numbered s = keeps_numbered s
-  keeps_lines (filling any) s = keeps_items any s
-  keeps_lines (ruled r) s = keeps_ruled r s
+  pub keeps_lines : (mode : Mode) (k : Optional) → Stage mode d → Keeps Good d (line_forms d k mode)
+  keeps_lines first k s = λ w f r. keeps_statement false s w f (opening_right d false k Nothing w r)
+  keeps_lines second k s = λ w f r. keeps_statement true s w f (opening_right d true k Nothing w r)
+  keeps_lines begun k s = keeps_id s
+  keeps_lines numbered k s = keeps_numbered k s
+  keeps_lines (filling any) k s = keeps_items any k s
+  keeps_lines (ruled r) k s = keeps_ruled r s k
 
 -- nothing is there
 pub nothing_there : IsMap empty_draft
@@ -467,7 +470,7 @@ nothing_there = record {
 
 -- what a document builds is a map
 document_lawful : (t : Text) (d : Draft) → AreFormed t.words → IsDocument t d → IsMap d
-document_lawful t d formed h = by_it h.last h.whole (spelled_has Good (λ p g. keeps_lines p.draft g.map p.mode g.stage) start t.words [] h.last (record { map = nothing_there; stage = refl }) formed h.spelled)
+document_lawful t d formed h = by_it h.last h.whole (spelled_has Good (λ p g. keeps_lines p.draft g.map p.mode p.passed g.stage) start t.words [] h.last (record { map = nothing_there; stage = refl }) formed h.spelled)
   where
     by_it : (s : State) → IsWhole s d → Has Good s → IsMap d
     by_it (between p) w g = subst IsMap w.0 g.map

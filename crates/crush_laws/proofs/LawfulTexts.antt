@@ -21,7 +21,7 @@ use Rattle.crush_units.proofs.Forms.{words_are_formed}
 use Rattle.crush_text.specs.declared.fault.TextFaultKind.TheVariants.{Unexpected, BadNumber, BadWeight, UnknownItem, SecondParent, OtherAlgorithm, LeftOut, UnknownBucketInRule}
 use Rattle.crush_units.specs.Numbers.{is_number}
 use Rattle.crush_text.specs.Role.{Role, value, kind_of_word, item_of, key, any_word, number, opening, tunable_name, type_number, type_name, device_id, new_name, bucket_id, id_or_alg, id_class, algorithm, item_or_end, item, lone_item, weight, rule_name, rule_id_key, rule_id, step_or_end, step_word, taken_bucket, step_order, step_count, step_type}
-use Rattle.crush_text.specs.Form.{Mode, first, second, begun, numbered, filling, ruled, Progress, Form, done, word, optional, ahead}
+use Rattle.crush_text.specs.Form.{Mode, first, second, begun, numbered, filling, ruled, Progress, passing, Form, done, word, optional, ahead}
 use Rattle.crush_text.specs.Grammar.{next}
 use Rattle.crush_text.specs.Rows.{ComesFirst, IsNeither, IsHeldItem, IsRight}
 use Rattle.crush_text.specs.Flow.{State, between, amid, arrive}
@@ -31,6 +31,8 @@ use Rattle.crush_laws.specs.MapOrFlaw.{MapsAreTheLawfulTexts}
 use Rattle.crush_laws.proofs.Keeps.{IsWord, Has, Good, Stage, next_has, keeps_lines, nothing_there, not_true, not_false, some_of, has_units, begins_bucket}
 use Rattle.crush_laws.proofs.Ruled.{map_with_rule}
 use Rattle.crush_laws.proofs.Admitted.{Possible, Rightly, right_lines}
+use Rattle.crush_laws.proofs.LeftOut.{opening_right}
+use Rattle.crush_text.specs.declared.expected.Optional.TheVariants.{Nothing}
 
 -- WHAT IS BUILT IS SPELLED
 -- the rest of a line may end lawfully
@@ -82,12 +84,12 @@ form_spelled d (ahead c f g) w rest u k h e = absurd h
 
 -- in a line or before one
 word_spelled : (s : State) (w : List ℕ) (rest : List Word) (u : State) → Has Good s → Goes s → WordLeads s w rest u → MayEnd u → SpellsNext s w rest u × Goes u
-word_spelled (between p) w rest u g k h e = form_spelled p.draft (next p) w rest u (right_lines p.draft g.map p.mode g.stage) h e
+word_spelled (between p) w rest u g k h e = form_spelled p.draft (next p) w rest u (right_lines p.draft g.map p.mode p.passed g.stage) h e
 word_spelled (amid d f) w rest u g k h e = form_spelled d f w rest u k h e
 
 -- after a word what was built so far is good
 good_next : (s : State) (w : List ℕ) (rest : List Word) (u : State) → Has Good s → IsWord w → SpellsNext s w rest u → Has Good u
-good_next s w rest u g formed h = next_has Good (λ p k. keeps_lines p.draft k.map p.mode k.stage) s w rest u g formed h
+good_next s w rest u g formed h = next_has Good (λ p k. keeps_lines p.draft k.map p.mode p.passed k.stage) s w rest u g formed h
 
 -- all words
 built_spelled : (s : State) (ws : List Word) (e : Draft) → Has Good s → Goes s → AreFormed ws → Build s ws e → (m : State) × Spell s ws [] m × IsWhole m e
@@ -143,13 +145,13 @@ other_word : (w k : List ℕ) → bytes_eq w k ≡ false → w ≢ k
 other_word w k f e = let no : false ≡ true = sym f ∙ (bytes_eq-Decides w k).1 e in absurd cc
 
 -- a word that opens a statement
-begins_statement : (d : Draft) (late : Bool) (w : List ℕ) → IsRight d (opening late) w → IsFor d (opening late) w
+begins_statement : (d : Draft) (late : Bool) (w : List ℕ) → IsRight d (opening late Nothing) w → IsFor d (opening late Nothing) w
 begins_statement d late w h = by_it (bytes_eq w (codes "tunable")) (bytes_eq w (codes "device")) (bytes_eq w (codes "type")) (bytes_eq w (codes "rule")) refl refl refl refl
   where
-    early : ComesFirst w → IsFor d (opening late) w
+    early : ComesFirst w → IsFor d (opening late Nothing) w
     early e = inl (not_true late (λ l. h Unexpected (inr (inr (l, e)))), e)
 
-    by_it : (a b c e : Bool) → bytes_eq w (codes "tunable") ≡ a → bytes_eq w (codes "device") ≡ b → bytes_eq w (codes "type") ≡ c → bytes_eq w (codes "rule") ≡ e → IsFor d (opening late) w
+    by_it : (a b c e : Bool) → bytes_eq w (codes "tunable") ≡ a → bytes_eq w (codes "device") ≡ b → bytes_eq w (codes "type") ≡ c → bytes_eq w (codes "rule") ≡ e → IsFor d (opening late Nothing) w
     by_it true b c e ha hb hc he = early (inl ((bytes_eq-Decides w _).0 ha))
     by_it false true c e ha hb hc he = early (inr (inl ((bytes_eq-Decides w _).0 hb)))
     by_it false false true e ha hb hc he = early (inr (inr ((bytes_eq-Decides w _).0 hc)))
@@ -173,9 +175,9 @@ begins_step d w h = by_it (bytes_eq w (codes "take")) (bytes_eq w (codes "choose
 -- a word without a fault is of the form of what it is for
 pub is_for : (d : Draft) (r : Role) (w : List ℕ) → IsRight d r w → IsFor d r w
 is_for d (key k) w h = same_word w k (h Unexpected)
-is_for d any_word w h = tt
+is_for d (any_word e) w h = tt
 is_for d (number most) w h = not_false _ (h BadNumber)
-is_for d (opening late) w h = begins_statement d late w h
+is_for d (opening late or) w h = begins_statement d late w (opening_right d late or Nothing w h)
 is_for d tunable_name w h = tt
 is_for d type_number w h = digits_of LAST_TYPE w (h BadNumber)
 is_for d (type_name n) w h = tt
@@ -188,14 +190,14 @@ is_for d bucket_id w h =
 is_for d id_or_alg w h = either_word w (codes "id") (codes "alg") (h Unexpected)
 is_for d id_class w h = tt
 is_for d algorithm w h = named_alg w (h OtherAlgorithm)
-is_for d (item_or_end any) w h = either_word w (codes "item") (codes "}") (λ o. h Unexpected (o.0, o.1, λ t e. h LeftOut (t, e)))
+is_for d (item_or_end any or) w h = either_word w (codes "item") (codes "}") (λ o. h Unexpected (o.0, o.1, λ t e. h LeftOut (t, e)))
 is_for d item w h = free_item d w (h UnknownItem) (h SecondParent)
 is_for d lone_item w h = free_item d w (h UnknownItem) (h SecondParent)
 is_for d (weight i) w h = has_units i (weight_of_text w) (h BadWeight)
 is_for d rule_name w h = tt
 is_for d rule_id_key w h = either_word w (codes "id") (codes "ruleset") (h Unexpected)
 is_for d rule_id w h = digits_of LARGEST_RULE_NUMBER w (h BadNumber)
-is_for d (step_or_end k) w h = either_word w (codes "step") (codes "}") (h Unexpected)
+is_for d (step_or_end k or) w h = either_word w (codes "step") (codes "}") (h Unexpected)
 is_for d step_word w h = begins_step d w h
 is_for d taken_bucket w h = some_bucket (complete_bucket_named d w) (h UnknownBucketInRule)
 is_for d step_order w h = either_word w (codes "firstn") (codes "indep") (h Unexpected)
@@ -228,7 +230,7 @@ lawful_mode p g = by_mode p.mode g.stage
 
 -- and so it is in a line or between two
 lawful_state : (s : State) → Has Good s → IsLawfulState s
-lawful_state (between p) g = (lawful_good p g, lawful_mode p g)
+lawful_state (between p) g = (lawful_good (passing Nothing p) g, lawful_mode (passing Nothing p) g)
 lawful_state (amid d f) g = tt
 
 -- one word

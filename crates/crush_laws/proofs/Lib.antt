@@ -23,6 +23,7 @@ pub mod JobTexts
 pub mod Keeps
 pub mod Lawful
 pub mod LawfulTexts
+pub mod LeftOut
 pub mod OneOfBoth
 pub mod Planned
 pub mod PrintedAgain

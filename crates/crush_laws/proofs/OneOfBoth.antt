@@ -4,18 +4,20 @@ use Rattle.std.proofs.lemmas.Bool.{cond_both}
 use Rattle.std.specs.Prelude.{◌⊎◌, bytes_eq, codes, drop}
 use Rattle.crush_builder.specs.Built.{Draft}
 use Rattle.crush_edits.specs.Setting.{RuleData}
-use Rattle.crush_units.specs.Words.{Word, Stop, words, begins_with_key}
+use Rattle.crush_units.specs.Words.{Word, Stop, ended, bad, words, begins_with_key}
 use Rattle.crush_text.specs.declared.statement_kind.StatementKind.{StatementKind}
 use Rattle.crush_text.specs.declared.statement_kind.StatementKind.TheVariants as statement_kinds
 use Rattle.crush_text.specs.declared.fault.TextFault.{TextFault}
 use Rattle.crush_text.specs.Role.{El, StepWord, takes, chooses, sets, emits, value}
 use Rattle.crush_text.specs.Form.{Mode, first, second, begun, numbered, filling, ruled, Form, done, word, optional, ahead}
 use Rattle.crush_text.specs.Grammar.{id_or_alg_line, item_or_brace, step_behind, step_or_brace, statement, line_forms, next as next_line}
-use Rattle.crush_text.specs.Flow.{State, between, amid, arrive, outcome}
+use Rattle.crush_text.specs.declared.expected.Optional.{Optional}
+use Rattle.crush_text.specs.Flow.{State, expected_at, between, amid, arrive, outcome}
 use Rattle.crush_text.specs.Document.{SpellsForm, SpellsNext, Spell, start}
 use Rattle.crush_text.specs.Flaw.{IsFaulty}
-use Rattle.crush_laws.specs.MapOrFlaw.{WordsAreJudgedByTheTable, AFlawExcludesTheMap, AtMostOneFlaw, SameWordsSameFlaw, AtMostOneMap, HasMap, HasFlaw, AMapOrAFlaw}
+use Rattle.crush_laws.specs.MapOrFlaw.{WordsAreJudgedByTheTable, AFlawExcludesTheMap, AtMostOneFlaw, FlawsSayWhatIsExpected, ExpectedWordsGoOn, NoOtherWordGoesOn, SameWordsSameFlaw, AtMostOneMap, HasMap, HasFlaw, AMapOrAFlaw}
 use Rattle.crush_text.proofs.Laws.{word_fault, fault_word, document_of, outcome_of, flaw_of, fault_of}
+use Rattle.crush_text.proofs.Follows.{expected_words_go_on, no_other_word_goes_on}
 use Rattle.crush_text.proofs.Whole.{one_draft}
 
 -- a word's fault is that of the table
@@ -57,21 +59,21 @@ step_looks d r (sets x) = λ n. tt
 step_looks d r emits = tt
 
 -- and in each line
-lines_look : (d : Draft) (m : Mode) → LooksForWeights (line_forms d m)
-lines_look d first = statement_looks d
-lines_look d second = statement_looks d
-lines_look d begun = λ a b n. tt
-lines_look d numbered = by_it
+lines_look : (d : Draft) (k : Optional) (m : Mode) → LooksForWeights (line_forms d k m)
+lines_look d k first = statement_looks d
+lines_look d k second = statement_looks d
+lines_look d k begun = λ a b n. tt
+lines_look d k numbered = by_it
   where
     by_it : (b : Bool) → LooksForWeights (id_or_alg_line d b)
     by_it true = λ b k c. tt
     by_it false = λ a. (λ h z. tt, tt)
-lines_look d (filling any) = by_it
+lines_look d k (filling any) = by_it
   where
     by_it : (b : Bool) → LooksForWeights (item_or_brace d b)
     by_it true = (refl, λ i k w. tt, λ i. tt)
     by_it false = tt
-lines_look d (ruled r) = by_it
+lines_look d k (ruled r) = by_it
   where
     by_it : (b : Bool) → LooksForWeights (step_or_brace d r b)
     by_it true = step_looks d r
@@ -97,7 +99,7 @@ form_looks d (optional c f g) text rest u k h = absurd h
 form_looks d (ahead c f g) text rest u k h = absurd h
 
 step_leads : (s : State) (text : List ℕ) (rest : List Word) (u : State) → Looks s → SpellsNext s text rest u → Looks u
-step_leads (between p) text rest u k h = form_looks p.draft (next_line p) text rest u (lines_look p.draft p.mode) h
+step_leads (between p) text rest u k h = form_looks p.draft (next_line p) text rest u (lines_look p.draft p.passed p.mode) h
 step_leads (amid d f) text rest u k h = form_looks d f text rest u k h
 
 -- what is due depends only on the next word, and on whether `weight` follows it
@@ -117,7 +119,7 @@ form_alone d (optional c f g) text w ws us u k same h = absurd h
 form_alone d (ahead c f g) text w ws us u k same h = absurd h
 
 step_alone : (s : State) (text : List ℕ) (w : Word) (ws us : List Word) (u : State) → Looks s → begins_with_key (codes "weight") ws ≡ begins_with_key (codes "weight") us → SpellsNext s text (w ∷ ws) u → SpellsNext s text (w ∷ us) u
-step_alone (between p) text w ws us u k same h = form_alone p.draft (next_line p) text w ws us u (lines_look p.draft p.mode) same h
+step_alone (between p) text w ws us u k same h = form_alone p.draft (next_line p) text w ws us u (lines_look p.draft p.passed p.mode) same h
 step_alone (amid d f) text w ws us u k same h = form_alone d f text w ws us u k same h
 
 -- whether words begin with `weight` doesn't depend on what follows a word w after them
@@ -148,6 +150,23 @@ same_words_same_flaw bytes others f x w next more is begins weighed =
       spelled = spelled_so start x.before w next more x.so_far tt weighed (subst (λ (ws : List Word). Spell start x.before ws x.so_far) is x.spelled);
       fault = fault_alone x.so_far w next more (words 0 bytes).stop (words 0 others).stop f fault;
     }
+
+-- a fault at a word, or at the end of the words, says what is expected there
+says_so : (s : State) (next : List Word) (stop : Stop) (f : TextFault) → IsFaulty s next stop f → f.expected ≡ expected_at s
+says_so s [] (ended p) f h = ap (λ (x : TextFault). x.expected) h.0
+says_so s [] (bad p) f h = ap (λ (x : TextFault). x.expected) h
+says_so s (w ∷ ws) stop f h = h.2
+
+-- and so does a flaw
+pub flaws_say_what_is_expected : FlawsSayWhatIsExpected
+flaws_say_what_is_expected bytes f x = says_so x.so_far x.next (words 0 bytes).stop f x.fault
+
+-- the words that may follow are those with which the text goes on
+pub each_word_goes_on : ExpectedWordsGoOn
+each_word_goes_on bytes f x w may = expected_words_go_on (words 0 bytes) f x w may
+
+pub no_other_word : NoOtherWordGoesOn
+no_other_word bytes f x w goes = no_other_word_goes_on (words 0 bytes) f x w goes
 
 -- what is spelled is the one map that is read
 pub at_most_one_map : AtMostOneMap

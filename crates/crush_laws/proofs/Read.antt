@@ -36,6 +36,7 @@ use Rattle.crush_laws.proofs.ReadParts.{cons_is, second_word, is_word, listable,
 use Rattle.crush_laws.proofs.ReadSteps.{read_step, StepRead}
 use Rattle.crush_laws.proofs.Spelled.{lawful_document_is_map}
 use Rattle.crush_laws.proofs.ReadRest.{made, with_rules, SecondsRead, ItemsRead, IdsRead, StepsRead, FirstsRead, Goal, header, none_read, more_id, more_item, more_step, no_firsts, more_first, open_second, NoFirst}
+use Rattle.crush_text.specs.declared.expected.Optional.TheVariants.{Nothing}
 
 -- LINE BY LINE, to the end
 -- the algorithm that a word names
@@ -159,7 +160,7 @@ parse (suc n) (filling any) d ws e h = λ b pending. by_it (λ m u k. parse n m 
         record {
           items = [];
           rest = h.0;
-          spelled = cons_is ws h.2.0 (codes "}") h.2.1 h.0 h.2.2 (second_word h.2.0 (codes "item") (codes "}") is (is_for d (item_or_end any) h.2.0 h.2.3)) l.0;
+          spelled = cons_is ws h.2.0 (codes "}") h.2.1 h.0 h.2.2 (second_word h.2.0 (codes "item") (codes "}") is (is_for d (item_or_end any Nothing) h.2.0 h.2.3)) l.0;
           names = tt;
           seconds = subst (λ (a : ℕ). SecondsRead d.setting d.table a h.0 e) no_more (rec second (with_end d) (along n (at second (with_end d)) h.1 h.0 e l.1 h.3) refl);
         }
@@ -172,7 +173,7 @@ parse (suc n) (ruled r) d ws e h = λ idle. by_it (λ m u k. parse n m u h.0 e k
     by_it rec idle false is l = record {
       steps = [];
       rest = h.0;
-      spelled = cons_is ws h.2.0 (codes "}") h.2.1 h.0 h.2.2 (second_word h.2.0 (codes "step") (codes "}") is (is_for d (step_or_end (length r.steps)) h.2.0 h.2.3)) l.0;
+      spelled = cons_is ws h.2.0 (codes "}") h.2.1 h.0 h.2.2 (second_word h.2.0 (codes "step") (codes "}") is (is_for d (step_or_end (length r.steps) Nothing) h.2.0 h.2.3)) l.0;
       names = All-nil (TakesBucket d.table);
       seconds = subst (λ (l : List StepData). SecondsRead (with_rules d.setting (record r { steps = l } ∷ [])) d.table d.adjusted h.0 e) (sym (append-nil r.steps)) (rec second (add_rule d r) (along n (at second (add_rule d r)) h.1 h.0 e l.1 h.3) idle);
     }

@@ -1,19 +1,22 @@
 -- Words that are spelled word by word are spelled line by line.
-use Rattle.std.proofs.Common.{◌≡◌, ◌⊎◌, ℕ, zero, suc, true, List, [], ◌∷◌, ◌++◌, refl, sym, subst, inl, inr}
+use Rattle.std.proofs.Common.{false, length, ◌≡◌, ◌⊎◌, ℕ, zero, suc, true, List, [], ◌∷◌, ◌++◌, refl, sym, subst, inl, inr}
 use Rattle.std.proofs.lemmas.Bool.{cond_both}
 use Rattle.std.specs.Prelude.{drop}
 use Rattle.crush_builder.specs.Built.{Draft}
 use Rattle.crush_units.specs.Words.{Word, texts, begins_with_key}
 use Rattle.crush_text.specs.Role.{value}
-use Rattle.crush_text.specs.Form.{Progress, Form, done, word, optional, ahead}
-use Rattle.crush_text.specs.Grammar.{next}
+use Rattle.crush_text.specs.Form.{Mode, first, second, begun, numbered, filling, ruled, Progress, passing, Form, done, word, optional, ahead}
+use Rattle.crush_text.specs.Grammar.{line_forms, next}
 use Rattle.crush_text.specs.Flow.{State, between, amid, arrive, takes_statement}
 use Rattle.crush_text.specs.Document.{SpellsForm, Spell, IsWhole}
 use Rattle.crush_text.specs.Rows.{IsRight}
+use Rattle.crush_text.specs.declared.expected.Optional.{Optional}
+use Rattle.crush_text.specs.declared.expected.Optional.TheVariants.{Nothing}
+use Rattle.crush_laws.proofs.LeftOut.{opening_right, item_or_end_right, step_or_end_right}
 
--- A LINE, and the words after it: each of its words is right, and each optional part is there or isn't
+-- A LINE, and the words after it: each of its words is right, and each optional part is there or isn't. Which part it has left out is forgotten
 abbrev pub Line : Draft → Form → List (List ℕ) → List (List ℕ) → Progress → Type 0
-Line d (done q) ws v p = (ws ≡ v) × (q ≡ p)
+Line d (done q) ws v p = (ws ≡ v) × (passing Nothing q ≡ p)
 Line d (word r more) ws v p = (w : List ℕ) × (us : List (List ℕ)) × (ws ≡ w ∷ us) × IsRight d r w × Line d (more (value d r w)) us v p
 Line d (optional k f g) ws v p = Line d f ws v p ⊎ Line d g ws v p
 Line d (ahead k f g) ws v p = Line d f ws v p ⊎ Line d g ws v p
@@ -31,8 +34,21 @@ abbrev pub LinesFrom : State → List (List ℕ) → Draft → Type 0
 LinesFrom (between p) ws e = (n : ℕ) × Lines n p ws e
 LinesFrom (amid d f) ws e = Rest d f ws e
 
+-- what was left out doesn't matter to the lines that come next
+line_forgets : (d : Draft) (k : Optional) (m : Mode) (ws v : List (List ℕ)) (q : Progress) → Line d (line_forms d k m) ws v q → Line d (line_forms d Nothing m) ws v q
+line_forgets d k first ws v q h = (h.0, h.1, h.2, opening_right d false k Nothing h.0 h.3, h.4)
+line_forgets d k second ws v q h = (h.0, h.1, h.2, opening_right d true k Nothing h.0 h.3, h.4)
+line_forgets d k begun ws v q h = h
+line_forgets d k numbered ws v q h = h
+line_forgets d k (filling any) ws v q h = (h.0, h.1, h.2, item_or_end_right d any k Nothing h.0 h.3, h.4)
+line_forgets d k (ruled r) ws v q h = (h.0, h.1, h.2, step_or_end_right d (length r.steps) k Nothing h.0 h.3, h.4)
+
+lines_forget : (n : ℕ) (p : Progress) (ws : List (List ℕ)) (e : Draft) → Lines n p ws e → Lines n (passing Nothing p) ws e
+lines_forget zero p ws e h = h
+lines_forget (suc n) p ws e h = (h.0, h.1, line_forgets p.draft p.passed p.mode ws h.0 h.1 h.2, h.3)
+
 arrived : (d : Draft) (rest : List Word) (f : Form) (ws : List (List ℕ)) (e : Draft) → LinesFrom (arrive d rest f) ws e → Rest d f ws e
-arrived d rest (done p) ws e h = (ws, p, h.0, (refl, refl), h.1)
+arrived d rest (done p) ws e h = (ws, passing Nothing p, h.0, (refl, refl), lines_forget h.0 p ws e h.1)
 arrived d rest (word r more) ws e h = h
 arrived d rest (optional k f g) ws e h = cond_both (begins_with_key k rest) (arrive d rest f) (arrive d rest g) (λ s. LinesFrom s ws e → Rest d (optional k f g) ws e)
     (λ _. λ x. let y = arrived d rest f ws e x in (y.0, y.1, y.2, inl y.3, y.4)) (λ _. λ x. let y = arrived d rest g ws e x in (y.0, y.1, y.2, inr y.3, y.4)) h

@@ -26,6 +26,7 @@ use Rattle.crush_laws.proofs.Keeps.{not_false, begins_bucket}
 use Rattle.crush_laws.proofs.LawfulTexts.{is_for}
 use Rattle.crush_laws.proofs.ReadLines.{Line, Lines, along}
 use Rattle.crush_laws.proofs.ReadParts.{cons_is, is_word, read_sizes, behind_first}
+use Rattle.crush_text.specs.declared.expected.Optional.TheVariants.{Nothing}
 
 -- WHAT THE REST OF A TEXT SPELLS
 -- with this setting, this table and so many adjustments between two statements
@@ -238,7 +239,7 @@ NoFirst w = ComesFirst w → ⊥
 
 -- a bucket or a rule by its first word, where what stands behind its line is read
 pub open_second : (late : Bool) (n : ℕ) (d : Draft) (ws v : List (List ℕ)) (e : Draft) (q : Progress) → ((m : Mode) (u : Draft) → Lines n (at m u) v e → Goal m u v e) → d.pending ≡ nothing
-    → (w : List ℕ) (us : List (List ℕ)) → ws ≡ w ∷ us → IsRight d (opening late) w → (late ≡ false → NoFirst w) → Line d (statement d (opened d w)) us v q → Lines n q v e → SecondsRead d.setting d.table d.adjusted ws e
+    → (w : List ℕ) (us : List (List ℕ)) → ws ≡ w ∷ us → IsRight d (opening late Nothing) w → (late ≡ false → NoFirst w) → Line d (statement d (opened d w)) us v q → Lines n q v e → SecondsRead d.setting d.table d.adjusted ws e
 open_second late n d ws v e q rest idle w us head right none l lines = by_it (bytes_eq w (codes "tunable")) (bytes_eq w (codes "device")) (bytes_eq w (codes "type")) (bytes_eq w (codes "rule")) refl refl refl refl l
   where
     -- no word that stands first

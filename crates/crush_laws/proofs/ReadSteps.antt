@@ -14,7 +14,7 @@ use Rattle.crush_builder.specs.Rules.{complete_bucket_named}
 use Rattle.crush_text.specs.declared.fault.TextFaultKind.TheVariants.{BadNumber}
 use Rattle.crush_units.specs.Numbers.{signed_value}
 use Rattle.crush_text.specs.Role.{key, any_word, step_word, step_order, taken_bucket, value, bucket_of_word, takes as word_takes, chooses as word_chooses, sets as word_sets, emits as word_emits}
-use Rattle.crush_text.specs.Form.{ruled, Progress, at, word}
+use Rattle.crush_text.specs.Form.{ruled, Progress, at, word, passing, done}
 use Rattle.crush_text.specs.Grammar.{with_step, step_done, step_behind}
 use Rattle.crush_text.specs.Rows.{IsRight}
 use Rattle.crush_laws.specs.Admitted.{BeginsStep}
@@ -25,6 +25,8 @@ use Rattle.crush_laws.proofs.Keeps.{not_false}
 use Rattle.crush_laws.proofs.LawfulTexts.{is_for}
 use Rattle.crush_laws.proofs.ReadLines.{Line}
 use Rattle.crush_laws.proofs.ReadParts.{cons_is, is_word}
+use Rattle.crush_text.specs.declared.expected.Optional.TheVariants.{Class}
+use Rattle.crush_text.specs.declared.expected.Expected.TheVariants as expect
 
 -- what was read as a step, after which the rule goes on
 pub record StepRead (d : Draft) (r : RuleData) (words v : List (List ℕ)) (q : Progress) : Type 0 where
@@ -53,7 +55,7 @@ module _ (d : Draft) (r : RuleData) (idle : d.pending ≡ nothing) where
       head : words ≡ codes "step" ∷ codes "take" ∷ h.0 ∷ h.1
       head = e ∙ ap (λ (l : List (List ℕ)). codes "step" ∷ codes "take" ∷ l) h.2
 
-      by_class : (Line d (word (key (codes "class")) (λ _. word any_word (λ c. step_done d r (take (bucket_of_word d h.0) (Some c))))) h.1 v q) ⊎ (Line d (step_done d r (take (bucket_of_word d h.0) None)) h.1 v q) → StepRead d r words v q
+      by_class : (Line d (word (key (codes "class")) (λ _. word (any_word expect.Class) (λ c. step_done d r (take (bucket_of_word d h.0) (Some c))))) h.1 v q) ⊎ (Line d (done (passing Class (at (ruled (with_step r (take (bucket_of_word d h.0) None))) d))) h.1 v q) → StepRead d r words v q
       by_class (inl c) = record {
         step = takes h.0 (Some c.4.0);
         spelled = (h.1, head, cons_is h.1 c.0 (codes "class") c.1 (c.4.0 ∷ v) c.2 (is_for d (key (codes "class")) c.0 c.3) (cons_is c.1 c.4.0 c.4.0 c.4.1 v c.4.2 refl c.4.4.0));

@@ -28,7 +28,7 @@ use Rattle.crush_text.specs.declared.statement_kind.StatementKind.{StatementKind
 use Rattle.crush_text.specs.declared.statement_kind.StatementKind.TheVariants as statement_kinds
 use Rattle.crush_units.specs.Numbers.{signed_value}
 use Rattle.crush_text.specs.Role.{opening, taken_bucket, StepWord, takes, chooses, sets, emits, value, kind_of_word, item_of, bucket_of_word, units, opened, step_said}
-use Rattle.crush_text.specs.Form.{Mode, first, second, begun, numbered, filling, ruled, Progress, at, Form, done, word, optional, ahead}
+use Rattle.crush_text.specs.Form.{Mode, first, second, begun, numbered, filling, ruled, Progress, at, Form, done, word, optional, ahead, passing}
 use Rattle.crush_text.specs.Grammar.{device_line, bucket_line, tunable_line, type_line, rule_line, id_line, class_id_line, alg_line, id_or_alg_line, item_line, item_or_brace, new_rule, with_step, step_behind, step_or_brace, statement, line_forms}
 use Rattle.crush_laws.specs.Admitted.{IsFor, IsFree}
 use Rattle.crush_laws.proofs.Allowed.{type_named}
@@ -39,6 +39,8 @@ use Rattle.crush_laws.proofs.Ruled.{taken_by}
 use Rattle.crush_laws.proofs.EarlierTables.{IsLoose, there_put, item_back}
 use Rattle.crush_laws.proofs.EarlierSettings.{IsEarly}
 use Rattle.crush_laws.proofs.EarlierBuckets.{id_free}
+use Rattle.crush_text.specs.declared.expected.Optional.TheVariants.{Nothing}
+use Rattle.crush_text.specs.declared.expected.Optional.{Optional}
 
 -- parents and the buckets that rules take are there, and what is in no bucket weighs nothing
 pub record IsTied (us : List ℕ) (t : List Row) : Type 0 where
@@ -107,9 +109,9 @@ pub record IsShaped (p : Progress) : Type 0 where
   pub tied : IsTied (taken_buckets p.draft.setting) p.draft.table
   pub stage : Shape p.mode p.draft
 
--- however a line goes on, what it builds has the shape
+-- however a line goes on, what it builds has the shape; which optional part it has left out doesn't matter
 abbrev pub Shapes : Draft → Form → Type 0
-Shapes d (done p) = IsShaped p
+Shapes d (done p) = IsShaped (passing Nothing p)
 Shapes d (word r more) = (w : List ℕ) → IsFor d r w → Shapes d (more (value d r w))
 Shapes d (optional k f g) = Shapes d f × Shapes d g
 Shapes d (ahead k f g) = Shapes d f × Shapes d g
@@ -123,7 +125,7 @@ is_early (statement_kinds.Bucket k) = false
 is_early statement_kinds.Rule = false
 
 -- where such a line may come, or else a type is called as no type may be
-pub early_opening : (d : Draft) (late : Bool) → (late ≡ false → All IsKind d.setting.kinds → IsEarly d) → (w : List ℕ) → IsFor d (opening late) w
+pub early_opening : (d : Draft) (late : Bool) → (late ≡ false → All IsKind d.setting.kinds → IsEarly d) → (w : List ℕ) → IsFor d (opening late Nothing) w
     → is_early (opened d w) ≡ true → All IsKind d.setting.kinds → IsEarly d
 early_opening d late h w (inl e) is kinds = h e.0 kinds
 early_opening d late h w (inr (inl e)) is kinds = let no : false ≡ true = ap (λ (x : List ℕ). is_early (opened d x)) (sym e) ∙ is in absurd cc
@@ -251,21 +253,21 @@ module _ (d : Draft) (tied : IsTied (taken_buckets d.setting) d.table) where
   shapes_step r emits s = stepped r emit s (All-nil (IsThere d.table))
 
   -- each line
-  pub shapes_lines : (mode : Mode) → Shape mode d → Shapes d (line_forms d mode)
-  shapes_lines first s = λ w fw. shapes_statement (opened d w) s.0 (early_opening d false (λ _. s.1) w fw)
-  shapes_lines second s = λ w fw. shapes_statement (opened d w) s (early_opening d true (λ e. let no : true ≡ false = e in absurd cc) w fw)
-  shapes_lines begun s = shapes_id s
-  shapes_lines numbered s = λ w fw. by_it (bytes_eq w (codes "id"))
+  pub shapes_lines : (mode : Mode) (k : Optional) → Shape mode d → Shapes d (line_forms d k mode)
+  shapes_lines first k s = λ w fw. shapes_statement (opened d w) s.0 (early_opening d false (λ _. s.1) w fw)
+  shapes_lines second k s = λ w fw. shapes_statement (opened d w) s (early_opening d true (λ e. let no : true ≡ false = e in absurd cc) w fw)
+  shapes_lines begun k s = shapes_id s
+  shapes_lines numbered k s = λ w fw. by_it (bytes_eq w (codes "id"))
     where
       by_it : (b : Bool) → Shapes d (id_or_alg_line d b)
       by_it true = shapes_class_id s
       by_it false = shapes_alg s
-  shapes_lines (filling any) s = λ w fw. by_it (bytes_eq w (codes "item"))
+  shapes_lines (filling any) k s = λ w fw. by_it (bytes_eq w (codes "item"))
     where
       by_it : (b : Bool) → Shapes d (item_or_brace d b)
       by_it true = shapes_item any s
       by_it false = record { tied = record { parents = tied.parents; loose = tied.loose; taken = tied.taken }; stage = refl }
-  shapes_lines (ruled r) s = λ w fw. by_it (bytes_eq w (codes "step"))
+  shapes_lines (ruled r) k s = λ w fw. by_it (bytes_eq w (codes "step"))
     where
       by_it : (b : Bool) → Shapes d (step_or_brace d r b)
       by_it true = λ v fv. shapes_step r (step_said v) s

@@ -20,7 +20,7 @@ use Rattle.crush_builder.specs.Building.{closed_item, item_named}
 use Rattle.crush_units.specs.Words.{begins_with_key}
 use Rattle.crush_units.specs.Numbers.{is_number}
 use Rattle.crush_text.specs.Role.{key, number, item_of, units, units_or_none}
-use Rattle.crush_text.specs.Form.{second, numbered, filling, at, Form, done, word, optional}
+use Rattle.crush_text.specs.Form.{second, numbered, filling, at, Form, done, word, optional, passing}
 use Rattle.crush_text.specs.Grammar.{bucket_line, item_line, weightless_item}
 use Rattle.crush_text.specs.Flow.{between, amid}
 use Rattle.crush_laws.specs.Admitted.{IsFree}
@@ -31,6 +31,8 @@ use Rattle.crush_laws.specs.Meaning.{kind_number_in, item_in, with_items, with_b
 use Rattle.crush_laws.proofs.BuiltLines.{plain, idle, opens_bucket}
 use Rattle.crush_laws.proofs.Admitted.{opens}
 use Rattle.crush_laws.proofs.SpelledLines.{words_lead, lacking, draft}
+use Rattle.crush_text.specs.declared.expected.Optional.TheVariants.{Hash, Weight}
+use Rattle.crush_laws.proofs.LeftOut.{lead_so}
 
 -- THE FORM of a bucket's number
 negative : (n : ℕ) (w : List ℕ) → IsBucketNumber n w → (slice_index w 0 ≡ 45) × (are_digits 10 (drop 1 w) ≡ true)
@@ -64,7 +66,8 @@ module _ (ks : List KindData) (ts : List TunableData) (rs : List RuleData) (e : 
       (words_lead (between (at (filling any) d)) (codes "item" ∷ []) (x ∷ rest) e (inl refl, tt)
       (lacking d (item_line d) (x ∷ rest) e other
       (words_lead (amid d (weightless_item d)) (x ∷ []) rest e (free t a b x l, tt)
-      (subst (λ (i : ItemId). LeadTo (between (at (filling true) (with_next_item d i None))) (plain rest) e) (sym (found_item t a b x l)) k))))
+      (lead_so (between (passing Weight (at (filling true) (with_next_item d (item_of d x) None)))) (between (at (filling true) (with_next_item d (item_of d x) None))) (plain rest) e refl
+      (subst (λ (i : ItemId). LeadTo (between (at (filling true) (with_next_item d i None))) (plain rest) e) (sym (found_item t a b x l)) k)))))
   item_leads any b x (Some u) t a ws rest h other l k =
       let d : Draft = amid_bucket t a (is_filling b) in
       let is : units h.0 ≡ u = ap units_or_none h.1 in
@@ -117,7 +120,7 @@ module _ (ks : List KindData) (ts : List TunableData) (rs : List RuleData) (e : 
 
   -- `hash`, or none
   abbrev behind_algorithm : Draft → Alg → Form
-  behind_algorithm d a = optional (codes "hash") (word (key (codes "hash")) (λ _. word (number 0) (λ _. done (at (filling false) (with_alg d a))))) (done (at (filling false) (with_alg d a)))
+  behind_algorithm d a = optional (codes "hash") (word (key (codes "hash")) (λ _. word (number 0) (λ _. done (at (filling false) (with_alg d a))))) (done (passing Hash (at (filling false) (with_alg d a))))
 
   algorithm_leads : (d : Draft) (alg : Alg) (ws rest : List (List ℕ)) → SpellsHash ws rest → begins_with_key (codes "hash") (plain rest) ≡ false → LeadTo (between (at (filling false) (with_alg d alg))) (plain rest) e
       → LeadTo (between (at numbered d)) (plain (codes "alg" ∷ alg_text alg ∷ ws)) e
@@ -126,7 +129,8 @@ module _ (ks : List KindData) (ts : List TunableData) (rs : List RuleData) (e : 
       subst (λ (x : List (List ℕ)). LeadTo (between (at numbered d)) (plain (codes "alg" ∷ alg_text alg ∷ x)) e) (sym h)
       (words_lead (between (at numbered d)) (codes "alg" ∷ alg_text alg ∷ []) rest e (inr refl, ((alg, refl), tt))
       (lacking d (behind_algorithm d v) rest e other
-      (subst (λ (x : Alg). LeadTo (between (at (filling false) (with_alg d x))) (plain rest) e) (sym (ap (λ o. unwrap_or o Straw2) (alg_of_text-alg_text alg))) k)))
+      (lead_so (between (passing Hash (at (filling false) (with_alg d v)))) (between (at (filling false) (with_alg d v))) (plain rest) e refl
+      (subst (λ (x : Alg). LeadTo (between (at (filling false) (with_alg d x))) (plain rest) e) (sym (ap (λ o. unwrap_or o Straw2) (alg_of_text-alg_text alg))) k))))
   algorithm_leads d alg ws rest (inr h) other k =
       subst (λ (x : List (List ℕ)). LeadTo (between (at numbered d)) (plain (codes "alg" ∷ alg_text alg ∷ x)) e) (sym h.2)
       (words_lead (between (at numbered d)) (codes "alg" ∷ alg_text alg ∷ codes "hash" ∷ h.0 ∷ []) rest e (inr refl, ((alg, refl), (refl, (h.1.0, tt))))

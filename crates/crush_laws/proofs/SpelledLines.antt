@@ -9,7 +9,7 @@ use Rattle.crush_edits.specs.Setting.{KindData, TunableData, RuleData}
 use Rattle.crush_builder.specs.Built.{Draft, nothing, with_tunable, with_kind, with_device}
 use Rattle.crush_units.specs.Words.{Word, texts, begins_with_key}
 use Rattle.crush_text.specs.Role.{value}
-use Rattle.crush_text.specs.Form.{first, at, Form, done, word, optional, ahead}
+use Rattle.crush_text.specs.Form.{first, at, Form, done, word, optional, ahead, passing}
 use Rattle.crush_text.specs.Grammar.{next, device_class}
 use Rattle.crush_text.specs.Flow.{State, between, amid, arrive}
 use Rattle.crush_laws.specs.Admitted.{IsFor, WordLeads}
@@ -18,6 +18,8 @@ use Rattle.crush_laws.specs.Document.{First, tunable, kind, device}
 use Rattle.crush_laws.specs.Spells.{IsNumber, SpellsEach, SpellsClass, SpellsFirst}
 use Rattle.crush_laws.specs.Meaning.{first_kinds, first_tunables, first_rows}
 use Rattle.crush_laws.proofs.BuiltLines.{plain, leads_alike}
+use Rattle.crush_text.specs.declared.expected.Optional.TheVariants.{Class}
+use Rattle.crush_laws.proofs.LeftOut.{lead_so}
 
 -- words lead on wherever they stand
 pub lead_alike : (s : State) (vs ws : List Word) (e : Draft) → texts vs ≡ texts ws → LeadTo s vs e → LeadTo s ws e
@@ -120,7 +122,7 @@ kind_leads d name w n rest e h k =
 class_leads : (d : Draft) (n : ℕ) (name : List ℕ) (class : Option (List ℕ)) (ws rest : List (List ℕ)) (e : Draft) → SpellsClass class ws rest → NoClass rest → LeadTo (early (with_device d n name class)) (plain rest) e
     → LeadTo (arrive d (plain ws) (device_class d n name)) (plain ws) e
 class_leads d n name None ws rest e h other k =
-    subst (λ (x : List (List ℕ)). LeadTo (arrive d (plain x) (device_class d n name)) (plain x) e) (sym h) (lacking d (device_class d n name) rest e other k)
+    subst (λ (x : List (List ℕ)). LeadTo (arrive d (plain x) (device_class d n name)) (plain x) e) (sym h) (lacking d (device_class d n name) rest e other (lead_so (between (passing Class (at first (with_device d n name None)))) (early (with_device d n name None)) (plain rest) e refl k))
 class_leads d n name (Some c) ws rest e h other k =
     let all : List (List ℕ) = codes "class" ∷ c ∷ rest in
     subst (λ (x : List (List ℕ)). LeadTo (arrive d (plain x) (device_class d n name)) (plain x) e) (sym h) (words_lead (arrive d (plain all) (device_class d n name)) (codes "class" ∷ c ∷ []) rest e (refl, (tt, tt)) k)

@@ -11,7 +11,7 @@ use Rattle.crush_builder.specs.Built.{Draft, nothing, add_rule}
 use Rattle.crush_builder.specs.Building.{closed_item}
 use Rattle.crush_builder.specs.Rules.{complete_bucket_named}
 use Rattle.crush_units.specs.Words.{begins_with_key}
-use Rattle.crush_text.specs.Form.{second, ruled, at, Form, word, optional}
+use Rattle.crush_text.specs.Form.{second, ruled, at, Form, word, optional, passing, done}
 use Rattle.crush_text.specs.Role.{key, any_word, step_word, bucket_of_word}
 use Rattle.crush_text.specs.Grammar.{new_rule, max_size, sizes, rule_line, with_step, step_done, set_step, step_behind}
 use Rattle.crush_text.specs.Flow.{State, between, amid, arrive}
@@ -22,6 +22,9 @@ use Rattle.crush_laws.specs.Meaning.{step_in, rule_in, TakesBucket}
 use Rattle.crush_laws.proofs.BuiltLines.{plain, idle}
 use Rattle.crush_laws.proofs.BuiltRules.{opens_rule, set_said}
 use Rattle.crush_laws.proofs.SpelledLines.{words_lead, lacking, number_digits, draft}
+use Rattle.crush_text.specs.declared.expected.Expected.TheVariants as expect
+use Rattle.crush_text.specs.declared.expected.Optional.TheVariants.{Class}
+use Rattle.crush_laws.proofs.LeftOut.{lead_so}
 
 -- THE STEPS
 -- between two statements each bucket is closed
@@ -45,12 +48,12 @@ module _ (ks : List KindData) (ts : List TunableData) (rs : List RuleData) (t : 
 
   -- the class of a step, or none
   abbrev take_form : RuleData → ℕ → Form
-  take_form r b = optional (codes "class") (word (key (codes "class")) (λ _. word any_word (λ c. step_done here r (take b (Some c))))) (step_done here r (take b None))
+  take_form r b = optional (codes "class") (word (key (codes "class")) (λ _. word (any_word expect.Class) (λ c. step_done here r (take b (Some c))))) (done (passing Class (at (ruled (with_step r (take b None))) here)))
 
   class_leads : (r : RuleData) (b : ℕ) (class : Option (List ℕ)) (ws rest : List (List ℕ)) → SpellsClass class ws rest → begins_with_key (codes "class") (plain rest) ≡ false → LeadTo (inside (with_step r (take b class))) (plain rest) e
       → LeadTo (arrive here (plain ws) (take_form r b)) (plain ws) e
   class_leads r b None ws rest h other k =
-      subst (λ (x : List (List ℕ)). LeadTo (arrive here (plain x) (take_form r b)) (plain x) e) (sym h) (lacking here (take_form r b) rest e other k)
+      subst (λ (x : List (List ℕ)). LeadTo (arrive here (plain x) (take_form r b)) (plain x) e) (sym h) (lacking here (take_form r b) rest e other (lead_so (between (passing Class (at (ruled (with_step r (take b None))) here))) (inside (with_step r (take b None))) (plain rest) e refl k))
   class_leads r b (Some c) ws rest h other k =
       let all : List (List ℕ) = codes "class" ∷ c ∷ rest in
       subst (λ (x : List (List ℕ)). LeadTo (arrive here (plain x) (take_form r b)) (plain x) e) (sym h) (words_lead (arrive here (plain all) (take_form r b)) (codes "class" ∷ c ∷ []) rest e (refl, (tt, tt)) k)
@@ -120,7 +123,7 @@ module _ (ks : List KindData) (ts : List TunableData) (rs : List RuleData) (t : 
   most_leads : (x : List ℕ) (n : ℕ) (kind : List ℕ) (least most : Option ℕ) (ws rest : List (List ℕ)) → SpellsSize (codes "max_size") most ws rest → Begins (codes "max_size") rest
       → LeadTo (inside (new_rule x n kind least most)) (plain rest) e → LeadTo (arrive here (plain ws) (max_size here x n kind least)) (plain ws) e
   most_leads x n kind least None ws rest h other k =
-      subst (λ (v : List (List ℕ)). LeadTo (arrive here (plain v) (max_size here x n kind least)) (plain v) e) (sym h) (lacking here (max_size here x n kind least) rest e other k)
+      subst (λ (v : List (List ℕ)). LeadTo (arrive here (plain v) (max_size here x n kind least)) (plain v) e) (sym h) (lacking here (max_size here x n kind least) rest e other (lead_so (between (passing (sizes_left least) (at (ruled (new_rule x n kind least None)) here))) (inside (new_rule x n kind least None)) (plain rest) e refl k))
   most_leads x n kind least (Some m) ws rest h other k =
       let all : List (List ℕ) = codes "max_size" ∷ h.0 ∷ rest in
       subst (λ (v : List (List ℕ)). LeadTo (arrive here (plain v) (max_size here x n kind least)) (plain v) e) (sym h.2)

@@ -15,7 +15,9 @@ use Rattle.crush_laws.specs.Meaning.{SpellsMap}
 use Rattle.crush_text.specs.Role.{Role}
 use Rattle.crush_text.specs.Rows.{IsFault}
 use Rattle.crush_text.specs.Tests.{word_for}
+use Rattle.crush_text.specs.Flow.{expected_at}
 use Rattle.crush_text.specs.Flaw.{IsMapFlaw}
+use Rattle.crush_text.specs.Follows.{MayFollow, GoesOn}
 
 -- bytes are the text of the map with the setting s, the table t and n adjusted weights if and only if their words spell a lawful document with the same s, t and n
 abbrev pub TextsAreLawfulDocuments : Type 0
@@ -33,6 +35,18 @@ AtMostOneFlaw = (bytes : List ℕ) (f g : TextFault) → IsMapFlaw bytes f → I
 -- that have the same words up to and including w, and in which `weight` follows w if and only if it does here, have the same flaw.
 abbrev pub SameWordsSameFlaw : Type 0
 SameWordsSameFlaw = (bytes others : List ℕ) (f : TextFault) (x : IsMapFlaw bytes f) (w : Word) (next more : List Word) → x.next ≡ w ∷ next → (words 0 others).words ≡ x.before ++ w ∷ more → begins_with_key (codes "weight") next ≡ begins_with_key (codes "weight") more → IsMapFlaw others f
+
+-- a flaw says what is expected in the state to which the words before it lead
+abbrev pub FlawsSayWhatIsExpected : Type 0
+FlawsSayWhatIsExpected = (bytes : List ℕ) (f : TextFault) (x : IsMapFlaw bytes f) → f.expected ≡ expected_at x.so_far
+
+-- with each word that may follow in that state, the text goes on: neither the words before the flaw nor this word have a fault, if perhaps other words follow
+abbrev pub ExpectedWordsGoOn : Type 0
+ExpectedWordsGoOn = (bytes : List ℕ) (f : TextFault) (x : IsMapFlaw bytes f) (w : Word) → MayFollow x.so_far w.text → GoesOn x.before w
+
+-- with no other word the text goes on
+abbrev pub NoOtherWordGoesOn : Type 0
+NoOtherWordGoesOn = (bytes : List ℕ) (f : TextFault) (x : IsMapFlaw bytes f) (w : Word) → GoesOn x.before w → MayFollow x.so_far w.text
 
 -- bytes are the text of at most one map
 abbrev pub AtMostOneMap : Type 0

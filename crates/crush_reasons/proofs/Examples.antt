@@ -18,6 +18,8 @@ use Rattle.crush_print.specs.MapText.{root_numbers}
 use Rattle.crush_print.specs.Tree.{step_at, steps_at, tree_rows, unplaced_numbers}
 use Rattle.crush_print.proofs.Examples.{example, setting}
 use Rattle.crush_script.specs.declared.fault.JobFault.TheVariants as job
+use Rattle.crush_text.specs.declared.expected.Expected.TheVariants.{IdOrAlg, Statement}
+use Rattle.crush_text.specs.declared.expected.Optional.TheVariants.{Nothing}
 use Rattle.crush_text.specs.declared.fault.TextFaultKind.TheVariants.{Ended, UnknownType}
 use Rattle.crush_history.specs.Ceph.{ceph_heading, ceph_line}
 use Rattle.crush_reasons.specs.Ceph.{ceph_text, edits_for_ceph}
@@ -140,7 +142,7 @@ twice : edit_reason true setting example (Move (codes "h1") (pair (codes "host")
 twice = refl
 
 -- a type that isn't declared, behind a tab in a second line
-unknown_type : fault_text (record { name = []; before = 0 }) (codes "type 0 osd\n\thots h2 {\n}\n") (job.Text (record { kind = UnknownType; place = 12 }))
+unknown_type : fault_text (record { name = []; before = 0 }) (codes "type 0 osd\n\thots h2 {\n}\n") (job.Text (record { kind = UnknownType; place = 12; expected = Statement false Nothing }))
     ≡ codes "  line 2, column 2\n     hots h2 {\n     ^\n  no type of this name is declared above\n"
 unfolding column_line digits form_of words_in split up_to_long
 unknown_type = refl
@@ -173,7 +175,7 @@ unfolding command_head digits
 escaped_head = refl
 
 -- the line at which a flaw of a text stands
-third_line : fault_line (codes "a\nb\nc\n") (job.Text (record { kind = UnknownType; place = 4 })) ≡ 3
+third_line : fault_line (codes "a\nb\nc\n") (job.Text (record { kind = UnknownType; place = 4; expected = Statement false Nothing })) ≡ 3
 third_line = refl
 
 -- a word of a command that doesn't fit, and a map that is cut
@@ -182,7 +184,7 @@ comma : fault_text (record { name = []; before = 0 }) (codes "%operator a\nrewei
 unfolding number_line from_line digits form_of misfit_text told with_point words_between_blanks
 comma = refl
 
-cut : fault_text (record { name = codes "map.txt"; before = 0 }) (codes "host h1 {\n\tid -2\n%operator a\n") (job.Text (record { kind = Ended; place = 17 }))
+cut : fault_text (record { name = codes "map.txt"; before = 0 }) (codes "host h1 {\n\tid -2\n%operator a\n") (job.Text (record { kind = Ended; place = 17; expected = IdOrAlg }))
     ≡ codes "  map.txt line 2, column 5\n     id -2\n        ^\n  the host h1 that begins at line 1 isn't closed\n"
 unfolding begins_at column_line digits further opened open_text words_in split up_to_long
 cut = refl
