@@ -33,7 +33,7 @@ OFFERED = {
     },
     "crush_items": {"ById::find", "Item::class_ids", "Item::seen", "Item::view", "Items::by_id", "Items::class_ids", "Items::of", "Items::run", "Items::seen"},
     "crush_compare": {"Comparison::after", "Comparison::before", "Comparison::by_ids", "Comparison::by_names", "Comparison::by_names_part", "Comparison::difference"},
-    "crush_print": {"buckets", "devices", "TreePart::whole", "WalkStep::view", "walk", "walk_below", "walk_part", "class_weights", "sorted_buckets", "sorted_devices", "write_tree"},
+    "crush_print": {"buckets", "devices", "TreePart::whole", "WalkStep::view", "walk", "walk_below", "walk_part", "class_weights", "write_tree"},
     "crush_since": {
         "count_changes", "is_changed", "is_changed_by_name", "is_part_changed", "same_kinds", "same_rules", "same_tunables", "since_part_text", "stays", "write_since_by_name",
         "write_since_by_name_part",

@@ -12,7 +12,6 @@ mod lines;
 mod order;
 mod part;
 mod printer;
-mod sorted;
 mod steps;
 mod tree;
 mod tree_line;
@@ -24,7 +23,6 @@ pub use crush_units::WriteFault;
 pub use order::{buckets, devices};
 pub use part::{TreePart, walk_part};
 pub use printer::{same_tables_print_alike, taken_buckets_are_named, write_map};
-pub use sorted::{sorted_buckets, sorted_devices};
 pub use steps::{WalkStep, walk, walk_below};
 pub use tree::{
     id_column, same_tables_have_one_tree, whole_tree_is_a_part, wider, wider_id, write_tree,

@@ -67,12 +67,13 @@ pub fn write_changes<A: Allocator, B: Allocator, W: Write>(
     }
 }
 
-/// A law: a map since itself has no row, only the headings, its total and counts of nothing.
+/// If a lawful map is compared with itself, the tree has no row. The text has only the headings,
+/// the map's total weight and counts that are all 0.
 pub fn no_row_changes_since_itself()
     ensures { NoRowSinceItself }
 {}
 
-/// A law: the part without a top item and without a type is the whole tree of what has changed.
+/// A part that has neither a top item nor a type is the whole tree of what has changed.
 pub fn all_changes_are_a_part()
     ensures { AllChangesAreAPart }
 {}
@@ -110,7 +111,7 @@ fn part_rows<A: Allocator, B: Allocator>(
     part_of(alloc, &both.maps, rows, part)
 }
 
-/// Appends the lines behind the rows; none of a part that has a top item.
+/// Appends the lines that follow after the rows. A part that has a top item has no such lines.
 fn push_behind<A: Allocator, B: Allocator>(
     alloc: Global,
     old: &CrushMap<A>,

@@ -57,10 +57,11 @@ pub(crate) use words::{
     alg_bytes, class_bytes, push_counts, push_totals, push_with_class, type_bytes, weight_of,
 };
 
-/// Writes what has changed from the old map to the new: a line for each item that differs, buckets
-/// by id from -1 downward and then devices upward; a line each where tunables, types and rules
-/// differ, and for each rule that takes what weighed something and weighs nothing now; the totals;
-/// and how many items differ in which way.
+/// Writes what has changed from the old map to the new map. There is a line for each item that
+/// differs: first the buckets by id from -1 downward, and then the devices upward. Then there is a
+/// line each if the tunables or the types differ, and then the lines of rules and of classes. The
+/// last two lines have the total weights, and how many items differ in which way. If memory runs
+/// out, nothing is written.
 pub fn write_since<A: Allocator, B: Allocator, W: Write>(
     alloc: Global,
     old: &CrushMap<A>,
@@ -80,12 +81,13 @@ pub fn write_since<A: Allocator, B: Allocator, W: Write>(
     }
 }
 
-/// A law: a map since itself prints its total and counts of nothing, and no more.
+/// If a lawful map is compared with itself, the text has only the map's total weight and counts
+/// that are all 0.
 pub fn nothing_changes_since_itself()
     ensures { NothingSinceItself }
 {}
 
-/// A law: no item has a line exactly where both tables have equal rows, in whatever order.
+/// No item has a line if and only if both tables have equal rows, in whatever order.
 pub fn no_item_is_told_where_rows_are_equal()
     ensures { NoItemWhereRowsAreEqual }
 {}

@@ -49,7 +49,8 @@ pub(super) fn push_left_unplaced<A: Allocator, B: Allocator>(
     push_left_tops(both, unplaced.as_slice(), rows)
 }
 
-/// Those that stand elsewhere now or are gone.
+/// Appends the rows of those nodes of the old map that were at the top of its tree, and that are in
+/// another place in the new map or don't exist any more.
 fn push_left_tops<A: Allocator, B: Allocator>(
     both: &Both<'_, A, B>,
     nodes: &[&Node<A>],
@@ -119,7 +120,8 @@ fn push_if_left<A: Allocator, B: Allocator>(
     push_stood(both, node, depth, rows)
 }
 
-/// Below what is gone also all that stood below it.
+/// Appends the row of a node that is no longer in its place. If the new map doesn't have the item
+/// at all, the rows of all items that were below it follow.
 fn push_stood<A: Allocator, B: Allocator>(
     both: &Both<'_, A, B>,
     node: &Node<A>,

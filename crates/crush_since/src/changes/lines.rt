@@ -154,7 +154,8 @@ fn name_column(
     Ok(column)
 }
 
-/// In the map in which it stands here.
+/// Appends the type and the name of a row's item, as the map has them in which the item is in this
+/// place.
 fn push_name(
     old: &Setting,
     new: &Setting,
@@ -171,7 +172,7 @@ fn push_name(
     }
 }
 
-/// Nothing of an item that isn't there.
+/// Appends the type and the name of an item; nothing if there is no item.
 fn push_kind_and_name(
     setting: &Setting,
     id: ItemId,

@@ -44,7 +44,7 @@ fn push_text(text: &[u8], out: &mut Vec<u8>) -> Result<(), AllocError>
     push_all(&[b" (".as_slice(), text, b")".as_slice()], out)
 }
 
-/// Each note stands behind a semicolon.
+/// Appends the notes on a row, each after a semicolon and a space.
 fn push_notes(
     old: &Setting,
     new: &Setting,
@@ -61,7 +61,8 @@ fn push_notes(
     }
 }
 
-/// Of an item that stood here.
+/// Appends the notes on an item that was here in the old map and isn't here any more: whether the
+/// new map still has the item.
 fn push_stood(after: &Option<Seen<'_>>, notes: &mut Vec<u8>) -> Result<(), AllocError>
     ensures { OnOk result (notes.new.items ≡ notes.old.items
         ++ behind (stood_notes (option_map seen_data after.now))) }
@@ -72,7 +73,7 @@ fn push_stood(after: &Option<Seen<'_>>, notes: &mut Vec<u8>) -> Result<(), Alloc
     }
 }
 
-/// Of an item that stands here now.
+/// Appends the notes on an item that is here in the new map.
 fn push_standing(
     old: &Setting,
     new: &Setting,
@@ -95,7 +96,8 @@ fn push_standing(
     }
 }
 
-/// But for its class ids.
+/// Appends the notes on the columns in which an item differs, except for its class ids and its
+/// weight.
 fn push_changed(
     old: &Setting,
     new: &Setting,

@@ -19,7 +19,8 @@ use crush_tree::{Bucket, Node};
 use crush_units::ItemId;
 use std::alloc::{AllocError, Allocator, Global};
 
-/// A row: an item that stands here now, or stood here and does no longer.
+/// A row of the tree of what has changed. If `stands` is true, the new map has the item in this
+/// place. Otherwise only the old map had the item in this place.
 #[derive(Clone, Copy, Debug)]
 pub(crate) struct TreeRow {
     pub id: ItemId,
@@ -30,8 +31,9 @@ pub(crate) struct TreeRow {
     pub stands: bool,
 }
 
-/// The roots from -1 downward, with what is below them, those that are none now, the unplaced
-/// devices upward, and those that are none now.
+/// Returns the rows of the tree. First come the new map's roots from -1 downward, each with the
+/// rows below it, and then the old map's roots that are no roots any more. The devices that no
+/// bucket holds follow in the same way, by ascending id.
 #[tactic(auto, unfolding(crate::specs::Changes::change_rows))]
 pub(crate) fn rows_of<A: Allocator, B: Allocator>(
     alloc: Global,
@@ -96,7 +98,8 @@ fn push_tops<A: Allocator, B: Allocator>(
     Ok(())
 }
 
-/// None where there is nothing to say of the node or of what stands or stood below it.
+/// Appends the row of a node of the new map, and the rows below it. It appends nothing if the item
+/// of the node and all items that are or were below it are the same in both maps.
 fn push_standing<B: Allocator, A: Allocator>(
     both: &Both<'_, A, B>,
     node: &Node<B>,
@@ -129,7 +132,7 @@ fn push_standing<B: Allocator, A: Allocator>(
     }
 }
 
-/// Whether there is something to say of the item.
+/// Appends the row of an item of the new map. Returns whether the item differs between the maps.
 fn push_told<A: Allocator, B: Allocator>(
     both: &Both<'_, A, B>,
     id: &ItemId,
@@ -154,7 +157,8 @@ fn push_told<A: Allocator, B: Allocator>(
     Ok(is_told(&both.maps, pair))
 }
 
-/// Takes the row back where there is nothing to say of its item and no row is behind it.
+/// Removes the row at the position `at`, unless the item of the row differs or other rows follow
+/// the row.
 fn settle(at: usize, is_listed: bool, rows: &mut Vec<TreeRow>)
     ensures { (see : TreeRow → ChangeData) (before below : List ChangeData) (row : ChangeData)
         → length before ≡ at → each see rows.old.items ≡ before ++ row ∷ below

@@ -13,7 +13,7 @@ use crush_print::words::{bytes_of, push_all, push_weight};
 use crush_units::Weight;
 use std::alloc::{AllocError, Global};
 
-/// In the map in which the item stands here.
+/// Returns the class of a row's item, as the map has it in which the item is in this place.
 pub(super) fn class_bytes<'a>(change: &Change<'a>) -> &'a [u8]
     ensures { result.now ≡ class_word (change_data change.now) }
 {
@@ -33,7 +33,9 @@ fn class_of<'a>(item: &Option<Seen<'a>>) -> &'a [u8]
     }
 }
 
-/// One that stands here now stood here where its parent is the same.
+/// Returns what the item weighed in this place in the old map; `None` if the old map had the item
+/// in another place or didn't have the item. If the new map has the item in this place, then the
+/// old map had it here if the item has the same parent in both maps.
 pub(super) fn weighed(change: &Change<'_>) -> Option<Weight>
     ensures { result ≡ weighed (change_data change.now) }
 {

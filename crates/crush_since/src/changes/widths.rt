@@ -16,9 +16,9 @@ use std::alloc::{AllocError, Allocator, Global};
 pub(crate) struct ChangeWidths {
     pub id: usize,
     pub class: usize,
-    /// Of weights before.
+    /// The width of the column WAS.
     pub was: usize,
-    /// Of weights after.
+    /// The width of the column WEIGHT.
     pub weight: usize,
 }
 

@@ -15,7 +15,8 @@ use crush_map::{CrushMap, Setting};
 use crush_units::ItemId;
 use std::alloc::{AllocError, Allocator, Global};
 
-/// Whether [`write_since`](crate::write_since) tells of an item, or of tunables, types or rules.
+/// Whether [`write_since`](crate::write_since) writes a line for an item, or a line which says that
+/// tunables, types or rules differ. An `Err` says that memory ran out.
 pub fn is_changed<A: Allocator, B: Allocator>(
     alloc: Global,
     old: &CrushMap<A>,
@@ -32,7 +33,8 @@ pub fn is_changed<A: Allocator, B: Allocator>(
     Ok(is_different(&both))
 }
 
-/// Whether [`since_part_text`](crate::since_part_text) tells of an item.
+/// Whether [`since_part_text`](crate::since_part_text) has a line. An `Err` says that memory ran
+/// out.
 pub fn is_part_changed<A: Allocator, B: Allocator>(
     alloc: Global,
     old: &CrushMap<A>,

@@ -104,7 +104,7 @@ pub(crate) fn collected<'a>(
     Ok(uses)
 }
 
-/// The classes of items that are sorted by name, by name in descending order.
+/// Returns the classes of items that are sorted by name. The classes are in descending order.
 fn grouped<'a>(alloc: Global, items: &[ClassItem<'a>]) -> Result<Vec<ClassUse<'a>>, AllocError>
     ensures { IfOk result (λ uses. reverse (each use_data uses.items) ≡ grouped (each item_data items.now)) }
 {
@@ -123,7 +123,8 @@ fn grouped<'a>(alloc: Global, items: &[ClassItem<'a>]) -> Result<Vec<ClassUse<'a
     Ok(done)
 }
 
-/// The class of this item, added to if it is the current one, which is done with if it isn't.
+/// Returns the class of this item. If it is the current class, the item is added to it. Otherwise
+/// the current class is complete and is appended to `done`.
 fn next<'a>(
     current: ClassUse<'a>,
     item: &ClassItem<'a>,

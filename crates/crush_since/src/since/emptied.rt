@@ -117,7 +117,7 @@ fn push_step<'a, A: Allocator, B: Allocator>(
     }
 }
 
-/// Appends that a rule takes nothing, if it does.
+/// Appends the difference that a step of a rule takes nothing any more, if `is` is true.
 fn push_if<'a>(
     is: bool,
     rule: &'a str,
@@ -203,7 +203,8 @@ fn bucket_named<A: Allocator>(map: &CrushMap<A>, name: &str) -> Option<BucketId>
     }
 }
 
-/// One that isn't there weighs nothing.
+/// Returns what the bucket weighs, or what its devices of a class weigh; 0 if the map doesn't have
+/// the bucket.
 fn taken_weight<A: Allocator>(map: &CrushMap<A>, bucket: BucketId, class: Option<&str>) -> Weight
     ensures { (t : List Row) → Stands map.now.forest t
         → result ≡ taken_weight t bucket (option_map (λ c. c.now) class.entry) }

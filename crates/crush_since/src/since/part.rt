@@ -12,9 +12,10 @@ use crush_map::CrushMap;
 use crush_units::ItemId;
 use std::alloc::{AllocError, Allocator, Global};
 
-/// What has changed from the old map to the new of the items that stand below this one or stood
-/// below it, it among them: a line for each that differs, as [`write_since`](crate::write_since)
-/// writes it, buckets by id from -1 downward and then devices upward, and nothing behind them.
+/// Returns the lines of [`write_since`](crate::write_since) for a part of the maps: the item
+/// `under`, and all items that are below it in the old map or in the new map. Lines about settings,
+/// rules, classes, total weights and counts aren't part of the text. An `Err` says that memory ran
+/// out.
 #[tactic(auto, unfolding(crate::specs::SincePart::since_part_text))]
 pub fn since_part_text<A: Allocator, B: Allocator>(
     alloc: Global,

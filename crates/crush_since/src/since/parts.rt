@@ -17,7 +17,7 @@ use crush_tree::View;
 use crush_units::ItemId;
 use std::alloc::{AllocError, Global};
 
-/// What two maps say of an id.
+/// What two maps say of the item that has an id.
 #[derive(Clone, Copy)]
 pub(crate) struct Compared<'a> {
     pub old: &'a Setting,
@@ -27,7 +27,7 @@ pub(crate) struct Compared<'a> {
     pub same_class_ids: bool,
 }
 
-/// Nothing where both maps say the same of its id.
+/// Appends the line of an item; nothing if both maps say the same of its id.
 pub(crate) fn push_line(
     alloc: Global,
     id: ItemId,
@@ -53,7 +53,7 @@ pub(crate) fn push_line(
     Ok(())
 }
 
-/// Without the mark before the first part.
+/// Returns the parts without the semicolon and the space before the first part.
 pub(crate) fn after_mark(parts: &[u8]) -> &[u8]
     requires { 2 ≤ length parts.now }
     ensures { result.now ≡ drop 2 parts.now }
@@ -68,7 +68,8 @@ fn push_text(name: &[u8], id: ItemId, text: &[u8], out: &mut Vec<u8>) -> Result<
     push_all(&[b": ".as_slice(), text, b"\n".as_slice()], out)
 }
 
-/// The name after, or before of what is gone.
+/// Returns the name that the item has in the new map, or its name in the old map if the new map
+/// doesn't have the item.
 fn listed_name<'a>(before: &'a Option<Seen<'_>>, after: &'a Option<Seen<'_>>) -> &'a [u8]
     ensures { result.now
         ≡ listed_name (option_map seen_data before.now) (option_map seen_data after.now) }
@@ -82,7 +83,7 @@ fn listed_name<'a>(before: &'a Option<Seen<'_>>, after: &'a Option<Seen<'_>>) ->
     }
 }
 
-/// Each part stands behind a semicolon.
+/// Appends the parts of an item's line, each after a semicolon and a space.
 fn push_parts(alloc: Global, item: &Compared<'_>, parts: &mut Vec<u8>) -> Result<(), AllocError>
     ensures { OnOk result (parts.new.items ≡ parts.old.items
         ++ behind (all_parts item.now.old.now item.now.new.now
@@ -128,7 +129,7 @@ fn push_changes(
     Ok(())
 }
 
-/// A part of these words, behind a semicolon, where a column differs.
+/// Appends a part with these words, after a semicolon and a space, unless `same` is true.
 pub(crate) fn push_part(same: bool, words: &[&[u8]], parts: &mut Vec<u8>) -> Result<(), AllocError>
     ensures { OnOk result (parts.new.items ≡ parts.old.items
         ++ behind (part same (flat_map (λ w. w.now) words.now))) }

@@ -43,11 +43,13 @@ pub enum RuleChange<'a> {
 /// Returns the differences between the rules of two maps. First come the rules of the new map that
 /// are new or differ, in the new map's order, and then the rules that are gone, in the old map's
 /// order. If the two maps have the same rules in another order, `OtherOrder` comes first instead.
-/// Last come the steps of the new map's rules that take nothing now, in their order.
+/// The last differences are those of steps that take a bucket which has lost all its weight, in the
+/// order of the new map's rules.
 ///
-/// Two steps that take a bucket are the same if the two buckets have the same id, or if `identity`
-/// matches items by their names, if they have the same name. In the same way the bucket that a step
-/// takes is found in the old map. An `Err` says that memory ran out.
+/// Two steps that take a bucket are the same if the two buckets have the same id. If `identity`
+/// matches items by their names, they are the same if the two buckets have the same name. The
+/// bucket of the old map that a step of the new map takes is found in the same way. An `Err` says
+/// that memory ran out.
 pub fn rule_changes<'a, A: Allocator, B: Allocator>(
     alloc: Global,
     identity: Identity,

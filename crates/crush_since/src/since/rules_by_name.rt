@@ -14,7 +14,8 @@ use crush_map::{CrushMap, KeptRule, KeptStep};
 use crush_units::{BucketId, ItemId};
 use std::alloc::Allocator;
 
-/// Whether the rules are the same, in order.
+/// Whether two lists have the same rules in the same order. `identity` says how the buckets that
+/// steps take are compared.
 pub(crate) fn are_same_rules<A: Allocator, B: Allocator>(
     identity: Identity,
     old: &CrushMap<A>,
@@ -47,7 +48,8 @@ pub(crate) fn is_same_rule<A: Allocator, B: Allocator>(
     }
 }
 
-/// Whether the rules are the same, in order. A bucket that a step takes is compared by its name.
+/// Whether two lists have the same rules in the same order. The buckets that steps take are
+/// compared by their names.
 pub fn same_named_rules<A: Allocator, B: Allocator>(
     old: &CrushMap<A>,
     new: &CrushMap<B>,
@@ -105,7 +107,7 @@ fn same_named_steps<A: Allocator, B: Allocator>(
     true
 }
 
-/// Whether both are the same step. A bucket is compared by its name.
+/// Whether two steps are the same. The buckets that steps take are compared by their names.
 fn same_named_step<A: Allocator, B: Allocator>(
     old: &CrushMap<A>,
     new: &CrushMap<B>,

@@ -8,7 +8,7 @@ ghost use Rattle.crush_since.specs.Settings.{same_tunable, same_kinds, same_step
 use crush_map::{KeptRule, KeptStep, Setting};
 use std::alloc::AllocError;
 
-/// A line where the tunables differ, in order.
+/// Appends a line if the tunables or their order differ.
 pub(crate) fn push_tunables(
     old: &Setting,
     new: &Setting,
@@ -20,7 +20,7 @@ pub(crate) fn push_tunables(
     Ok(())
 }
 
-/// A line where the types differ, in whatever order.
+/// Appends a line if the types differ. The order of the types doesn't matter.
 pub(crate) fn push_kinds(old: &Setting, new: &Setting, out: &mut Vec<u8>) -> Result<(), AllocError>
     ensures { OnOk result (out.new.items ≡ out.old.items ++ kinds_line old.now new.now) }
 {
@@ -28,7 +28,7 @@ pub(crate) fn push_kinds(old: &Setting, new: &Setting, out: &mut Vec<u8>) -> Res
     Ok(())
 }
 
-/// A line, unless both are the same.
+/// Appends the line `text`, unless `same` is true.
 pub(crate) fn tell_unless(same: bool, text: &[u8], out: &mut Vec<u8>) -> Result<(), AllocError>
     ensures { OnOk result (out.new.items ≡ out.old.items ++ listed_if_not same text.now) }
 {
@@ -38,21 +38,22 @@ pub(crate) fn tell_unless(same: bool, text: &[u8], out: &mut Vec<u8>) -> Result<
     out.extend_from_slice(text)
 }
 
-/// Whether the tunables are the same, in order.
+/// Whether both maps have the same tunables in the same order.
 pub fn same_tunables(old: &Setting, new: &Setting) -> bool
     ensures { result ≡ pointwise same_tunable old.now.tunables new.now.tunables }
 {
     old.tunables().as_slice() == new.tunables().as_slice()
 }
 
-/// Whether the types are the same, in whatever order.
+/// Whether both maps have the same types, in whatever order.
 pub fn same_kinds(old: &Setting, new: &Setting) -> bool
     ensures { result ≡ same_kinds old.now new.now }
 {
     old.kinds() == new.kinds()
 }
 
-/// Whether the rules are the same, in order. A bucket that a step takes is compared by its id.
+/// Whether two lists have the same rules in the same order. The buckets that steps take are
+/// compared by their ids.
 pub fn same_rules(old: &[KeptRule], new: &[KeptRule]) -> bool
     ensures { result ≡ pointwise same_rule (each rule_data old.now) (each rule_data new.now) }
 {
@@ -92,7 +93,7 @@ fn same_steps(old: &[KeptStep], new: &[KeptStep]) -> bool
     true
 }
 
-/// Whether both are the same step; a bucket is compared by its id.
+/// Whether two steps are the same. The buckets that steps take are compared by their ids.
 pub(crate) fn same_step(old: &KeptStep, new: &KeptStep) -> bool
     ensures { result ≡ same_step (step_data old.now) (step_data new.now) }
 {

@@ -16,12 +16,12 @@ use crate::since::seen::Seen;
 use crush_compare::{Comparison, Pair};
 use std::alloc::Allocator;
 
-/// How many items differ in which way. The last four are of those that both maps have.
+/// How many items differ in which way. The last four numbers count only items that both maps have.
 #[derive(Clone, Copy, Debug)]
 pub struct Tally {
-    /// That the new map alone has.
+    /// How many items only the new map has.
     pub made: usize,
-    /// That the old map alone has.
+    /// How many items only the old map has.
     pub removed: usize,
     pub renamed: usize,
     pub moved: usize,
@@ -100,7 +100,7 @@ fn more(count: usize, test: bool) -> usize
     if test { count + 1 } else { count }
 }
 
-/// Whether the second map alone has the item.
+/// Whether only the new map has the item.
 pub(crate) fn is_made(before: &Option<Seen<'_>>, after: &Option<Seen<'_>>) -> bool
     ensures { result
         ≡ is_made (option_map seen_data before.now) (option_map seen_data after.now) }
@@ -134,7 +134,7 @@ fn is_moved(before: &Option<Seen<'_>>, after: &Option<Seen<'_>>) -> bool
     }
 }
 
-/// Whether both have the item, of another weight.
+/// Whether both maps have the item, with different weights.
 pub(crate) fn is_reweighed(before: &Option<Seen<'_>>, after: &Option<Seen<'_>>) -> bool
     ensures { result
         ≡ is_reweighed (option_map seen_data before.now) (option_map seen_data after.now) }
@@ -148,7 +148,7 @@ pub(crate) fn is_reweighed(before: &Option<Seen<'_>>, after: &Option<Seen<'_>>) 
     }
 }
 
-/// Whether both have the item, of another class.
+/// Whether both maps have the item, with different classes.
 pub(crate) fn is_reclassed(before: &Option<Seen<'_>>, after: &Option<Seen<'_>>) -> bool
     ensures { result
         ≡ is_reclassed (option_map seen_data before.now) (option_map seen_data after.now) }

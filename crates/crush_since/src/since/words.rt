@@ -50,7 +50,7 @@ pub(crate) fn place_of(alloc: Global, item: &Seen<'_>) -> Result<Vec<u8>, AllocE
     Ok(place)
 }
 
-/// A weight's text.
+/// Returns the text of a weight.
 pub(crate) fn weight_of(alloc: Global, weight: Weight) -> Result<Vec<u8>, AllocError>
     ensures { IfOk result (λ text. text.items ≡ weight_text weight) }
 {
@@ -59,7 +59,7 @@ pub(crate) fn weight_of(alloc: Global, weight: Weight) -> Result<Vec<u8>, AllocE
     Ok(text)
 }
 
-/// The name of an item's type; of a device `osd` where the setting has no type 0.
+/// Returns the name of an item's type. For a device it is `osd` if the setting has no type 0.
 pub(crate) fn type_bytes(setting: &Setting, id: ItemId, kind: TypeId) -> &[u8]
     ensures { result.now ≡ type_word setting.now id kind }
 {
@@ -72,7 +72,7 @@ pub(crate) fn type_bytes(setting: &Setting, id: ItemId, kind: TypeId) -> &[u8]
     }
 }
 
-/// A class, or the word for none.
+/// Returns the class, or `(none)` if there is no class.
 pub(crate) fn class_bytes<'a>(class: Option<&'a str>) -> &'a [u8]
     ensures { result.now ≡ class_or_none (option_map (λ c. c.now) class.entry) }
 {
@@ -82,7 +82,7 @@ pub(crate) fn class_bytes<'a>(class: Option<&'a str>) -> &'a [u8]
     }
 }
 
-/// The word of an algorithm, or nothing where there is none.
+/// Returns the name of an algorithm, or an empty text if there is no algorithm.
 pub(crate) fn alg_bytes(alg: Option<Alg>) -> &'static [u8]
     ensures { result.now ≡ alg_word alg }
 {
@@ -92,7 +92,7 @@ pub(crate) fn alg_bytes(alg: Option<Alg>) -> &'static [u8]
     }
 }
 
-/// A class behind its word, if there is one.
+/// Appends the words `, class ` and the class, if there is a class.
 pub(crate) fn push_with_class(class: Option<&str>, out: &mut Vec<u8>) -> Result<(), AllocError>
     ensures { OnOk result (out.new.items ≡ out.old.items
         ++ with_class (option_map (λ c. c.now) class.entry)) }
@@ -147,7 +147,7 @@ pub(crate) fn push_units(units: u128, out: &mut Vec<u8>) -> Result<(), AllocErro
     push_all(&[whole, &fraction], out)
 }
 
-/// The line of the totals.
+/// Appends the line of the total weights.
 #[tactic(auto, unfolding(crate::specs::Since::totals_line))]
 pub(crate) fn push_totals(before: u64, after: u64, out: &mut Vec<u8>) -> Result<(), AllocError>
     ensures { OnOk result (out.new.items ≡ out.old.items ++ totals_line before after) }
@@ -167,7 +167,7 @@ fn push_count(count: usize, what: &[u8], out: &mut Vec<u8>) -> Result<(), AllocE
     push_all(&[number, what], out)
 }
 
-/// The line of the counts.
+/// Appends the line of the counts.
 #[tactic(auto, unfolding(crate::specs::Tallies::counts_line))]
 pub(crate) fn push_counts(counts: &Tally, out: &mut Vec<u8>) -> Result<(), AllocError>
     ensures { OnOk result (out.new.items ≡ out.old.items ++ counts_line counts.now) }

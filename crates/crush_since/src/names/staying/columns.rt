@@ -42,7 +42,7 @@ fn type_of<'a>(setting: &'a Setting, item: &Seen<'_>) -> &'a [u8]
     type_bytes(setting, item.view.id, item.view.kind)
 }
 
-/// Whether two items are of one type, by the names of their types. All devices are.
+/// Whether two items have types of the same name. Two devices always have the same type.
 fn same_type(id: ItemId, here: &[u8], there: &[u8]) -> bool
     ensures { result ≡ same_type id here.now there.now }
 {
