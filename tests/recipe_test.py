@@ -9,6 +9,7 @@ is there. Prints a line for each trial, and ends with status 1 if one fails.
 import json
 import os
 import pathlib
+import random
 import re
 import shutil
 import signal
@@ -486,6 +487,29 @@ class Words(Trial):
         self.folder = self.here / "für heute"
         printed = self.try_commands("reweight osd.2 1.0\n")
         self.assertIn("< '{}/new.bin'\n".format(self.folder), printed)
+
+
+class Exact(Trial):
+    """Weights that crushedit prints, as crushtool compiles them."""
+
+    def compiled(self, weights, *words):
+        """The units that weights have after crushedit has printed them and crushtool has compiled them."""
+        lines = ["device {} osd.{}\n".format(number, number) for number in range(len(weights))] + ["type 1 host\n"]
+        lines += ["host h1 { id -1 alg straw2\n"]
+        lines += ["item osd.{} weight {:.5f}\n".format(number, units / 65536) for number, units in enumerate(weights)] + ["}\n"]
+        run = {"input": "".join(lines).encode(), "stdout": subprocess.PIPE, "check": True, "timeout": 60}
+        text = subprocess.run([str(PROGRAM), *words], **run).stdout
+        (self.here / "text").write_bytes(text)
+        subprocess.run([str(self.tools / "crushtool"), "-c", str(self.here / "text"), "-o", str(self.here / "new")], check=True)
+        items = re.findall(r"(?m)^\titem osd\.\d+ weight (\S+)$", (self.here / "new").read_text())
+        return [round(float(weight) * 65536) for weight in items]
+
+    def test_2000_weights_come_back(self):
+        dice = random.Random(1)
+        for _ in range(2):
+            weights = [dice.randint(1, 100 * 65536) for _ in range(1000)]
+            self.assertEqual(self.compiled(weights, "--exact"), weights)
+            self.assertNotEqual(self.compiled(weights), weights, "the weights show no difference between both forms")
 
 
 class Page(Trial):

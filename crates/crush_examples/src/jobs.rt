@@ -137,6 +137,8 @@ fn run_record(
             exit_code: false,
             explain: false,
             json: false,
+            exact: false,
+            conflicts: false,
         },
         output: Output::Map,
     };

@@ -23,7 +23,7 @@ no_words = record { explain = false; under = []; down_to = []; class = [] }
 abbrev pub words_of : Options → WordsData
 words_of options = record {
   explain = options.mode.explain;
-  under = unwrap_or (flags_by options.mode.json options.output_spec).under [];
-  down_to = unwrap_or (flags_by options.mode.json options.output_spec).down_to [];
-  class = unwrap_or (flags_by options.mode.json options.output_spec).class [];
+  under = unwrap_or (flags_by options.mode.json options.mode.exact options.output_spec).under [];
+  down_to = unwrap_or (flags_by options.mode.json options.mode.exact options.output_spec).down_to [];
+  class = unwrap_or (flags_by options.mode.json options.mode.exact options.output_spec).class [];
 }

@@ -55,7 +55,8 @@ fn name_or_empty(name: &Option<String>) -> &str
 }
 
 fn under_of(output_spec: &OutputSpec) -> &str
-    ensures { (json : Bool) → result.now ≡ unwrap_or (flags_by json output_spec.now).under [] }
+    ensures { (json exact : Bool) → result.now
+        ≡ unwrap_or (flags_by json exact output_spec.now).under [] }
 {
     match output_spec {
         OutputSpec::Tree(part) => name_or_empty(&part.under),
@@ -67,7 +68,8 @@ fn under_of(output_spec: &OutputSpec) -> &str
 }
 
 fn down_to_of(output_spec: &OutputSpec) -> &str
-    ensures { (json : Bool) → result.now ≡ unwrap_or (flags_by json output_spec.now).down_to [] }
+    ensures { (json exact : Bool) → result.now
+        ≡ unwrap_or (flags_by json exact output_spec.now).down_to [] }
 {
     match output_spec {
         OutputSpec::Tree(part) => name_or_empty(&part.down_to),
@@ -77,7 +79,8 @@ fn down_to_of(output_spec: &OutputSpec) -> &str
 }
 
 fn class_of(output_spec: &OutputSpec) -> &str
-    ensures { (json : Bool) → result.now ≡ unwrap_or (flags_by json output_spec.now).class [] }
+    ensures { (json exact : Bool) → result.now
+        ≡ unwrap_or (flags_by json exact output_spec.now).class [] }
 {
     match output_spec {
         OutputSpec::Tree(part) => name_or_empty(&part.class),

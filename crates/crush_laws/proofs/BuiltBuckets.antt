@@ -15,6 +15,7 @@ use Rattle.crush_model.proofs.Relocated.{All-kids}
 use Rattle.crush_edits.specs.Setting.{SettingData, kind_number}
 use Rattle.crush_edits.specs.Fits.{IsSetting}
 use Rattle.crush_builder.specs.Built.{Draft, nothing, filling as is_filling}
+use Rattle.crush_print.specs.declared.weight_form.WeightForm.{WeightForm}
 use Rattle.crush_print.specs.MapText.{kind_text}
 use Rattle.crush_print.proofs.PrintedLines.{head_words, class_id_words, choice_words, bucket_words, kid_words, whole_words}
 use Rattle.crush_print.proofs.PrintedTexts.{root_order}
@@ -41,7 +42,7 @@ pub record BucketsAreDue (s : SettingData) (t : List Row) (d : Draft) : Type 0 w
   pub table : Same (part_of is_device_id (λ _. false) t) d.table
 
 -- their words lead to the same table and the same setting, and no weight is adjusted
-pub record BucketsLead (s : SettingData) (t : List Row) (late : Bool) (d : Draft) (others : List (List ℕ)) : Type 0 where
+pub record BucketsLead (form : WeightForm) (s : SettingData) (t : List Row) (late : Bool) (d : Draft) (others : List (List ℕ)) : Type 0 where
   pub last : Draft
   pub behind : Bool
   pub setting : last.setting ≡ d.setting
@@ -49,11 +50,11 @@ pub record BucketsLead (s : SettingData) (t : List Row) (late : Bool) (d : Draft
   pub adjusted : last.adjusted ≡ 0
   pub table : Same t last.table
   pub lawful : IsLawfulDraft last
-  pub goes : Goes (between (at (idle late) d)) (flat_map (whole_words s t) (root_order t)) others (between (at (idle behind) last))
+  pub goes : Goes (between (at (idle late) d)) (flat_map (whole_words form s t) (root_order t)) others (between (at (idle behind) last))
 
 -- THE BUCKETS ARE BUILT wherever they are due
 abbrev pub BucketsAreBuilt : Type 0
-BucketsAreBuilt = (s : SettingData) (t : List Row) → Lawful t → (late : Bool) (d : Draft) (others : List (List ℕ)) → BucketsAreDue s t d → BucketsLead s t late d others
+BucketsAreBuilt = (form : WeightForm) (s : SettingData) (t : List Row) → Lawful t → (late : Bool) (d : Draft) (others : List (List ℕ)) → BucketsAreDue s t d → BucketsLead form s t late d others
 
 -- ONE BUCKET: its words lead to the table with it and its items
 record BucketLeads (s : SettingData) (t : List Row) (seen : ℕ → Bool) (b : ℕ) (late : Bool) (u : List Row) (words others : List (List ℕ)) : Type 0 where
@@ -68,10 +69,10 @@ row_there : (o : Option Row) → is_some o ≡ true → (x : Row) × (o ≡ Some
 row_there None h = absurd (let no : false ≡ true = h in cc)
 row_there (Some x) h = (x, refl)
 
-module _ (s : SettingData) (names : ℕ → List ℕ) (t : List Row) (l : Lawful t) (h : HasKinds s names t) where
+module _ (form : WeightForm) (s : SettingData) (names : ℕ → List ℕ) (t : List Row) (l : Lawful t) (h : HasKinds s names t) where
   -- the words of a bucket, except for the names of types
   abbrev words_with : ℕ → List (List ℕ)
-  words_with b = option_map_or (λ (x : Row). bucket_words (names x.kind) x (flat_map (kid_words t) (kids t b))) (row_of t (Bucket b)) []
+  words_with b = option_map_or (λ (x : Row). bucket_words (names x.kind) x (flat_map (kid_words form t) (kids t b))) (row_of t (Bucket b)) []
 
   bucket_leads : (b : ℕ) → is_there t (Bucket b) ≡ true → (seen : ℕ → Bool) → seen b ≡ false → ((j : ℕ) → parent_of t (Bucket j) ≡ Some b → seen j ≡ true)
       → (q P : ItemId → Bool) (u : List Row) → IsRead t seen seen q P (whole_kids t seen) u → (late : Bool) (others : List (List ℕ)) → BucketLeads s t seen b late u (words_with b) others
@@ -79,8 +80,8 @@ module _ (s : SettingData) (names : ℕ → List ℕ) (t : List Row) (l : Lawful
       let x = row_there (row_of t (Bucket b)) there in
       let brace : List (List ℕ) = codes "}" ∷ [] in
       let front : List (List ℕ) = (head_words (names x.0.kind) x.0.name x.0.id ++ flat_map class_id_words x.0.class_ids) ++ choice_words x.0 in
-      let items : List (List ℕ) = flat_map (kid_words t) (kids t b) in
-      let filled = items_lead s names t l h b x.0 x.1 seen new ready (with_one q (Bucket b)) (kids t b) [] false P (u ++ bare x.0 ∷ []) (brace ++ others) refl
+      let items : List (List ℕ) = flat_map (kid_words form t) (kids t b) in
+      let filled = items_lead form s names t l h b x.0 x.1 seen new ready (with_one q (Bucket b)) (kids t b) [] false P (u ++ bare x.0 ∷ []) (brace ++ others) refl
       (read_opened t l b x.0 x.1 seen q P u r new) (All-nil (λ (k : ItemId). P k ≡ true)) (All-weaker (λ (k : ItemId). parent_of t k ≡ Some b) (λ (k : ItemId). P k ≡ false) (λ k e. r.loose k b new e) (kids t b) (All-kids t l b))
       (All-kids t l b) (kids_once t l b) in
       let read = read_ended t b seen (with_one q (Bucket b)) filled.places filled.table filled.read filled.placed in
@@ -89,7 +90,7 @@ module _ (s : SettingData) (names : ℕ → List ℕ) (t : List Row) (l : Lawful
         places = filled.places;
         table = filled.table;
         read = read;
-        goes = subst (λ (o : Option Row). Goes (between (at (idle late) (built s u nothing))) (option_map_or (λ (y : Row). bucket_words (names y.kind) y (flat_map (kid_words t) (kids t b))) o []) others (between (at second (built s filled.table nothing)))) (sym x.1)
+        goes = subst (λ (o : Option Row). Goes (between (at (idle late) (built s u nothing))) (option_map_or (λ (y : Row). bucket_words (names y.kind) y (flat_map (kid_words form t) (kids t b))) o []) others (between (at second (built s filled.table nothing)))) (sym x.1)
             (goes_both (between (at (idle late) (built s u nothing))) (front ++ items) brace others (between (at (filling filled.some) (built s filled.table (is_filling b)))) (between (at second (built s filled.table nothing)))
             (goes_both (between (at (idle late) (built s u nothing))) front items (brace ++ others) (between (at (filling false) (built s (u ++ bare x.0 ∷ []) (is_filling b)))) (between (at (filling filled.some) (built s filled.table (is_filling b))))
             (front_leads s names t l h b x.0 x.1 seen q P u r new late (items ++ (brace ++ others))) filled.goes)
@@ -156,9 +157,9 @@ module _ (s : SettingData) (names : ℕ → List ℕ) (t : List Row) (l : Lawful
 
 -- THE BUCKETS ARE BUILT
 pub buckets_are_built : BucketsAreBuilt
-buckets_are_built s t l late d others due =
+buckets_are_built form s t l late d others due =
     let kinds : HasKinds d.setting (kind_text s) t = record { setting = due.setting; unruled = due.unruled; kinds = due.kinds } in
-    let rest = rest_leads d.setting (kind_text s) t l kinds (root_order t) (λ _. false) is_device_id (λ _. false) d.table (first_read t d.table due.table) (root_order-ready t l) (λ j. omega (arith, root_order-times t l j)) late others in
+    let rest = rest_leads form d.setting (kind_text s) t l kinds (root_order t) (λ _. false) is_device_id (λ _. false) d.table (first_read t d.table due.table) (root_order-ready t l) (λ j. omega (arith, root_order-times t l j)) late others in
     let same : d ≡ built d.setting d.table nothing = λ k. record { setting = d.setting; table = d.table; pending = due.pending k; adjusted = due.adjusted k } in
     record {
       last = built d.setting rest.table nothing;
@@ -168,5 +169,5 @@ buckets_are_built s t l late d others due =
       adjusted = refl;
       table = rest.same;
       lawful = rest.lawful;
-      goes = subst (λ (e : Draft). Goes (between (at (idle late) e)) (flat_map (whole_words s t) (root_order t)) others (between (at (idle rest.behind) (built d.setting rest.table nothing)))) (sym same) rest.goes;
+      goes = subst (λ (e : Draft). Goes (between (at (idle late) e)) (flat_map (whole_words form s t) (root_order t)) others (between (at (idle rest.behind) (built d.setting rest.table nothing)))) (sym same) rest.goes;
     }

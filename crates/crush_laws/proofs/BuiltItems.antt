@@ -22,6 +22,7 @@ use Rattle.crush_map.specs.WrittenItems.{placed_row, put_below, adjustment}
 use Rattle.crush_builder.specs.Built.{filling as is_filling, Draft, with_next_item}
 use Rattle.crush_builder.specs.Building.{item_named, closed_item}
 use Rattle.crush_builder.proofs.ItemSteps.{only_row}
+use Rattle.crush_print.specs.declared.weight_form.WeightForm.{WeightForm}
 use Rattle.crush_print.proofs.PrintedLines.{item_words, kid_words}
 use Rattle.crush_print.proofs.PartTables.{bare}
 use Rattle.crush_print.proofs.PartSteps.{with_one, with_one-it, with_one-other}
@@ -67,7 +68,7 @@ or_true : (v : Bool) → (v || true) ≡ true
 or_true true = refl
 or_true false = refl
 
-module _ (s : SettingData) (names : ℕ → List ℕ) (t : List Row) (l : Lawful t) (h : HasKinds s names t) (b : ℕ) (x : Row) (found : row_of t (Bucket b) ≡ Some x)
+module _ (form : WeightForm) (s : SettingData) (names : ℕ → List ℕ) (t : List Row) (l : Lawful t) (h : HasKinds s names t) (b : ℕ) (x : Row) (found : row_of t (Bucket b) ≡ Some x)
     (seen : ℕ → Bool) (new : seen b ≡ false) (ready : (j : ℕ) → parent_of t (Bucket j) ≡ Some b → seen j ≡ true) (q : ItemId → Bool) where
   -- the open bucket is in no other one, and what is built is lawful
   pub filling_draft : (P : ItemId → Bool) (ds : List ItemId) (u : List Row) → IsRead t seen (add seen b) q P (open_kids t seen b ds) u → IsLawfulDraft (built s u (is_filling b))
@@ -106,8 +107,8 @@ module _ (s : SettingData) (names : ℕ → List ℕ) (t : List Row) (l : Lawful
     row_there : row_of u i ≡ Some (bare y)
     row_there = read_row t l seen (add seen b) q P (open_kids t seen b ds) u r i y found_it is_in free
 
-    form : IsRowOf i y
-    form = let row = All-row IsRow t l.rows i y found_it in subst (λ (j : ItemId). IsRowOf j y) (row_id i t y found_it) row.form
+    row_form : IsRowOf i y
+    row_form = let row = All-row IsRow t l.rows i y found_it in subst (λ (j : ItemId). IsRowOf j y) (row_id i t y found_it) row.form
 
     named : item_named (built s u (is_filling b)) y.name ≡ Some i
     named = ap (option_and_then (closed_item (is_filling b))) (name_found t l q P (read_closed t l seen (add seen b) q P (open_kids t seen b ds) u r) u r.rows i (bare y) row_there)
@@ -122,7 +123,7 @@ module _ (s : SettingData) (names : ℕ → List ℕ) (t : List Row) (l : Lawful
     put_row : put_below b i (item_weight t i y.weight) u ≡ without_row i u ++ y ∷ []
     put_row =
         let lawful = read_lawful t l seen (add seen b) q P (open_kids t seen b ds) u r in
-        let weight = weight_kept t i y form (row_id i t y found_it) in
+        let weight = weight_kept t i y row_form (row_id i t y found_it) in
         let row : placed_row b (item_weight t i y.weight) (bare y) ≡ y = λ k. record y { parent = sym in_it k; weight = weight k } in
         ap (λ (zs : List Row). without_row i u ++ map (placed_row b (item_weight t i y.weight)) zs) (only_row u i (bare y) (lawful.ids i) row_there) ∙ ap (λ (z : Row). without_row i u ++ z ∷ []) row
 
@@ -135,12 +136,12 @@ module _ (s : SettingData) (names : ℕ → List ℕ) (t : List Row) (l : Lawful
     item_read = read_put t l b i y found_it in_it seen q P ds u r (r.buckets b ∙ (λ k. seen b || itself b k) ∙ or_true (seen b)) is_in free (λ j e. ready j (ap (parent_of t) (sym e) ∙ placed_in))
 
     -- its line leads on
-    pub item_leads : (any : Bool) (others : List (List ℕ)) → Goes (between (at (filling any) (built s u (is_filling b)))) (kid_words t i) others (between (at (filling true) (built s (without_row i u ++ y ∷ []) (is_filling b))))
+    pub item_leads : (any : Bool) (others : List (List ℕ)) → Goes (between (at (filling any) (built s u (is_filling b)))) (kid_words form t i) others (between (at (filling true) (built s (without_row i u ++ y ∷ []) (is_filling b))))
     item_leads any others =
         let is = with_item-is in
-        subst (λ (o : Option Row). Goes (between (at (filling any) (built s u (is_filling b)))) (option_map_or (λ (z : Row). item_words z.name (item_weight t i z.weight)) o []) others (between (at (filling true) (built s (without_row i u ++ y ∷ []) (is_filling b))))) (sym found_it)
-        (subst (λ (d : Draft). Goes (between (at (filling any) (built s u (is_filling b)))) (item_words y.name (item_weight t i y.weight)) others (between (at (filling true) d))) is
-        (item_goes any (built s u (is_filling b)) i y.name (item_weight t i y.weight) others named (ap (λ (o : Option Row). is_some (option_and_then (λ (z : Row). z.parent) o)) row_there) (weighs_little t l i y form)
+        subst (λ (o : Option Row). Goes (between (at (filling any) (built s u (is_filling b)))) (option_map_or (λ (z : Row). item_words form z.name (item_weight t i z.weight)) o []) others (between (at (filling true) (built s (without_row i u ++ y ∷ []) (is_filling b))))) (sym found_it)
+        (subst (λ (d : Draft). Goes (between (at (filling any) (built s u (is_filling b)))) (item_words form y.name (item_weight t i y.weight)) others (between (at (filling true) d))) is
+        (item_goes form any (built s u (is_filling b)) i y.name (item_weight t i y.weight) others named (ap (λ (o : Option Row). is_some (option_and_then (λ (z : Row). z.parent) o)) row_there) (weighs_little t l i y row_form)
         (subst IsLawfulDraft (sym is) (filling_draft (with_one P i) (ds ++ i ∷ []) (without_row i u ++ y ∷ []) item_read))))
 
 -- THE OPEN BUCKET IS FILLED: all its items are in it
@@ -152,11 +153,11 @@ pub record IsFilled (s : SettingData) (t : List Row) (seen : ℕ → Bool) (b : 
   pub placed : All (λ (k : ItemId). places k ≡ true) (kids t b)
   pub goes : Goes (between (at (filling any) (built s u (is_filling b)))) words others (between (at (filling some) (built s table (is_filling b))))
 
-module _ (s : SettingData) (names : ℕ → List ℕ) (t : List Row) (l : Lawful t) (h : HasKinds s names t) (b : ℕ) (x : Row) (found : row_of t (Bucket b) ≡ Some x)
+module _ (form : WeightForm) (s : SettingData) (names : ℕ → List ℕ) (t : List Row) (l : Lawful t) (h : HasKinds s names t) (b : ℕ) (x : Row) (found : row_of t (Bucket b) ≡ Some x)
     (seen : ℕ → Bool) (new : seen b ≡ false) (ready : (j : ℕ) → parent_of t (Bucket j) ≡ Some b → seen j ≡ true) (q : ItemId → Bool) where
   pub items_lead : (ks ds : List ItemId) (any : Bool) (P : ItemId → Bool) (u : List Row) (others : List (List ℕ)) → ds ++ ks ≡ kids t b → IsRead t seen (add seen b) q P (open_kids t seen b ds) u
       → All (λ (k : ItemId). P k ≡ true) ds → All (λ (k : ItemId). P k ≡ false) ks → All (λ (k : ItemId). parent_of t k ≡ Some b) ks → ((i : ItemId) → count_by (λ (k : ItemId). same_id k i) ks ≤ 1)
-      → IsFilled s t seen b q any u (flat_map (kid_words t) ks) others
+      → IsFilled s t seen b q any u (flat_map (kid_words form t) ks) others
   items_lead [] ds any P u others e r placed free parents once =
       let all : ds ≡ kids t b = sym (append-nil ds) ∙ e in
       record {
@@ -173,7 +174,7 @@ module _ (s : SettingData) (names : ℕ → List ℕ) (t : List Row) (l : Lawful
       let one : one_if (same_id i i) ≡ 1 = ap one_if (same_id_refl i) in
       let none = none_counted (λ (k : ItemId). same_id k i) ks (omega (arith, one, once i, sum_by-cons (λ (k : ItemId). one_if (same_id k i)) i ks)) in
       let rest = items_lead ks (ds ++ i ∷ []) true (with_one P i) (without_row i u ++ y.0 ∷ []) others (append_assoc ds (i ∷ []) ks ∙ e)
-      (item_read s names t l h b x found seen new ready q P ds u r i y.0 y.1 y.2 loose)
+      (item_read form s names t l h b x found seen new ready q P ds u r i y.0 y.1 y.2 loose)
       (All-push (λ (k : ItemId). with_one P i k ≡ true) ds i (All-weaker (λ (k : ItemId). P k ≡ true) (λ (k : ItemId). with_one P i k ≡ true) (λ k c. ap (λ v. v || same_id k i) c) ds placed) (with_one-it P i))
       (All-weaker (λ (k : ItemId). (P k ≡ false) × (same_id k i ≡ false)) (λ (k : ItemId). with_one P i k ≡ false) (λ k c. with_one-other P i k c.1 ∙ c.0) ks
       (All-both (λ (k : ItemId). P k ≡ false) (λ (k : ItemId). same_id k i ≡ false) ks (All-tail (λ (k : ItemId). P k ≡ false) i ks free) none))
@@ -185,7 +186,7 @@ module _ (s : SettingData) (names : ℕ → List ℕ) (t : List Row) (l : Lawful
         table = rest.table;
         read = rest.read;
         placed = rest.placed;
-        goes = goes_both (between (at (filling any) (built s u (is_filling b)))) (kid_words t i) (flat_map (kid_words t) ks) others
+        goes = goes_both (between (at (filling any) (built s u (is_filling b)))) (kid_words form t i) (flat_map (kid_words form t) ks) others
             (between (at (filling true) (built s (without_row i u ++ y.0 ∷ []) (is_filling b)))) (between (at (filling rest.some) (built s rest.table (is_filling b))))
-            (item_leads s names t l h b x found seen new ready q P ds u r i y.0 y.1 y.2 loose any (flat_map (kid_words t) ks ++ others)) rest.goes;
+            (item_leads form s names t l h b x found seen new ready q P ds u r i y.0 y.1 y.2 loose any (flat_map (kid_words form t) ks ++ others)) rest.goes;
       }

@@ -13,9 +13,10 @@ use Rattle.crush_units.specs.declared.alg.Alg.TheVariants.{Straw2}
 use Rattle.crush_units.specs.declared.id.ItemId.{ItemId}
 use Rattle.crush_units.specs.declared.id.ItemId.TheVariants.{Device}
 use Rattle.crush_units.specs.Alg.{alg_text}
-use Rattle.crush_units.specs.Weight.{are_digits, weight_text}
+use Rattle.crush_units.specs.Weight.{are_digits, weight_of_text}
 use Rattle.crush_units.proofs.Algs.{alg_of_text-alg_text}
 use Rattle.crush_units.proofs.ReadBack.{read_again}
+use Rattle.crush_units.proofs.ExactWeights.{exact_read_again}
 use Rattle.crush_units.specs.declared.limits.TheConstants.{LARGEST_TUNABLE}
 use Rattle.crush_model.specs.Table.{is_placed}
 use Rattle.crush_builder.specs.Built.{Draft, with_tunable, with_kind, with_device, begun_bucket, with_id, with_class_id, with_alg, with_next_item, with_end}
@@ -26,6 +27,9 @@ use Rattle.crush_units.specs.Numbers.{is_number}
 use Rattle.crush_text.specs.Role.{value, kind_of_word, item_of, opened, units, units_or_none, key, any_word, number, type_name, new_name, bucket_id, id_class}
 use Rattle.crush_text.specs.Form.{Mode, first, second, begun, numbered, filling, at, Form, done, word, optional, ahead, passing}
 use Rattle.crush_text.specs.Grammar.{tunable_line, type_line, device_class, device_line, bucket_line, class_id_line, alg_line, weighed_item, item_weight_line, statement}
+use Rattle.crush_print.specs.declared.weight_form.WeightForm.{WeightForm}
+use Rattle.crush_print.specs.declared.weight_form.WeightForm.TheVariants.{Rounded, Exact}
+use Rattle.crush_print.specs.Lines.{weight_in}
 use Rattle.crush_print.proofs.PrintedLines.{class_words}
 use Rattle.crush_text.specs.Flow.{State, between, amid, arrive}
 use Rattle.crush_text.specs.Document.{IsWhole}
@@ -274,12 +278,17 @@ alg_goes d a others l = (
   ),
 )
 
+-- the text of a weight in either form is read as the weight
+formed_again : (form : WeightForm) (w : ℕ) → w < 2 ^ 32 → weight_of_text (weight_in form w) ≡ Ok w
+formed_again Rounded w light = read_again w light
+formed_again Exact w light = exact_read_again w light
+
 -- an item's, with its weight
-pub item_goes : (any : Bool) (d : Draft) (i : ItemId) (x : List ℕ) (w : ℕ) (others : List (List ℕ)) → item_named d x ≡ Some i → is_placed d.table i ≡ false → w < 2 ^ 32 → IsLawfulDraft (with_next_item d i (Some w))
-    → Goes (between (at (filling any) d)) (codes "item" ∷ x ∷ codes "weight" ∷ weight_text w ∷ []) others (between (at (filling true) (with_next_item d i (Some w))))
-item_goes any d i x w others named free light l =
+pub item_goes : (form : WeightForm) (any : Bool) (d : Draft) (i : ItemId) (x : List ℕ) (w : ℕ) (others : List (List ℕ)) → item_named d x ≡ Some i → is_placed d.table i ≡ false → w < 2 ^ 32 → IsLawfulDraft (with_next_item d i (Some w))
+    → Goes (between (at (filling any) d)) (codes "item" ∷ x ∷ codes "weight" ∷ weight_in form w ∷ []) others (between (at (filling true) (with_next_item d i (Some w))))
+item_goes form any d i x w others named free light l =
     let is : item_of d x ≡ i = ap (λ o. unwrap_or o (Device 0)) named in
-    let says : units (weight_text w) ≡ w = ap units_or_none (read_again w light) in (
+    let says : units (weight_in form w) ≡ w = ap units_or_none (formed_again form w light) in (
       amid d (weighed_item d),
       (inl refl, refl),
       tt,
@@ -291,7 +300,7 @@ item_goes any d i x w others named free light l =
           amid d (item_weight_line d i),
           (refl, refl),
           tt,
-          (between (at (filling true) (with_next_item d i (Some w))), (read_again w light ∙ ap (λ v. Ok v) (sym says), ap (λ v. between (at (filling true) (with_next_item d i (Some v)))) (sym says)), (l, tt), refl),
+          (between (at (filling true) (with_next_item d i (Some w))), (formed_again form w light ∙ ap (λ v. Ok v) (sym says), ap (λ v. between (at (filling true) (with_next_item d i (Some v)))) (sym says)), (l, tt), refl),
         ),
       ),
     )

@@ -16,6 +16,7 @@ use Rattle.crush_edits.specs.Fits.{Fits, is_reserved}
 use Rattle.crush_builder.specs.Built.{Draft}
 use Rattle.crush_units.specs.Words.{words}
 use Rattle.crush_units.proofs.Printed.{Holds, holds_nothing}
+use Rattle.crush_print.specs.declared.weight_form.WeightForm.{WeightForm}
 use Rattle.crush_print.specs.MapText.{device_numbers, kind_numbers, kind_text, map_text}
 use Rattle.crush_print.proofs.PrintedLines.{tunable_words, device_words, kind_words, bucket_words, kid_words, rule_words, words_of, whole_words}
 use Rattle.crush_print.proofs.PrintedTexts.{row_kind, kind_text-is, map_words, map_text-holds, root_order}
@@ -43,7 +44,7 @@ found_has P p (y ∷ xs) x a e = by_test (p y) e (found_has P p xs x (All-tail P
     by_test true h rest = let is : y ≡ x = cc in subst P is (All-head P y xs a)
     by_test false h rest = rest h
 
-module _ (s : SettingData) (t : List Row) (l : Lawful t) (f : Fits s t) where
+module _ (form : WeightForm) (s : SettingData) (t : List Row) (l : Lawful t) (f : Fits s t) where
   -- a type is found again by its printed name
   own_name : (front : List KindData) (k : KindData) (rest : List KindData) → front ++ k ∷ rest ≡ s.kinds → kind_number s k.name ≡ Some k.number
   own_name front k rest e =
@@ -67,18 +68,18 @@ module _ (s : SettingData) (t : List Row) (l : Lawful t) (f : Fits s t) where
       by_test false e = refl
       by_test true e = ap is_reserved (sym (bytes_equal n (codes "class") e)) ∙ h
 
-  bucket_avoids : (b : ℕ) → Avoids (codes "class") (whole_words s t b)
+  bucket_avoids : (b : ℕ) → Avoids (codes "class") (whole_words form s t b)
   bucket_avoids b = by_row (row_of t (Bucket b)) refl
     where
-      by_row : (o : Option Row) → row_of t (Bucket b) ≡ o → Avoids (codes "class") (option_map_or (λ (r : Row). bucket_words (kind_text s r.kind) r (flat_map (kid_words t) (kids t b))) o [])
+      by_row : (o : Option Row) → row_of t (Bucket b) ≡ o → Avoids (codes "class") (option_map_or (λ (r : Row). bucket_words (kind_text s r.kind) r (flat_map (kid_words form t) (kids t b))) o [])
       by_row None e = refl
       by_row (Some r) e =
           let k = row_kind s t l f b r e in
           let kind = k.form in
           let number = k.number in
           let row = All-row IsRow t l.rows (Bucket b) r e in
-          let form : IsBucketRow b r = subst (λ i. IsRowOf i r) (row_id (Bucket b) t r e) row.form in
-          let some = form.kind_some in
+          let is : IsBucketRow b r = subst (λ i. IsRowOf i r) (row_id (Bucket b) t r e) row.form in
+          let some = is.kind_some in
           ap (λ n. bytes_eq n (codes "class")) (kind_text-is s r.kind k) ∙ free_name k.kind.name (kind.free (omega (arith, number, some)))
 
   -- AFTER THE BUCKETS come the rules
@@ -86,7 +87,7 @@ module _ (s : SettingData) (t : List Row) (l : Lawful t) (f : Fits s t) where
   rules_behind = flat_map (rule_words t) s.rules ++ []
 
   abbrev buckets_behind : List (List ℕ)
-  buckets_behind = flat_map (whole_words s t) (root_order t) ++ rules_behind
+  buckets_behind = flat_map (whole_words form s t) (root_order t) ++ rules_behind
 
   abbrev kinds_behind : List (List ℕ)
   kinds_behind = flat_map (λ n. kind_words n (kind_text s n)) (kind_numbers s) ++ buckets_behind
@@ -97,7 +98,7 @@ module _ (s : SettingData) (t : List Row) (l : Lawful t) (f : Fits s t) where
   kinds_free : Avoids (codes "class") kinds_behind
   kinds_free =
       avoids_both (codes "class") (flat_map (λ n. kind_words n (kind_text s n)) (kind_numbers s)) buckets_behind (avoids_all (codes "class") (λ n. kind_words n (kind_text s n)) (kind_numbers s) (λ n. refl))
-      (avoids_both (codes "class") (flat_map (whole_words s t) (root_order t)) rules_behind (avoids_all (codes "class") (whole_words s t) (root_order t) bucket_avoids)
+      (avoids_both (codes "class") (flat_map (whole_words form s t) (root_order t)) rules_behind (avoids_all (codes "class") (whole_words form s t) (root_order t) bucket_avoids)
       (avoids_both (codes "class") (flat_map (rule_words t) s.rules) [] (avoids_all (codes "class") (rule_words t) s.rules (λ r. refl)) refl))
 
   -- BEFORE THE BUCKETS: tunables, devices and types
@@ -138,7 +139,7 @@ module _ (s : SettingData) (t : List Row) (l : Lawful t) (f : Fits s t) where
   may_end false = refl
 
   -- THE WHOLE MAP is read back if its buckets are built, whatever text without words follows it
-  read_as : (rest : List ℕ) → Holds rest [] → BucketsLead s t false due rules_behind → IsTextOf (map_text s t ++ rest) (in_order s) t
+  read_as : (rest : List ℕ) → Holds rest [] → BucketsLead form s t false due rules_behind → IsTextOf (map_text form s t ++ rest) (in_order s) t
   read_as rest none b =
       let u = b.last.table in
       let is : b.last ≡ quiet (kinded s.tunables (in_order s).kinds) u = λ i. record { setting = b.setting i; table = u; pending = b.pending i; adjusted = b.adjusted i } in
@@ -146,26 +147,26 @@ module _ (s : SettingData) (t : List Row) (l : Lawful t) (f : Fits s t) where
       let lawful = map.lawful in
       let rules = rules_go s t u l f lawful b.table b.behind [] map in
       let all = before.goes in
-      let holds = map_text-holds s t l f rest none in
+      let holds = map_text-holds form s t l f rest none in
       let unruled_at : State = between (at (idle b.behind) (quiet (kinded s.tunables (in_order s).kinds) u)) in
       let due_at : State = between (at first due) in
       let last_at : State = between (at (idle (behind b.behind s.rules)) (quiet (in_order s) u)) in
       let front = flat_map tunable_words s.tunables ++ flat_map (λ d. words_of t (Device d) device_words) (device_numbers t) ++ flat_map (λ n. kind_words n (kind_text s n)) (kind_numbers s) in
-      let buckets = flat_map (whole_words s t) (root_order t) in
+      let buckets = flat_map (whole_words form s t) (root_order t) in
       let filled : Goes due_at buckets rules_behind unruled_at = subst (λ d. Goes due_at buckets rules_behind (between (at (idle b.behind) d))) is b.goes in
-      let goes : Goes start (map_words s t) [] last_at =
+      let goes : Goes start (map_words form s t) [] last_at =
       goes_both start (front ++ buckets) (flat_map (rule_words t) s.rules) [] unruled_at last_at (goes_both start front buckets rules_behind due_at unruled_at all filled) rules.goes in
-      let built = goes_build start (map_words s t) (words 0 (map_text s t ++ rest)).words last_at (quiet (in_order s) u) (holds.texts_are 0) goes (refl, may_end (behind b.behind s.rules)) in
-      let text : IsLawfulText (map_text s t ++ rest) (in_order s) u 0 = record { draft = quiet (in_order s) u; built = built; end = holds.ends 0; setting = refl; table = refl; count = refl } in
-      record { table = u; text = (maps_are_the_lawful_texts (map_text s t ++ rest) (in_order s) u 0).1 text; same = Same-sym t u b.table }
+      let built = goes_build start (map_words form s t) (words 0 (map_text form s t ++ rest)).words last_at (quiet (in_order s) u) (holds.texts_are 0) goes (refl, may_end (behind b.behind s.rules)) in
+      let text : IsLawfulText (map_text form s t ++ rest) (in_order s) u 0 = record { draft = quiet (in_order s) u; built = built; end = holds.ends 0; setting = refl; table = refl; count = refl } in
+      record { table = u; text = (maps_are_the_lawful_texts (map_text form s t ++ rest) (in_order s) u 0).1 text; same = Same-sym t u b.table }
 
-  pub map_read_back : BucketsAreBuilt → (rest : List ℕ) → Holds rest [] → IsTextOf (map_text s t ++ rest) (in_order s) t
-  map_read_back built rest none = read_as rest none (built s t l false due rules_behind before.ready)
+  pub map_read_back : BucketsAreBuilt → (rest : List ℕ) → Holds rest [] → IsTextOf (map_text form s t ++ rest) (in_order s) t
+  map_read_back built rest none = read_as rest none (built form s t l false due rules_behind before.ready)
 
 -- the printed text is read in this way if its buckets are built
 pub types_are_read_in_order : BucketsAreBuilt → TypesAreReadInOrder
-types_are_read_in_order built s t l f = subst (λ bytes. IsTextOf bytes (in_order s) t) (append-nil (map_text s t)) (map_read_back s t l f built [] holds_nothing)
+types_are_read_in_order built form s t l f = subst (λ bytes. IsTextOf bytes (in_order s) t) (append-nil (map_text form s t)) (map_read_back form s t l f built [] holds_nothing)
 
 -- and so it is if comments follow it
-pub comments_behind : BucketsAreBuilt → (s : SettingData) (t : List Row) (comments : List ℕ) → Lawful t → Fits s t → AreCommentLines comments → IsTextOf (map_text s t ++ comments) (in_order s) t
-comments_behind built s t comments l f are = map_read_back s t l f built comments (comment_lines-hold comments are)
+pub comments_behind : BucketsAreBuilt → (form : WeightForm) (s : SettingData) (t : List Row) (comments : List ℕ) → Lawful t → Fits s t → AreCommentLines comments → IsTextOf (map_text form s t ++ comments) (in_order s) t
+comments_behind built form s t comments l f are = map_read_back form s t l f built comments (comment_lines-hold comments are)

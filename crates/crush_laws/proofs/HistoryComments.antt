@@ -212,4 +212,4 @@ history_lines_are_comments names number (e ∷ h) ns hs =
 
 -- WHAT IS WRITTEN of a run is read as the map
 pub written_is_read_back : WhatIsWrittenIsReadBack
-written_is_read_back s t names number h l f ns hs = comments_behind_are_no_matter s t (entries_text names number h) l f (history_lines_are_comments names number h ns hs)
+written_is_read_back form s t names number h l f ns hs = comments_behind_are_no_matter form s t (entries_text names number h) l f (history_lines_are_comments names number h ns hs)

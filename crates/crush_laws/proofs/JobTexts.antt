@@ -105,19 +105,19 @@ job_history bytes job is =
     }
 
 pub job_texts_are_read_back : JobTextsAreReadBack
-job_texts_are_read_back bytes job is =
+job_texts_are_read_back form bytes job is =
     let s = job.setting in
     let h = turns s job.table job.scripts in
     let keeps = jobs_stay_lawful bytes job is in
     let named = job_history bytes job is in
-    written_is_read_back s (table_after s job.table h) (names_of job.scripts) 1 h keeps.lawful keeps.fits named.names named.calls
+    written_is_read_back form s (table_after s job.table h) (names_of job.scripts) 1 h keeps.lawful keeps.fits named.names named.calls
 
 pub job_maps_are_read_back : JobMapsAreReadBack
-job_maps_are_read_back bytes job is =
+job_maps_are_read_back form bytes job is =
     let keeps = jobs_stay_lawful bytes job is in
-    printed_texts_are_read_back job.setting (table_after job.setting job.table (turns job.setting job.table job.scripts)) keeps.lawful keeps.fits
+    printed_texts_are_read_back form job.setting (table_after job.setting job.table (turns job.setting job.table job.scripts)) keeps.lawful keeps.fits
 
 pub history_texts_are_read_back : HistoryTextsAreReadBack
-history_texts_are_read_back s t names h lawful fits named said calls =
+history_texts_are_read_back form s t names h lawful fits named said calls =
     let keeps = history_keeps s t h (record { lawful = lawful; fits = fits }) calls in
-    written_is_read_back s (table_after s t h) names 1 h keeps.lawful keeps.fits named said
+    written_is_read_back form s (table_after s t h) names 1 h keeps.lawful keeps.fits named said

@@ -16,10 +16,10 @@ in_order_is_the_same s t f = record { kinds = kinds_reordered s f.setting; tunab
 
 -- the text of the map with its types in order is read as the map
 read_as_it : (bytes : List ℕ) (s : SettingData) (t : List Row) → Lawful t → Fits s t → IsTextOf bytes (in_order s) t → IsReadAs bytes s t
-read_as_it bytes s t l f is = record { setting = in_order s; settings = in_order_is_the_same s t f; map = is; again = read_back_prints_alike s t is.table l f is.same }
+read_as_it bytes s t l f is = record { setting = in_order s; settings = in_order_is_the_same s t f; map = is; again = λ form. read_back_prints_alike form s t is.table l f is.same }
 
 pub printed_texts_are_read_back : PrintedTextsAreReadBack
-printed_texts_are_read_back s t l f = read_as_it (map_text s t) s t l f (types_are_read_in_order buckets_are_built s t l f)
+printed_texts_are_read_back form s t l f = read_as_it (map_text form s t) s t l f (types_are_read_in_order buckets_are_built form s t l f)
 
 pub comments_behind_are_no_matter : CommentsBehindAreNoMatter
-comments_behind_are_no_matter s t comments l f are = read_as_it _ s t l f (comments_behind buckets_are_built s t comments l f are)
+comments_behind_are_no_matter form s t comments l f are = read_as_it _ s t l f (comments_behind buckets_are_built form s t comments l f are)

@@ -5,6 +5,7 @@ use Rattle.std.proofs.lemmas.Bool.{and_parts}
 use Rattle.std.proofs.lemmas.Bool.Decides.{nat_tests}
 use Rattle.crush_model.specs.Table.{Row}
 use Rattle.crush_edits.specs.Setting.{SettingData}
+use Rattle.crush_print.specs.declared.weight_form.WeightForm.{WeightForm}
 use Rattle.crush_print.specs.MapText.{tunable_section, device_section, kind_section, bucket_section, rule_section, map_text}
 use Rattle.crush_history.specs.History.{table_after, turns}
 use Rattle.crush_history.specs.HistoryText.{names_of}
@@ -25,9 +26,9 @@ ends_behind starts [] rest = refl
 ends_behind starts (b ∷ bs) rest = ends_behind (b == 10) bs rest
 
 -- the last line of a printed map ends
-map_ends : (s : SettingData) (t : List Row) → ends_line true (map_text s t) ≡ true
+map_ends : (form : WeightForm) (s : SettingData) (t : List Row) → ends_line true (map_text form s t) ≡ true
 unfolding map_text
-map_ends s t = ends_behind true (tunable_section s ++ device_section t ++ kind_section s ++ bucket_section s t ++ rule_section s t) (codes "\n# end crush map\n")
+map_ends form s t = ends_behind true (tunable_section s ++ device_section t ++ kind_section s ++ bucket_section form s t ++ rule_section s t) (codes "\n# end crush map\n")
 
 -- and that of comments
 comments_end : (begun : Bool) (bytes : List ℕ) → are_comments begun bytes ≡ true → ends_line (not begun) bytes ≡ true
@@ -43,14 +44,14 @@ comments_end true (b ∷ bs) h = by_test (b == 10) refl h (λ begun. comments_en
     by_test true e h rest = ap (λ (v : Bool). ends_line v bs) e ∙ rest false h
     by_test false e h rest = ap (λ (v : Bool). ends_line v bs) e ∙ rest true h
 
-both_end : (s : SettingData) (t : List Row) (comments : List ℕ) → AreCommentLines comments → ends_line true (map_text s t ++ comments) ≡ true
-both_end s t comments are = ends_behind true (map_text s t) comments ∙ ap (λ (v : Bool). ends_line v comments) (map_ends s t) ∙ comments_end false comments are
+both_end : (form : WeightForm) (s : SettingData) (t : List Row) (comments : List ℕ) → AreCommentLines comments → ends_line true (map_text form s t ++ comments) ≡ true
+both_end form s t comments are = ends_behind true (map_text form s t) comments ∙ ap (λ (v : Bool). ends_line v comments) (map_ends form s t) ∙ comments_end false comments are
 
 pub printed_maps_run_on : PrintedMapsRunOn
-printed_maps_run_on s t comments l f are = runs_on _ s t (comments_behind_are_no_matter s t comments l f are) (both_end s t comments are)
+printed_maps_run_on form s t comments l f are = runs_on _ s t (comments_behind_are_no_matter form s t comments l f are) (both_end form s t comments are)
 
 pub job_texts_run_on : JobTextsRunOn
-job_texts_run_on bytes job is =
+job_texts_run_on form bytes job is =
     let named = job_history bytes job is in
     let h = turns job.setting job.table job.scripts in
-    runs_on _ job.setting _ (job_texts_are_read_back bytes job is) (both_end job.setting (table_after job.setting job.table h) _ (history_lines_are_comments (names_of job.scripts) 1 h named.names named.calls))
+    runs_on _ job.setting _ (job_texts_are_read_back form bytes job is) (both_end form job.setting (table_after job.setting job.table h) _ (history_lines_are_comments (names_of job.scripts) 1 h named.names named.calls))

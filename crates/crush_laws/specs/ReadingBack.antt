@@ -7,6 +7,7 @@ use Rattle.crush_model.specs.Same.{Same}
 use Rattle.crush_edits.specs.Setting.{KindData, SettingData}
 use Rattle.crush_edits.specs.Fits.{Fits}
 use Rattle.crush_print.specs.MapText.{kind_numbers, kind_text, map_text}
+use Rattle.crush_print.specs.declared.weight_form.WeightForm.{WeightForm}
 use Rattle.crush_text.specs.Document.{IsMapText}
 
 -- two settings are the same, except that the order of their types may differ
@@ -21,16 +22,16 @@ pub record IsTextOf (bytes : List ℕ) (s : SettingData) (t : List Row) : Type 0
   pub text : IsMapText bytes s table 0
   pub same : Same table t
 
--- READ AS: the bytes are the text of such a map, whose setting is the same as s except for the order of its types; and the printed text of that map is the printed text of s and t
+-- READ AS: the bytes are the text of such a map, whose setting is the same as s except for the order of its types; and in each form of weights, the printed text of that map is the printed text of s and t
 pub record IsReadAs (bytes : List ℕ) (s : SettingData) (t : List Row) : Type 0 where
   pub setting : SettingData
   pub settings : SameSetting s setting
   pub map : IsTextOf bytes setting t
-  pub again : map_text setting map.table ≡ map_text s t
+  pub again : (form : WeightForm) → map_text form setting map.table ≡ map_text form s t
 
--- READING BACK: the printed text of a lawful table, with a setting that fits it, is read back as that map
+-- READING BACK: the printed text of a lawful table, with a setting that fits it, is read back as that map, in whichever form its weights are printed
 abbrev pub PrintedTextsAreReadBack : Type 0
-PrintedTextsAreReadBack = (s : SettingData) (t : List Row) → Lawful t → Fits s t → IsReadAs (map_text s t) s t
+PrintedTextsAreReadBack = (form : WeightForm) (s : SettingData) (t : List Row) → Lawful t → Fits s t → IsReadAs (map_text form s t) s t
 
 -- the type with this number, with the name that is printed for it
 abbrev pub printed_kind : SettingData → ℕ → KindData
@@ -46,11 +47,11 @@ InOrderIsTheSame = (s : SettingData) (t : List Row) → Fits s t → SameSetting
 
 -- the types of a printed text are read in the order of their numbers
 abbrev pub TypesAreReadInOrder : Type 0
-TypesAreReadInOrder = (s : SettingData) (t : List Row) → Lawful t → Fits s t → IsTextOf (map_text s t) (in_order s) t
+TypesAreReadInOrder = (form : WeightForm) (s : SettingData) (t : List Row) → Lawful t → Fits s t → IsTextOf (map_text form s t) (in_order s) t
 
 -- the setting with its types in order, and any table that is the same, have the same printed text
 abbrev pub ReadBackPrintsAlike : Type 0
-ReadBackPrintsAlike = (s : SettingData) (t u : List Row) → Lawful t → Fits s t → Same u t → map_text (in_order s) u ≡ map_text s t
+ReadBackPrintsAlike = (form : WeightForm) (s : SettingData) (t u : List Row) → Lawful t → Fits s t → Same u t → map_text form (in_order s) u ≡ map_text form s t
 
 -- whether the bytes are whole lines that begin with `#`; the first argument says whether the bytes begin within such a line
 abbrev pub are_comments : Bool → List ℕ → Bool
@@ -64,4 +65,4 @@ AreCommentLines bytes = are_comments false bytes ≡ true
 
 -- the printed text of a map, followed by any comment lines, is read back as that map
 abbrev pub CommentsBehindAreNoMatter : Type 0
-CommentsBehindAreNoMatter = (s : SettingData) (t : List Row) (comments : List ℕ) → Lawful t → Fits s t → AreCommentLines comments → IsReadAs (map_text s t ++ comments) s t
+CommentsBehindAreNoMatter = (form : WeightForm) (s : SettingData) (t : List Row) (comments : List ℕ) → Lawful t → Fits s t → AreCommentLines comments → IsReadAs (map_text form s t ++ comments) s t

@@ -10,6 +10,7 @@ use Rattle.crush_edits.specs.Pushed.{IsLocation}
 use Rattle.crush_edits.specs.declared.edit.Edit.{Edit}
 use Rattle.crush_edits.specs.declared.edit.Edit.TheVariants.{Insert, CreateOrMove, Update, Move, Swap, Reweight, ReweightSubtree, Remove, AddBucket, Rename, SetClass, RemoveClass}
 use Rattle.crush_print.specs.MapText.{map_text}
+use Rattle.crush_print.specs.declared.weight_form.WeightForm.{WeightForm}
 use Rattle.crush_laws.specs.ReadingBack.{IsReadAs, AreCommentLines}
 use Rattle.crush_history.specs.declared.call.Call.{Call}
 use Rattle.crush_history.specs.declared.call.Call.TheVariants.{One, Batch, Guarded}
@@ -52,17 +53,17 @@ HistoryLinesAreComments = (names : List (List ℕ)) (number : ℕ) (h : List Ent
 
 -- WHAT IS WRITTEN IS READ BACK: the printed text of a lawful map, followed by the lines of any history, is read back as that map
 abbrev pub WhatIsWrittenIsReadBack : Type 0
-WhatIsWrittenIsReadBack = (s : SettingData) (t : List Row) (names : List (List ℕ)) (number : ℕ) (h : List EntryData) → Lawful t → Fits s t
-    → All IsName names → IsNamedHistory h → IsReadAs (map_text s t ++ entries_text names number h) s t
+WhatIsWrittenIsReadBack = (form : WeightForm) (s : SettingData) (t : List Row) (names : List (List ℕ)) (number : ℕ) (h : List EntryData) → Lawful t → Fits s t
+    → All IsName names → IsNamedHistory h → IsReadAs (map_text form s t ++ entries_text names number h) s t
 
--- the printed text of the map after a history, followed by a line for each entry
-abbrev pub text_after : SettingData → List Row → List (List ℕ) → List EntryData → List ℕ
-text_after s t names h = map_text s (table_after s t h) ++ entries_text names 1 h
+-- the printed text of the map after a history, with weights in this form, followed by a line for each entry
+abbrev pub text_after : WeightForm → SettingData → List Row → List (List ℕ) → List EntryData → List ℕ
+text_after form s t names h = map_text form s (table_after s t h) ++ entries_text names 1 h
 
 -- THE TEXT OF ANY HISTORY: the map after a history of a lawful map, followed by the history's lines, is read back as that map, if the calls have the forms that edits keep
 abbrev pub HistoryTextsAreReadBack : Type 0
-HistoryTextsAreReadBack = (s : SettingData) (t : List Row) (names : List (List ℕ)) (h : List EntryData) → Lawful t → Fits s t
-    → All IsName names → IsNamedHistory h → All (λ (e : EntryData). IsCall e.call) h → IsReadAs (text_after s t names h) s (table_after s t h)
+HistoryTextsAreReadBack = (form : WeightForm) (s : SettingData) (t : List Row) (names : List (List ℕ)) (h : List EntryData) → Lawful t → Fits s t
+    → All IsName names → IsNamedHistory h → All (λ (e : EntryData). IsCall e.call) h → IsReadAs (text_after form s t names h) s (table_after s t h)
 
 -- THE MAP AFTER A JOB: after the scripts of any job have run one after the other, the table is lawful, and the setting fits it
 abbrev pub JobsStayLawful : Type 0
@@ -70,13 +71,13 @@ JobsStayLawful = (bytes : List ℕ) (job : JobData) → IsJob bytes job → Keep
 
 -- THE OUTPUT OF A JOB with the lines of its history is read back as the map after the job
 abbrev pub JobTextsAreReadBack : Type 0
-JobTextsAreReadBack = (bytes : List ℕ) (job : JobData) → IsJob bytes job
-    → let h = turns job.setting job.table job.scripts in IsReadAs (text_after job.setting job.table (names_of job.scripts) h) job.setting (table_after job.setting job.table h)
+JobTextsAreReadBack = (form : WeightForm) (bytes : List ℕ) (job : JobData) → IsJob bytes job
+    → let h = turns job.setting job.table job.scripts in IsReadAs (text_after form job.setting job.table (names_of job.scripts) h) job.setting (table_after job.setting job.table h)
 
 -- the output of a job without the lines of its history is read back as the map after the job
 abbrev pub JobMapsAreReadBack : Type 0
-JobMapsAreReadBack = (bytes : List ℕ) (job : JobData) → IsJob bytes job
-    → let u = table_after job.setting job.table (turns job.setting job.table job.scripts) in IsReadAs (map_text job.setting u) job.setting u
+JobMapsAreReadBack = (form : WeightForm) (bytes : List ℕ) (job : JobData) → IsJob bytes job
+    → let u = table_after job.setting job.table (turns job.setting job.table job.scripts) in IsReadAs (map_text form job.setting u) job.setting u
 
 -- RUNS ON: the bytes are read as this map. If the sections of any scripts are appended, and the result isn't longer than a job may be, then it is the job of that map with these scripts.
 pub record RunsOn (bytes : List ℕ) (s : SettingData) (t : List Row) : Type 0 where
@@ -86,9 +87,9 @@ pub record RunsOn (bytes : List ℕ) (s : SettingData) (t : List Row) : Type 0 w
 
 -- PRINT, APPEND A SECTION, RUN: the printed text of a lawful map runs on, whatever comment lines follow it
 abbrev pub PrintedMapsRunOn : Type 0
-PrintedMapsRunOn = (s : SettingData) (t : List Row) (comments : List ℕ) → Lawful t → Fits s t → AreCommentLines comments → RunsOn (map_text s t ++ comments) s t
+PrintedMapsRunOn = (form : WeightForm) (s : SettingData) (t : List Row) (comments : List ℕ) → Lawful t → Fits s t → AreCommentLines comments → RunsOn (map_text form s t ++ comments) s t
 
 -- the output of a job, with the lines of its history, runs on
 abbrev pub JobTextsRunOn : Type 0
-JobTextsRunOn = (bytes : List ℕ) (job : JobData) → IsJob bytes job
-    → let h = turns job.setting job.table job.scripts in RunsOn (text_after job.setting job.table (names_of job.scripts) h) job.setting (table_after job.setting job.table h)
+JobTextsRunOn = (form : WeightForm) (bytes : List ℕ) (job : JobData) → IsJob bytes job
+    → let h = turns job.setting job.table job.scripts in RunsOn (text_after form job.setting job.table (names_of job.scripts) h) job.setting (table_after job.setting job.table h)

@@ -4,7 +4,7 @@ ghost use Rattle.crush_laws.specs.ReadingBack.{CommentsBehindAreNoMatter, InOrde
 ghost use Rattle.crush_laws.specs.Written.{HistoryLinesAreComments, WhatIsWrittenIsReadBack, HistoryTextsAreReadBack};
 ghost use Rattle.crush_laws.specs.Written.{JobsStayLawful, JobTextsAreReadBack, JobMapsAreReadBack, JobTextsRunOn, PrintedMapsRunOn};
 
-/// The law that the printed text of a map is read back as that map. The table and the setting are
+/// The law that the printed text of a map is read back as that map, with weights in either form. The table and the setting are
 /// the same, except that the types are then in the order of their numbers, and the map that was
 /// read prints the same text again. That also holds with comment lines after the text. With
 /// sections of scripts after it, the text is the job of that map with these scripts.

@@ -17,7 +17,7 @@ ghost use Rattle.crush_text.specs.Flaw.{IsFlawOrOutOfMemory};
 ghost use Rattle.crush_print.specs.MapText.{map_text};
 
 use crush_map::{Done, Edit, EditFault};
-use crush_print::{WriteFault, write_map};
+use crush_print::{WeightForm, WriteFault, write_map};
 use crush_text::{TextFault, read_map};
 use crush_units::{Name, Weight};
 use std::alloc::Global;
@@ -88,7 +88,7 @@ fn print_edited(rt: &HostRuntime, text: &[u8], asked: &Edit) -> anyhow::Result<(
 fn edit_text<W: Write>(alloc: Global, text: &[u8], asked: &Edit, out: &mut W) -> Result<Done, Fault>
     ensures done { (s : SettingData) (t : List Row) (n : ℕ) → IsMapText text.now s t n
         → IfOk result (λ d. (u : List Row) × (edit s t asked.now ≡ done d.changed d.made u)
-        × Appends (W.contents out.old) (W.contents out.new) (map_text s u)) }
+        × Appends (W.contents out.old) (W.contents out.new) (map_text WeightForm.Rounded s u)) }
     ensures refused { (r : DeclaredRefusal) → result ≡ Err (Fault.Edit (EditFault.Refused r))
         → (s : SettingData) (t : List Row) (n : ℕ) → IsMapText text.now s t n
         → edit s t asked.now ≡ refused r }
@@ -108,7 +108,7 @@ fn edit_text<W: Write>(alloc: Global, text: &[u8], asked: &Edit, out: &mut W) ->
         Err(fault) => return Err(Fault::Edit(fault)),
     };
     // Prints the map as a text that can be read again.
-    match write_map(alloc, &map, out) {
+    match write_map(alloc, &map, WeightForm::Rounded, out) {
         Ok(()) => Ok(done),
         Err(fault) => Err(Fault::Write(fault)),
     }

@@ -1,5 +1,5 @@
 -- What is read of the parsed words, and the fault with which they are refused.
-use Rattle.std.proofs.Common.{◌≡◌, Bool, [], List, Option, Some, None, ap, inl, inr, sym, subst, ◌∙◌}
+use Rattle.std.proofs.Common.{◌≡◌, Bool, [], List, Option, Some, None, ap, ap₂, inl, inr, sym, subst, ◌∙◌}
 use Rattle.std.specs.Borrow.{Bor}
 use Rattle.std.specs.Prelude.{option_map}
 use Rattle.clap.specs.Words.{Row, Text, fault_of, matches_of}
@@ -35,7 +35,7 @@ apart_much rows flags (Some text) fault are is told = refused_much rows text fau
 apart_much rows flags None fault are is told = subst (IsConflictFault rows) (sym told) tt
 
 -- words that can be given together, and that ask for this output, have it as what is printed
-pub printed_is : (rows : List Row) (flags : OutputFlagsData) (json : Bool) (output_spec : OutputSpec) → AreOutputFlags rows flags → json ≡ flags.json → flags_by flags.json output_spec ≡ flags → complaint flags ≡ None → IsOutputSpec rows json output_spec
-printed_is rows flags json output_spec are same is fits =
-    let by : flags_by json output_spec ≡ flags = ap (λ j. flags_by j output_spec) same ∙ is in
+pub printed_is : (rows : List Row) (flags : OutputFlagsData) (json exact : Bool) (output_spec : OutputSpec) → AreOutputFlags rows flags → json ≡ flags.json → exact ≡ flags.exact → flags_by flags.json flags.exact output_spec ≡ flags → complaint flags ≡ None → IsOutputSpec rows json exact output_spec
+printed_is rows flags json exact output_spec are json_same exact_same is fits =
+    let by : flags_by json exact output_spec ≡ flags = ap₂ (λ j e. flags_by j e output_spec) json_same exact_same ∙ is in
     record { flags = subst (AreOutputFlags rows) (sym by) are; together = ap complaint by ∙ fits }

@@ -12,7 +12,7 @@ pub record IsFlag (text : Option Text) (flag : Bool) : Type 0 where
   pub absent : text ≡ Some (codes "false") → flag ≡ false
   pub none : text ≡ None → flag ≡ false
 
--- the words that decide what is printed: whether `--tree`, `--as-ceph`, `--by-name` and `--json` are given, and the values of `--since`, `--to`, `--under`, `--down-to` and `--class` that are given
+-- the words that decide what is printed: whether `--tree`, `--as-ceph`, `--by-name`, `--json` and `--exact` are given, and the values of `--since`, `--to`, `--under`, `--down-to` and `--class` that are given
 pub record OutputFlagsData : Type 0 where
   pub tree : Bool
   pub since : Option Text
@@ -23,6 +23,7 @@ pub record OutputFlagsData : Type 0 where
   pub under : Option Text
   pub down_to : Option Text
   pub class : Option Text
+  pub exact : Bool
 
 -- the parsed words have exactly these flags and values
 pub record AreOutputFlags (rows : List Row) (flags : OutputFlagsData) : Type 0 where
@@ -35,6 +36,7 @@ pub record AreOutputFlags (rows : List Row) (flags : OutputFlagsData) : Type 0 w
   pub under : first_of (codes "under") rows ≡ flags.under
   pub down_to : first_of (codes "down-to") rows ≡ flags.down_to
   pub class : first_of (codes "class") rows ≡ flags.class
+  pub exact : IsFlag (one_of (codes "exact") rows) flags.exact
 
 -- the bytes of a string, if there is one
 abbrev pub name_text : {Z : Type 0} → Option (String Z) → Option Text
@@ -52,20 +54,21 @@ flags_data s = record {
   under = option_map (λ name. name.now) s.under;
   down_to = option_map (λ name. name.now) s.down_to;
   class = option_map (λ name. name.now) s.class;
+  exact = s.exact;
 }
 
--- none of these words is given, except for `--json`, which may be
-abbrev pub no_output_flags : Bool → OutputFlagsData
-no_output_flags json = record { tree = false; since = None; as_ceph = false; to = None; by_name = false; json = json; under = None; down_to = None; class = None }
+-- none of these words is given, except for `--json` and `--exact`, which may be
+abbrev pub no_output_flags : Bool → Bool → OutputFlagsData
+no_output_flags json exact = record { tree = false; since = None; as_ceph = false; to = None; by_name = false; json = json; under = None; down_to = None; class = None; exact = exact }
 
--- exactly the words that ask for this to be printed, with or without `--json`
-abbrev pub flags_by : Bool → OutputSpec → OutputFlagsData
-flags_by json Map = no_output_flags json
-flags_by json (Tree part) = record (no_output_flags json) { tree = true; under = name_text part.under; down_to = name_text part.down_to; class = name_text part.class }
-flags_by json (Since since) = record (no_output_flags json) { since = Some since.map.bytes.items; by_name = since.by_name; under = name_text since.under }
-flags_by json (Changes tree) = record (no_output_flags json) { tree = true; since = Some tree.map.bytes.items; under = name_text tree.part.under; down_to = name_text tree.part.down_to; class = name_text tree.part.class }
-flags_by json AsCeph = record (no_output_flags json) { as_ceph = true }
-flags_by json (To target) = record (no_output_flags json) { as_ceph = target.as_ceph; to = Some target.map.bytes.items; by_name = target.by_name; under = name_text target.under }
+-- exactly the words that ask for this to be printed, with or without `--json` and `--exact`
+abbrev pub flags_by : Bool → Bool → OutputSpec → OutputFlagsData
+flags_by json exact Map = no_output_flags json exact
+flags_by json exact (Tree part) = record (no_output_flags json exact) { tree = true; under = name_text part.under; down_to = name_text part.down_to; class = name_text part.class }
+flags_by json exact (Since since) = record (no_output_flags json exact) { since = Some since.map.bytes.items; by_name = since.by_name; under = name_text since.under }
+flags_by json exact (Changes tree) = record (no_output_flags json exact) { tree = true; since = Some tree.map.bytes.items; under = name_text tree.part.under; down_to = name_text tree.part.down_to; class = name_text tree.part.class }
+flags_by json exact AsCeph = record (no_output_flags json exact) { as_ceph = true }
+flags_by json exact (To target) = record (no_output_flags json exact) { as_ceph = target.as_ceph; to = Some target.map.bytes.items; by_name = target.by_name; under = name_text target.under }
 
 -- whether the words ask for two things to be printed; `--tree` with `--since` asks for one thing, and so does `--as-ceph` with `--to`
 abbrev pub ask_for_two : OutputFlagsData → Bool
@@ -111,6 +114,10 @@ json_of_names flags = flags.json && is_some flags.since && flags.by_name
 abbrev pub json_of_levels : OutputFlagsData → Bool
 json_of_levels flags = flags.json && is_some flags.since && is_some flags.down_to
 
+-- whether the words ask for exact weights of anything but the text of the map
+abbrev pub exact_of_other : OutputFlagsData → Bool
+exact_of_other flags = flags.exact && ((flags.tree || is_some flags.since || flags.as_ceph || is_some flags.to) || flags.json)
+
 -- WORDS THAT DON'T GO TOGETHER: the error line of the first of these conditions that holds of the words; nothing if none holds, so that the words can be given together
 abbrev pub complaint : OutputFlagsData → Option Text
 complaint flags =
@@ -124,12 +131,13 @@ complaint flags =
     if json_of_class flags then Some (codes "error: --json doesn't go with --class\n") else (
     if json_of_lines flags then Some (codes "error: --json doesn't go with --as-ceph\n") else (
     if json_of_names flags then Some (codes "error: --json and --since don't go with --by-name\n") else (
-    if json_of_levels flags then Some (codes "error: --json and --since don't go with --down-to\n") else None))))))))))
+    if json_of_levels flags then Some (codes "error: --json and --since don't go with --down-to\n") else (
+    if exact_of_other flags then Some (codes "error: --exact goes with the text of the map alone\n") else None)))))))))))
 
 -- WHAT IS PRINTED: the parsed words are exactly those that ask for this, and they can be given together
-pub record IsOutputSpec (rows : List Row) (json : Bool) (output_spec : OutputSpec) : Type 0 where
-  pub flags : AreOutputFlags rows (flags_by json output_spec)
-  pub together : complaint (flags_by json output_spec) ≡ None
+pub record IsOutputSpec (rows : List Row) (json exact : Bool) (output_spec : OutputSpec) : Type 0 where
+  pub flags : AreOutputFlags rows (flags_by json exact output_spec)
+  pub together : complaint (flags_by json exact output_spec) ≡ None
 
 -- the parsed words can't be given together, as the line `why` says
 pub record AreApart (rows : List Row) (why : Text) : Type 0 where

@@ -2,11 +2,11 @@
 
 ghost use Rattle.std.specs.Prelude.{◌≡◌, ◌≤◌, IfErr, IfOk, None, Some, codes, false, length, map, option_map, true};
 ghost use Rattle.clap.specs.Words.{all_of, app_of, fault_of, first_of, found_of, kind_of, one_of, rows_of, rule_of, with_rule};
-ghost use Rattle.crush_options.specs.Options.{AreRead, IsConflictFault, AreOptionsOf, IsFaultIn, IsFaultOf, IsModeOf, IsRefusedFor, IsRefusedIf, all_named, file, flag, names_text, option, program, scripts, with_modes, with_parts, with_output_flags};
-ghost use Rattle.crush_options.specs.OutputFlags.{AreOutputFlags, IsFlag, ask_for_tree_of_names, ask_for_two, complaint, have_class_alone, have_names_alone, have_part_alone, have_type_alone, name_text, flags_by, flags_data};
+ghost use Rattle.crush_options.specs.Options.{AreRead, IsConflictFault, AreOptionsOf, IsFaultIn, IsFaultOf, IsModeOf, IsRefusedFor, IsRefusedIf, all_named, file, flag, names_text, option, output, program, scripts, with_ends, with_modes, with_parts, with_output_flags};
+ghost use Rattle.crush_options.specs.OutputFlags.{AreOutputFlags, IsFlag, ask_for_tree_of_names, ask_for_two, complaint, exact_of_other, have_class_alone, have_names_alone, have_part_alone, have_type_alone, name_text, flags_by, flags_data};
 
 use crate::parsed_options::{
-    ChangeTree, Mode, Options, OptionsFault, OutputSpec, Since, Target, TreePartSpec,
+    ChangeTree, MapForm, Mode, Options, OptionsFault, OutputSpec, Since, Target, TreePartSpec,
 };
 use clap::error::ErrorKind;
 use clap::{Arg, ArgAction, ArgMatches, Command, Error};
@@ -156,6 +156,8 @@ const JSON_NAMES: &str = "error: --json and --since don't go with --by-name\n";
 
 const JSON_LEVELS: &str = "error: --json and --since don't go with --down-to\n";
 
+const EXACT_OTHER: &str = "error: --exact goes with the text of the map alone\n";
+
 /// The most files with scripts on one command line: as many as a job may have operators.
 const MOST_SCRIPTS: usize = 16;
 
@@ -194,6 +196,19 @@ fn scripts<'a>(alloc: Global) -> Arg<'a>
         .action(ArgAction::Append)
         .value_name("SCRIPT")
         .help("Append the script in this file; up to 16 times")
+}
+
+/// The option `-o FILE` or `--output FILE`, which can be given once.
+fn output<'a>(alloc: Global) -> Arg<'a>
+    ensures rule { rule_of result ≡ output }
+    ensures own { result.global ≡ false }
+{
+    Arg::new(alloc, "output")
+        .short('o')
+        .long("output")
+        .action(ArgAction::Set)
+        .value_name("FILE")
+        .help("Replace this file by the output, if all goes well")
 }
 
 fn file<'a>(alloc: Global) -> Arg<'a>
@@ -251,17 +266,26 @@ fn with_parts<'a>(alloc: Global) -> Result<Command<'a>, AllocError>
         .arg(option(alloc, "down-to", "TYPE", down_to))
 }
 
-fn command<'a>(alloc: Global) -> Result<Command<'a>, AllocError>
-    ensures { IfOk result (λ command. app_of command ≡ program) }
+fn with_ends<'a>(alloc: Global) -> Result<Command<'a>, AllocError>
+    ensures { IfOk result (λ command. app_of command ≡ with_ends) }
 {
     let class = "With --tree: count only the devices of this class";
+    let exact = "Print the map's weights with the six digits they need";
     let exit_code = "Exit with status 6 if something changed or differs";
     let explain = "Say on standard error where an error is, and why";
     with_parts(alloc)?
         .arg(option(alloc, "class", "CLASS", class))?
+        .arg(flag(alloc, "exact", exact))?
         .arg(flag(alloc, "exit-code", exit_code))?
-        .arg(flag(alloc, "explain", explain))?
+        .arg(flag(alloc, "explain", explain))
+}
+
+fn command<'a>(alloc: Global) -> Result<Command<'a>, AllocError>
+    ensures { IfOk result (λ command. app_of command ≡ program) }
+{
+    with_ends(alloc)?
         .arg(scripts(alloc))?
+        .arg(output(alloc))?
         .arg(file(alloc))
 }
 
@@ -292,6 +316,7 @@ struct OutputFlags<'a> {
     under: Option<&'a str>,
     down_to: Option<&'a str>,
     class: Option<&'a str>,
+    exact: bool,
 }
 
 fn output_flags_of<'a>(matches: &'a ArgMatches<'_>) -> OutputFlags<'a>
@@ -307,6 +332,7 @@ fn output_flags_of<'a>(matches: &'a ArgMatches<'_>) -> OutputFlags<'a>
         under: matches.get_str("under"),
         down_to: matches.get_str("down-to"),
         class: matches.get_str("class"),
+        exact: is_set(matches, "exact"),
     }
 }
 
@@ -346,6 +372,13 @@ fn have_class_alone(flags: OutputFlags<'_>) -> bool
     flags.class.is_some() && !flags.tree
 }
 
+fn exact_of_other(flags: OutputFlags<'_>) -> bool
+    ensures { result ≡ exact_of_other (flags_data flags.entry) }
+{
+    let other = flags.tree || flags.since.is_some() || flags.as_ceph || flags.to.is_some();
+    flags.exact && (other || flags.json)
+}
+
 /// Returns the error line of words that can't be given together, or `None` if they can.
 fn complaint(flags: OutputFlags<'_>) -> Option<&'static str>
     ensures { option_map (λ text. text.now) result ≡ complaint (flags_data flags.entry) }
@@ -372,6 +405,8 @@ fn complaint(flags: OutputFlags<'_>) -> Option<&'static str>
         Some(JSON_NAMES)
     } else if flags.json && flags.since.is_some() && flags.down_to.is_some() {
         Some(JSON_LEVELS)
+    } else if exact_of_other(flags) {
+        Some(EXACT_OTHER)
     } else {
         None
     }
@@ -406,7 +441,7 @@ fn part_by(alloc: Global, flags: OutputFlags<'_>) -> Result<TreePartSpec, AllocE
 fn tree_by(alloc: Global, flags: OutputFlags<'_>) -> Result<OutputSpec, AllocError>
     requires together { complaint (flags_data flags) ≡ None }
     requires alone { (flags.to ≡ None) × (flags.since ≡ None) × (flags.tree ≡ true) }
-    ensures { IfOk result (λ output_spec. flags_by flags.entry.json output_spec ≡ flags_data flags.entry) }
+    ensures { IfOk result (λ output_spec. flags_by flags.entry.json flags.entry.exact output_spec ≡ flags_data flags.entry) }
 {
     let part = part_by(alloc, flags)?;
     Ok(OutputSpec::Tree(part))
@@ -415,7 +450,7 @@ fn tree_by(alloc: Global, flags: OutputFlags<'_>) -> Result<OutputSpec, AllocErr
 fn changes_by(alloc: Global, flags: OutputFlags<'_>, name: &str) -> Result<OutputSpec, AllocError>
     requires together { complaint (flags_data flags) ≡ None }
     requires alone { (flags.to ≡ None) × (flags.since ≡ Some name) × (flags.tree ≡ true) }
-    ensures { IfOk result (λ output_spec. flags_by flags.entry.json output_spec ≡ flags_data flags.entry) }
+    ensures { IfOk result (λ output_spec. flags_by flags.entry.json flags.entry.exact output_spec ≡ flags_data flags.entry) }
 {
     let map = String::from_str(alloc, name)?;
     let part = part_by(alloc, flags)?;
@@ -425,7 +460,7 @@ fn changes_by(alloc: Global, flags: OutputFlags<'_>, name: &str) -> Result<Outpu
 fn since_by(alloc: Global, flags: OutputFlags<'_>, name: &str) -> Result<OutputSpec, AllocError>
     requires together { complaint (flags_data flags) ≡ None }
     requires alone { (flags.to ≡ None) × (flags.since ≡ Some name) × (flags.tree ≡ false) }
-    ensures { IfOk result (λ output_spec. flags_by flags.entry.json output_spec ≡ flags_data flags.entry) }
+    ensures { IfOk result (λ output_spec. flags_by flags.entry.json flags.entry.exact output_spec ≡ flags_data flags.entry) }
 {
     let map = String::from_str(alloc, name)?;
     let under = copy_of(alloc, flags.under)?;
@@ -439,7 +474,7 @@ fn since_by(alloc: Global, flags: OutputFlags<'_>, name: &str) -> Result<OutputS
 fn target_by(alloc: Global, flags: OutputFlags<'_>, name: &str) -> Result<OutputSpec, AllocError>
     requires together { complaint (flags_data flags) ≡ None }
     requires target { flags.to ≡ Some name }
-    ensures { IfOk result (λ output_spec. flags_by flags.entry.json output_spec ≡ flags_data flags.entry) }
+    ensures { IfOk result (λ output_spec. flags_by flags.entry.json flags.entry.exact output_spec ≡ flags_data flags.entry) }
 {
     let map = String::from_str(alloc, name)?;
     let under = copy_of(alloc, flags.under)?;
@@ -453,7 +488,7 @@ fn target_by(alloc: Global, flags: OutputFlags<'_>, name: &str) -> Result<Output
 
 fn output_spec_by(alloc: Global, flags: OutputFlags<'_>) -> Result<OutputSpec, AllocError>
     requires { complaint (flags_data flags) ≡ None }
-    ensures { IfOk result (λ output_spec. flags_by flags.entry.json output_spec ≡ flags_data flags.entry) }
+    ensures { IfOk result (λ output_spec. flags_by flags.entry.json flags.entry.exact output_spec ≡ flags_data flags.entry) }
 {
     match (flags.to, flags.since) {
         (Some(name), _) => target_by(alloc, flags, name),
@@ -466,7 +501,7 @@ fn output_spec_by(alloc: Global, flags: OutputFlags<'_>) -> Result<OutputSpec, A
 }
 
 fn checked_output_spec(alloc: Global, flags: OutputFlags<'_>) -> Result<OutputSpec, OptionsFault>
-    ensures parsed { IfOk result (λ output_spec. flags_by flags.entry.json output_spec ≡ flags_data flags.entry) }
+    ensures parsed { IfOk result (λ output_spec. flags_by flags.entry.json flags.entry.exact output_spec ≡ flags_data flags.entry) }
     ensures together { IfOk result (λ _. complaint (flags_data flags.entry) ≡ None) }
     ensures fault { IfErr result (IsRefusedIf (complaint (flags_data flags.entry))) }
 {
@@ -507,10 +542,20 @@ fn file_of(alloc: Global, matches: &ArgMatches<'_>) -> Result<Option<String>, Al
     copy_of(alloc, matches.get_str("FILE"))
 }
 
-fn mode_of(matches: &ArgMatches<'_>, json: bool) -> Mode
-    requires { IsFlag (one_of (codes "json") (rows_of (found_of matches.now))) json }
+fn output_of(alloc: Global, matches: &ArgMatches<'_>) -> Result<Option<String>, AllocError>
+    ensures { IfOk result (λ output. name_text output
+        ≡ first_of (codes "output") (rows_of (found_of matches.now))) }
+{
+    copy_of(alloc, matches.get_str("output"))
+}
+
+/// Returns how the job is run. The plain command line never looks for conflicts.
+fn mode_of(matches: &ArgMatches<'_>, json: bool, exact: bool) -> Mode
+    requires json { IsFlag (one_of (codes "json") (rows_of (found_of matches.now))) json }
+    requires exact { IsFlag (one_of (codes "exact") (rows_of (found_of matches.now))) exact }
     ensures mode { IsModeOf (rows_of (found_of matches.now)) result }
     ensures json { result.json ≡ json }
+    ensures exact { result.exact ≡ exact }
 {
     Mode {
         in_turn: is_set(matches, "in-turn"),
@@ -520,6 +565,8 @@ fn mode_of(matches: &ArgMatches<'_>, json: bool) -> Mode
         exit_code: is_set(matches, "exit-code"),
         explain: is_set(matches, "explain"),
         json,
+        exact,
+        conflicts: false,
     }
 }
 
@@ -528,15 +575,18 @@ fn options_of(alloc: Global, matches: &ArgMatches<'_>) -> Result<Options, Option
     ensures fault { IfErr result (IsConflictFault (rows_of (found_of matches.now))) }
 {
     let flags = output_flags_of(matches);
-    let mode = mode_of(matches, flags.json);
+    let mode = mode_of(matches, flags.json, flags.exact);
     let output_spec = checked_output_spec(alloc, flags)?;
     let scripts = scripts_of(alloc, matches)?;
     let file = file_of(alloc, matches)?;
+    let output = output_of(alloc, matches)?;
     Ok(Options {
         mode,
         output_spec,
         scripts,
         file,
+        maps: MapForm::Job,
+        output,
     })
 }
 

@@ -18,6 +18,7 @@ use Rattle.crush_nodes.specs.Seen.{items_of, node_id}
 use Rattle.crush_nodes.specs.declared.node.Node.{Node}
 use Rattle.crush_nodes.specs.declared.node.Node.TheVariants.{Device, Bucket}
 use Rattle.crush_print.specs.Lines.{device_line}
+use Rattle.crush_print.specs.declared.weight_form.WeightForm.{WeightForm}
 use Rattle.crush_print.specs.ItemsText.{id_number, own_text, buckets_among, leaves}
 use Rattle.crush_print.specs.MapText.{ascending, device_number, root_number, device_numbers, root_numbers, of_row, bucket_text, bucket_numbers_at, bucket_numbers, device_lines, root_texts}
 pub use Rattle.crush_items.proofs.Sorting.{numbers_seen}
@@ -137,23 +138,23 @@ buckets_numbered_in_order see look f t ns refs found are sound stands same risin
     ∙ roots_in_order f t ns are sound stands
 
 -- each of the buckets below a node prints what the table says of it
-nodes_print : {A : _} (s : SettingData) (t : List Row) (p : Option ℕ) (ns : List (Node A)) → Told t p (items_of ns) → All (λ node. All (IsTold s t) (buckets_among (items_of (node ∷ [])))) ns
-nodes_print s t p [] told = All-nil (λ node. All (IsTold s t) (buckets_among (items_of (node ∷ []))))
-nodes_print s t p (Device l ∷ ns) told = All-cons (λ node. All (IsTold s t) (buckets_among (items_of (node ∷ [])))) (Device l) ns (All-nil (IsTold s t)) (nodes_print s t p ns told.1)
-nodes_print s t p (Bucket b ∷ ns) told = All-cons (λ node. All (IsTold s t) (buckets_among (items_of (node ∷ [])))) (Bucket b) ns
-    (buckets_print s t p (bucket b.value.header b.value.weight b.value.capacity b.value.kids none) (told.0, told.1, told.2, told.3, tt)) (nodes_print s t p ns told.4)
+nodes_print : {A : _} (form : WeightForm) (s : SettingData) (t : List Row) (p : Option ℕ) (ns : List (Node A)) → Told t p (items_of ns) → All (λ node. All (IsTold form s t) (buckets_among (items_of (node ∷ [])))) ns
+nodes_print form s t p [] told = All-nil (λ node. All (IsTold form s t) (buckets_among (items_of (node ∷ []))))
+nodes_print form s t p (Device l ∷ ns) told = All-cons (λ node. All (IsTold form s t) (buckets_among (items_of (node ∷ [])))) (Device l) ns (All-nil (IsTold form s t)) (nodes_print form s t p ns told.1)
+nodes_print form s t p (Bucket b ∷ ns) told = All-cons (λ node. All (IsTold form s t) (buckets_among (items_of (node ∷ [])))) (Bucket b) ns
+    (buckets_print form s t p (bucket b.value.header b.value.weight b.value.capacity b.value.kids none) (told.0, told.1, told.2, told.3, tt)) (nodes_print form s t p ns told.4)
 
 -- and so they print the table's buckets
-pub buckets_print_in_order : {A : _} {X Y : Type 0} (see : X → Node A) (look : Y → BucketData) (s : SettingData) (f : ForestData) (t : List Row) (ns : List (Node A)) (refs : List X) (found : List Y)
+pub buckets_print_in_order : {A : _} {X Y : Type 0} (see : X → Node A) (look : Y → BucketData) (form : WeightForm) (s : SettingData) (f : ForestData) (t : List Row) (ns : List (Node A)) (refs : List X) (found : List Y)
     → items_of ns ≡ f.roots → Stands f t → IsPermutation ns (map see refs) → map look found ≡ flat_map (λ r. buckets_among (items_of (see r ∷ []))) refs → map (λ b. bucket_id (look b)) found ≡ bucket_numbers t
-    → flat_map (λ b. own_text s (look b)) found ≡ root_texts s t
+    → flat_map (λ b. own_text form s (look b)) found ≡ root_texts form s t
 unfolding root_texts
-buckets_print_in_order see look s f t ns refs found are stands same below numbered =
-    let each = nodes_print s t None ns (roots_told f t ns are stands) in
-    let of_refs = All-unmap (λ node. All (IsTold s t) (buckets_among (items_of (node ∷ [])))) see refs (All-permutation (λ node. All (IsTold s t) (buckets_among (items_of (node ∷ [])))) ns (map see refs) same each) in
-    let all : All (IsTold s t) (map look found) = subst (All (IsTold s t)) (sym below) (All-flat_map (IsTold s t) (λ r. buckets_among (items_of (see r ∷ []))) refs of_refs) in
-    sym (flat_map-map (own_text s) look found) ∙ lines_by_number bucket_id (own_text s) (bucket_text s t) (map look found) all
-    ∙ ap (flat_map (bucket_text s t)) (sym (map-map bucket_id look found) ∙ numbered)
+buckets_print_in_order see look form s f t ns refs found are stands same below numbered =
+    let each = nodes_print form s t None ns (roots_told f t ns are stands) in
+    let of_refs = All-unmap (λ node. All (IsTold form s t) (buckets_among (items_of (node ∷ [])))) see refs (All-permutation (λ node. All (IsTold form s t) (buckets_among (items_of (node ∷ [])))) ns (map see refs) same each) in
+    let all : All (IsTold form s t) (map look found) = subst (All (IsTold form s t)) (sym below) (All-flat_map (IsTold form s t) (λ r. buckets_among (items_of (see r ∷ []))) refs of_refs) in
+    sym (flat_map-map (own_text form s) look found) ∙ lines_by_number bucket_id (own_text form s) (bucket_text form s t) (map look found) all
+    ∙ ap (flat_map (bucket_text form s t)) (sym (map-map bucket_id look found) ∙ numbered)
 
 -- the whole text, section by section; the last line may fail
 pub map_done : {X E : Type 0} (r : Result X E) (old one two three four five out tunables devices kinds buckets rules end : List ℕ) → one ≡ old ++ tunables → two ≡ one ++ devices → three ≡ two ++ kinds → four ≡ three ++ buckets → five ≡ four ++ rules

@@ -11,15 +11,16 @@ use Rattle.crush_nodes.specs.Seen.{items_of, leaf_data}
 use Rattle.crush_nodes.specs.declared.node.Node.{Node}
 use Rattle.crush_nodes.specs.declared.node.Node.TheVariants.{Device, Bucket}
 use Rattle.crush_nodes.proofs.Steps.{items_of-taken}
+use Rattle.crush_print.specs.declared.weight_form.WeightForm.{WeightForm}
 use Rattle.crush_print.specs.Lines.{item_line, bucket_head}
 use Rattle.crush_print.specs.ItemsText.{item_lines, buckets_among, leaves}
 pub use Rattle.crush_items.proofs.WalkLaws.{item_no_larger}
 
 -- of the items of both
-pub item_lines-join : (a b : Items) → item_lines (join a b) ≡ item_lines a ++ item_lines b
-item_lines-join none b = refl
-item_lines-join (device d rest) b = ap (λ (l : List ℕ). item_line d.name d.weight ++ l) (item_lines-join rest b) ∙ sym (append_assoc (item_line d.name d.weight) _ _)
-item_lines-join (bucket h w m kids rest) b = ap (λ (l : List ℕ). item_line h.name w ++ l) (item_lines-join rest b) ∙ sym (append_assoc (item_line h.name w) _ _)
+pub item_lines-join : (form : WeightForm) (a b : Items) → item_lines form (join a b) ≡ item_lines form a ++ item_lines form b
+item_lines-join form none b = refl
+item_lines-join form (device d rest) b = ap (λ (l : List ℕ). item_line form d.name d.weight ++ l) (item_lines-join form rest b) ∙ sym (append_assoc (item_line form d.name d.weight) _ _)
+item_lines-join form (bucket h w m kids rest) b = ap (λ (l : List ℕ). item_line form h.name w ++ l) (item_lines-join form rest b) ∙ sym (append_assoc (item_line form h.name w) _ _)
 
 -- the buckets among the items of both
 pub buckets-join : (a b : Items) → buckets_among (join a b) ≡ buckets_among a ++ buckets_among b
@@ -30,9 +31,9 @@ buckets-join (bucket h w m kids rest) b =
     ap (λ (l : List BucketData). (buckets_among kids ++ own) ++ l) (buckets-join rest b) ∙ sym (append_assoc (buckets_among kids ++ own) _ _)
 
 -- one item more
-pub item_lines-more : {A : _} (ns : List (Node A)) (i : ℕ) (x : Node A) → i < length ns → x ≡ get_or ns i x
-    → item_lines (items_of (take (i + 1) ns)) ≡ item_lines (items_of (take i ns)) ++ item_lines (items_of (x ∷ []))
-item_lines-more ns i x lt is = ap item_lines (items_of-taken ns i x lt is) ∙ item_lines-join (items_of (take i ns)) (items_of (x ∷ []))
+pub item_lines-more : {A : _} (form : WeightForm) (ns : List (Node A)) (i : ℕ) (x : Node A) → i < length ns → x ≡ get_or ns i x
+    → item_lines form (items_of (take (i + 1) ns)) ≡ item_lines form (items_of (take i ns)) ++ item_lines form (items_of (x ∷ []))
+item_lines-more form ns i x lt is = ap item_lines form (items_of-taken ns i x lt is) ∙ item_lines-join form (items_of (take i ns)) (items_of (x ∷ []))
 
 -- the buckets among one item more
 pub buckets-more : {A : _} (ns : List (Node A)) (i : ℕ) (x : Node A) → i < length ns → x ≡ get_or ns i x

@@ -6,7 +6,6 @@ use Rattle.std.specs.Option.{option_map_or}
 use Rattle.std.specs.Fmt.{signed_decimal}
 use Rattle.crush_units.specs.declared.limits.TheConstants.{LARGEST_RULE_NUMBER}
 use Rattle.crush_units.specs.Name.{IsName}
-use Rattle.crush_units.specs.Weight.{weight_text}
 use Rattle.crush_units.specs.Alg.{alg_text}
 use Rattle.crush_units.specs.declared.alg.Alg.{Alg}
 use Rattle.crush_units.specs.declared.id.ItemId.{ItemId}
@@ -16,7 +15,8 @@ use Rattle.crush_model.specs.Lawful.{IsDeviceRow, IsBucketRow, IsShadowId}
 use Rattle.crush_model.specs.Table.{Row, row_of, kids, item_weight}
 use Rattle.crush_edits.specs.Setting.{TunableData, StepData, take, choose, set, emit, RuleData, SettingData}
 use Rattle.crush_edits.specs.Fits.{IsTunable, IsRule, IsCount}
-use Rattle.crush_print.specs.Lines.{id_text, class_text, tunable_line, device_line, kind_line, item_line, class_id_line, bucket_head, bucket_choice, bucket_lines}
+use Rattle.crush_print.specs.declared.weight_form.WeightForm.{WeightForm}
+use Rattle.crush_print.specs.Lines.{weight_in, id_text, class_text, tunable_line, device_line, kind_line, item_line, class_id_line, bucket_head, bucket_choice, bucket_lines}
 use Rattle.crush_print.specs.RuleLines.{bucket_name, take_line, choice_text, choose_line, set_line, step_line, rule_head, size_line, rule_lines}
 use Rattle.crush_print.specs.MapText.{kind_text}
 use Rattle.crush_print.proofs.PrintedWords.{Spells, spells_nothing, spells_both, spells_word, spells_blank, spells_brace, spells_comment, spells_all, fixed, number_name, negative_name, weight_name, alg_name, in_line}
@@ -35,8 +35,8 @@ device_words r = codes "device" ∷ id_text r.id ∷ r.name ∷ class_words r.cl
 abbrev pub kind_words : ℕ → List ℕ → List (List ℕ)
 kind_words n name = codes "type" ∷ decimal n ∷ name ∷ []
 
-abbrev pub item_words : List ℕ → ℕ → List (List ℕ)
-item_words name weight = codes "item" ∷ name ∷ codes "weight" ∷ weight_text weight ∷ []
+abbrev pub item_words : WeightForm → List ℕ → ℕ → List (List ℕ)
+item_words form name weight = codes "item" ∷ name ∷ codes "weight" ∷ weight_in form weight ∷ []
 
 abbrev pub class_id_words : ShadowData → List (List ℕ)
 class_id_words c = codes "id" ∷ id_text (Bucket c.id) ∷ codes "class" ∷ c.class ∷ []
@@ -76,11 +76,11 @@ rule_words t r = rule_head_words r ++ size_words (codes "min_size") r.min_size +
 abbrev pub words_of : List Row → ItemId → (Row → List (List ℕ)) → List (List ℕ)
 words_of t i words = option_map_or words (row_of t i) []
 
-abbrev pub kid_words : List Row → ItemId → List (List ℕ)
-kid_words t i = words_of t i (λ (r : Row). item_words r.name (item_weight t i r.weight))
+abbrev pub kid_words : WeightForm → List Row → ItemId → List (List ℕ)
+kid_words form t i = words_of t i (λ (r : Row). item_words form r.name (item_weight t i r.weight))
 
-abbrev pub whole_words : SettingData → List Row → ℕ → List (List ℕ)
-whole_words s t b = words_of t (Bucket b) (λ (r : Row). bucket_words (kind_text s r.kind) r (flat_map (kid_words t) (kids t b)))
+abbrev pub whole_words : WeightForm → SettingData → List Row → ℕ → List (List ℕ)
+whole_words form s t b = words_of t (Bucket b) (λ (r : Row). bucket_words (kind_text s r.kind) r (flat_map (kid_words form t) (kids t b)))
 
 -- LINE BY LINE
 class_spells : (name : List ℕ) (class : Option (List ℕ)) → IsName name → IfSome class IsName → Spells (name ++ (class_text class ++ codes "\n")) (name ∷ class_words class)
@@ -117,9 +117,9 @@ kind_spells n name h k = kind_text_spells n name h k
 item_text_spells : (name weight : List ℕ) → IsName name → IsName weight → Spells (codes "\titem " ++ name ++ codes " weight " ++ weight ++ codes "\n") (codes "item" ∷ name ∷ codes "weight" ∷ weight ∷ [])
 item_text_spells name weight n h = simp append_assoc (spells_blank 9 _ _ refl refl (spells_word (codes "item") 32 _ _ (fixed (codes "item") refl) refl (spells_word name 32 _ _ n refl (spells_word (codes "weight") 32 _ _ (fixed (codes "weight") refl) refl (spells_word weight 10 [] [] h refl spells_nothing)))))
 
-pub item_spells : (name : List ℕ) (w : ℕ) → IsName name → w < 2 ^ 32 → Spells (item_line name w) (item_words name w)
+pub item_spells : (form : WeightForm) (name : List ℕ) (w : ℕ) → IsName name → w < 2 ^ 32 → Spells (item_line form name w) (item_words form name w)
 unfolding item_line
-item_spells name w n h = item_text_spells name (weight_text w) n (weight_name w h)
+item_spells form name w n h = item_text_spells name (weight_in form w) n (weight_name form w h)
 
 remark_spells : (w : List ℕ) → IsName w → Spells (w ++ codes "\t\t# do not change unnecessarily\n") (w ∷ [])
 remark_spells w n = spells_word w 9 _ _ n refl (spells_blank 9 _ _ refl refl (spells_comment (codes " do not change unnecessarily") [] [] refl spells_nothing))
@@ -150,19 +150,19 @@ alg_there : (alg : Option Alg) → (alg ≡ None → ⊥) → IsName (option_map
 alg_there None h = absurd (h refl)
 alg_there (Some a) h = alg_name a
 
-choice_spells : (r : Row) (w : ℕ) → (r.alg ≡ None → ⊥) → w < 2 ^ 32 → Spells (bucket_choice r w) (choice_words r)
+choice_spells : (form : WeightForm) (r : Row) (w : ℕ) → (r.alg ≡ None → ⊥) → w < 2 ^ 32 → Spells (bucket_choice form r w) (choice_words r)
 unfolding bucket_choice
-choice_spells r w a h = choice_text_spells (weight_text w) (option_map_or alg_text r.alg []) (weight_name w h) (alg_there r.alg a)
+choice_spells form r w a h = choice_text_spells (weight_in form w) (option_map_or alg_text r.alg []) (weight_name form w h) (alg_there r.alg a)
 
 brace_spells : Spells (codes "}\n") (codes "}" ∷ [])
 brace_spells = spells_brace 125 _ _ refl refl refl (spells_blank 10 _ _ refl refl spells_nothing)
 
-pub bucket_spells : (kind : List ℕ) (r : Row) (b w : ℕ) (items : List ℕ) (words : List (List ℕ)) → r.id ≡ Bucket b → IsName kind → IsName r.name → IsBucketRow b r → w < 2 ^ 32 → Spells items words
-    → Spells (bucket_lines kind r w items) (bucket_words kind r words)
+pub bucket_spells : (form : WeightForm) (kind : List ℕ) (r : Row) (b w : ℕ) (items : List ℕ) (words : List (List ℕ)) → r.id ≡ Bucket b → IsName kind → IsName r.name → IsBucketRow b r → w < 2 ^ 32 → Spells items words
+    → Spells (bucket_lines form kind r w items) (bucket_words kind r words)
 unfolding bucket_lines
-bucket_spells kind r b w items words e k n h light each =
+bucket_spells form kind r b w items words e k n h light each =
     let ids : Spells (flat_map class_id_line r.class_ids) (flat_map class_id_words r.class_ids) = spells_all class_id_line class_id_words r.class_ids (All-weaker IsShadowId (λ c. Spells (class_id_line c) (class_id_words c)) class_id_spells r.class_ids h.class_ids) in
-    spells_both _ _ _ _ (spells_both _ _ _ _ (spells_both _ _ _ _ (spells_both _ _ _ _ (head_spells kind r.name r.id b k n e (let v = h.most in omega (arith, v))) ids) (choice_spells r w h.alg light)) each) brace_spells
+    spells_both _ _ _ _ (spells_both _ _ _ _ (spells_both _ _ _ _ (spells_both _ _ _ _ (head_spells kind r.name r.id b k n e (let v = h.most in omega (arith, v))) ids) (choice_spells form r w h.alg light)) each) brace_spells
 
 -- a rule's steps
 take_text_spells : (name : List ℕ) (class : Option (List ℕ)) → IsName name → IfSome class IsName → Spells (codes "\tstep take " ++ name ++ class_text class ++ codes "\n") (codes "step" ∷ codes "take" ∷ name ∷ class_words class)

@@ -7,7 +7,8 @@ use Rattle.crush_model.specs.Items.{LeafData, HeaderData, none, device, bucket}
 use Rattle.crush_model.specs.Forest.{rows_of}
 use Rattle.crush_edits.specs.Setting.{KindData, SettingData, RuleData, take, choose, set, emit}
 use Rattle.crush_model.specs.Table.{Row}
-use Rattle.crush_print.specs.Lines.{tunable_line, device_line, kind_line, item_line, class_id_line, bucket_head, bucket_choice, bucket_lines}
+use Rattle.crush_print.specs.declared.weight_form.WeightForm.TheVariants.{Rounded, Exact}
+use Rattle.crush_print.specs.Lines.{weight_in, tunable_line, device_line, kind_line, item_line, class_id_line, bucket_head, bucket_choice, bucket_lines}
 use Rattle.crush_print.specs.RuleLines.{bucket_name, take_line, choice_text, choose_line, set_line, rule_head, size_line, rule_lines}
 use Rattle.crush_print.specs.MapText.{device_numbers, kind_numbers, root_numbers, device_lines, root_texts, of_row, kind_text, kids_lines, bucket_text, bucket_numbers, tunable_section, device_section, kind_section, bucket_section, rule_section, map_text}
 
@@ -39,7 +40,7 @@ abbrev setting : SettingData
 setting = record { kinds = type 0 (codes "osd") ∷ (type 1 (codes "host") ∷ (type 3 (codes "rack") ∷ (type 11 (codes "root") ∷ []))); tunables = []; rules = [] }
 
 -- the map without anything
-empty_map : map_text (record { kinds = []; tunables = []; rules = [] }) [] ≡ codes "# begin crush map\n\n# devices\n\n# types\n\n# buckets\n\n# rules\n\n# end crush map\n"
+empty_map : map_text Rounded (record { kinds = []; tunables = []; rules = [] }) [] ≡ codes "# begin crush map\n\n# devices\n\n# types\n\n# buckets\n\n# rules\n\n# end crush map\n"
 unfolding map_text tunable_section device_section kind_section bucket_section rule_section device_lines root_texts bucket_numbers device_numbers kind_numbers root_numbers
 empty_map = refl
 
@@ -54,24 +55,29 @@ unfolding kind_section kind_numbers kind_text kind_line digits
 example_types = refl
 
 -- its buckets: a host
-example_host : bucket_text setting example 2 ≡ codes "host h1 {\n\tid -2\t\t# do not change unnecessarily\n\t# weight 2.00000\n\talg straw2\n\thash 0\t# rjenkins1\n\titem osd.0 weight 1.00000\n\titem osd.1 weight 1.00000\n}\n"
+example_host : bucket_text Rounded setting example 2 ≡ codes "host h1 {\n\tid -2\t\t# do not change unnecessarily\n\t# weight 2.00000\n\talg straw2\n\thash 0\t# rjenkins1\n\titem osd.0 weight 1.00000\n\titem osd.1 weight 1.00000\n}\n"
 unfolding bucket_text of_row kids_lines item_line bucket_head bucket_choice bucket_lines kind_text digits
 example_host = refl
 
 -- the other host
-example_other : bucket_text setting example 3 ≡ codes "host h2 {\n\tid -3\t\t# do not change unnecessarily\n\t# weight 0.50000\n\talg straw2\n\thash 0\t# rjenkins1\n\titem osd.2 weight 0.50000\n}\n"
+example_other : bucket_text Rounded setting example 3 ≡ codes "host h2 {\n\tid -3\t\t# do not change unnecessarily\n\t# weight 0.50000\n\talg straw2\n\thash 0\t# rjenkins1\n\titem osd.2 weight 0.50000\n}\n"
 unfolding bucket_text of_row kids_lines item_line bucket_head bucket_choice bucket_lines kind_text digits
 example_other = refl
 
 -- and the root above them
-example_root : bucket_text setting example 1 ≡ codes "root default {\n\tid -1\t\t# do not change unnecessarily\n\t# weight 2.50000\n\talg straw2\n\thash 0\t# rjenkins1\n\titem h1 weight 2.00000\n\titem h2 weight 0.50000\n}\n"
+example_root : bucket_text Rounded setting example 1 ≡ codes "root default {\n\tid -1\t\t# do not change unnecessarily\n\t# weight 2.50000\n\talg straw2\n\thash 0\t# rjenkins1\n\titem h1 weight 2.00000\n\titem h2 weight 0.50000\n}\n"
 unfolding bucket_text of_row kids_lines item_line bucket_head bucket_choice bucket_lines kind_text digits
 example_root = refl
 
 -- all of it
-example_map : map_text setting example ≡ codes "# begin crush map\n\n# devices\ndevice 0 osd.0\ndevice 1 osd.1\ndevice 2 osd.2\n\n# types\ntype 0 osd\ntype 1 host\ntype 3 rack\ntype 11 root\n\n# buckets\nhost h1 {\n\tid -2\t\t# do not change unnecessarily\n\t# weight 2.00000\n\talg straw2\n\thash 0\t# rjenkins1\n\titem osd.0 weight 1.00000\n\titem osd.1 weight 1.00000\n}\nhost h2 {\n\tid -3\t\t# do not change unnecessarily\n\t# weight 0.50000\n\talg straw2\n\thash 0\t# rjenkins1\n\titem osd.2 weight 0.50000\n}\nroot default {\n\tid -1\t\t# do not change unnecessarily\n\t# weight 2.50000\n\talg straw2\n\thash 0\t# rjenkins1\n\titem h1 weight 2.00000\n\titem h2 weight 0.50000\n}\n\n# rules\n\n# end crush map\n"
+example_map : map_text Rounded setting example ≡ codes "# begin crush map\n\n# devices\ndevice 0 osd.0\ndevice 1 osd.1\ndevice 2 osd.2\n\n# types\ntype 0 osd\ntype 1 host\ntype 3 rack\ntype 11 root\n\n# buckets\nhost h1 {\n\tid -2\t\t# do not change unnecessarily\n\t# weight 2.00000\n\talg straw2\n\thash 0\t# rjenkins1\n\titem osd.0 weight 1.00000\n\titem osd.1 weight 1.00000\n}\nhost h2 {\n\tid -3\t\t# do not change unnecessarily\n\t# weight 0.50000\n\talg straw2\n\thash 0\t# rjenkins1\n\titem osd.2 weight 0.50000\n}\nroot default {\n\tid -1\t\t# do not change unnecessarily\n\t# weight 2.50000\n\talg straw2\n\thash 0\t# rjenkins1\n\titem h1 weight 2.00000\n\titem h2 weight 0.50000\n}\n\n# rules\n\n# end crush map\n"
 unfolding map_text tunable_section device_section kind_section bucket_section rule_section device_lines root_texts device_numbers kind_numbers root_numbers bucket_numbers bucket_text of_row kids_lines device_line kind_line item_line bucket_head bucket_choice bucket_lines kind_text digits
 example_map = refl
+
+-- all of it with exact weights
+exact_map : map_text Exact setting example ≡ codes "# begin crush map\n\n# devices\ndevice 0 osd.0\ndevice 1 osd.1\ndevice 2 osd.2\n\n# types\ntype 0 osd\ntype 1 host\ntype 3 rack\ntype 11 root\n\n# buckets\nhost h1 {\n\tid -2\t\t# do not change unnecessarily\n\t# weight 2.000000\n\talg straw2\n\thash 0\t# rjenkins1\n\titem osd.0 weight 1.000000\n\titem osd.1 weight 1.000000\n}\nhost h2 {\n\tid -3\t\t# do not change unnecessarily\n\t# weight 0.500000\n\talg straw2\n\thash 0\t# rjenkins1\n\titem osd.2 weight 0.500000\n}\nroot default {\n\tid -1\t\t# do not change unnecessarily\n\t# weight 2.500000\n\talg straw2\n\thash 0\t# rjenkins1\n\titem h1 weight 2.000000\n\titem h2 weight 0.500000\n}\n\n# rules\n\n# end crush map\n"
+unfolding map_text tunable_section device_section kind_section bucket_section rule_section device_lines root_texts device_numbers kind_numbers root_numbers bucket_numbers bucket_text of_row kids_lines device_line kind_line item_line bucket_head bucket_choice bucket_lines kind_text digits
+exact_map = refl
 
 -- two roots, the later one with class ids and a device that has a class, and a device that no bucket holds
 abbrev ssd : List ℕ
@@ -94,9 +100,23 @@ unfolding device_section device_lines device_numbers of_row device_line digits
 two_roots_devices = refl
 
 -- the roots, from -1 downward
-two_roots_buckets : bucket_section setting two_roots ≡ codes "\n# buckets\nroot spare {\n\tid -4\t\t# do not change unnecessarily\n\t# weight 0.00000\n\talg straw2\n\thash 0\t# rjenkins1\n}\nhost h9 {\n\tid -9\t\t# do not change unnecessarily\n\tid -10 class ssd\t\t# do not change unnecessarily\n\t# weight 0.00002\n\talg straw\n\thash 0\t# rjenkins1\n\titem osd.12 weight 0.00002\n}\n"
+two_roots_buckets : bucket_section Rounded setting two_roots ≡ codes "\n# buckets\nroot spare {\n\tid -4\t\t# do not change unnecessarily\n\t# weight 0.00000\n\talg straw2\n\thash 0\t# rjenkins1\n}\nhost h9 {\n\tid -9\t\t# do not change unnecessarily\n\tid -10 class ssd\t\t# do not change unnecessarily\n\t# weight 0.00002\n\talg straw\n\thash 0\t# rjenkins1\n\titem osd.12 weight 0.00002\n}\n"
 unfolding bucket_section root_texts root_numbers bucket_numbers bucket_text of_row kids_lines item_line class_id_line bucket_head bucket_choice bucket_lines kind_text digits
 two_roots_buckets = refl
+
+-- the same with exact weights
+two_roots_exact : bucket_section Exact setting two_roots ≡ codes "\n# buckets\nroot spare {\n\tid -4\t\t# do not change unnecessarily\n\t# weight 0.000000\n\talg straw2\n\thash 0\t# rjenkins1\n}\nhost h9 {\n\tid -9\t\t# do not change unnecessarily\n\tid -10 class ssd\t\t# do not change unnecessarily\n\t# weight 0.000016\n\talg straw\n\thash 0\t# rjenkins1\n\titem osd.12 weight 0.000016\n}\n"
+unfolding bucket_section root_texts root_numbers bucket_numbers bucket_text of_row kids_lines item_line class_id_line bucket_head bucket_choice bucket_lines kind_text digits
+two_roots_exact = refl
+
+-- weights in both forms
+rounded_weights : (weight_in Rounded 1 ≡ codes "0.00002") × (weight_in Rounded 119208 ≡ codes "1.81897") × (weight_in Rounded 238465 ≡ codes "3.63869") × (weight_in Rounded 4294967295 ≡ codes "65535.99998")
+unfolding digits
+rounded_weights = (refl, refl, refl, refl)
+
+exact_weights : (weight_in Exact 1 ≡ codes "0.000016") × (weight_in Exact 119208 ≡ codes "1.818970") × (weight_in Exact 238465 ≡ codes "3.638688") × (weight_in Exact 4294967295 ≡ codes "65535.999985")
+unfolding digits
+exact_weights = (refl, refl, refl, refl)
 
 -- the example map with a tunable and a rule
 abbrev replicated : RuleData

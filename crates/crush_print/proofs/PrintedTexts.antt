@@ -15,6 +15,7 @@ use Rattle.crush_model.proofs.Tested.{bytes_equal}
 use Rattle.crush_edits.specs.Setting.{KindData, StepData, take, choose, set, emit, RuleData, SettingData, bucket_taken}
 use Rattle.crush_edits.specs.Fits.{Fits, IsSetting, IsTunable, IsKind, IsStep, IsRule, IsThere, HasKind}
 use Rattle.crush_units.proofs.Printed.{Holds}
+use Rattle.crush_print.specs.declared.weight_form.WeightForm.{WeightForm}
 use Rattle.crush_print.specs.Lines.{tunable_line, device_line, kind_line}
 use Rattle.crush_print.specs.RuleLines.{bucket_name, rule_lines}
 use Rattle.crush_print.specs.MapText.{put_in, ascending, device_numbers, kind_numbers, of_row, kind_text, kids_lines, bucket_text, bucket_numbers, device_lines, root_texts, tunable_section, device_section, kind_section, bucket_section, rule_section, map_text}
@@ -140,17 +141,17 @@ module _ (s : SettingData) (t : List Row) (l : Lawful t) (f : Fits s t) where
   weighs_little (Device d) r e = let form = found_form (Device d) r e in let v = form.light in omega (arith, v)
   weighs_little (Bucket b) r e = let v = l.sums b in omega (arith, v)
 
-  kids_spell : (b : ℕ) → Spells (kids_lines t b) (flat_map (kid_words t) (kids t b))
+  kids_spell : (form : WeightForm) (b : ℕ) → Spells (kids_lines form t b) (flat_map (kid_words form t) (kids t b))
   unfolding kids_lines
-  kids_spell b = spells_each _ (kid_words t) (kids t b) (λ i. row_spells i _ (λ (r : Row). item_words r.name (item_weight t i r.weight)) (λ r e. item_spells r.name (item_weight t i r.weight) (found_name i r e) (weighs_little i r e)))
+  kids_spell form b = spells_each _ (kid_words form t) (kids t b) (λ i. row_spells i _ (λ (r : Row). item_words form r.name (item_weight t i r.weight)) (λ r e. item_spells form r.name (item_weight t i r.weight) (found_name i r e) (weighs_little i r e)))
 
   pub row_kind : (b : ℕ) (r : Row) → row_of t (Bucket b) ≡ Some r → KindOf s r.kind
   row_kind b r e = let form = found_form (Bucket b) r e in kind_of_number s r.kind f.setting (All-row (HasKind s) t f.types (Bucket b) r e form.kind_some)
 
-  whole_spells : (b : ℕ) → Spells (bucket_text s t b) (whole_words s t b)
+  whole_spells : (form : WeightForm) (b : ℕ) → Spells (bucket_text form s t b) (whole_words form s t b)
   unfolding bucket_text
-  whole_spells b = row_spells (Bucket b) _ (λ (r : Row). bucket_words (kind_text s r.kind) r (flat_map (kid_words t) (kids t b)))
-      (λ r e. let light = l.sums b in bucket_spells (kind_text s r.kind) r b (sum_below t b) (kids_lines t b) (flat_map (kid_words t) (kids t b)) (row_id (Bucket b) t r e) (kind_text-name s r.kind (row_kind b r e)) (found_name (Bucket b) r e) (found_form (Bucket b) r e) (omega (arith, light)) (kids_spell b))
+  whole_spells form b = row_spells (Bucket b) _ (λ (r : Row). bucket_words (kind_text s r.kind) r (flat_map (kid_words form t) (kids t b)))
+      (λ r e. let light = l.sums b in bucket_spells form (kind_text s r.kind) r b (sum_below t b) (kids_lines form t b) (flat_map (kid_words form t) (kids t b)) (row_id (Bucket b) t r e) (kind_text-name s r.kind (row_kind b r e)) (found_name (Bucket b) r e) (found_form (Bucket b) r e) (omega (arith, light)) (kids_spell form b))
 
   -- THE WORDS of the map
   pub tunables_spell : Spells (tunable_section s) (flat_map tunable_words s.tunables)
@@ -170,32 +171,32 @@ module _ (s : SettingData) (t : List Row) (l : Lawful t) (f : Fits s t) where
       by_kind : (n : ℕ) → KindOf s n → Spells (kind_line n (kind_text s n)) (kind_words n (kind_text s n))
       by_kind n k = let v = k.form.number in let e = k.number in kind_spells n (kind_text s n) (omega (arith, v, e)) (kind_text-name s n k)
 
-  pub buckets_spell : Spells (bucket_section s t) (flat_map (whole_words s t) (root_order t))
+  pub buckets_spell : (form : WeightForm) → Spells (bucket_section form s t) (flat_map (whole_words form s t) (root_order t))
   unfolding bucket_section root_texts
-  buckets_spell = spells_blank 10 _ _ refl refl (spells_comment (codes " buckets") _ _ refl (spells_each (bucket_text s t) (whole_words s t) (root_order t) whole_spells))
+  buckets_spell form = spells_blank 10 _ _ refl refl (spells_comment (codes " buckets") _ _ refl (spells_each (bucket_text form s t) (whole_words form s t) (root_order t) (whole_spells form)))
 
   pub rules_section_spell : Spells (rule_section s t) (flat_map (rule_words t) s.rules)
   unfolding rule_section
   rules_section_spell = spells_blank 10 _ _ refl refl (spells_comment (codes " rules") _ _ refl (rules_spell s.rules f.setting.rules f.taken))
 
 -- tunables, devices, types, buckets and rules
-abbrev pub map_words : SettingData → List Row → List (List ℕ)
-map_words s t =
+abbrev pub map_words : WeightForm → SettingData → List Row → List (List ℕ)
+map_words form s t =
     flat_map tunable_words s.tunables ++ flat_map (λ d. words_of t (Device d) device_words) (device_numbers t) ++ flat_map (λ n. kind_words n (kind_text s n)) (kind_numbers s)
-    ++ flat_map (whole_words s t) (root_order t) ++ flat_map (rule_words t) s.rules
+    ++ flat_map (whole_words form s t) (root_order t) ++ flat_map (rule_words t) s.rules
 
 end_spells : Spells (codes "\n# end crush map\n") []
 end_spells = spells_blank 10 _ _ refl refl (spells_comment (codes " end crush map") [] [] refl spells_nothing)
 
 -- the printed text of a map has these words, whatever follows it
-pub map_text-spells : (s : SettingData) (t : List Row) → Lawful t → Fits s t → Spells (map_text s t) (map_words s t)
+pub map_text-spells : (form : WeightForm) (s : SettingData) (t : List Row) → Lawful t → Fits s t → Spells (map_text form s t) (map_words form s t)
 unfolding map_text
-map_text-spells s t l f =
-    let all = spells_both _ _ _ _ (spells_both _ _ _ _ (spells_both _ _ _ _ (spells_both _ _ _ _ (spells_both _ _ _ _ (tunables_spell s t l f) (devices_spell s t l f)) (kinds_spell s t l f)) (buckets_spell s t l f)) (rules_section_spell s t l f)) end_spells in
-    subst (λ ws. Spells (map_text s t) ws) (append-nil _) all
+map_text-spells form s t l f =
+    let all = spells_both _ _ _ _ (spells_both _ _ _ _ (spells_both _ _ _ _ (spells_both _ _ _ _ (spells_both _ _ _ _ (tunables_spell s t l f) (devices_spell s t l f)) (kinds_spell s t l f)) (buckets_spell s t l f form)) (rules_section_spell s t l f)) end_spells in
+    subst (λ ws. Spells (map_text form s t) ws) (append-nil _) all
 
 -- and lines without words follow it
-pub map_text-holds : (s : SettingData) (t : List Row) → Lawful t → Fits s t → (rest : List ℕ) → Holds rest [] → Holds (map_text s t ++ rest) (map_words s t)
-map_text-holds s t l f rest h =
-    let all = map_text-spells s t l f in
-    subst (λ ws. Holds (map_text s t ++ rest) ws) (append-nil _) (all.before rest [] h)
+pub map_text-holds : (form : WeightForm) (s : SettingData) (t : List Row) → Lawful t → Fits s t → (rest : List ℕ) → Holds rest [] → Holds (map_text form s t ++ rest) (map_words form s t)
+map_text-holds form s t l f rest h =
+    let all = map_text-spells form s t l f in
+    subst (λ ws. Holds (map_text form s t ++ rest) ws) (append-nil _) (all.before rest [] h)

@@ -11,12 +11,17 @@ use Rattle.std.specs.List.{list_all}
 use Rattle.std.specs.Str.Parse.{AllDigits}
 use Rattle.crush_units.specs.Name.{is_name_byte, are_name_bytes, is_name, IsName}
 use Rattle.crush_units.specs.Weight.{parts_of, digit, weight_text}
+use Rattle.crush_units.specs.ExactWeight.{exact_parts, exact_text}
 use Rattle.crush_units.specs.Alg.{alg_text}
 use Rattle.crush_units.specs.declared.alg.Alg.{Alg}
 use Rattle.crush_units.specs.declared.alg.Alg.TheVariants.{Straw, Straw2, List as Linked}
 use Rattle.crush_units.proofs.Names.{is_name_holds}
 use Rattle.crush_units.proofs.Parts.{whole_part_short}
+use Rattle.crush_units.proofs.ExactWeights.{exact_part_short}
 use Rattle.crush_units.specs.Words.{is_blank, is_brace}
+use Rattle.crush_print.specs.declared.weight_form.WeightForm.{WeightForm}
+use Rattle.crush_print.specs.declared.weight_form.WeightForm.TheVariants.{Rounded, Exact}
+use Rattle.crush_print.specs.Lines.{weight_in}
 use Rattle.crush_units.proofs.Printed.{Holds, holds_blank, holds_brace, holds_word, holds_comment}
 
 -- a piece of text has these words, whatever follows it
@@ -101,8 +106,8 @@ all_append (x ∷ a) b ha hb = let p = and_parts (is_name_byte x) (are_name_byte
 last_digit : (n : ℕ) → is_name_byte (digit n) ≡ true
 last_digit n = digit_byte (digit n) (omega arith) (omega arith)
 
-pub weight_name : (w : ℕ) → w < 2 ^ 32 → IsName (weight_text w)
-weight_name w h =
+rounded_name : (w : ℕ) → w < 2 ^ 32 → IsName (weight_text w)
+rounded_name w h =
     let d = decimal_is_IsNumeral (parts_of w / 100000) (omega arith) in
     let few = whole_part_short w h in
     let five : are_name_bytes (46 ∷ digit (parts_of w / 10000) ∷ digit (parts_of w / 1000) ∷ digit (parts_of w / 100) ∷ digit (parts_of w / 10) ∷ digit (parts_of w) ∷ []) ≡ true =
@@ -112,6 +117,27 @@ weight_name w h =
       few = omega (arith, few, length-append (decimal (parts_of w / 100000)) (46 ∷ digit (parts_of w / 10000) ∷ digit (parts_of w / 1000) ∷ digit (parts_of w / 100) ∷ digit (parts_of w / 10) ∷ digit (parts_of w) ∷ []));
       allowed = all_append (decimal (parts_of w / 100000)) _ (all_digits (decimal (parts_of w / 100000)) d.0.1) five;
     }
+
+-- the last six digits of a number, after a point
+abbrev six : ℕ → List ℕ
+six n = 46 ∷ digit (n / 100000) ∷ digit (n / 10000) ∷ digit (n / 1000) ∷ digit (n / 100) ∷ digit (n / 10) ∷ digit n ∷ []
+
+exact_name : (w : ℕ) → w < 2 ^ 32 → IsName (exact_text w)
+exact_name w h =
+    let n = exact_parts w in
+    let d = decimal_is_IsNumeral (n / 1000000) (omega arith) in
+    let few = exact_part_short w h in
+    let digits_allowed : are_name_bytes (six n) ≡ true =
+    rw (last_digit (n / 100000), last_digit (n / 10000), last_digit (n / 1000), last_digit (n / 100), last_digit (n / 10), last_digit n) refl in
+    record {
+      some = omega (arith, length-append (decimal (n / 1000000)) (six n));
+      few = omega (arith, few, length-append (decimal (n / 1000000)) (six n));
+      allowed = all_append (decimal (n / 1000000)) (six n) (all_digits (decimal (n / 1000000)) d.0.1) digits_allowed;
+    }
+
+pub weight_name : (form : WeightForm) (w : ℕ) → w < 2 ^ 32 → IsName (weight_in form w)
+weight_name Rounded w h = rounded_name w h
+weight_name Exact w h = exact_name w h
 
 -- the word of an algorithm
 pub alg_name : (a : Alg) → IsName (alg_text a)

@@ -11,30 +11,31 @@ use Rattle.crush_model.specs.Table.{Row, item_weight}
 use Rattle.crush_model.proofs.Found.{row_of-same}
 use Rattle.crush_model.proofs.Reorder.{reordered-length}
 use Rattle.crush_model.proofs.Same.{sum_below-same, item_weight-same}
+use Rattle.crush_print.specs.declared.weight_form.WeightForm.{WeightForm}
 use Rattle.crush_print.specs.Lines.{device_line, item_line, bucket_lines}
 use Rattle.crush_print.specs.RuleLines.{bucket_name, take_line, step_line, rule_head, size_line, rule_lines}
 use Rattle.crush_print.specs.MapText.{device_number, root_number, device_numbers, root_numbers, of_row, kind_text, kids_lines, bucket_text, bucket_numbers_at, bucket_numbers, device_lines, root_texts, tunable_section, device_section, kind_section, bucket_section, rule_section, map_text, SameTablesPrintAlike}
 use Rattle.crush_items.proofs.Sorting.{ascending-reordered}
 
-module _ (s : SettingData) (t u : List Row) (l : Lawful t) (same : Same t u) where
+module _ (form : WeightForm) (s : SettingData) (t u : List Row) (l : Lawful t) (same : Same t u) where
   -- of an item
   of_row-same : (i : ItemId) (f : Row → List ℕ) → of_row t i f ≡ of_row u i f
   unfolding of_row
   of_row-same i f = ap (λ o. option_map_or f o []) (row_of-same t u same.rows l.ids i)
 
   -- of its line
-  item-same : (i : ItemId) → of_row t i (λ (r : Row). item_line r.name (item_weight t i r.weight)) ≡ of_row u i (λ (r : Row). item_line r.name (item_weight u i r.weight))
-  item-same i = of_row-same i (λ (r : Row). item_line r.name (item_weight t i r.weight)) ∙ (λ k. of_row u i (λ (r : Row). item_line r.name (item_weight-same t u same.rows l.ids i r.weight k)))
+  item-same : (i : ItemId) → of_row t i (λ (r : Row). item_line form r.name (item_weight t i r.weight)) ≡ of_row u i (λ (r : Row). item_line form r.name (item_weight u i r.weight))
+  item-same i = of_row-same i (λ (r : Row). item_line form r.name (item_weight t i r.weight)) ∙ (λ k. of_row u i (λ (r : Row). item_line form r.name (item_weight-same t u same.rows l.ids i r.weight k)))
 
   -- of a bucket's items
-  kids_lines-same : (b : ℕ) → kids_lines t b ≡ kids_lines u b
+  kids_lines-same : (b : ℕ) → kids_lines form t b ≡ kids_lines form u b
   unfolding kids_lines
   kids_lines-same b = λ k. flat_map (λ i. item-same i k) (same.kids b k)
 
   -- of a bucket
-  bucket_text-same : (b : ℕ) → bucket_text s t b ≡ bucket_text s u b
+  bucket_text-same : (b : ℕ) → bucket_text form s t b ≡ bucket_text form s u b
   unfolding bucket_text
-  bucket_text-same b = of_row-same (Bucket b) _ ∙ (λ k. of_row u (Bucket b) (λ (r : Row). bucket_lines (kind_text s r.kind) r (sum_below-same t u same.rows l.ids b k) (kids_lines-same b k)))
+  bucket_text-same b = of_row-same (Bucket b) _ ∙ (λ k. of_row u (Bucket b) (λ (r : Row). bucket_lines form (kind_text s r.kind) r (sum_below-same t u same.rows l.ids b k) (kids_lines-same b k)))
 
   -- the numbers of it and of the buckets below it
   bucket_numbers_at-same : (n : ℕ) (i : ItemId) → bucket_numbers_at t n i ≡ bucket_numbers_at u n i
@@ -52,7 +53,7 @@ module _ (s : SettingData) (t u : List Row) (l : Lawful t) (same : Same t u) whe
   unfolding device_lines device_numbers
   device_lines-same = λ k. flat_map (λ d. of_row-same (Device d) device_line k) (ascending-reordered (λ (r : Row). device_number r.id) t u same.rows k)
 
-  root_texts-same : root_texts s t ≡ root_texts s u
+  root_texts-same : root_texts form s t ≡ root_texts form s u
   unfolding root_texts
   root_texts-same = λ k. flat_map (λ b. bucket_text-same b k) (bucket_numbers-same k)
 
@@ -74,11 +75,11 @@ module _ (s : SettingData) (t u : List Row) (l : Lawful t) (same : Same t u) whe
 -- whatever the order of the rows
 pub map_text-same : SameTablesPrintAlike
 unfolding map_text device_section bucket_section rule_section
-map_text-same s t u l same =
-    λ k. tunable_section s ++ (codes "\n# devices\n" ++ device_lines-same s t u l same k) ++ kind_section s ++ (codes "\n# buckets\n" ++ root_texts-same s t u l same k)
-    ++ (codes "\n# rules\n" ++ flat_map (λ r. rule_lines-same s t u l same r k) s.rules) ++ codes "\n# end crush map\n"
+map_text-same form s t u l same =
+    λ k. tunable_section s ++ (codes "\n# devices\n" ++ device_lines-same form s t u l same k) ++ kind_section s ++ (codes "\n# buckets\n" ++ root_texts-same form s t u l same k)
+    ++ (codes "\n# rules\n" ++ flat_map (λ r. rule_lines-same form s t u l same r k) s.rules) ++ codes "\n# end crush map\n"
 
 -- a map's text isn't empty: it begins with its first heading
-pub map_text_is_some : (s : SettingData) (t : List Row) → 0 < length (map_text s t)
+pub map_text_is_some : (form : WeightForm) (s : SettingData) (t : List Row) → 0 < length (map_text form s t)
 unfolding map_text tunable_section
-map_text_is_some s t = omega arith
+map_text_is_some form s t = omega arith

@@ -12,6 +12,7 @@ use Rattle.crush_model.specs.ItemRows.{rows, device_row, bucket_row}
 use Rattle.crush_edits.specs.Setting.{SettingData}
 use Rattle.crush_model.specs.Table.{Row, row_of, kids, sum_below, item_weight}
 use Rattle.crush_tree.proofs.ReadLemmas.Items.{ids_of}
+use Rattle.crush_print.specs.declared.weight_form.WeightForm.{WeightForm}
 use Rattle.crush_print.specs.Lines.{device_line, item_line, bucket_choice, bucket_lines}
 use Rattle.crush_print.specs.ItemsText.{item_lines, own_text, buckets_among, leaves}
 use Rattle.crush_print.specs.MapText.{of_row, kids_lines, bucket_text, bucket_numbers_at, device_number, kind_text}
@@ -24,39 +25,39 @@ unfolding of_row
 row_prints t i r f found = ap (λ o. option_map_or f o []) found
 
 -- THE ITEMS' LINES
-ids_lines : (t : List Row) (p : Option ℕ) (n : Items) → Told t p n → flat_map (λ i. of_row t i (λ (r : Row). item_line r.name (item_weight t i r.weight))) (ids_of n) ≡ item_lines n
-ids_lines t p none told = refl
-ids_lines t p (device d rest) told =
-    ap (λ (l : List ℕ). l ++ flat_map (λ i. of_row t i (λ (r : Row). item_line r.name (item_weight t i r.weight))) (ids_of rest)) (row_prints t (Device d.id) (device_row p d) (λ (r : Row). item_line r.name r.weight) told.0)
-    ∙ ap (λ (l : List ℕ). item_line d.name d.weight ++ l) (ids_lines t p rest told.1)
-ids_lines t p (bucket h w m k rest) told =
-    ap (λ (l : List ℕ). l ++ flat_map (λ i. of_row t i (λ (r : Row). item_line r.name (item_weight t i r.weight))) (ids_of rest)) (row_prints t (Bucket h.id) (bucket_row p h) (λ (r : Row). item_line r.name (sum_below t h.id)) told.0 ∙ ap (item_line h.name) told.2)
-    ∙ ap (λ (l : List ℕ). item_line h.name w ++ l) (ids_lines t p rest told.4)
+ids_lines : (form : WeightForm) (t : List Row) (p : Option ℕ) (n : Items) → Told t p n → flat_map (λ i. of_row t i (λ (r : Row). item_line form r.name (item_weight t i r.weight))) (ids_of n) ≡ item_lines form n
+ids_lines form t p none told = refl
+ids_lines form t p (device d rest) told =
+    ap (λ (l : List ℕ). l ++ flat_map (λ i. of_row t i (λ (r : Row). item_line form r.name (item_weight t i r.weight))) (ids_of rest)) (row_prints t (Device d.id) (device_row p d) (λ (r : Row). item_line form r.name r.weight) told.0)
+    ∙ ap (λ (l : List ℕ). item_line form d.name d.weight ++ l) (ids_lines form t p rest told.1)
+ids_lines form t p (bucket h w m k rest) told =
+    ap (λ (l : List ℕ). l ++ flat_map (λ i. of_row t i (λ (r : Row). item_line form r.name (item_weight t i r.weight))) (ids_of rest)) (row_prints t (Bucket h.id) (bucket_row p h) (λ (r : Row). item_line form r.name (sum_below t h.id)) told.0 ∙ ap (item_line form h.name) told.2)
+    ∙ ap (λ (l : List ℕ). item_line form h.name w ++ l) (ids_lines form t p rest told.4)
 
 -- so the items of a bucket print their lines
-kids_print : (t : List Row) (p : Option ℕ) (b : ℕ) (n : Items) → kids t b ≡ ids_of n → Told t p n → kids_lines t b ≡ item_lines n
+kids_print : (form : WeightForm) (t : List Row) (p : Option ℕ) (b : ℕ) (n : Items) → kids t b ≡ ids_of n → Told t p n → kids_lines form t b ≡ item_lines form n
 unfolding kids_lines
-kids_print t p b n are told = ap (flat_map (λ i. of_row t i (λ (r : Row). item_line r.name (item_weight t i r.weight)))) are ∙ ids_lines t p n told
+kids_print form t p b n are told = ap (flat_map (λ i. of_row t i (λ (r : Row). item_line form r.name (item_weight t i r.weight)))) are ∙ ids_lines form t p n told
 
 -- A BUCKET
-own_prints : (s : SettingData) (t : List Row) (p : Option ℕ) (h : HeaderData) (w : ℕ) (k : Items) → row_of t (Bucket h.id) ≡ Some (bucket_row p h) → kids t h.id ≡ ids_of k → sum_below t h.id ≡ w → Told t (Some h.id) k → bucket_text s t h.id ≡ bucket_lines (kind_text s h.kind) (bucket_row None h) w (item_lines k)
+own_prints : (form : WeightForm) (s : SettingData) (t : List Row) (p : Option ℕ) (h : HeaderData) (w : ℕ) (k : Items) → row_of t (Bucket h.id) ≡ Some (bucket_row p h) → kids t h.id ≡ ids_of k → sum_below t h.id ≡ w → Told t (Some h.id) k → bucket_text form s t h.id ≡ bucket_lines form (kind_text s h.kind) (bucket_row None h) w (item_lines form k)
 unfolding bucket_text bucket_lines bucket_choice
-own_prints s t p h w k row are sum told =
-    row_prints t (Bucket h.id) (bucket_row p h) (λ (r : Row). bucket_lines (kind_text s r.kind) r (sum_below t h.id) (kids_lines t h.id)) row
-    ∙ ap (λ n. bucket_lines (kind_text s h.kind) (bucket_row p h) n (kids_lines t h.id)) sum ∙ ap (bucket_lines (kind_text s h.kind) (bucket_row p h) w) (kids_print t (Some h.id) h.id k are told)
+own_prints form s t p h w k row are sum told =
+    row_prints t (Bucket h.id) (bucket_row p h) (λ (r : Row). bucket_lines form (kind_text s r.kind) r (sum_below t h.id) (kids_lines form t h.id)) row
+    ∙ ap (λ n. bucket_lines form (kind_text s h.kind) (bucket_row p h) n (kids_lines form t h.id)) sum ∙ ap (bucket_lines form (kind_text s h.kind) (bucket_row p h) w) (kids_print form t (Some h.id) h.id k are told)
 
 -- so does each bucket of the items
-abbrev pub IsTold : SettingData → List Row → BucketData → Type 0
-IsTold s t b = bucket_text s t b.header.id ≡ own_text s b
+abbrev pub IsTold : WeightForm → SettingData → List Row → BucketData → Type 0
+IsTold form s t b = bucket_text form s t b.header.id ≡ own_text form s b
 
-pub buckets_print : (s : SettingData) (t : List Row) (p : Option ℕ) (n : Items) → Told t p n → All (IsTold s t) (buckets_among n)
-buckets_print s t p none told = All-nil (IsTold s t)
-buckets_print s t p (device d rest) told = buckets_print s t p rest told.1
-buckets_print s t p (bucket h w m k rest) told =
+pub buckets_print : (form : WeightForm) (s : SettingData) (t : List Row) (p : Option ℕ) (n : Items) → Told t p n → All (IsTold form s t) (buckets_among n)
+buckets_print form s t p none told = All-nil (IsTold form s t)
+buckets_print form s t p (device d rest) told = buckets_print form s t p rest told.1
+buckets_print form s t p (bucket h w m k rest) told =
     let own : BucketData = record { header = h; weight = w; capacity = m; kids = k } in
-    All-append (IsTold s t) (buckets_among k ++ own ∷ []) (buckets_among rest)
-    (All-append (IsTold s t) (buckets_among k) (own ∷ []) (buckets_print s t (Some h.id) k told.3) (All-cons (IsTold s t) own [] (own_prints s t p h w k told.0 told.1 told.2 told.3) (All-nil (IsTold s t))))
-    (buckets_print s t p rest told.4)
+    All-append (IsTold form s t) (buckets_among k ++ own ∷ []) (buckets_among rest)
+    (All-append (IsTold form s t) (buckets_among k) (own ∷ []) (buckets_print form s t (Some h.id) k told.3) (All-cons (IsTold form s t) own [] (own_prints form s t p h w k told.0 told.1 told.2 told.3) (All-nil (IsTold form s t))))
+    (buckets_print form s t p rest told.4)
 
 -- THE BUCKETS, AS DEEP AS THEY ARE
 abbrev pub bucket_id : BucketData → ℕ

@@ -4,18 +4,19 @@ use Rattle.crush_model.specs.Items.{LeafData, BucketData, Items, none, device, b
 use Rattle.crush_model.specs.ItemRows.{bucket_row}
 use Rattle.crush_edits.specs.Setting.{SettingData}
 use Rattle.crush_print.specs.Lines.{item_line, bucket_lines}
+use Rattle.crush_print.specs.declared.weight_form.WeightForm.{WeightForm}
 use Rattle.crush_print.specs.MapText.{kind_text}
 pub use Rattle.crush_items.specs.Order.{id_number}
 
--- the lines of these items, but not of those below them; a bucket has the weight that it stores
-abbrev pub item_lines : Items → List ℕ
-item_lines none = []
-item_lines (device d rest) = item_line d.name d.weight ++ item_lines rest
-item_lines (bucket h w m kids rest) = item_line h.name w ++ item_lines rest
+-- the lines of these items, with weights in this form, but not of those below them; a bucket has the weight that it stores
+abbrev pub item_lines : WeightForm → Items → List ℕ
+item_lines form none = []
+item_lines form (device d rest) = item_line form d.name d.weight ++ item_lines form rest
+item_lines form (bucket h w m kids rest) = item_line form h.name w ++ item_lines form rest
 
 -- the text of a bucket, without the buckets below it
-abbrev pub own_text : SettingData → BucketData → List ℕ
-own_text s b = bucket_lines (kind_text s b.header.kind) (bucket_row None b.header) b.weight (item_lines b.kids)
+abbrev pub own_text : WeightForm → SettingData → BucketData → List ℕ
+own_text form s b = bucket_lines form (kind_text s b.header.kind) (bucket_row None b.header) b.weight (item_lines form b.kids)
 
 -- the buckets among these items and below them, each after the buckets below it
 abbrev pub buckets_among : Items → List BucketData

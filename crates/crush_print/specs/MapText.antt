@@ -1,4 +1,4 @@
--- The text of a map, computed from its setting and its table. docs/user/FORMATS.md has the same in words.
+-- The text of a map, computed from its setting, its table and the form of its weights. docs/user/FORMATS.md has the same in words.
 use Rattle.std.specs.Prelude.{◌≡◌, ℕ, zero, suc, List, [], ◌∷◌, ◌++◌, Some, length, All, map, flat_map, unwrap_or, codes}
 use Rattle.std.specs.Option.{option_map_or}
 use Rattle.crush_units.specs.declared.id.ItemId.{ItemId}
@@ -10,6 +10,7 @@ use Rattle.crush_edits.specs.Fits.{Fits}
 use Rattle.crush_model.specs.Table.{Row, row_of, kids, sum_below, item_weight}
 use Rattle.crush_print.specs.Lines.{tunable_line, device_line, kind_line, item_line, bucket_lines}
 use Rattle.crush_print.specs.RuleLines.{bucket_name, rule_lines}
+use Rattle.crush_print.specs.declared.weight_form.WeightForm.{WeightForm}
 use Rattle.crush_items.specs.Order.{ascending, device_number, root_numbers}
 pub use Rattle.crush_items.specs.Order.{put_in, ascending, device_number, root_number}
 unfoldable pub use Rattle.crush_items.specs.Order.{root_numbers}
@@ -31,12 +32,12 @@ unfoldable pub kind_text : SettingData → ℕ → List ℕ
 kind_text s n = unwrap_or (kind_name s n) []
 
 -- the lines of the items of the bucket b, in their order. The weight in a line is a device's own weight, or a bucket's sum
-unfoldable pub kids_lines : List Row → ℕ → List ℕ
-kids_lines t b = flat_map (λ i. of_row t i (λ (r : Row). item_line r.name (item_weight t i r.weight))) (kids t b)
+unfoldable pub kids_lines : WeightForm → List Row → ℕ → List ℕ
+kids_lines form t b = flat_map (λ i. of_row t i (λ (r : Row). item_line form r.name (item_weight t i r.weight))) (kids t b)
 
 -- the text of the bucket b: its row, its sum and the lines of its items
-unfoldable pub bucket_text : SettingData → List Row → ℕ → List ℕ
-bucket_text s t b = of_row t (Bucket b) (λ (r : Row). bucket_lines (kind_text s r.kind) r (sum_below t b) (kids_lines t b))
+unfoldable pub bucket_text : WeightForm → SettingData → List Row → ℕ → List ℕ
+bucket_text form s t b = of_row t (Bucket b) (λ (r : Row). bucket_lines form (kind_text s r.kind) r (sum_below t b) (kids_lines form t b))
 
 -- the numbers of the buckets at the item i and below it, at most n levels deep: each bucket after the buckets below it, and those in the order of its items
 abbrev pub bucket_numbers_at : List Row → ℕ → ItemId → List ℕ
@@ -53,8 +54,8 @@ unfoldable pub device_lines : List Row → List ℕ
 device_lines t = flat_map (λ d. of_row t (Device d) device_line) (device_numbers t)
 
 -- the texts of all buckets
-unfoldable pub root_texts : SettingData → List Row → List ℕ
-root_texts s t = flat_map (bucket_text s t) (bucket_numbers t)
+unfoldable pub root_texts : WeightForm → SettingData → List Row → List ℕ
+root_texts form s t = flat_map (bucket_text form s t) (bucket_numbers t)
 
 -- THE SECTIONS, each with its heading. The tunables, in the order in which they were declared
 unfoldable pub tunable_section : SettingData → List ℕ
@@ -69,20 +70,20 @@ unfoldable pub kind_section : SettingData → List ℕ
 kind_section s = codes "\n# types\n" ++ flat_map (λ n. kind_line n (kind_text s n)) (kind_numbers s)
 
 -- the buckets
-unfoldable pub bucket_section : SettingData → List Row → List ℕ
-bucket_section s t = codes "\n# buckets\n" ++ root_texts s t
+unfoldable pub bucket_section : WeightForm → SettingData → List Row → List ℕ
+bucket_section form s t = codes "\n# buckets\n" ++ root_texts form s t
 
 -- the rules, in the order in which they were declared, with the names that their buckets have in the table
 unfoldable pub rule_section : SettingData → List Row → List ℕ
 rule_section s t = codes "\n# rules\n" ++ flat_map (rule_lines t) s.rules
 
--- MAP TEXT: the text of a map with this setting and this table
-unfoldable pub map_text : SettingData → List Row → List ℕ
-map_text s t = tunable_section s ++ device_section t ++ kind_section s ++ bucket_section s t ++ rule_section s t ++ codes "\n# end crush map\n"
+-- MAP TEXT: the text of a map with this setting and this table, and with all weights in this form
+unfoldable pub map_text : WeightForm → SettingData → List Row → List ℕ
+map_text form s t = tunable_section s ++ device_section t ++ kind_section s ++ bucket_section form s t ++ rule_section s t ++ codes "\n# end crush map\n"
 
--- the law: if a lawful table t has the same rows as the table u, except for their order, then both have the same text with every setting
+-- the law: if a lawful table t has the same rows as the table u, except for their order, then both have the same text with every setting and each form of weights
 abbrev pub SameTablesPrintAlike : Type 0
-SameTablesPrintAlike = (s : SettingData) (t u : List Row) → Lawful t → Same t u → map_text s t ≡ map_text s u
+SameTablesPrintAlike = (form : WeightForm) (s : SettingData) (t u : List Row) → Lawful t → Same t u → map_text form s t ≡ map_text form s u
 
 -- the table has the bucket b, and rules print it with the name in its row
 abbrev pub IsNamedSo : List Row → ℕ → Type 0

@@ -1,8 +1,8 @@
 //! Prints a map: as Ceph's text, and as a tree.
 //!
-//! [`write_map`] writes the text of a map, which `specs/MapText.antt` defines. [`write_tree`]
-//! writes the map's tree for a person to read, which `specs/TreeText.antt` defines. [`devices`] and
-//! [`buckets`] return the ids in the order of the text, and [`walk`] returns the items in the order
+//! [`write_map`] writes the text of a map, which `specs/MapText.antt` defines, with weights in the
+//! form that a [`WeightForm`] says. [`write_tree`] writes the map's tree for a person to read, which
+//! `specs/TreeText.antt` defines. [`devices`] and [`buckets`] return the ids in the order of the text, and [`walk`] returns the items in the order
 //! of the tree.
 #![tactic(auto)]
 
@@ -15,6 +15,7 @@ mod printer;
 mod steps;
 mod tree;
 mod tree_line;
+mod weight_form;
 pub mod words;
 
 pub use classes::{class_weights, has_class};
@@ -28,3 +29,4 @@ pub use tree::{
     id_column, same_tables_have_one_tree, whole_tree_is_a_part, wider, wider_id, write_tree,
     write_tree_of_class, write_tree_part,
 };
+pub use weight_form::WeightForm;

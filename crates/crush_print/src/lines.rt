@@ -6,6 +6,7 @@ ghost use Rattle.crush_nodes.specs.Seen.{leaf_data, header_data, items_of, shado
 ghost use Rattle.crush_print.specs.Lines.{device_line, kind_line, item_line, class_id_line, bucket_head, bucket_choice, bucket_lines};
 ghost use Rattle.crush_print.specs.ItemsText.{item_lines};
 
+use crate::weight_form::WeightForm;
 use crush_tree::{Bucket, Header, Leaf, Node, ShadowId};
 use crush_units::{ItemId, Weight, put_all};
 use itoa::Buffer;
@@ -66,13 +67,18 @@ pub(crate) fn push_kind(number: u16, name: &[u8], out: &mut Vec<u8>) -> Result<(
     )
 }
 
-/// Appends `item NAME weight WEIGHT`.
+/// Appends `item NAME weight WEIGHT`, with the weight in this form.
 #[tactic(auto, unfolding(crate::specs::Lines::item_line))]
-fn push_line(name: &[u8], weight: Weight, out: &mut Vec<u8>) -> Result<(), AllocError>
-    ensures { OnOk result (out.new.items ≡ out.old.items ++ item_line name.now weight) }
+fn push_line(
+    form: WeightForm,
+    name: &[u8],
+    weight: Weight,
+    out: &mut Vec<u8>,
+) -> Result<(), AllocError>
+    ensures { OnOk result (out.new.items ≡ out.old.items ++ item_line form name.now weight) }
 {
     let mut room = [0; 16];
-    let len = weight.text(&mut room);
+    let len = form.text(weight, &mut room);
     push_all(
         &[
             b"\titem ".as_slice(),
@@ -86,23 +92,32 @@ fn push_line(name: &[u8], weight: Weight, out: &mut Vec<u8>) -> Result<(), Alloc
 }
 
 /// Appends the line of an item, with the weight that it stores.
-fn push_item<A: Allocator>(node: &Node<A>, out: &mut Vec<u8>) -> Result<(), AllocError>
-    ensures { OnOk result (out.new.items ≡ out.old.items ++ item_lines (items_of (node.now ∷ []))) }
+fn push_item<A: Allocator>(
+    form: WeightForm,
+    node: &Node<A>,
+    out: &mut Vec<u8>,
+) -> Result<(), AllocError>
+    ensures { OnOk result (out.new.items ≡ out.old.items
+        ++ item_lines form (items_of (node.now ∷ []))) }
 {
     match node {
-        Node::Device(leaf) => push_line(leaf.name.as_bytes(), leaf.weight, out),
+        Node::Device(leaf) => push_line(form, leaf.name.as_bytes(), leaf.weight, out),
         Node::Bucket(bucket) => {
             let bucket: &Bucket<A> = bucket;
-            push_line(bucket.header.name.as_bytes(), bucket.weight, out)
+            push_line(form, bucket.header.name.as_bytes(), bucket.weight, out)
         }
     }
 }
 
-fn push_items<A: Allocator>(items: &[Node<A>], out: &mut Vec<u8>) -> Result<(), AllocError>
-    ensures { OnOk result (out.new.items ≡ out.old.items ++ item_lines (items_of items.now)) }
+fn push_items<A: Allocator>(
+    form: WeightForm,
+    items: &[Node<A>],
+    out: &mut Vec<u8>,
+) -> Result<(), AllocError>
+    ensures { OnOk result (out.new.items ≡ out.old.items ++ item_lines form (items_of items.now)) }
 {
     for node in items {
-        push_item(node, out)?;
+        push_item(form, node, out)?;
     }
     Ok(())
 }
@@ -162,15 +177,16 @@ fn push_head<A: Allocator>(
 /// Appends the lines of a bucket's weight, which is a comment, its algorithm and its hash.
 #[tactic(auto, unfolding(crate::specs::Lines::bucket_choice))]
 fn push_choice<A: Allocator>(
+    form: WeightForm,
     header: &Header<A>,
     weight: Weight,
     out: &mut Vec<u8>,
 ) -> Result<(), AllocError>
     ensures { OnOk result (out.new.items ≡ out.old.items
-        ++ bucket_choice (bucket_row None (header_data header.now)) weight) }
+        ++ bucket_choice form (bucket_row None (header_data header.now)) weight) }
 {
     let mut room = [0; 16];
-    let len = weight.text(&mut room);
+    let len = form.text(weight, &mut room);
     let alg = header.alg.name().as_bytes();
     push_all(
         &[
@@ -184,8 +200,9 @@ fn push_choice<A: Allocator>(
     )
 }
 
-/// Appends all lines of a bucket whose type has the name `kind`.
+/// Appends all lines of a bucket whose type has the name `kind`, with weights in this form.
 pub(crate) fn push_bucket<A: Allocator>(
+    form: WeightForm,
     kind: &[u8],
     header: &Header<A>,
     weight: Weight,
@@ -193,12 +210,12 @@ pub(crate) fn push_bucket<A: Allocator>(
     out: &mut Vec<u8>,
 ) -> Result<(), AllocError>
     ensures { OnOk result (out.new.items ≡ out.old.items
-        ++ bucket_lines kind.now (bucket_row None (header_data header.now)) weight
-        (item_lines (items_of items.now))) }
+        ++ bucket_lines form kind.now (bucket_row None (header_data header.now)) weight
+        (item_lines form (items_of items.now))) }
 {
     push_head(kind, header, out)?;
     push_class_ids(header.class_ids.as_slice(), out)?;
-    push_choice(header, weight, out)?;
-    push_items(items, out)?;
+    push_choice(form, header, weight, out)?;
+    push_items(form, items, out)?;
     out.extend_from_slice(b"}\n")
 }

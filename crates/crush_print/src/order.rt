@@ -8,6 +8,7 @@ ghost use Rattle.crush_edits.specs.Setting.{SettingData};
 ghost use Rattle.crush_nodes.specs.Seen.{items_of, leaf_data, node_id};
 ghost use Rattle.crush_print.specs.ItemsText.{buckets_among, id_number, leaves, own_text};
 ghost use Rattle.crush_print.specs.Lines.{device_line};
+ghost use Rattle.crush_print.specs.declared.weight_form.WeightForm.{WeightForm};
 ghost use Rattle.crush_print.specs.MapText.{ascending, bucket_numbers, device_lines, device_numbers, root_texts};
 
 use crush_items::nodes_in_order;
@@ -100,8 +101,9 @@ pub(crate) fn buckets_in_order<A: Allocator>(
 ) -> Result<Vec<&Bucket<A>>, AllocError>
     ensures ids { IfOk result (λ buckets. (t : List Row) → Stands forest.now t
         → map (λ b. b.now.header.id) buckets.items ≡ bucket_numbers t) }
-    ensures texts { IfOk result (λ buckets. (s : SettingData) (t : List Row) → Stands forest.now t
-        → flat_map (λ b. own_text s b.now) buckets.items ≡ root_texts s t) }
+    ensures texts { IfOk result (λ buckets. (form : WeightForm) (s : SettingData) (t : List Row)
+        → Stands forest.now t
+        → flat_map (λ b. own_text form s b.now) buckets.items ≡ root_texts form s t) }
 {
     forest.recall_invariant();
     let roots = nodes_in_order(alloc, forest.roots())?;

@@ -12,6 +12,8 @@ use Rattle.crush_edits.specs.Setting.{SettingData}
 use Rattle.crush_history.specs.History.{EntryData}
 use Rattle.crush_history.specs.HistoryText.{entries_text}
 use Rattle.crush_print.specs.MapText.{map_text}
+use Rattle.crush_print.specs.declared.weight_form.WeightForm.{WeightForm}
+use Rattle.crush_print.specs.declared.weight_form.WeightForm.TheVariants.{Rounded, Exact}
 use Rattle.crush_since.specs.ChangePart.{changes_part_text}
 use Rattle.crush_since.specs.Since.{PlainMap, plain_map, since_text}
 use Rattle.crush_since.specs.SincePart.{since_part_text}
@@ -61,19 +63,23 @@ abbrev pub tree_text_of : Option (List ℕ) → SettingData → TreePart → Lis
 tree_text_of None s p t = tree_part_text s p t
 tree_text_of (Some c) s p t = class_tree_text s p c t
 
+-- the form in which the map's text has its weights: exact if that is selected
+abbrev pub form_of : Bool → WeightForm
+form_of exact = if exact then Exact else Rounded
+
 -- the selected output of a map with the setting s and the table t, which it has after the history h; o is the table before h. It is the
--- map's text, its tree, what has changed in it since another map (in lines or as a tree), the commands that changed it, or a plan from it.
-abbrev pub main_text : Output → PlanData → SettingData → List Row → List Row → List EntryData → List ℕ
-main_text output.Map plan s o t h = map_text s t
-main_text (output.Tree words) plan s o t h = tree_text_of (name_text words.class) s (part_of words s t) t
-main_text (output.Since old) plan s o t h = changed_text old.by_name (name_text old.under) (plain_map old.map.setting (rows_of old.map.forest)) (plain_map s t)
-main_text (output.Changes old) plan s o t h = changes_part_text (part_of old.part s t) (plain_map old.map.setting (rows_of old.map.forest)) (plain_map s t)
-main_text output.AsCeph plan s o t h = ceph_text s o h
-main_text (output.To target) plan s o t h = plan_text (plan_words target.as_ceph) plan
+-- map's text with weights in this form, its tree, what has changed in it since another map (in lines or as a tree), the commands that changed it, or a plan from it.
+abbrev pub main_text : WeightForm → Output → PlanData → SettingData → List Row → List Row → List EntryData → List ℕ
+main_text form output.Map plan s o t h = map_text form s t
+main_text form (output.Tree words) plan s o t h = tree_text_of (name_text words.class) s (part_of words s t) t
+main_text form (output.Since old) plan s o t h = changed_text old.by_name (name_text old.under) (plain_map old.map.setting (rows_of old.map.forest)) (plain_map s t)
+main_text form (output.Changes old) plan s o t h = changes_part_text (part_of old.part s t) (plain_map old.map.setting (rows_of old.map.forest)) (plain_map s t)
+main_text form output.AsCeph plan s o t h = ceph_text s o h
+main_text form (output.To target) plan s o t h = plan_text (plan_words target.as_ceph) plan
 
 -- FOR A PERSON: the selected output, followed by the lines of the history if they are selected
-abbrev pub person_text : Bool → Output → PlanData → SettingData → List Row → List Row → List (List ℕ) → List EntryData → List ℕ
-person_text history what plan s o t names h = main_text what plan s o t h ++ lines_if_requested history names h
+abbrev pub person_text : WeightForm → Bool → Output → PlanData → SettingData → List Row → List Row → List (List ℕ) → List EntryData → List ℕ
+person_text form history what plan s o t names h = main_text form what plan s o t h ++ lines_if_requested history names h
 
 -- the history as a JSON value, if it is selected
 abbrev pub history_if_requested : Bool → List (List ℕ) → List EntryData → Option Data
@@ -92,11 +98,11 @@ program_text history (output.Tree words) plan s o t names h = document_text (doc
 program_text history (output.Since old) plan s o t names h = since_program_text (history_if_requested history names h) (named_item t (name_text old.under)) (plain_map old.map.setting (rows_of old.map.forest)) (plain_map s t)
 program_text history (output.Changes old) plan s o t names h = since_program_text (history_if_requested history names h) (named_item t (name_text old.part.under)) (plain_map old.map.setting (rows_of old.map.forest)) (plain_map s t)
 program_text history (output.To target) plan s o t names h = plan_document_text (plan_document (history_if_requested history names h) plan.edits plan.rest plan.aside.ids plan.aside.class_ids)
-program_text history output.AsCeph plan s o t names h = person_text history output.AsCeph plan s o t names h
+program_text history output.AsCeph plan s o t names h = person_text Rounded history output.AsCeph plan s o t names h
 
 -- OUTPUT: all that a successful run writes
 abbrev pub written_text : Mode → Output → PlanData → SettingData → List Row → List Row → List (List ℕ) → List EntryData → List ℕ
-written_text mode what plan s o t names h = if mode.json then program_text mode.history what plan s o t names h else person_text mode.history what plan s o t names h
+written_text mode what plan s o t names h = if mode.json then program_text mode.history what plan s o t names h else person_text (form_of mode.exact) mode.history what plan s o t names h
 
 -- WRITTEN: what the writer got from a run with this result. After success that is exactly the text. After a failed write it is a prefix of the text that isn't the whole. After any other fault it is nothing.
 abbrev pub IsWritten : {X : Type 0} → Result X RunFault → Option (List ℕ) → Option (List ℕ) → List ℕ → Type 0

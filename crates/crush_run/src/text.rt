@@ -15,7 +15,7 @@ ghost use Rattle.crush_edits.specs.Setting.{SettingData};
 ghost use Rattle.crush_input.specs.Notes.{IsKept};
 ghost use Rattle.crush_reasons.specs.Ceph.{ceph_text};
 ghost use Rattle.crush_plan.specs.Plan.{plan_data};
-ghost use Rattle.crush_run.specs.Output.{IsPut, changed_by_id, changed_by_name, changed_text, lines_if_requested, main_text, person_text, tree_text_of};
+ghost use Rattle.crush_run.specs.Output.{IsPut, changed_by_id, changed_by_name, changed_text, lines_if_requested, form_of, main_text, person_text, tree_text_of};
 ghost use Rattle.crush_run.specs.Found.{part_of};
 ghost use Rattle.crush_run.specs.Stages.{IsOpening, needs_opening};
 ghost use Rattle.crush_units.specs.declared.limits.TheConstants.{MOST_ENTRIES};
@@ -26,8 +26,8 @@ use crate::planned::write_plan;
 use crush_history::{Entry, Script, history_text};
 use crush_input::{OldMap, Output, Request};
 use crush_map::CrushMap;
-use crush_options::TreePartSpec;
-use crush_print::{write_map, write_tree_of_class, write_tree_part};
+use crush_options::{Mode, TreePartSpec};
+use crush_print::{WeightForm, write_map, write_tree_of_class, write_tree_part};
 use crush_reasons::ceph_text;
 use crush_since::{
     since_part_text, write_changes, write_since, write_since_by_name, write_since_by_name_part,
@@ -186,6 +186,17 @@ fn write_tree<W: Write>(
     }
 }
 
+/// Returns the form in which the map's text has its weights.
+fn form_of(mode: &Mode) -> WeightForm
+    ensures { result ≡ form_of mode.now.exact }
+{
+    if mode.exact {
+        WeightForm::Exact
+    } else {
+        WeightForm::Rounded
+    }
+}
+
 fn write_output<W: Write>(
     alloc: Global,
     request: &Request,
@@ -198,13 +209,13 @@ fn write_output<W: Write>(
     ensures writes { (o t : List Row) → IsOpening request.now.mode request.now.output
         completed.now.opening.now completed.now.map.now.setting o → Stands completed.now.map.now.forest t
         → IsPut result (W.contents writer.old) (W.contents writer.new)
-        (main_text request.now.output (plan_data completed.now.plan.now) completed.now.map.now.setting o t
-        completed.now.entries.now) }
+        (main_text (form_of request.now.mode.exact) request.now.output (plan_data completed.now.plan.now)
+        completed.now.map.now.setting o t completed.now.entries.now) }
     ensures none { result ≡ Err WriteFault.OutOfMemory
         → Keeps (W.contents writer.old) (W.contents writer.new) }
 {
     match &request.output {
-        Output::Map => write_map(alloc, completed.map, writer),
+        Output::Map => write_map(alloc, completed.map, form_of(&request.mode), writer),
         Output::Tree(words) => write_tree(alloc, words, completed.map, writer),
         Output::Since(old) => write_changed(alloc, old, completed.map, writer),
         Output::Changes(old) => {
@@ -232,8 +243,8 @@ pub(crate) fn write_text<W: Write>(
     ensures writes { (o t : List Row) → IsOpening request.now.mode request.now.output
         completed.now.opening.now completed.now.map.now.setting o → Stands completed.now.map.now.forest t
         → IsPut result (W.contents writer.old) (W.contents writer.new)
-        (person_text request.now.mode.history request.now.output (plan_data completed.now.plan.now)
-        completed.now.map.now.setting o t (names_of (scripts_data completed.now.scripts.now))
+        (person_text (form_of request.now.mode.exact) request.now.mode.history request.now.output
+        (plan_data completed.now.plan.now) completed.now.map.now.setting o t (names_of (scripts_data completed.now.scripts.now))
         completed.now.entries.now) }
     ensures none { result ≡ Err WriteFault.OutOfMemory
         → Keeps (W.contents writer.old) (W.contents writer.new) }

@@ -32,6 +32,8 @@ const MODE: Mode = Mode {
     exit_code: false,
     explain: false,
     json: false,
+    exact: false,
+    conflicts: false,
 };
 
 const AT_ONCE: Mode = Mode {
@@ -42,6 +44,8 @@ const AT_ONCE: Mode = Mode {
     exit_code: false,
     explain: false,
     json: false,
+    exact: false,
+    conflicts: false,
 };
 
 fn joined(rt: &(impl Abort + AllocGlobal), first: &[u8], second: &[u8]) -> Vec<u8> {

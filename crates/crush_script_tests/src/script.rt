@@ -9,11 +9,12 @@ mod lines;
 mod order;
 mod prefixes;
 mod reading;
+mod weights;
 mod words;
 mod writing;
 
 use crush_map::{CrushMap, Hashing};
-use crush_print::write_map;
+use crush_print::{WeightForm, write_map};
 use crush_script::{Job, JobFault, read_job};
 use crush_text::{TextFault, TextFaultKind, read_map};
 use std::alloc::Allocator;
@@ -29,7 +30,7 @@ fn put_behind(rt: &impl Abort, text: &mut Vec<u8>, bytes: &[u8]) {
 
 fn text_of<A: Allocator>(rt: &(impl Abort + AllocGlobal), map: &CrushMap<A>) -> Vec<u8> {
     let mut text = Vec::new(rt.alloc());
-    write_map(rt.alloc(), map, &mut text).expect(rt, "no text");
+    write_map(rt.alloc(), map, WeightForm::Rounded, &mut text).expect(rt, "no text");
     text
 }
 

@@ -4,7 +4,7 @@
 use anyhow::ensure;
 use crush_history::{Call, Reply, Script, is_change, make_call, write_entry};
 use crush_map::{CrushMap, Hashing};
-use crush_print::write_map;
+use crush_print::{WeightForm, write_map};
 use crush_text::{TextFaultKind, read_map_in};
 use std::alloc::{Allocator, Global};
 
@@ -102,7 +102,7 @@ fn make_again<A: Allocator + Clone>(
 /// The printed text of the map.
 pub fn text_of<A: Allocator>(alloc: Global, map: &CrushMap<A>) -> anyhow::Result<Vec<u8>> {
     let mut text = Vec::new(alloc);
-    write_map(alloc, map, &mut text)?;
+    write_map(alloc, map, WeightForm::Rounded, &mut text)?;
     Ok(text)
 }
 

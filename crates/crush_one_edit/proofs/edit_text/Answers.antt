@@ -5,6 +5,7 @@ use Rattle.crush_edits.specs.declared.refusal.EditFault.TheVariants.{Refused}
 use Rattle.crush_edits.specs.Answer.{done, refused}
 use Rattle.crush_edits.specs.Edit.{edit}
 use Rattle.crush_print.specs.MapText.{map_text}
+use Rattle.crush_print.specs.declared.weight_form.WeightForm.TheVariants.{Rounded}
 use Rattle.crush_one_edit.proofs.edit_text.Goals as goal
 
 pub returns-in-Err-apply-clause-refused : goal.returns-in-Err-apply-clause-refused
@@ -20,5 +21,5 @@ returns-in-Ok-write_map-clause-done g c s t n text =
     let made = c.in-Ok-apply.ensures.done t stands.forest in (
       made.0,
       subst (λ z. edit z t c.args.asked.now ≡ done d.changed d.made made.0) stands.setting made.1,
-      subst (λ z. Appends (g.W.Write.contents c.args.out.now) (g.W.Write.contents c.write_map.new.out) (map_text z made.0)) (c.in-Ok-apply.ensures.setting ∙ stands.setting) (c.in-Ok-write_map.ensures.writes made.0 made.2),
+      subst (λ z. Appends (g.W.Write.contents c.args.out.now) (g.W.Write.contents c.write_map.new.out) (map_text Rounded z made.0)) (c.in-Ok-apply.ensures.setting ∙ stands.setting) (c.in-Ok-write_map.ensures.writes made.0 made.2),
     )

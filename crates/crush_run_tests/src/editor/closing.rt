@@ -8,7 +8,7 @@ use crate::maps::PLAIN;
 use crush_editor::{Closed, Desk, Editor, Seat, Started};
 use crush_history::{Entry, Script, write_entry};
 use crush_map::Hashing;
-use crush_print::write_map;
+use crush_print::{WeightForm, write_map};
 use crush_script::{Job, read_job};
 use std::alloc::Global;
 use std::marker::Brand;
@@ -136,7 +136,7 @@ fn submit_each<N: Desk>(
 fn is_written(rt: &impl AllocGlobal, closed: &Closed<Global>, text: &[u8]) -> bool {
     let mut out = Vec::new(rt.alloc());
     put_history(&mut out, closed.history.as_slice())
-        && write_map(rt.alloc(), &closed.map, &mut out).is_ok()
+        && write_map(rt.alloc(), &closed.map, WeightForm::Rounded, &mut out).is_ok()
         && out.as_slice() == text
 }
 

@@ -16,4 +16,5 @@ returns c =
       under = sym (c.get_str-3.ensures ∙ first_value-rows found (codes "under"));
       down_to = sym (c.get_str-4.ensures ∙ first_value-rows found (codes "down-to"));
       class = sym (c.get_str-5.ensures ∙ first_value-rows found (codes "class"));
+      exact = c.is_set-5.ensures;
     }

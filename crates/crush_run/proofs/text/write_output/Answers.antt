@@ -5,7 +5,7 @@ use Rattle.crush_run.proofs.Written.{put_of_writes}
 use Rattle.crush_run.proofs.text.write_output.Goals as goal
 
 pub returns-in-Map-clause-writes : goal.returns-in-Map-clause-writes
-returns-in-Map-clause-writes g c = λ o t opening stands. rw c.in-Map.is (put_of_writes _ _ _ _ (c.write_map.ensures.writes t stands) c.write_map.ensures.none)
+returns-in-Map-clause-writes g c = λ o t opening stands. rw (c.in-Map.is, ← c.form_of.ensures) (put_of_writes _ _ _ _ (c.write_map.ensures.writes t stands) c.write_map.ensures.none)
 
 pub returns-in-Tree-clause-writes : goal.returns-in-Tree-clause-writes
 returns-in-Tree-clause-writes g c = λ o t opening stands. rw c.in-Tree.is (c.write_tree.ensures.writes t stands)
