@@ -20,7 +20,7 @@ import subprocess
 import sys
 
 sys.dont_write_bytecode = True
-from sources import COMMAND_LINE, CONTRIBUTING, LINKED, PAGES, PROGRAMS, TOP, WORDS_OF_TEXTS  # noqa: E402
+from sources import COMMAND_LINE, CONTRIBUTING, FACADE, LINKED, PAGES, PROGRAMS, TOP, WORDS_OF_TEXTS  # noqa: E402
 from sources import contracts, crate_files, fields_of_records, files_below, known_words, quoted, sections_of, variants  # noqa: E402
 from paths import path_faults  # noqa: E402
 from told import told_faults  # noqa: E402
@@ -180,7 +180,7 @@ def layer_faults():
     layer_of = {crate: layer for layer, crates in layers.items() for crate in crates}
     for line in (TOP / "crates.txt").read_text().splitlines():
         crate = line.split(":")[0]
-        if line[:1] not in {"", "#"} and not crate.endswith("_tests") and crate not in {*layer_of, *PROGRAMS}:
+        if line[:1] not in {"", "#"} and not crate.endswith("_tests") and crate not in {*layer_of, *PROGRAMS, FACADE}:
             yield f"no layer has {crate}"
     for place, (layer, crates, listed) in enumerate(rows):
         called = {layer_of[name] for crate in quoted(crates) for name in calls_of(crate)} - {layer}

@@ -14,6 +14,7 @@ import textwrap
 
 sys.dont_write_bytecode = True
 from doors import OFFERED, TOP  # noqa: E402
+from sources import FACADE  # noqa: E402
 
 CRATES = TOP / "crates"
 PAGE = TOP / "docs/dev/SIGNATURES.md"
@@ -47,7 +48,8 @@ def code_of(path):
 
 def order():
     lines = (TOP / "crates.txt").read_text().splitlines()
-    return [line.split(":")[0] for line in lines if line and not line.startswith("#")]
+    names = [line.split(":")[0] for line in lines if line and not line.startswith("#")]
+    return [name for name in names if name != FACADE]
 
 
 class Crate:

@@ -13,6 +13,8 @@ PAGES = sorted(set((TOP / "docs").rglob("*.md")) - {MADE}) + [TOP / "README.md",
 LINKED = [MADE, TOP / "SECURITY.md", TOP / "bench/RESULTS.md", TOP / "crates/README.md", TOP / "examples/README.md", TOP / "tools/README.md"]
 # Crates that are programs: nobody calls a function of theirs.
 PROGRAMS = {path.parent.parent.name for path in TOP.glob("crates/*/src/main.rt")}
+# The crate that hands out what callers use, and has nothing of its own.
+FACADE = "crush"
 # The words of the command line, the help and the version.
 COMMAND_LINE = "crates/crush_options/src/command_line.rt"
 # The sections of RULES.md that have a row for each variant of an enum.

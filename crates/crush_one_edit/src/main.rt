@@ -16,10 +16,9 @@ ghost use Rattle.crush_text.specs.Document.{IsMapText};
 ghost use Rattle.crush_text.specs.Flaw.{IsFlawOrOutOfMemory};
 ghost use Rattle.crush_print.specs.MapText.{map_text};
 
-use crush_map::{Done, Edit, EditFault};
-use crush_print::{WeightForm, WriteFault, write_map};
-use crush_text::{TextFault, read_map};
-use crush_units::{Name, Weight};
+use crush::{
+    Done, Edit, EditFault, Name, TextFault, Weight, WeightForm, WriteFault, read_map, write_map,
+};
 use std::alloc::Global;
 use std::io::Write;
 use thiserror::Error;
