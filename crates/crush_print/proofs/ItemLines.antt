@@ -33,7 +33,7 @@ buckets-join (bucket h w m kids rest) b =
 -- one item more
 pub item_lines-more : {A : _} (form : WeightForm) (ns : List (Node A)) (i : ℕ) (x : Node A) → i < length ns → x ≡ get_or ns i x
     → item_lines form (items_of (take (i + 1) ns)) ≡ item_lines form (items_of (take i ns)) ++ item_lines form (items_of (x ∷ []))
-item_lines-more form ns i x lt is = ap item_lines form (items_of-taken ns i x lt is) ∙ item_lines-join form (items_of (take i ns)) (items_of (x ∷ []))
+item_lines-more form ns i x lt is = ap (item_lines form) (items_of-taken ns i x lt is) ∙ item_lines-join form (items_of (take i ns)) (items_of (x ∷ []))
 
 -- the buckets among one item more
 pub buckets-more : {A : _} (ns : List (Node A)) (i : ℕ) (x : Node A) → i < length ns → x ≡ get_or ns i x
