@@ -45,7 +45,12 @@ fn main(rt: HostRuntime) -> anyhow::Result<()> {
     // One plan for both operators, which begins with the map that their calls left.
     let followed = follow_at_once(&rt, rt.alloc(), map, steps(third))?;
     // The map after both, the history of the calls, the last reading, and the history of the plan.
-    write_map(rt.alloc(), &followed.map, WeightForm::Rounded, &mut rt.stdout())?;
+    write_map(
+        rt.alloc(),
+        &followed.map,
+        WeightForm::Rounded,
+        &mut rt.stdout(),
+    )?;
     print_part(&rt, history.as_slice(), 0, b"first")?;
     print_part(&rt, history.as_slice(), 1, b"second")?;
     print_reading(&rt, last)?;
