@@ -22,6 +22,7 @@ use Rattle.crush_laws.proofs.Allowed.{any_none}
 use Rattle.crush_laws.specs.Admitted.{IsLawfulDraft}
 use Rattle.crush_laws.proofs.Lawful.{map_with_tunable}
 use Rattle.crush_laws.proofs.BuiltLines.{plain, Goes, goes_both, tunable_goes}
+use Rattle.crush_laws.proofs.LeftOut.{forget}
 
 -- a map between two statements, in which no weight was adjusted
 abbrev pub quiet : SettingData → List Row → Draft
@@ -43,7 +44,7 @@ module _ {X : Type 0} (words : X → List (List ℕ)) (state : List X → State)
   EachLeads = (front : List X) (x : X) (rest : List X) → front ++ x ∷ rest ≡ all → I front → Led (I (front ++ x ∷ [])) (state front) (words x) (flat_map words rest ++ others) (state (front ++ x ∷ []))
 
   pub each_goes : EachLeads → (front rest : List X) → front ++ rest ≡ all → I front → Led (I all) (state front) (flat_map words rest) others (state all)
-  each_goes step front [] e i = let same : front ≡ all = sym (append-nil front) ∙ e in record { holds = subst I same i; goes = ap state same }
+  each_goes step front [] e i = let same : front ≡ all = sym (append-nil front) ∙ e in record { holds = subst I same i; goes = ap (λ z. forget (state z)) same }
   each_goes step front (x ∷ rest) e i =
       let k = step front x rest e i in
       let r = each_goes step (front ++ x ∷ []) rest (append_assoc front (x ∷ []) rest ∙ e) k.holds in

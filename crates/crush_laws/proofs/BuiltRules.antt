@@ -18,7 +18,7 @@ use Rattle.crush_print.proofs.PrintedLines.{class_words, size_words, choice_word
 use Rattle.crush_units.specs.Numbers.{is_signed, signed_value}
 use Rattle.crush_text.specs.Role.{bucket_of_word, key, any_word, number, rule_id_key, rule_id, step_word, sets, step_said, step_count, step_type}
 use Rattle.crush_text.specs.Form.{second, ruled, at, Form, done, word, passing}
-use Rattle.crush_text.specs.Grammar.{new_rule, max_size, sizes, rule_line, with_step, step_done, take_step, choose_step, set_step, step_behind}
+use Rattle.crush_text.specs.Grammar.{new_rule, max_size, sizes, sizes_left, rule_line, with_step, step_done, take_step, choose_step, set_step, step_behind}
 use Rattle.crush_text.specs.Flow.{between, amid, arrive}
 use Rattle.crush_laws.specs.Admitted.{IsLawfulDraft, IsLawfulState, WordLeads}
 use Rattle.crush_laws.proofs.BuiltLines.{plain, Goes, goes_both, idle, decimal_digits, decimal_value, decimal_number}
@@ -56,7 +56,7 @@ most_first (Some v) others other = refl
 least_goes : (d : Draft) (x : List ℕ) (n : ℕ) (k : List ℕ) (least : Option ℕ) (rest : List (List ℕ)) → IfSome least (λ v. v ≤ LARGEST_RULE_NUMBER) → begins_with_key (codes "min_size") (plain rest) ≡ false
     → IsLawfulState (arrive d (plain rest) (max_size d x n k least))
     → Goes (arrive d (plain (size_words (codes "min_size") least ++ rest)) (sizes d x n k)) (size_words (codes "min_size") least) rest (arrive d (plain rest) (max_size d x n k least))
-least_goes d x n k None rest h other l = ap (λ b. if b then amid d (least_form d x n k) else arrive d (plain rest) (max_size d x n k None)) other
+least_goes d x n k None rest h other l = ap (λ b. forget (if b then amid d (least_form d x n k) else arrive d (plain rest) (max_size d x n k None))) other
 least_goes d x n k (Some v) rest h other l = (
   amid d (word (number LARGEST_RULE_NUMBER) (λ y. max_size d x n k (Some y))),
   (refl, refl),

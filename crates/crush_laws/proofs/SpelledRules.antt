@@ -13,7 +13,7 @@ use Rattle.crush_builder.specs.Rules.{complete_bucket_named}
 use Rattle.crush_units.specs.Words.{begins_with_key}
 use Rattle.crush_text.specs.Form.{second, ruled, at, Form, word, optional, passing, done}
 use Rattle.crush_text.specs.Role.{key, any_word, step_word, bucket_of_word}
-use Rattle.crush_text.specs.Grammar.{new_rule, max_size, sizes, rule_line, with_step, step_done, set_step, step_behind}
+use Rattle.crush_text.specs.Grammar.{new_rule, max_size, sizes, sizes_left, rule_line, with_step, step_done, set_step, step_behind}
 use Rattle.crush_text.specs.Flow.{State, between, amid, arrive}
 use Rattle.crush_laws.specs.Final.{LeadTo}
 use Rattle.crush_laws.specs.Document.{StepLine, takes, chooses, sets, emits, RuleLines}
