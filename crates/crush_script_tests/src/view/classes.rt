@@ -85,18 +85,42 @@ fn a_class_is_that_of_a_device(rt: HostRuntime) {
     assert!(rt; is);
 }
 
+/// Whether this is a weight of these units, or neither is there.
+fn weighs(weight: &Option<Weight>, units: &Option<u32>) -> bool {
+    match (weight, units) {
+        (Some(weight), Some(units)) => weight.units() == *units,
+        (None, None) => true,
+        _ => false,
+    }
+}
+
+fn are_weights(weights: &[Option<Weight>], units: &[Option<u32>]) -> bool {
+    weights.len() == units.len()
+        && weights
+            .iter()
+            .zip(units.iter())
+            .all(|(weight, units)| weighs(weight, units))
+}
+
 #[test]
 fn each_item_weighs_what_its_devices_of_the_class_weigh(rt: HostRuntime) {
     let map = map_of(&rt, CLASSED);
     let weights = class_weights(rt.alloc(), &map, "hdd").expect(&rt, "no weights");
-    let (two, one) = (
-        Some(Weight::from_units(131_072)),
-        Some(Weight::from_units(65_536)),
-    );
-    let all = Some(Weight::from_units(196_608));
-    let is = weights.as_slice()
-        == [all, two, two, None, two, None, None, None, one, one, None].as_slice();
+    let units: [Option<u32>; 11] = [
+        Some(196_608),
+        Some(131_072),
+        Some(131_072),
+        None,
+        Some(131_072),
+        None,
+        None,
+        None,
+        Some(65_536),
+        Some(65_536),
+        None,
+    ];
+    let are = are_weights(weights.as_slice(), &units);
     drop(weights);
     drop(map);
-    assert!(rt; is);
+    assert!(rt; are);
 }

@@ -130,7 +130,10 @@ fn pairs_of_a_part_are_of_the_items_that_were_or_are_in_it(rt: HostRuntime) {
         (b"osd.2", b"weight"),
     ];
     let are = are_pairs(&both, Report::Changes, &rows);
-    let same = both.same_class_ids(both.pairs[0]);
+    let same = match both.pairs.first() {
+        Some(pair) => both.same_class_ids(*pair),
+        None => false,
+    };
     drop(both);
     drop(new);
     drop(old);
