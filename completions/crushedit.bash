@@ -11,7 +11,7 @@ _crushedit() {
     esac
     given=" ${COMP_WORDS[*]:1:COMP_CWORD - 1} "
     [[ $word == -* && $given != *' -- '* ]] || return
-    for it in --in-turn --no-history --strict --no-make --tree --since --as-ceph --to --by-name --json --under --down-to --class --exact --exit-code --explain -h --help -V --version; do
+    for it in --in-turn --no-history --strict --no-make --tree --since --as-ceph --to --by-name --json --under --down-to --class --exit-code --explain -h --help -V --version; do
         [[ $it != "$word"* || $given == *" $it "* ]] || COMPREPLY+=("$it")
     done
     for it in -s --script; do

@@ -138,6 +138,7 @@ fn run_record(
             explain: false,
             json: false,
             exact: false,
+            conflicts: false,
         },
         output: Output::Map,
     };

@@ -74,6 +74,10 @@ to_without_a_map : fault_of program (codes "--to" ∷ []) ≡ InvalidValue ∷ [
 unfolding clap_on_literals
 to_without_a_map = refl
 
-exact : (fault_of program (codes "--exact" ∷ codes "j.txt" ∷ []) ≡ []) × (one_of (codes "exact") (matches_of program (codes "--exact" ∷ codes "j.txt" ∷ [])) ≡ Some (codes "true")) × (first_of (codes "FILE") (matches_of program (codes "--exact" ∷ codes "j.txt" ∷ [])) ≡ Some (codes "j.txt"))
+exact_to_a_file : (fault_of program (codes "--exact" ∷ codes "-o" ∷ codes "n.txt" ∷ codes "j.txt" ∷ []) ≡ []) × (one_of (codes "exact") (matches_of program (codes "--exact" ∷ codes "-o" ∷ codes "n.txt" ∷ codes "j.txt" ∷ [])) ≡ Some (codes "true")) × (first_of (codes "output") (matches_of program (codes "--exact" ∷ codes "-o" ∷ codes "n.txt" ∷ codes "j.txt" ∷ [])) ≡ Some (codes "n.txt")) × (first_of (codes "FILE") (matches_of program (codes "--exact" ∷ codes "-o" ∷ codes "n.txt" ∷ codes "j.txt" ∷ [])) ≡ Some (codes "j.txt"))
 unfolding clap_on_literals
-exact = (refl, refl, refl)
+exact_to_a_file = (refl, refl, refl, refl)
+
+output_twice : fault_of program (codes "-o" ∷ codes "a" ∷ codes "--output" ∷ codes "b" ∷ []) ≡ ArgumentConflict ∷ []
+unfolding clap_on_literals
+output_twice = refl

@@ -1,9 +1,10 @@
 -- What the words of a command line ask for, and with which fault they are refused.
-use Rattle.std.specs.Prelude.{◌≡◌, ◌≢◌, ◌⊎◌, ◌<◌, ◌≤◌, true, not, List, [], length, map, Option, Some, None, codes, unwrap_or, String}
+use Rattle.std.specs.Prelude.{◌≡◌, ◌≢◌, ◌⊎◌, ◌<◌, ◌≤◌, true, false, not, List, [], length, map, Option, Some, None, codes, unwrap_or, String}
 use Rattle.clap.specs.declared.builder.action.ArgAction.TheVariants.{Set, SetTrue, Append}
 use Rattle.clap.specs.declared.error.kind.ErrorKind.{ErrorKind}
 use Rattle.clap.specs.declared.error.kind.ErrorKind.TheVariants.{DisplayHelp, DisplayVersion, OutOfMemory}
 use Rattle.clap.specs.Words.{App, IsAmong, Kinds, Row, Rule, Text, all_of, fault_of, first_of, matches_of, new_app, new_rule, one_of, with_rule}
+use Rattle.crush_options.specs.declared.parsed_options.MapForm.TheVariants.{Job}
 use Rattle.crush_options.specs.declared.parsed_options.Mode.{Mode}
 use Rattle.crush_options.specs.declared.parsed_options.Options.{Options}
 use Rattle.crush_options.specs.declared.parsed_options.OptionsFault.{OptionsFault}
@@ -22,6 +23,10 @@ option name = record (new_rule name) { long = Some name; action = Some Set; valu
 -- the option `-s SCRIPT` or `--script SCRIPT`, which can be given several times
 abbrev pub scripts : Rule
 scripts = record (new_rule (codes "script")) { long = Some (codes "script"); short = Some 115; action = Some Append; value_names = 1 }
+
+-- the option `-o FILE` or `--output FILE`, which can be given once
+abbrev pub output : Rule
+output = record (new_rule (codes "output")) { long = Some (codes "output"); short = Some 111; action = Some Set; value_names = 1 }
 
 -- the argument `FILE`
 abbrev pub file : Rule
@@ -48,9 +53,9 @@ abbrev pub with_ends : App
 with_ends = with_rule (with_rule (with_rule (with_rule with_parts (option (codes "class"))) (flag (codes "exact"))) (flag (codes "exit-code"))) (flag (codes "explain"))
 
 -- THE COMMAND LINE: `[--in-turn] [--no-history] [--strict] [--no-make] [--tree] [--since MAP] [--as-ceph] [--to MAP] [--by-name] [--json]
--- [--under NAME] [--down-to TYPE] [--class CLASS] [--exact] [--exit-code] [--explain] [-s SCRIPT].. [FILE]`
+-- [--under NAME] [--down-to TYPE] [--class CLASS] [--exact] [--exit-code] [--explain] [-s SCRIPT].. [-o FILE] [FILE]`
 abbrev pub program : App
-program = with_rule (with_rule with_ends scripts) file
+program = with_rule (with_rule (with_rule with_ends scripts) output) file
 
 -- the bytes of each of some strings
 abbrev pub names_text : {Z : Type 0} → List (String Z) → List Text
@@ -64,7 +69,7 @@ all_named id rows = unwrap_or (all_of id rows) []
 abbrev pub IsConflict : List Row → Text → Type 0
 IsConflict rows why = AreApart rows why ⊎ ((MOST_SCRIPTS < length (all_named (codes "script") rows)) × (why ≡ codes "error: at most 16 times --script\n"))
 
--- the mode is as the parsed words say: each field says whether its flag is given, and `history` says that `--no-history` isn't
+-- the mode is as the parsed words say: each field says whether its flag is given, and `history` says that `--no-history` isn't. No flag asks for conflicts.
 pub record IsModeOf (rows : List Row) (mode : Mode) : Type 0 where
   pub in_turn : IsFlag (one_of (codes "in-turn") rows) mode.in_turn
   pub history : IsFlag (one_of (codes "no-history") rows) (not mode.history)
@@ -74,14 +79,17 @@ pub record IsModeOf (rows : List Row) (mode : Mode) : Type 0 where
   pub explain : IsFlag (one_of (codes "explain") rows) mode.explain
   pub json : IsFlag (one_of (codes "json") rows) mode.json
   pub exact : IsFlag (one_of (codes "exact") rows) mode.exact
+  pub conflicts : mode.conflicts ≡ false
 
--- the options are those of the parsed words: how the job is run, what is printed, the files of scripts, of which there are at most MOST_SCRIPTS, and the job's file
+-- the options are those of the parsed words: how the job is run, what is printed, the files of scripts, of which there are at most MOST_SCRIPTS, the job's file, and the file that the output replaces. The first file is a job.
 pub record AreRead (rows : List Row) (options : Options) : Type 0 where
   pub mode : IsModeOf rows options.mode
   pub output_spec : IsOutputSpec rows options.mode.json options.mode.exact options.output_spec
   pub scripts : names_text options.scripts.items ≡ all_named (codes "script") rows
   pub few : length options.scripts.items ≤ MOST_SCRIPTS
   pub file : name_text options.file ≡ first_of (codes "FILE") rows
+  pub output : name_text options.output ≡ first_of (codes "output") rows
+  pub maps : options.maps ≡ Job
 
 -- the words have no error, and the options are those that they ask for
 pub record AreOptionsOf (words : List Text) (options : Options) : Type 0 where

@@ -2,11 +2,11 @@
 
 ghost use Rattle.std.specs.Prelude.{◌≡◌, ◌≤◌, IfErr, IfOk, None, Some, codes, false, length, map, option_map, true};
 ghost use Rattle.clap.specs.Words.{all_of, app_of, fault_of, first_of, found_of, kind_of, one_of, rows_of, rule_of, with_rule};
-ghost use Rattle.crush_options.specs.Options.{AreRead, IsConflictFault, AreOptionsOf, IsFaultIn, IsFaultOf, IsModeOf, IsRefusedFor, IsRefusedIf, all_named, file, flag, names_text, option, program, scripts, with_ends, with_modes, with_parts, with_output_flags};
+ghost use Rattle.crush_options.specs.Options.{AreRead, IsConflictFault, AreOptionsOf, IsFaultIn, IsFaultOf, IsModeOf, IsRefusedFor, IsRefusedIf, all_named, file, flag, names_text, option, output, program, scripts, with_ends, with_modes, with_parts, with_output_flags};
 ghost use Rattle.crush_options.specs.OutputFlags.{AreOutputFlags, IsFlag, ask_for_tree_of_names, ask_for_two, complaint, exact_of_other, have_class_alone, have_names_alone, have_part_alone, have_type_alone, name_text, flags_by, flags_data};
 
 use crate::parsed_options::{
-    ChangeTree, Mode, Options, OptionsFault, OutputSpec, Since, Target, TreePartSpec,
+    ChangeTree, MapForm, Mode, Options, OptionsFault, OutputSpec, Since, Target, TreePartSpec,
 };
 use clap::error::ErrorKind;
 use clap::{Arg, ArgAction, ArgMatches, Command, Error};
@@ -198,6 +198,19 @@ fn scripts<'a>(alloc: Global) -> Arg<'a>
         .help("Append the script in this file; up to 16 times")
 }
 
+/// The option `-o FILE` or `--output FILE`, which can be given once.
+fn output<'a>(alloc: Global) -> Arg<'a>
+    ensures rule { rule_of result ≡ output }
+    ensures own { result.global ≡ false }
+{
+    Arg::new(alloc, "output")
+        .short('o')
+        .long("output")
+        .action(ArgAction::Set)
+        .value_name("FILE")
+        .help("Replace this file by the output, if all goes well")
+}
+
 fn file<'a>(alloc: Global) -> Arg<'a>
     ensures rule { rule_of result ≡ file }
     ensures own { result.global ≡ false }
@@ -270,7 +283,10 @@ fn with_ends<'a>(alloc: Global) -> Result<Command<'a>, AllocError>
 fn command<'a>(alloc: Global) -> Result<Command<'a>, AllocError>
     ensures { IfOk result (λ command. app_of command ≡ program) }
 {
-    with_ends(alloc)?.arg(scripts(alloc))?.arg(file(alloc))
+    with_ends(alloc)?
+        .arg(scripts(alloc))?
+        .arg(output(alloc))?
+        .arg(file(alloc))
 }
 
 fn is_set(matches: &ArgMatches<'_>, name: &str) -> bool
@@ -526,6 +542,14 @@ fn file_of(alloc: Global, matches: &ArgMatches<'_>) -> Result<Option<String>, Al
     copy_of(alloc, matches.get_str("FILE"))
 }
 
+fn output_of(alloc: Global, matches: &ArgMatches<'_>) -> Result<Option<String>, AllocError>
+    ensures { IfOk result (λ output. name_text output
+        ≡ first_of (codes "output") (rows_of (found_of matches.now))) }
+{
+    copy_of(alloc, matches.get_str("output"))
+}
+
+/// Returns how the job is run. The plain command line never looks for conflicts.
 fn mode_of(matches: &ArgMatches<'_>, json: bool, exact: bool) -> Mode
     requires json { IsFlag (one_of (codes "json") (rows_of (found_of matches.now))) json }
     requires exact { IsFlag (one_of (codes "exact") (rows_of (found_of matches.now))) exact }
@@ -542,6 +566,7 @@ fn mode_of(matches: &ArgMatches<'_>, json: bool, exact: bool) -> Mode
         explain: is_set(matches, "explain"),
         json,
         exact,
+        conflicts: false,
     }
 }
 
@@ -554,11 +579,14 @@ fn options_of(alloc: Global, matches: &ArgMatches<'_>) -> Result<Options, Option
     let output_spec = checked_output_spec(alloc, flags)?;
     let scripts = scripts_of(alloc, matches)?;
     let file = file_of(alloc, matches)?;
+    let output = output_of(alloc, matches)?;
     Ok(Options {
         mode,
         output_spec,
         scripts,
         file,
+        maps: MapForm::Job,
+        output,
     })
 }
 

@@ -9,5 +9,5 @@ mod parsed_options;
 
 pub use command_line::options;
 pub use parsed_options::{
-    ChangeTree, Mode, Options, OptionsFault, OutputSpec, Since, Target, TreePartSpec,
+    ChangeTree, MapForm, Mode, Options, OptionsFault, OutputSpec, Since, Target, TreePartSpec,
 };

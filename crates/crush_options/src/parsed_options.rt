@@ -27,6 +27,22 @@ pub struct Mode {
     /// Whether the weights of the map's text are printed in exact form, with six digits after the
     /// point (`--exact`). Only the text of the map can be printed so.
     pub exact: bool,
+    /// Whether a run prints nothing if a change that the script of one operator makes alone is lost
+    /// by the script of another. The plain command line never asks for this.
+    pub conflicts: bool,
+}
+
+/// What the file that a run begins with has to be, and with it the file of another map.
+#[derive(Clone, Copy, Debug, PartialEq, Eq)]
+pub enum MapForm {
+    /// The first file is a job, so that scripts may follow the text of its map. Another map may
+    /// end after any line. Every plain command line has this form.
+    Job,
+    /// Each of these files is the text of a map, without scripts.
+    Map,
+    /// Each of these files is the text of a map, without scripts, whose last line with more than
+    /// blanks is `# end crush map`. A text without this line may have been cut.
+    WholeMap,
 }
 
 /// The part of a tree that is printed. If no name is given, the whole tree is printed.
@@ -104,6 +120,11 @@ pub struct Options {
     pub scripts: Vec<String>,
     /// The name of the job's file. Without a name the job is read from standard input.
     pub file: Option<String>,
+    /// What the job's file and the file of another map have to be.
+    pub maps: MapForm,
+    /// The name of the file that the output replaces (`--output`). The name `-` stands for standard
+    /// output, which also gets the output if no name is given.
+    pub output: Option<String>,
 }
 
 /// Why the words of a command line start no run.
