@@ -46,11 +46,15 @@ install: $(PROGRAM)
 	install -m 755 bin/crushedit-recipe $(DESTDIR)$(PREFIX)/bin/crushedit-recipe
 	install -m 644 man/crushedit.1 man/crushedit-recipe.1 $(DESTDIR)$(PREFIX)/share/man/man1
 	install -D -m 644 completions/crushedit.bash $(DESTDIR)$(PREFIX)/share/bash-completion/completions/crushedit
+	install -D -m 644 completions/crushedit.zsh $(DESTDIR)$(PREFIX)/share/zsh/site-functions/_crushedit
+	install -D -m 644 completions/crushedit.fish $(DESTDIR)$(PREFIX)/share/fish/vendor_completions.d/crushedit.fish
 
 uninstall:
 	rm -f $(addprefix $(DESTDIR)$(PREFIX)/bin/, crushedit crushedit-recipe)
 	rm -f $(addprefix $(DESTDIR)$(PREFIX)/share/man/man1/, crushedit.1 crushedit-recipe.1)
 	rm -f $(DESTDIR)$(PREFIX)/share/bash-completion/completions/crushedit
+	rm -f $(DESTDIR)$(PREFIX)/share/zsh/site-functions/_crushedit
+	rm -f $(DESTDIR)$(PREFIX)/share/fish/vendor_completions.d/crushedit.fish
 
 dist: $(PROGRAM)
 	packaging/dist.sh $(PROGRAM)
@@ -77,6 +81,7 @@ trials: $(PROGRAM)
 	python3 tests/limits.py $(PROGRAM) --fits 1024
 	python3 tests/colliding.py $(PROGRAM)
 	python3 tests/streams.py $(PROGRAM)
+	python3 tests/outfile.py $(PROGRAM)
 
 monitor: $(PROGRAM)
 	tests/monitor.sh install out/monitor

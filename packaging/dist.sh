@@ -3,7 +3,7 @@
 #
 #     packaging/dist.sh crates/crushedit/out/crushedit [FOLDER]
 #
-# FOLDER is out/ if it isn't given. The archive has the program, the recipe, their manual pages, the completion for bash,
+# FOLDER is out/ if it isn't given. The archive has the program, the recipe, their manual pages, the completions for shells,
 # README and the pages for operators, the recipe's test with its map, the licence, the line of `crushedit --version`, and
 # the checksums of all these files. The script works in a folder of its own inside FOLDER, and removes no other one.
 set -eu
@@ -30,11 +30,14 @@ documents=$(cd "$top" && ls LICENSE ./*.md bench/*.md crates/*.md docs/*.md docs
 
 # lay ROOT: lays the files out as below /usr.
 lay() {
-    mkdir -p "$1/bin" "$1/share/man/man1" "$1/share/bash-completion/completions" "$1/share/doc/crushedit"
+    mkdir -p "$1/bin" "$1/share/man/man1" "$1/share/doc/crushedit"
+    mkdir -p "$1/share/bash-completion/completions" "$1/share/zsh/site-functions" "$1/share/fish/vendor_completions.d"
     cp "$program" "$1/bin/crushedit"
     cp "$top/bin/crushedit-recipe" "$1/bin/crushedit-recipe"
     cp "$top/man/crushedit.1" "$top/man/crushedit-recipe.1" "$1/share/man/man1"
     cp "$top/completions/crushedit.bash" "$1/share/bash-completion/completions/crushedit"
+    cp "$top/completions/crushedit.zsh" "$1/share/zsh/site-functions/_crushedit"
+    cp "$top/completions/crushedit.fish" "$1/share/fish/vendor_completions.d/crushedit.fish"
     for file in $documents; do
         mkdir -p "$1/share/doc/crushedit/$(dirname "$file")"
         cp "$top/$file" "$1/share/doc/crushedit/$file"

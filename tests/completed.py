@@ -23,6 +23,12 @@ TYPED = {
     "crushedit -s alice.txt --scr": "crushedit -s alice.txt --script ",
     "crushedit --since with": r"crushedit --since with\ blank ",
     "crushedit al": "crushedit alice.txt ",
+    "crushedit ap": "crushedit apply ",
+    "crushedit apply --dr": "crushedit apply --dry-run ",
+    "crushedit apply --in-t": "crushedit apply --in-t",
+    "crushedit plan map.txt --as": "crushedit plan map.txt --as-ceph ",
+    "crushedit diff ma": "crushedit diff map.txt ",
+    "crushedit apply -o al": "crushedit apply -o alice.txt ",
     "crushedit -- --tr": "crushedit -- --trial ",
     "crushedit -s --tr": "crushedit -s --trial ",
 }

@@ -1,8 +1,8 @@
 #!/usr/bin/env python3
-"""Writes the manual page man/crushedit.1 from the help in crates/crush_options/src/command_line.rt.
+"""Writes the manual page man/crushedit.1 from the help in crates/crush_options/src/command_line.rt and verbs.rt.
 
-The help's paragraphs, lists of two columns and samples become those of the page. END follows them. With --check nothing
-is written, and the status is 1 if the page has other bytes.
+The help's paragraphs, lists of two columns and samples become those of the page. The help of each verb is a section of its
+own. END follows them. With --check nothing is written, and the status is 1 if the page has other bytes.
 """
 import pathlib
 import re
@@ -10,15 +10,18 @@ import sys
 
 TOP = pathlib.Path(__file__).resolve().parent.parent
 SOURCE = TOP / "crates/crush_options/src/command_line.rt"
+VERBS = TOP / "crates/crush_options/src/verbs.rt"
 PAGE = TOP / "man/crushedit.1"
+# The one option that may be given several times.
+SCRIPT = "-s, --script SCRIPT"
 # What else an operator must know who doesn't have the other pages at hand.
 END = r""".SH "FROM A CLUSTER AND BACK"
 .nf
 ceph osd getcrushmap \-o map.bin
 crushtool \-d map.bin \-o map.txt
 echo 'reweight osd.2 1.0' > alice
-crushedit \-\-in\-turn \-\-strict \-\-no\-make \-\-explain \-s alice map.txt > new.txt
-crushedit \-\-in\-turn \-\-strict \-\-no\-make \-\-explain \-\-since map.txt \-s alice map.txt
+crushedit apply \-\-dry\-run map.txt alice
+crushedit apply \-o new.txt map.txt alice
 crushtool \-c new.txt \-o raw.bin
 crushtool \-i raw.bin \-\-reweight \-o new.bin
 .fi
@@ -100,6 +103,8 @@ def item(head, text):
 
 def block(text):
     """A list, a sample or a paragraph of the help, perhaps behind its heading."""
+    if text.startswith("For example:\n"):
+        return f".PP\nFor example:\n{block(text.partition(chr(10))[2])}"
     heading = re.match(r"([A-Z][A-Za-z ]*)(?:, ([^\n]*))?:\n(?=.)", text)
     if heading:
         said = f"They are {heading.group(2)}.\n" if heading.group(2) else ""
@@ -112,18 +117,73 @@ def block(text):
     return f".PP\n{prose(text)}"
 
 
+def texts_of(source):
+    """The texts of a source by the names of the variables or constants that have them."""
+    return dict(re.findall(r'(?:let|const) (\w+)(?:: &str)? =\s+"([^"]+)";', source))
+
+
+def short_options(source):
+    """The options that have a letter too, such as `-s, --script SCRIPT`, by the function that makes them, with their texts."""
+    made = (
+        r'fn (\w+)<\'a>\(alloc: Global\)[^{]*(?:\{[^}]*\}\s*ensures[^{]*\{[^}]*\}\s*)\{\s*Arg::new\(alloc, "([a-z-]+)"\)\s*'
+        r'\.short\(\'(\w)\'\).*?\.value_name\("(\w+)"\).*?\.help\("([^"]+)"\)'
+    )
+    return {
+        function: (f"-{letter}, --{name} {value}", text)
+        for function, name, letter, value, text in re.findall(made, source, re.S)
+    }
+
+
+def words_in(body, texts, short):
+    """The options that a part of a source adds to a command, in its order, with their texts."""
+    added = r'\b(?:flag|option)\(\s*alloc,\s*"([a-z-]+)",\s*(?:"([A-Z]+)",\s*)?(\w+),?\s*\)|\.arg\((\w+)\(alloc\)\)'
+    for name, value, text, function in re.findall(added, body):
+        if name:
+            yield f"--{name} {value}".rstrip(), texts[text]
+        elif function in short:
+            yield short[function]
+
+
 def words_of(source):
-    """The words of the help in its order, as `-s, --script SCRIPT`, each with what it does; all may stand once, but the last but two."""
-    texts = dict(re.findall(r'let (\w+) =\s+"([^"]+)";', source))
-    words = r'\b(?:flag|option)\(\s*alloc,\s*"([a-z-]+)",\s*(?:"([A-Z]+)",\s*)?(\w+),?\s*\)'
-    flags = [(f"--{name} {value}".rstrip(), texts[text]) for name, value, text in re.findall(words, source)]
-    script = re.search(r'Arg::new\(alloc, "([a-z]+)"\).*?\.value_name\("(\w+)"\).*?\.help\("([^"]+)"\)', source, re.S)
+    """The options of the plain command line in the order of the help, each with its text."""
     return [
-        *flags,
-        (f"-s, --{script.group(1)} {script.group(2)}", script.group(3)),
+        *words_in(source, texts_of(source), short_options(source)),
         ("-h, --help", "Print help, and run nothing"),
         ("-V, --version", "Print version, and run nothing"),
     ]
+
+
+class Verb:
+    """A verb: its name, its options and arguments with their texts, and its help."""
+
+    def __init__(self, name, source, plain):
+        bodies = "".join(re.findall(rf"(?s)fn {name}(?:_flags|_shown)?<.*?\n\}}\n", source))
+        self.name = name
+        self.about, self.more = (constant(source, f"{name.upper()}_{what}") for what in ("ABOUT", "MORE"))
+        self.options = [*words_in(bodies, texts_of(source), short_options(plain)), ("-h, --help", "Print help, and run nothing")]
+        self.files = re.findall(r'needed\(\s*alloc,\s*"([A-Z]+)",\s*"([^"]+)"', bodies)
+        script = re.search(r'Arg::new\(alloc, "([A-Z]+)"\).*?\.help\("([^"]+)"\)', source, re.S)
+        self.more_files = script.groups() if "more_scripts(alloc)" in bodies else None
+
+    def synopsis(self):
+        files = [f".I {name}\n" for name, _ in self.files]
+        if self.more_files:
+            files.append(f".RI [ {self.more_files[0]} ]..\n")
+        return f".B crushedit {self.name}\n.RI [ OPTION ]..\n{''.join(files)}"
+
+    def section(self):
+        files = [*self.files, *([self.more_files] if self.more_files else [])]
+        return (
+            f'.SS "crushedit {self.name}"\n{plain(self.about)}.\n'
+            f"{''.join(block(re.sub('^Examples?:', 'For example:', text)) for text in self.more.strip(chr(10)).split(chr(10) * 2))}"
+            f"{''.join(item(head, text + '.') for head, text in [*files, *self.options])}"
+        )
+
+
+def verbs():
+    """The verbs, in the order of the help."""
+    source, plain = VERBS.read_text(), SOURCE.read_text()
+    return [Verb(name, source, plain) for name in re.findall(r'word == "([a-z]+)"', source)]
 
 
 def page():
@@ -131,15 +191,18 @@ def page():
     version, about = constant(source, "VERSION"), constant(source, "ABOUT")
     file = re.search(r'Arg::new\(alloc, "([A-Z]+)"\).*?\.help\("([^"]+)"\)', source, re.S)
     options = words_of(source)
-    *flags, script = [word for word, _ in options[:-2]]
-    synopsis = "".join(f'.RB [ "{marked(word)}" ]\n' for word in flags)
-    synopsis += f'.RB [ "{marked(f"-s {script.split()[-1]}")}" ]..\n'
+    synopsis = ""
+    for head, _ in options[:-2]:
+        word = f"{head.split(',')[0]} {head.split()[-1]}" if "," in head else head
+        synopsis += f'.RB [ "{marked(word)}" ]{".." if head == SCRIPT else ""}\n'
+    with_verbs = "".join(f".br\n{verb.synopsis()}" for verb in verbs())
     first, *rest = constant(source, "MORE").strip("\n").split("\n\nCommands")
     return (
         f'.TH CRUSHEDIT 1 "" "crushedit {version.split()[0]}" "User Commands"\n'
         f".SH NAME\ncrushedit \\- {plain(about[0].lower() + about[1:])}\n"
-        f".SH SYNOPSIS\n.B crushedit\n{synopsis}.RI [ {file.group(1)} ]\n"
+        f".SH SYNOPSIS\n.B crushedit\n{synopsis}.RI [ {file.group(1)} ]\n{with_verbs}"
         f".SH DESCRIPTION\n{''.join(block(text) for text in first.split(chr(10) * 2))}"
+        f"{''.join(verb.section() for verb in verbs())}"
         f".SH OPTIONS\n{item(file.group(1), file.group(2) + '.')}"
         f"{''.join(item(head, text + '.') for head, text in options)}"
         f"{''.join(block(text) for text in ('Commands' + rest[0]).split(chr(10) * 2))}{END}"

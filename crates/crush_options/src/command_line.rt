@@ -1,6 +1,7 @@
 //! Reads the command line with `clap`, and has the text of the help.
 
 ghost use Rattle.std.specs.Prelude.{◌≡◌, ◌≤◌, IfErr, IfOk, None, Some, codes, false, length, map, option_map, true};
+ghost use Rattle.clap.specs.declared.error.kind.ErrorKind.{ErrorKind};
 ghost use Rattle.clap.specs.Words.{all_of, app_of, fault_of, first_of, found_of, kind_of, one_of, rows_of, rule_of, with_rule};
 ghost use Rattle.crush_options.specs.Options.{AreRead, IsConflictFault, AreOptionsOf, IsFaultIn, IsFaultOf, IsModeOf, IsRefusedFor, IsRefusedIf, all_named, file, flag, names_text, option, output, program, scripts, with_ends, with_modes, with_parts, with_output_flags};
 ghost use Rattle.crush_options.specs.OutputFlags.{AreOutputFlags, IsFlag, ask_for_tree_of_names, ask_for_two, complaint, exact_of_other, have_class_alone, have_names_alone, have_part_alone, have_type_alone, name_text, flags_by, flags_data};
@@ -41,7 +42,17 @@ with a line `%operator NAME`, its operator is named like the file, up to the
 first point.
 
 Every run that makes a map should have the options `--in-turn`, `--strict`,
-`--no-make` and `--explain`.
+`--no-make` and `--explain`. The verb `apply` has them all.
+
+Verbs:
+    apply MAP SCRIPT ..   prints the map after scripts, or nothing at all
+    diff OLD NEW          prints what has changed from one map to another
+    plan MAP WANTED       prints the commands that lead from one map to another
+    tree MAP              prints the tree of a map
+
+A verb is the first word of its command line. Each has safe defaults, takes maps
+and scripts as files of their own, and has a help: `crushedit apply --help`.
+A FILE that is called like a verb has to be given with its folder: `./apply`.
 
 Commands, those of `ceph osd crush`:
     add osd.N WEIGHT PAIR ..             adds a device that no bucket holds
@@ -97,11 +108,20 @@ class. Neither `--by-name` nor `--class` goes with a tree of what has changed.
 `--json` prints one JSON document in place of everything else. It doesn't go
 with `--as-ceph` or `--class`, nor with `--since` by name or down to a type.
 
+`-o FILE` replaces FILE by the output when the run is done. At each time FILE
+has its old bytes or all the new ones, even if the program is killed. If the
+status isn't 0 or 6, FILE stays as it is. `-o -` is standard output.
+
+`--exact` prints the weights of the map's text with six digits after the point,
+so that `crushtool -c` and this program read the same weights. It goes with the
+text of the map alone.
+
 With `--exit-code` the status is 6 in place of 0 if a command changed the map;
 with `--since`, if an item or a setting is reported; with `--to`, if a command
 or a difference is.
 
 Standard error:
+    crushedit: cut           a verb's map doesn't end with `# end crush map`
     crushedit: adjusted N    N written weights were replaced by the sums
     crushedit: refused N     with --strict: N calls were refused
     crushedit: made N        with --no-make: N calls created buckets unasked
@@ -111,9 +131,9 @@ Standard error:
     crushedit: no class NAME  --class: no device of the map has this class
 
 Below `refused`, `made` and `differs` come the lines of these calls and
-differences. With `--explain` more lines follow. They say where an error in the
-input is, and what is expected there. For each refused call they have its line
-and the reason.
+differences. With `--explain`, or if standard error is a terminal, more lines
+follow. They say where an error in the input is, and what is expected there. For
+each refused call they have its line and the reason.
 
 Exit status:
     0    the job was run; without --strict, commands may have been refused
@@ -126,11 +146,11 @@ Exit status:
 
 Examples:
     # what the script in the file alice changes in the map
-    crushedit --in-turn --strict --no-make --explain --since map -s alice map
+    crushedit apply --dry-run map alice
     # the new map
-    crushedit --in-turn --strict --no-make --explain -s alice map > new
+    crushedit apply -o new map alice
     # the commands that lead from the map to another one
-    crushedit --strict --explain --to wanted map
+    crushedit plan --strict map wanted
 ";
 
 const TWO_PRINTED: &str =
@@ -158,13 +178,22 @@ const JSON_LEVELS: &str = "error: --json and --since don't go with --down-to\n";
 
 const EXACT_OTHER: &str = "error: --exact goes with the text of the map alone\n";
 
+/// What the error of a second file says of the verbs.
+const VERBS: &str = "
+Commands that take several files:
+    crushedit apply MAP SCRIPT ..    the map after scripts
+    crushedit diff OLD NEW           what has changed from one map to another
+    crushedit plan MAP WANTED        the commands that lead from one map to another
+    crushedit tree MAP               the tree of a map
+";
+
 /// The most files with scripts on one command line: as many as a job may have operators.
 const MOST_SCRIPTS: usize = 16;
 
 const MANY_SCRIPTS: &str = "error: at most 16 times --script\n";
 
 /// A flag `--NAME`, without a value.
-fn flag<'a>(alloc: Global, name: &'a str, help: &'a str) -> Arg<'a>
+pub(crate) fn flag<'a>(alloc: Global, name: &'a str, help: &'a str) -> Arg<'a>
     ensures rule { rule_of result ≡ flag name.entry.now }
     ensures own { result.global ≡ false }
 {
@@ -175,7 +204,7 @@ fn flag<'a>(alloc: Global, name: &'a str, help: &'a str) -> Arg<'a>
 }
 
 /// An option `--NAME VALUE`, which can be given once.
-fn option<'a>(alloc: Global, name: &'a str, value: &'a str, help: &'a str) -> Arg<'a>
+pub(crate) fn option<'a>(alloc: Global, name: &'a str, value: &'a str, help: &'a str) -> Arg<'a>
     ensures rule { rule_of result ≡ option name.entry.now }
     ensures own { result.global ≡ false }
 {
@@ -199,7 +228,7 @@ fn scripts<'a>(alloc: Global) -> Arg<'a>
 }
 
 /// The option `-o FILE` or `--output FILE`, which can be given once.
-fn output<'a>(alloc: Global) -> Arg<'a>
+pub(crate) fn output<'a>(alloc: Global) -> Arg<'a>
     ensures rule { rule_of result ≡ output }
     ensures own { result.global ≡ false }
 {
@@ -289,13 +318,13 @@ fn command<'a>(alloc: Global) -> Result<Command<'a>, AllocError>
         .arg(file(alloc))
 }
 
-fn is_set(matches: &ArgMatches<'_>, name: &str) -> bool
+pub(crate) fn is_set(matches: &ArgMatches<'_>, name: &str) -> bool
     ensures { IsFlag (one_of name.now (rows_of (found_of matches.now))) result }
 {
     matches.get_flag(name)
 }
 
-fn refused(alloc: Global, text: &str) -> OptionsFault
+pub(crate) fn refused(alloc: Global, text: &str) -> OptionsFault
     ensures { IsRefusedFor text.now result }
 {
     match String::from_str(alloc, text) {
@@ -591,7 +620,7 @@ fn options_of(alloc: Global, matches: &ArgMatches<'_>) -> Result<Options, Option
 }
 
 /// Returns the fault for an error of `clap`, with the error's text.
-fn fault_of(alloc: Global, error: &Error) -> OptionsFault
+pub(crate) fn fault_of(alloc: Global, error: &Error) -> OptionsFault
     ensures { IsFaultOf (kind_of error.now) result }
 {
     let Ok(text) = format!(in alloc; "{error}") else {
@@ -604,19 +633,46 @@ fn fault_of(alloc: Global, error: &Error) -> OptionsFault
     }
 }
 
-/// Reads the words of a command line, without the program's name, by the rules that the help shows.
-///
-/// The words may be in any order, and none is ignored: a word that isn't the program's is refused.
-/// Fails with [`OptionsFault::Help`] if a word asks for the help or the version, with
-/// [`OptionsFault::Refused`] if a word is wrong or words can't be given together, and with
-/// [`OptionsFault::Memory`] if memory runs out.
-pub fn options<S: AsStr>(alloc: Global, words: &[S]) -> Result<Options, OptionsFault>
+/// Adds the verbs to the error of a second file, which may be meant for one of them.
+fn with_verbs(fault: OptionsFault) -> OptionsFault
+    ensures { (kind : ErrorKind) → IsFaultOf kind fault.entry → IsFaultOf kind result }
+{
+    match fault {
+        OptionsFault::Refused(text) if is_of_second_file(text.as_str()) => told_verbs(text),
+        fault => fault,
+    }
+}
+
+/// The same as [`fault_of`], with the verbs if the error is that of a second file.
+fn plain_fault_of(alloc: Global, error: &Error) -> OptionsFault
+    ensures { IsFaultOf (kind_of error.now) result }
+{
+    with_verbs(fault_of(alloc, error))
+}
+
+/// Whether the error of `clap` is that of a word which is neither an option nor the first file.
+fn is_of_second_file(text: &str) -> bool {
+    text.starts_with("error: unexpected argument '")
+        && !text.starts_with("error: unexpected argument '-")
+}
+
+fn told_verbs(mut text: String) -> OptionsFault
+    ensures { (kind : ErrorKind) → IsFaultOf kind (OptionsFault.Refused text.entry) → IsFaultOf kind result }
+{
+    match text.push_str(VERBS) {
+        Ok(()) => OptionsFault::Refused(text),
+        Err(error) => error.into(),
+    }
+}
+
+/// Reads the words of a plain command line, which doesn't begin with a verb.
+pub(crate) fn plain_options<S: AsStr>(alloc: Global, words: &[S]) -> Result<Options, OptionsFault>
     ensures parsed { IfOk result (AreOptionsOf (map S.text words.now)) }
     ensures fault { IfErr result (IsFaultIn (map S.text words.now)) }
 {
     let command = command(alloc)?;
     match command.try_get_matches_from(words) {
         Ok(matches) => options_of(alloc, &matches),
-        Err(error) => Err(fault_of(alloc, &error)),
+        Err(error) => Err(plain_fault_of(alloc, &error)),
     }
 }

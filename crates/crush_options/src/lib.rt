@@ -6,8 +6,10 @@
 
 mod command_line;
 mod parsed_options;
+mod verb_words;
+mod verbs;
 
-pub use command_line::options;
 pub use parsed_options::{
     ChangeTree, MapForm, Mode, Options, OptionsFault, OutputSpec, Since, Target, TreePartSpec,
 };
+pub use verbs::options;

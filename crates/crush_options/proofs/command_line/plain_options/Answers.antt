@@ -9,7 +9,7 @@ use Rattle.crush_options.specs.declared.parsed_options.OptionsFault.{OptionsFaul
 use Rattle.crush_options.specs.declared.parsed_options.OptionsFault.TheVariants.{Help, Refused, Memory}
 use Rattle.crush_options.specs.Options.{AreRead, IsFaultIn, IsFaultOf, program}
 use Rattle.crush_options.proofs.Reading.{much_is_fault}
-use Rattle.crush_options.proofs.command_line.options.Goals as goal
+use Rattle.crush_options.proofs.command_line.plain_options.Goals as goal
 
 simple : is_simple program ≡ true
 unfolding clap_on_literals
@@ -50,4 +50,4 @@ returns-in-Err-clause-fault g c =
     let is = c.in_ok-command.ensures in
     let kind = kind_of c.in-Err.error in
     let fails = c.in-Err.ensures.kinds (ap is_simple_and_free is ∙ free) in
-    fault_in words kind c.fault_of.result (subst (λ (a : App). (kind ≡ OutOfMemory) ⊎ IsAmong kind (fault_of a words)) is fails) c.fault_of.ensures
+    fault_in words kind c.plain_fault_of.result (subst (λ (a : App). (kind ≡ OutOfMemory) ⊎ IsAmong kind (fault_of a words)) is fails) c.plain_fault_of.ensures

@@ -1,0 +1,287 @@
+//! The words of a verb's command line, and the plain words that they are short for.
+
+ghost use Rattle.std.specs.Prelude.{◌≡◌, ◌++◌, IfOk, OnOk, codes, map, nat_lt, option_map};
+ghost use Rattle.clap.specs.Words.{found_of, rows_of};
+ghost use Rattle.crush_options.specs.Options.{all_named, names_text};
+ghost use Rattle.crush_options.specs.Verbs.{AreVerbWords, apply_complaint, dashes, dashes_of, file_words, is_dash, map_argument, other_argument, own_words, shown_words, shows_without_dry_run, verb_complaint, verb_data, word_if, word_with, words_of_verb};
+
+use crate::command_line::is_set;
+use crate::verbs::Verb;
+use clap::ArgMatches;
+use std::alloc::{AllocError, Global};
+
+const TWO_DASHES: &str = "error: only one file can be -, which is standard input\n";
+
+const DRY_OUTPUT: &str = "error: --output doesn't go with --dry-run\n";
+
+const WITHOUT_DRY_RUN: &str =
+    "error: --tree, --json, --under, --down-to and --exit-code go with --dry-run\n";
+
+/// The words of a verb's command line, as its parser has read them. A word that the verb doesn't
+/// take isn't given.
+#[derive(Clone, Copy)]
+pub(crate) struct VerbWords<'a> {
+    pub(crate) dry_run: bool,
+    pub(crate) make: bool,
+    pub(crate) last_wins: bool,
+    pub(crate) tree: bool,
+    pub(crate) json: bool,
+    pub(crate) by_name: bool,
+    pub(crate) as_ceph: bool,
+    pub(crate) strict: bool,
+    pub(crate) exit_code: bool,
+    pub(crate) under: Option<&'a str>,
+    pub(crate) down_to: Option<&'a str>,
+    pub(crate) class: Option<&'a str>,
+    pub(crate) output: Option<&'a str>,
+    /// The map from which the run begins: MAP, or NEW of `diff`.
+    pub(crate) map: Option<&'a str>,
+    /// The other map: OLD of `diff`, or WANTED of `plan`.
+    pub(crate) other: Option<&'a str>,
+    pub(crate) scripts: &'a [&'a str],
+}
+
+fn scripts_of<'a>(matches: &'a ArgMatches<'_>) -> &'a [&'a str]
+    ensures { map (λ name. name.now) result.now
+        ≡ all_named (codes "SCRIPT") (rows_of (found_of matches.now)) }
+{
+    match matches.get_strs("SCRIPT") {
+        Some(names) => names,
+        None => &[],
+    }
+}
+
+fn map_argument(verb: Verb) -> &'static str
+    ensures { result.now ≡ map_argument verb }
+{
+    match verb {
+        Verb::Diff => "NEW",
+        Verb::Apply | Verb::Plan | Verb::Tree => "MAP",
+    }
+}
+
+fn other_argument(verb: Verb) -> &'static str
+    ensures { result.now ≡ other_argument verb }
+{
+    match verb {
+        Verb::Diff => "OLD",
+        Verb::Apply | Verb::Plan | Verb::Tree => "WANTED",
+    }
+}
+
+pub(crate) fn verb_words_of<'a>(verb: Verb, matches: &'a ArgMatches<'_>) -> VerbWords<'a>
+    ensures { AreVerbWords verb (rows_of (found_of matches.now)) (verb_data result) }
+{
+    VerbWords {
+        dry_run: is_set(matches, "dry-run"),
+        make: is_set(matches, "make"),
+        last_wins: is_set(matches, "last-wins"),
+        tree: is_set(matches, "tree"),
+        json: is_set(matches, "json"),
+        by_name: is_set(matches, "by-name"),
+        as_ceph: is_set(matches, "as-ceph"),
+        strict: is_set(matches, "strict"),
+        exit_code: is_set(matches, "exit-code"),
+        under: matches.get_str("under"),
+        down_to: matches.get_str("down-to"),
+        class: matches.get_str("class"),
+        output: matches.get_str("output"),
+        map: matches.get_str(map_argument(verb)),
+        other: matches.get_str(other_argument(verb)),
+        scripts: scripts_of(matches),
+    }
+}
+
+fn is_dash(name: &str) -> bool
+    ensures { result ≡ is_dash name.now }
+{
+    name == "-"
+}
+
+fn dashes_of(name: Option<&str>) -> usize
+    ensures { result ≡ dashes_of (option_map (λ name. name.now) name.entry) }
+{
+    match name {
+        Some(name) if is_dash(name) => 1,
+        _ => 0,
+    }
+}
+
+fn has_two_dashes(words: VerbWords<'_>) -> bool
+    ensures { result ≡ nat_lt 1 (dashes (verb_data words.entry)) }
+{
+    let mut count = dashes_of(words.map) + dashes_of(words.other);
+    for name in words.scripts {
+        if is_dash(name) {
+            count += 1;
+        }
+    }
+    count > 1
+}
+
+fn shows_without_dry_run(words: VerbWords<'_>) -> bool
+    ensures { result ≡ shows_without_dry_run (verb_data words.entry) }
+{
+    let flags = words.tree || words.json || words.exit_code;
+    !words.dry_run && (flags || words.under.is_some() || words.down_to.is_some())
+}
+
+fn apply_complaint(words: VerbWords<'_>) -> Option<&'static str>
+    ensures { option_map (λ text. text.now) result ≡ apply_complaint (verb_data words.entry) }
+{
+    if words.dry_run && words.output.is_some() {
+        Some(DRY_OUTPUT)
+    } else if shows_without_dry_run(words) {
+        Some(WITHOUT_DRY_RUN)
+    } else {
+        None
+    }
+}
+
+/// Returns the error line of words of a verb that can't be given together, or `None` if they can.
+pub(crate) fn verb_complaint(verb: Verb, words: VerbWords<'_>) -> Option<&'static str>
+    ensures { option_map (λ text. text.now) result
+        ≡ verb_complaint verb (verb_data words.entry) }
+{
+    if has_two_dashes(words) {
+        return Some(TWO_DASHES);
+    }
+    match verb {
+        Verb::Apply => apply_complaint(words),
+        Verb::Diff | Verb::Plan | Verb::Tree => None,
+    }
+}
+
+fn push_if(
+    alloc: Global,
+    given: bool,
+    word: &str,
+    plain: &mut Vec<String>,
+) -> Result<(), AllocError>
+    ensures { OnOk result (names_text plain.new.items
+        ≡ names_text plain.old.items ++ word_if given word.now) }
+{
+    if given {
+        plain.push(String::from_str(alloc, word)?)?;
+    }
+    Ok(())
+}
+
+fn push_with(
+    alloc: Global,
+    start: &str,
+    value: Option<&str>,
+    plain: &mut Vec<String>,
+) -> Result<(), AllocError>
+    ensures { OnOk result (names_text plain.new.items ≡ names_text plain.old.items
+        ++ word_with start.now (option_map (λ value. value.now) value.entry)) }
+{
+    let Some(value) = value else {
+        return Ok(());
+    };
+    let mut word = String::from_str(alloc, start)?;
+    word.push_str(value)?;
+    plain.push(word)?;
+    Ok(())
+}
+
+fn push_shown(
+    alloc: Global,
+    words: VerbWords<'_>,
+    plain: &mut Vec<String>,
+) -> Result<(), AllocError>
+    ensures { OnOk result (names_text plain.new.items
+        ≡ names_text plain.old.items ++ shown_words (verb_data words.entry)) }
+{
+    push_if(alloc, words.tree, "--tree", plain)?;
+    push_if(alloc, words.json, "--json", plain)?;
+    push_if(alloc, words.by_name, "--by-name", plain)?;
+    push_if(alloc, words.as_ceph, "--as-ceph", plain)?;
+    push_with(alloc, "--under=", words.under, plain)?;
+    push_with(alloc, "--down-to=", words.down_to, plain)?;
+    push_with(alloc, "--class=", words.class, plain)?;
+    push_if(alloc, words.exit_code, "--exit-code", plain)
+}
+
+fn push_scripts(alloc: Global, scripts: &[&str], plain: &mut Vec<String>) -> Result<(), AllocError>
+    ensures { OnOk result (names_text plain.new.items ≡ names_text plain.old.items
+        ++ map (λ name. codes "--script=" ++ name.now) scripts.now) }
+{
+    for name in scripts {
+        push_with(alloc, "--script=", Some(name), plain)?;
+    }
+    Ok(())
+}
+
+fn push_files(
+    alloc: Global,
+    words: VerbWords<'_>,
+    plain: &mut Vec<String>,
+) -> Result<(), AllocError>
+    ensures { OnOk result (names_text plain.new.items
+        ≡ names_text plain.old.items ++ file_words (verb_data words.entry)) }
+{
+    push_scripts(alloc, words.scripts, plain)?;
+    push_with(alloc, "--output=", words.output, plain)?;
+    push_if(alloc, true, "--", plain)?;
+    push_with(alloc, "", words.map, plain)
+}
+
+fn push_of_apply(
+    alloc: Global,
+    words: VerbWords<'_>,
+    plain: &mut Vec<String>,
+) -> Result<(), AllocError>
+    ensures { OnOk result (names_text plain.new.items
+        ≡ names_text plain.old.items ++ own_words Verb.Apply (verb_data words.entry)) }
+{
+    push_if(alloc, true, "--in-turn", plain)?;
+    push_if(alloc, true, "--strict", plain)?;
+    push_if(alloc, !words.make, "--no-make", plain)?;
+    push_if(alloc, !words.dry_run, "--no-history", plain)?;
+    push_if(alloc, !words.dry_run, "--exact", plain)?;
+    if words.dry_run {
+        return push_with(alloc, "--since=", words.map, plain);
+    }
+    Ok(())
+}
+
+fn push_own(
+    alloc: Global,
+    verb: Verb,
+    words: VerbWords<'_>,
+    plain: &mut Vec<String>,
+) -> Result<(), AllocError>
+    ensures { OnOk result (names_text plain.new.items
+        ≡ names_text plain.old.items ++ own_words verb (verb_data words.entry)) }
+{
+    if let Verb::Apply = verb {
+        return push_of_apply(alloc, words, plain);
+    }
+    push_if(alloc, true, "--no-history", plain)?;
+    match verb {
+        Verb::Diff => push_with(alloc, "--since=", words.other, plain),
+        Verb::Plan => {
+            push_if(alloc, words.strict, "--strict", plain)?;
+            push_with(alloc, "--to=", words.other, plain)
+        }
+        Verb::Apply | Verb::Tree => push_if(alloc, true, "--tree", plain),
+    }
+}
+
+/// Returns the words of the plain command line that a verb is short for.
+pub(crate) fn plain_words(
+    alloc: Global,
+    verb: Verb,
+    words: VerbWords<'_>,
+) -> Result<Vec<String>, AllocError>
+    ensures { IfOk result (λ plain. names_text plain.items
+        ≡ words_of_verb verb (verb_data words.entry)) }
+{
+    let mut plain = Vec::new(alloc);
+    push_own(alloc, verb, words, &mut plain)?;
+    push_if(alloc, true, "--explain", &mut plain)?;
+    push_shown(alloc, words, &mut plain)?;
+    push_files(alloc, words, &mut plain)?;
+    Ok(plain)
+}

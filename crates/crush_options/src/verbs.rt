@@ -1,0 +1,340 @@
+//! The verbs: commands with safe defaults, each short for a plain command line.
+
+ghost use Rattle.std.specs.Prelude.{◌≡◌, IfOk, IfErr, None, codes, map};
+ghost use Rattle.clap.specs.Words.{app_of, rule_of};
+ghost use Rattle.crush_options.specs.Options.{IsFaultIn};
+ghost use Rattle.crush_options.specs.Verbs.{AreOptionsBy, AreOptionsOfVerb, AreShortFor, IsFaultBy, IsFaultOfVerb, IsShortFault, app_of_verb, apply, apply_flags, apply_shown, diff, diff_shown, has_conflicts, maps_of_verb, more_scripts, needed, plan, plan_shown, tree, verb_complaint, verb_data, verb_named, verb_of, verb_of_words, words_of_verb};
+
+use crate::command_line::{fault_of, flag, option, output, plain_options, refused};
+use crate::parsed_options::{MapForm, Options, OptionsFault};
+use crate::verb_words::{VerbWords, plain_words, verb_complaint, verb_words_of};
+use clap::{Arg, ArgAction, Command};
+use std::alloc::{AllocError, Global};
+use std::convert::AsStr;
+
+/// A command with safe defaults, which the first word of a command line names.
+#[derive(Clone, Copy, Debug, PartialEq, Eq)]
+pub(crate) enum Verb {
+    /// `apply` prints the map after scripts.
+    Apply,
+    /// `diff` prints what differs between two maps.
+    Diff,
+    /// `plan` prints the commands that lead from one map to another.
+    Plan,
+    /// `tree` prints the tree of a map.
+    Tree,
+}
+
+const APPLY_ABOUT: &str = "Prints the map after the commands of scripts, or nothing at all";
+
+const DIFF_ABOUT: &str = "Prints what has changed from one map to another";
+
+const PLAN_ABOUT: &str = "Prints the commands that lead from one map to another";
+
+const TREE_ABOUT: &str = "Prints the tree of a map";
+
+const APPLY_MORE: &str = "\
+MAP is the text of a CRUSH map, as `crushtool -d` prints it. Each SCRIPT has one
+command on each line. Its operator is named like its file, up to the first
+point, unless the script begins with a line `%operator NAME`. The scripts run
+one after the other.
+
+`apply` prints the new map, with exact weights. It prints nothing, and says why,
+if a command is refused, if a command would create a bucket that it doesn't
+name, if MAP doesn't end with `# end crush map`, or if a change of one operator
+would be lost by the script of another.
+
+With `--dry-run`, it prints what the scripts would change, and their history.
+
+Short for: crushedit --in-turn --strict --no-make --no-history --explain --exact
+           -s SCRIPT .. MAP
+
+Examples:
+    crushedit apply --dry-run map.txt add.txt
+    crushedit apply -o new.txt map.txt add.txt
+";
+
+const DIFF_MORE: &str = "\
+OLD and NEW are texts of CRUSH maps, as `crushtool -d` prints them. Both have to
+end with `# end crush map`.
+
+Short for: crushedit --no-history --explain --since OLD NEW
+
+Example:
+    crushedit diff monday.txt friday.txt
+";
+
+const PLAN_MORE: &str = "\
+MAP and WANTED are texts of CRUSH maps, as `crushtool -d` prints them. Both have
+to end with `# end crush map`. After the commands come the differences that no
+command removes. With `--strict`, such a difference is an error (status 5).
+
+Short for: crushedit --no-history --explain --to WANTED MAP
+
+Example:
+    crushedit plan --as-ceph map.txt wanted.txt
+";
+
+const TREE_MORE: &str = "\
+MAP is the text of a CRUSH map, as `crushtool -d` prints it.
+
+Short for: crushedit --no-history --explain --tree MAP
+
+Example:
+    crushedit tree --under rack1 map.txt
+";
+
+const TREE_HELP: &str = "Print a tree of what has changed";
+
+const JSON_HELP: &str = "Print one JSON document, for programs";
+
+const BY_NAME_HELP: &str = "Compare items by name alone";
+
+const UNDER_HELP: &str = "Print only this item and what is below it";
+
+const DOWN_TO_HELP: &str = "In a tree, print nothing below buckets of this type";
+
+const CLASS_HELP: &str = "In a tree, count only the devices of this class";
+
+const EXIT_CODE_HELP: &str = "Exit with status 6 if something changed or differs";
+
+fn needed<'a>(alloc: Global, name: &'a str, help: &'a str) -> Arg<'a>
+    ensures rule { rule_of result ≡ needed name.entry.now }
+    ensures own { result.global ≡ false }
+{
+    Arg::new(alloc, name)
+        .action(ArgAction::Set)
+        .required(true)
+        .help(help)
+}
+
+fn more_scripts<'a>(alloc: Global) -> Arg<'a>
+    ensures rule { rule_of result ≡ more_scripts }
+    ensures own { result.global ≡ false }
+{
+    Arg::new(alloc, "SCRIPT")
+        .action(ArgAction::Append)
+        .num_args(0..)
+        .help("Files of scripts, which run in this order")
+}
+
+/// Starts the command of a verb. Its words don't begin with its own name.
+fn verb<'a>(alloc: Global, name: &'a str, about: &'a str, more: &'a str) -> Command<'a>
+    ensures { app_of result ≡ verb_of name.entry.now }
+{
+    Command::new(alloc, name)
+        .no_binary_name(true)
+        .about(about)
+        .after_help(more)
+}
+
+fn apply_flags<'a>(alloc: Global) -> Result<Command<'a>, AllocError>
+    ensures { IfOk result (λ command. app_of command ≡ apply_flags) }
+{
+    let dry_run = "Print what would change, in place of the new map";
+    let make = "Allow commands to create the buckets of a location";
+    let last_wins = "Allow a script to undo what another has changed";
+    let tree = "With --dry-run: print a tree of what would change";
+    verb(alloc, "crushedit apply", APPLY_ABOUT, APPLY_MORE)
+        .arg(flag(alloc, "dry-run", dry_run))?
+        .arg(flag(alloc, "make", make))?
+        .arg(flag(alloc, "last-wins", last_wins))?
+        .arg(flag(alloc, "tree", tree))
+}
+
+fn apply_shown<'a>(alloc: Global) -> Result<Command<'a>, AllocError>
+    ensures { IfOk result (λ command. app_of command ≡ apply_shown) }
+{
+    let json = "With --dry-run: print one JSON document, for programs";
+    let under = "With --dry-run: print only what is below this item";
+    let down_to = "With --tree: print nothing below buckets of this type";
+    let exit_code = "With --dry-run: exit with status 6 if the map changes";
+    apply_flags(alloc)?
+        .arg(flag(alloc, "json", json))?
+        .arg(option(alloc, "under", "NAME", under))?
+        .arg(option(alloc, "down-to", "TYPE", down_to))?
+        .arg(flag(alloc, "exit-code", exit_code))
+}
+
+fn apply<'a>(alloc: Global) -> Result<Command<'a>, AllocError>
+    ensures { IfOk result (λ command. app_of command ≡ apply) }
+{
+    apply_shown(alloc)?
+        .arg(output(alloc))?
+        .arg(needed(alloc, "MAP", "The map's text; - is standard input"))?
+        .arg(more_scripts(alloc))
+}
+
+fn diff_shown<'a>(alloc: Global) -> Result<Command<'a>, AllocError>
+    ensures { IfOk result (λ command. app_of command ≡ diff_shown) }
+{
+    verb(alloc, "crushedit diff", DIFF_ABOUT, DIFF_MORE)
+        .arg(flag(alloc, "tree", TREE_HELP))?
+        .arg(flag(alloc, "json", JSON_HELP))?
+        .arg(flag(alloc, "by-name", BY_NAME_HELP))?
+        .arg(option(alloc, "under", "NAME", UNDER_HELP))
+}
+
+fn diff<'a>(alloc: Global) -> Result<Command<'a>, AllocError>
+    ensures { IfOk result (λ command. app_of command ≡ diff) }
+{
+    diff_shown(alloc)?
+        .arg(option(alloc, "down-to", "TYPE", DOWN_TO_HELP))?
+        .arg(option(alloc, "class", "CLASS", CLASS_HELP))?
+        .arg(flag(alloc, "exit-code", EXIT_CODE_HELP))?
+        .arg(output(alloc))?
+        .arg(needed(alloc, "OLD", "The old map's text; - is standard input"))?
+        .arg(needed(alloc, "NEW", "The new map's text; - is standard input"))
+}
+
+fn plan_shown<'a>(alloc: Global) -> Result<Command<'a>, AllocError>
+    ensures { IfOk result (λ command. app_of command ≡ plan_shown) }
+{
+    let as_ceph = "Print the commands for a shell, as Ceph's own";
+    let strict = "Print nothing if a difference remains (status 5)";
+    verb(alloc, "crushedit plan", PLAN_ABOUT, PLAN_MORE)
+        .arg(flag(alloc, "as-ceph", as_ceph))?
+        .arg(flag(alloc, "strict", strict))?
+        .arg(flag(alloc, "json", JSON_HELP))?
+        .arg(flag(alloc, "by-name", BY_NAME_HELP))
+}
+
+fn plan<'a>(alloc: Global) -> Result<Command<'a>, AllocError>
+    ensures { IfOk result (λ command. app_of command ≡ plan) }
+{
+    plan_shown(alloc)?
+        .arg(option(alloc, "under", "NAME", UNDER_HELP))?
+        .arg(flag(alloc, "exit-code", EXIT_CODE_HELP))?
+        .arg(output(alloc))?
+        .arg(needed(alloc, "MAP", "The map's text; - is standard input"))?
+        .arg(needed(
+            alloc,
+            "WANTED",
+            "The wanted map's text; - is standard input",
+        ))
+}
+
+fn tree<'a>(alloc: Global) -> Result<Command<'a>, AllocError>
+    ensures { IfOk result (λ command. app_of command ≡ tree) }
+{
+    verb(alloc, "crushedit tree", TREE_ABOUT, TREE_MORE)
+        .arg(flag(alloc, "json", JSON_HELP))?
+        .arg(option(alloc, "under", "NAME", UNDER_HELP))?
+        .arg(option(alloc, "down-to", "TYPE", DOWN_TO_HELP))?
+        .arg(option(alloc, "class", "CLASS", CLASS_HELP))?
+        .arg(output(alloc))?
+        .arg(needed(alloc, "MAP", "The map's text; - is standard input"))
+}
+
+fn command_of<'a>(alloc: Global, verb: Verb) -> Result<Command<'a>, AllocError>
+    ensures { IfOk result (λ command. app_of command ≡ app_of_verb verb) }
+{
+    match verb {
+        Verb::Apply => apply(alloc),
+        Verb::Diff => diff(alloc),
+        Verb::Plan => plan(alloc),
+        Verb::Tree => tree(alloc),
+    }
+}
+
+fn maps_of(verb: Verb) -> MapForm
+    ensures { result ≡ maps_of_verb verb }
+{
+    match verb {
+        Verb::Tree => MapForm::Map,
+        Verb::Apply | Verb::Diff | Verb::Plan => MapForm::WholeMap,
+    }
+}
+
+fn has_conflicts(verb: Verb, words: VerbWords<'_>) -> bool
+    ensures { result ≡ has_conflicts verb (verb_data words.entry) }
+{
+    match verb {
+        Verb::Apply => !words.last_wins,
+        Verb::Diff | Verb::Plan | Verb::Tree => false,
+    }
+}
+
+/// Returns the options of the plain command line that the words of a verb are short for, with what
+/// only verbs ask for.
+fn short_for(alloc: Global, verb: Verb, words: VerbWords<'_>) -> Result<Options, OptionsFault>
+    ensures read { IfOk result (AreShortFor verb (verb_data words.entry)) }
+    ensures fault { IfErr result (IsFaultIn (words_of_verb verb (verb_data words.entry))) }
+{
+    let plain = plain_words(alloc, verb, words)?;
+    let mut options = plain_options(alloc, plain.as_slice())?;
+    options.maps = maps_of(verb);
+    options.mode.conflicts = has_conflicts(verb, words);
+    Ok(options)
+}
+
+/// The same, but refuses words that can't be given together.
+fn checked(alloc: Global, verb: Verb, words: VerbWords<'_>) -> Result<Options, OptionsFault>
+    ensures together { IfOk result (λ _. verb_complaint verb (verb_data words.entry) ≡ None) }
+    ensures read { IfOk result (AreShortFor verb (verb_data words.entry)) }
+    ensures fault { IfErr result (IsShortFault (verb_complaint verb (verb_data words.entry))
+        (words_of_verb verb (verb_data words.entry))) }
+{
+    match verb_complaint(verb, words) {
+        Some(text) => Err(refused(alloc, text)),
+        None => short_for(alloc, verb, words),
+    }
+}
+
+fn options_of_verb<S: AsStr>(
+    alloc: Global,
+    verb: Verb,
+    words: &[S],
+) -> Result<Options, OptionsFault>
+    ensures parsed { IfOk result (AreOptionsOfVerb verb (map S.text words.now)) }
+    ensures fault { IfErr result (IsFaultOfVerb verb (map S.text words.now)) }
+{
+    let command = command_of(alloc, verb)?;
+    match command.try_get_matches_from(words) {
+        Ok(matches) => checked(alloc, verb, verb_words_of(verb, &matches)),
+        Err(error) => Err(fault_of(alloc, &error)),
+    }
+}
+
+fn verb_named(word: &str) -> Option<Verb>
+    ensures { result ≡ verb_named word.now }
+{
+    if word == "apply" {
+        Some(Verb::Apply)
+    } else if word == "diff" {
+        Some(Verb::Diff)
+    } else if word == "plan" {
+        Some(Verb::Plan)
+    } else if word == "tree" {
+        Some(Verb::Tree)
+    } else {
+        None
+    }
+}
+
+fn verb_of_words<S: AsStr>(words: &[S]) -> Option<Verb>
+    ensures { result ≡ verb_of_words (map S.text words.now) }
+{
+    match words {
+        [first, ..] => verb_named(first.as_str()),
+        [] => None,
+    }
+}
+
+/// Reads the words of a command line, without the program's name, by the rules that the help shows.
+///
+/// If the first word is `apply`, `diff`, `plan` or `tree`, the words after it are those of this
+/// verb, and the options are those of the plain command line that the verb is short for. Otherwise
+/// the words are a plain command line. The words may be in any order, and none is ignored: a word
+/// that isn't the program's is refused. Fails with [`OptionsFault::Help`] if a word asks for the
+/// help or the version, with [`OptionsFault::Refused`] if a word is wrong or words can't be given
+/// together, and with [`OptionsFault::Memory`] if memory runs out.
+pub fn options<S: AsStr>(alloc: Global, words: &[S]) -> Result<Options, OptionsFault>
+    ensures parsed { IfOk result (AreOptionsBy (verb_of_words (map S.text words.now)) (map S.text words.now)) }
+    ensures fault { IfErr result (IsFaultBy (verb_of_words (map S.text words.now)) (map S.text words.now)) }
+{
+    match verb_of_words(words) {
+        Some(verb) => options_of_verb(alloc, verb, &words[1..]),
+        None => plain_options(alloc, words),
+    }
+}
