@@ -9,3 +9,4 @@ pub mod Stages
 pub mod OptionsReport
 pub mod Report
 pub mod Words
+pub mod VerbMaps

@@ -34,7 +34,7 @@ fn push_line_end(bytes: &mut Vec<u8>) -> Result<(), AllocError>
     bytes.extend_from_slice(b"\n")
 }
 
-fn is_line_blank(byte: u8) -> bool
+pub(crate) fn is_line_blank(byte: u8) -> bool
     ensures { result ≡ is_line_blank byte }
 {
     byte == b' ' || byte == b'\t' || byte == b'\r'

@@ -20,6 +20,7 @@ mod output;
 mod second_map;
 mod shown;
 mod summary;
+mod verb_maps;
 mod words;
 
 pub use aborted::{Aborted, KeptText, ParsedJob};
@@ -29,8 +30,9 @@ pub use files::{Opens, SystemFiles};
 pub use input::read_bytes;
 pub use job::{job_of, read_whole};
 pub use made::{check_made, made_notes};
-pub use notes::{History, check_strict, history_notes};
+pub use notes::{History, check_strict, file_notes, history_notes};
 pub use origins::Origins;
 pub use output::{OldMap, OldTree, Output, Request, TargetMap, output_of};
 pub use summary::Summary;
+pub use verb_maps::{VerbMap, VerbMapFault, VerbMapRefusal, read_verb_map, report_verb_map};
 pub use words::Words;

@@ -196,7 +196,9 @@ fn unread_text(alloc: Global, name: &str, error: &io::Error) -> Result<Vec<u8>, 
     Ok(text)
 }
 
-fn unread_notes(
+/// Returns the note of a file that can't be opened, read or replaced: its name and the system's
+/// reason; empty without `explain`.
+pub fn file_notes(
     alloc: Global,
     explain: bool,
     name: &str,
@@ -215,7 +217,7 @@ pub(crate) fn unread(alloc: Global, explain: bool, name: &str, error: io::Error)
     ensures fault { IsInputFault result.fault }
     ensures noted { AreNotesOfFile explain name.now result.fault result.notes.items }
 {
-    match unread_notes(alloc, explain, name, &error) {
+    match file_notes(alloc, explain, name, &error) {
         Ok(notes) => Aborted {
             fault: RunFault::Read,
             notes,

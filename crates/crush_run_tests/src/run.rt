@@ -20,6 +20,7 @@ mod gates;
 mod limits;
 mod reporting;
 mod scripts;
+mod verb_maps;
 
 const REWEIGHED: &[u8] =
     b"# begin crush map\n\n# devices\ndevice 0 osd.0\ndevice 1 osd.1\ndevice 2 osd.2\n\n# types\ntype 0 osd\ntype 1 host\ntype 3 rack\ntype 11 root\n\n# buckets\nhost h1 {\n\tid -2\t\t# do not change unnecessarily\n\t# weight 2.00000\n\talg straw2\n\thash 0\t# rjenkins1\n\titem osd.0 weight 1.00000\n\titem osd.1 weight 1.00000\n}\nhost h2 {\n\tid -3\t\t# do not change unnecessarily\n\t# weight 1.00000\n\talg straw2\n\thash 0\t# rjenkins1\n\titem osd.2 weight 1.00000\n}\nroot default {\n\tid -1\t\t# do not change unnecessarily\n\t# weight 3.00000\n\talg straw2\n\thash 0\t# rjenkins1\n\titem h1 weight 2.00000\n\titem h2 weight 1.00000\n}\n\n# rules\n\n# end crush map\n";

@@ -1,6 +1,6 @@
 //! Command lines: their words, and what they ask for.
 
-use crush_options::{Options, options};
+use crush_options::{MapForm, Options, OutputSpec, options};
 
 fn is_name(name: &Option<String>, other: Option<&str>) -> bool {
     match (name, other) {
@@ -51,5 +51,47 @@ fn flags_and_a_file_are_read(rt: HostRuntime) {
                 false,
                 Some("--in-turn")
             )
+    );
+}
+
+/// Whether the words after `apply` ask for what they are short for.
+fn applies(rt: &impl AllocGlobal, words: &[&str], is_dry: bool, scripts: usize) -> bool {
+    let read = options(rt.alloc(), words);
+    let is_right = match &read {
+        Ok(options) => {
+            let mode = options.mode;
+            let is_safe = mode.in_turn && mode.strict && mode.no_make && mode.explain;
+            let prints = match &options.output_spec {
+                OutputSpec::Since(since) => is_dry && since.map.as_str() == "m",
+                OutputSpec::Map => !is_dry,
+                _ => false,
+            };
+            is_safe
+                && prints
+                && mode.exact != is_dry
+                && mode.history == is_dry
+                && mode.conflicts
+                && options.maps == MapForm::WholeMap
+                && options.scripts.len() == scripts
+                && is_name(&options.file, Some("m"))
+        }
+        Err(_) => false,
+    };
+    drop(read);
+    is_right
+}
+
+#[test]
+fn verbs_are_short_for_plain_words(rt: HostRuntime) {
+    assert!(rt;
+        applies(&rt, &["apply", "m", "a", "b"], false, 2)
+            && applies(&rt, &["apply", "m", "--dry-run"], true, 0)
+            && applies(&rt, &["apply", "m", "a", "-o", "n", "b"], false, 2)
+            && parses_to(&rt, &["tree", "m"], false, false, Some("m"))
+            && parses_to(&rt, &["diff", "o", "n"], false, false, Some("n"))
+            && parses_to(&rt, &["plan", "m", "w"], false, false, Some("m"))
+            && parses_to(&rt, &["--", "apply"], false, true, Some("apply"))
+            && options(rt.alloc(), &["apply", "-", "-"]).is_err()
+            && options(rt.alloc(), &["apply", "--tree", "m"]).is_err()
     );
 }

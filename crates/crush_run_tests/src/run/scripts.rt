@@ -14,8 +14,8 @@ use std::sync::atomic::{AtomicU64, Ordering};
 use std::thread::Threads;
 
 #[derive(Clone, Copy)]
-struct Shelf<'a> {
-    files: &'a [(&'a str, &'a [u8])],
+pub(super) struct Shelf<'a> {
+    pub(super) files: &'a [(&'a str, &'a [u8])],
 }
 
 impl<'a> Opens for Shelf<'a> {

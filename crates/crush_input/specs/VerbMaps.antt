@@ -1,0 +1,101 @@
+-- The maps of verbs: what their files have to be, and what standard error gets if they aren't.
+use Rattle.std.specs.Prelude.{◌≡◌, ◌<◌, ◌≤◌, ◌+◌, ◌==◌, ◌++◌, ◌&&◌, ◌||◌, not, ℕ, Bool, true, false, List, [], ◌∷◌, codes, decimal, drop, if◌then◌else◌, length, min, take}
+use Rattle.std.specs.Slice.{ends_with}
+use Rattle.std.specs.Str.{bytes_eq}
+use Rattle.crush_units.specs.declared.limits.TheConstants.{LONGEST_JOB}
+use Rattle.crush_edits.specs.Setting.{SettingData}
+use Rattle.crush_model.specs.Table.{Row}
+use Rattle.crush_text.specs.Document.{IsMapText}
+use Rattle.crush_text.specs.Fault.{fault_name}
+use Rattle.crush_text.specs.Flaw.{IsMapFlaw}
+use Rattle.crush_text.specs.declared.fault.TextFault.{TextFault}
+use Rattle.crush_script.specs.Lines.{line_feeds}
+use Rattle.crush_options.specs.declared.parsed_options.MapForm.{MapForm}
+use Rattle.crush_options.specs.declared.parsed_options.MapForm.TheVariants as form
+use Rattle.crush_input.specs.declared.verb_maps.VerbMap.{VerbMap}
+use Rattle.crush_input.specs.declared.verb_maps.VerbMap.TheVariants as which
+use Rattle.crush_input.specs.declared.verb_maps.VerbMapFault.{VerbMapFault}
+use Rattle.crush_input.specs.declared.verb_maps.VerbMapFault.TheVariants as verb
+use Rattle.crush_input.specs.Joined.{is_line_blank}
+use Rattle.crush_input.specs.Report.{out_of_memory}
+
+-- the last line of the text of a whole map
+abbrev pub end_line : List ℕ
+end_line = codes "# end crush map"
+
+-- the number of bytes up to the last one that is neither a blank nor a line feed; `seen` bytes before these were looked at, and `best` is the number so far
+abbrev pub text_length : ℕ → ℕ → List ℕ → ℕ
+text_length seen best [] = best
+text_length seen best (b ∷ bs) = text_length (seen + 1) (if is_line_blank b || b == 10 then best else seen + 1) bs
+
+-- the bytes without the blanks and line feeds at their end
+abbrev pub without_end : List ℕ → List ℕ
+without_end bytes = take (text_length 0 0 bytes) bytes
+
+-- whether these bytes end in the line `# end crush map`
+abbrev pub ends_in_end_line : List ℕ → Bool
+ends_in_end_line bytes = bytes_eq bytes end_line || ends_with (λ a b. a == b) bytes (codes "\n" ++ end_line)
+
+-- WHOLE: whether the last line of a text that has more than blanks is `# end crush map`; blanks may follow it in the line
+abbrev pub is_whole : List ℕ → Bool
+is_whole bytes = ends_in_end_line (without_end bytes)
+
+-- whether the files have to be whole maps
+abbrev pub wants_whole : MapForm → Bool
+wants_whole form.WholeMap = true
+wants_whole other = false
+
+-- CUT: whether a text counts as cut that has no other fault: it has to be whole, and isn't
+abbrev pub is_cut : MapForm → List ℕ → Bool
+is_cut maps bytes = wants_whole maps && not (is_whole bytes)
+
+-- the same for a text with a fault at this place: no line feed follows the place
+abbrev pub is_cut_at : MapForm → List ℕ → ℕ → Bool
+is_cut_at maps bytes place = is_cut maps bytes && (line_feeds (drop (min place (length bytes)) bytes) == 0)
+
+-- A MAP: the bytes are no longer than a job may be, and are the text of a map, which is whole if it has to be
+pub record IsVerbMap (maps : MapForm) (bytes : List ℕ) : Type 0 where
+  pub short : length bytes ≤ LONGEST_JOB
+  pub setting : SettingData
+  pub table : List Row
+  pub adjusted : ℕ
+  pub text : IsMapText bytes setting table adjusted
+  pub whole : is_cut maps bytes ≡ false
+
+-- A CUT MAP: the bytes are the text of a map or have a flaw, and count as cut
+abbrev pub IsCutMap : MapForm → List ℕ → Type 0
+IsCutMap maps bytes = (length bytes ≤ LONGEST_JOB) × (is_cut maps bytes ≡ true)
+
+-- a flaw that is told: the text has it, and doesn't count as cut
+abbrev pub IsToldFlaw : MapForm → List ℕ → TextFault → Type 0
+IsToldFlaw maps bytes fault = (length bytes ≤ LONGEST_JOB) × (IsMapFlaw bytes fault × (is_cut_at maps bytes fault.place ≡ false))
+
+-- why the bytes of a file are no such map. Nothing is said of a failed read, and of out of memory.
+abbrev pub IsVerbMapFault : MapForm → List ℕ → VerbMapFault → Type 0
+IsVerbMapFault maps bytes (verb.Text fault) = IsToldFlaw maps bytes fault
+IsVerbMapFault maps bytes verb.Cut = IsCutMap maps bytes
+IsVerbMapFault maps bytes verb.TooLong = LONGEST_JOB < length bytes
+IsVerbMapFault maps bytes verb.Read = Unit {0}
+IsVerbMapFault maps bytes verb.Memory = Unit {0}
+
+-- the word before a fault of a map: nothing for the map from which a run begins
+abbrev pub map_prefix : VerbMap → List ℕ
+map_prefix which.First = []
+map_prefix which.Old = codes "old: "
+map_prefix which.Wanted = codes "to: "
+
+-- the line for a fault of a verb's map
+abbrev pub verb_map_line : VerbMap → VerbMapFault → List ℕ
+verb_map_line map (verb.Text f) = codes "crushedit: " ++ map_prefix map ++ codes "byte " ++ decimal f.place ++ codes ": " ++ fault_name f.kind ++ codes "\n"
+verb_map_line map verb.Cut = codes "crushedit: " ++ map_prefix map ++ codes "cut\n"
+verb_map_line map verb.TooLong = codes "crushedit: " ++ map_prefix map ++ codes "TooLong\n"
+verb_map_line map verb.Read = codes "crushedit: " ++ map_prefix map ++ codes "read fault\n"
+verb_map_line map verb.Memory = out_of_memory
+
+-- the status for such a fault
+abbrev pub verb_map_status : VerbMapFault → ℕ
+verb_map_status (verb.Text f) = 1
+verb_map_status verb.Cut = 1
+verb_map_status verb.TooLong = 1
+verb_map_status verb.Read = 3
+verb_map_status verb.Memory = 4

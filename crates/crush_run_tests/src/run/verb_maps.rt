@@ -1,0 +1,113 @@
+//! The maps of verbs: which texts are read, and what standard error gets of the others.
+
+use super::scripts::Shelf;
+use crate::maps::PLAIN;
+use crush_input::{VerbMap, VerbMapRefusal, file_notes, read_verb_map, report_verb_map};
+use crush_options::MapForm;
+use std::io::ErrorKind;
+use std::random::RandomSource;
+
+const CUT_OLD: &[u8] = b"crushedit: old: cut\n  the text doesn't end with `# end crush map`: was it cut? If it is whole, add that line\n";
+
+const CUT: &[u8] = b"crushedit: cut\n  the text doesn't end with `# end crush map`: was it cut? If it is whole, add that line\n";
+
+fn read(
+    rt: &(impl AllocGlobal + RandomSource),
+    maps: MapForm,
+    map: VerbMap,
+    bytes: &[u8],
+) -> Result<Vec<u8>, VerbMapRefusal> {
+    let files: &[(&str, &[u8])] = &[("m", bytes)];
+    read_verb_map(rt, &Shelf { files }, maps, map, "m", "m")
+}
+
+fn is_read(rt: &(impl AllocGlobal + RandomSource), maps: MapForm, bytes: &[u8]) -> bool {
+    match read(rt, maps, VerbMap::First, bytes) {
+        Ok(read) => read.as_slice() == bytes,
+        Err(_) => false,
+    }
+}
+
+fn is_told(
+    rt: &(impl AllocGlobal + RandomSource),
+    map: VerbMap,
+    bytes: &[u8],
+    told: &[u8],
+    status: u8,
+) -> bool {
+    let Err(refusal) = read(rt, MapForm::WholeMap, map, bytes) else {
+        return false;
+    };
+    let mut err = Vec::new(rt.alloc());
+    let outcome = report_verb_map(&refusal, &mut err);
+    drop(refusal);
+    outcome.status == status && outcome.written.is_ok() && err.as_slice() == told
+}
+
+#[test]
+fn whole_maps_are_read(rt: HostRuntime) {
+    assert!(rt;
+        is_read(&rt, MapForm::WholeMap, PLAIN)
+            && is_read(&rt, MapForm::WholeMap, b"# end crush map")
+            && is_read(&rt, MapForm::WholeMap, b"# end crush map \t\r\n\n  \n")
+            && is_read(&rt, MapForm::Map, &PLAIN[..57])
+            && is_read(&rt, MapForm::Map, b"")
+    );
+}
+
+#[test]
+fn maps_that_may_be_cut_are_told(rt: HostRuntime) {
+    assert!(rt;
+        is_told(&rt, VerbMap::First, b"", CUT, 1)
+            && is_told(&rt, VerbMap::Old, &PLAIN[..57], CUT_OLD, 1)
+            && is_told(&rt, VerbMap::First, b"# end crush map\n# more\n", CUT, 1)
+            && is_told(&rt, VerbMap::First, b"tunable a 1\n ## end crush map\n", CUT, 1)
+            && is_told(&rt, VerbMap::First, b"tunable a 1\ntunable b", CUT, 1)
+    );
+}
+
+#[test]
+fn flaws_and_scripts_are_told(rt: HostRuntime) {
+    let script = b"crushedit: to: byte 16: BadWord\n  m line 2, column 1\n    %operator a\n    ^\n  scripts are files of their own here: crushedit apply MAP SCRIPT\n";
+    let Err(refusal) = read(&rt, MapForm::WholeMap, VerbMap::First, b"hots a {\n") else {
+        panic!(rt; "the map is read")
+    };
+    let mut err = Vec::new(rt.alloc());
+    let status = report_verb_map(&refusal, &mut err).status;
+    drop(refusal);
+    assert!(rt;
+        is_told(
+            &rt,
+            VerbMap::Wanted,
+            b"# end crush map\n%operator a\n",
+            script,
+            1
+        ) && status == 1
+            && err.as_slice().starts_with(b"crushedit: byte 0: UnknownType\n  m line 1, column 1\n")
+    );
+}
+
+#[test]
+fn files_that_fail_are_noted(rt: HostRuntime) {
+    let error = ErrorKind::NotFound.into();
+    let (noted, quiet) = (
+        file_notes(rt.alloc(), true, "m", &error),
+        file_notes(rt.alloc(), false, "m", &error),
+    );
+    let is_noted = noted.is_ok_and(|notes| notes.as_slice().starts_with(b"  m: "));
+    let is_quiet = quiet.is_ok_and(|notes| notes.is_empty());
+    let files: &[(&str, &[u8])] = &[];
+    let read = read_verb_map(&rt, &Shelf { files }, MapForm::Map, VerbMap::Old, "m", "m");
+    let Err(refusal) = read else {
+        panic!(rt; "the file is read")
+    };
+    let mut err = Vec::new(rt.alloc());
+    let status = report_verb_map(&refusal, &mut err).status;
+    drop(refusal);
+    assert!(rt;
+        is_noted
+            && is_quiet
+            && status == 3
+            && err.as_slice().starts_with(b"crushedit: old: read fault\n  m: ")
+    );
+}
