@@ -41,6 +41,7 @@ ENDS = [
     (3, "crushedit missing"),
     (3, "crushedit map.txt > /dev/full"),
     *((3, f"crushedit --{word} missing map.txt") for word in ("since", "to")),
+    *((1, f"head -n 20 map.txt | crushedit {words}") for words in ("apply -", "diff - map.txt", "plan map.txt -")),
     (5, "(cat map.txt; echo '%operator a'; echo rm default) | crushedit --strict"),
     (5, "sed 's/total_tries 50/total_tries 51/' map.txt | crushedit --strict --to map.txt"),
     (5, "(cat map.txt; echo '%operator a'; echo move osd.0 host=h9) | crushedit --no-make"),
