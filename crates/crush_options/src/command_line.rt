@@ -638,8 +638,9 @@ fn with_verbs(fault: OptionsFault) -> OptionsFault
     ensures { (kind : ErrorKind) → IsFaultOf kind fault.entry → IsFaultOf kind result }
 {
     match fault {
-        OptionsFault::Refused(text) if is_of_second_file(text.as_str()) => told_verbs(text),
-        fault => fault,
+        OptionsFault::Refused(text) => told_verbs(text),
+        OptionsFault::Help(text) => OptionsFault::Help(text),
+        OptionsFault::Memory => OptionsFault::Memory,
     }
 }
 
@@ -659,6 +660,9 @@ fn is_of_second_file(text: &str) -> bool {
 fn told_verbs(mut text: String) -> OptionsFault
     ensures { (kind : ErrorKind) → IsFaultOf kind (OptionsFault.Refused text.entry) → IsFaultOf kind result }
 {
+    if !is_of_second_file(text.as_str()) {
+        return OptionsFault::Refused(text);
+    }
     match text.push_str(VERBS) {
         Ok(()) => OptionsFault::Refused(text),
         Err(error) => error.into(),

@@ -45,10 +45,7 @@ fn scripts_of<'a>(matches: &'a ArgMatches<'_>) -> &'a [&'a str]
     ensures { map (λ name. name.now) result.now
         ≡ all_named (codes "SCRIPT") (rows_of (found_of matches.now)) }
 {
-    match matches.get_strs("SCRIPT") {
-        Some(names) => names,
-        None => &[],
-    }
+    matches.get_strs("SCRIPT").unwrap_or(&[])
 }
 
 fn map_argument(verb: Verb) -> &'static str

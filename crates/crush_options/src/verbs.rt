@@ -119,7 +119,7 @@ fn more_scripts<'a>(alloc: Global) -> Arg<'a>
 }
 
 /// Starts the command of a verb. Its words don't begin with its own name.
-fn verb<'a>(alloc: Global, name: &'a str, about: &'a str, more: &'a str) -> Command<'a>
+fn new_verb<'a>(alloc: Global, name: &'a str, about: &'a str, more: &'a str) -> Command<'a>
     ensures { app_of result ≡ verb_of name.entry.now }
 {
     Command::new(alloc, name)
@@ -135,7 +135,7 @@ fn apply_flags<'a>(alloc: Global) -> Result<Command<'a>, AllocError>
     let make = "Allow commands to create the buckets of a location";
     let last_wins = "Allow a script to undo what another has changed";
     let tree = "With --dry-run: print a tree of what would change";
-    verb(alloc, "crushedit apply", APPLY_ABOUT, APPLY_MORE)
+    new_verb(alloc, "crushedit apply", APPLY_ABOUT, APPLY_MORE)
         .arg(flag(alloc, "dry-run", dry_run))?
         .arg(flag(alloc, "make", make))?
         .arg(flag(alloc, "last-wins", last_wins))?
@@ -168,7 +168,7 @@ fn apply<'a>(alloc: Global) -> Result<Command<'a>, AllocError>
 fn diff_shown<'a>(alloc: Global) -> Result<Command<'a>, AllocError>
     ensures { IfOk result (λ command. app_of command ≡ diff_shown) }
 {
-    verb(alloc, "crushedit diff", DIFF_ABOUT, DIFF_MORE)
+    new_verb(alloc, "crushedit diff", DIFF_ABOUT, DIFF_MORE)
         .arg(flag(alloc, "tree", TREE_HELP))?
         .arg(flag(alloc, "json", JSON_HELP))?
         .arg(flag(alloc, "by-name", BY_NAME_HELP))?
@@ -192,7 +192,7 @@ fn plan_shown<'a>(alloc: Global) -> Result<Command<'a>, AllocError>
 {
     let as_ceph = "Print the commands for a shell, as Ceph's own";
     let strict = "Print nothing if a difference remains (status 5)";
-    verb(alloc, "crushedit plan", PLAN_ABOUT, PLAN_MORE)
+    new_verb(alloc, "crushedit plan", PLAN_ABOUT, PLAN_MORE)
         .arg(flag(alloc, "as-ceph", as_ceph))?
         .arg(flag(alloc, "strict", strict))?
         .arg(flag(alloc, "json", JSON_HELP))?
@@ -217,7 +217,7 @@ fn plan<'a>(alloc: Global) -> Result<Command<'a>, AllocError>
 fn tree<'a>(alloc: Global) -> Result<Command<'a>, AllocError>
     ensures { IfOk result (λ command. app_of command ≡ tree) }
 {
-    verb(alloc, "crushedit tree", TREE_ABOUT, TREE_MORE)
+    new_verb(alloc, "crushedit tree", TREE_ABOUT, TREE_MORE)
         .arg(flag(alloc, "json", JSON_HELP))?
         .arg(option(alloc, "under", "NAME", UNDER_HELP))?
         .arg(option(alloc, "down-to", "TYPE", DOWN_TO_HELP))?

@@ -8,7 +8,7 @@ use Rattle.crush_options.proofs.verbs.plan_shown.Goals as goal
 pub returns : goal.returns
 returns c =
     let s1 : App = with_rule (verb_of (codes "crushedit plan")) (flag (codes "as-ceph")) in
-    let e1 : app_of c.in_ok-arg.field-0 ≡ s1 = c.in_ok-arg.ensures.shape c.flag.ensures.own ∙ ap₂ with_rule c.verb.ensures c.flag.ensures.rule in
+    let e1 : app_of c.in_ok-arg.field-0 ≡ s1 = c.in_ok-arg.ensures.shape c.flag.ensures.own ∙ ap₂ with_rule c.new_verb.ensures c.flag.ensures.rule in
     let s2 : App = with_rule s1 (flag (codes "strict")) in
     let e2 : app_of c.in_ok-arg-2.field-0 ≡ s2 = c.in_ok-arg-2.ensures.shape c.flag-2.ensures.own ∙ ap₂ with_rule e1 c.flag-2.ensures.rule in
     let s3 : App = with_rule s2 (flag (codes "json")) in

@@ -8,7 +8,7 @@ use Rattle.crush_options.proofs.verbs.tree.Goals as goal
 pub returns : goal.returns
 returns c =
     let s1 : App = with_rule (verb_of (codes "crushedit tree")) (flag (codes "json")) in
-    let e1 : app_of c.in_ok-arg.field-0 ≡ s1 = c.in_ok-arg.ensures.shape c.flag.ensures.own ∙ ap₂ with_rule c.verb.ensures c.flag.ensures.rule in
+    let e1 : app_of c.in_ok-arg.field-0 ≡ s1 = c.in_ok-arg.ensures.shape c.flag.ensures.own ∙ ap₂ with_rule c.new_verb.ensures c.flag.ensures.rule in
     let s2 : App = with_rule s1 (option (codes "under")) in
     let e2 : app_of c.in_ok-arg-2.field-0 ≡ s2 = c.in_ok-arg-2.ensures.shape c.option.ensures.own ∙ ap₂ with_rule e1 c.option.ensures.rule in
     let s3 : App = with_rule s2 (option (codes "down-to")) in
