@@ -635,7 +635,7 @@ pub(crate) fn fault_of(alloc: Global, error: &Error) -> OptionsFault
 
 /// Adds the verbs to the error of a second file, which may be meant for one of them.
 fn with_verbs(fault: OptionsFault) -> OptionsFault
-    ensures { (kind : ErrorKind) → IsFaultOf kind fault.entry → IsFaultOf kind result }
+    ensures { (kind : ErrorKind) → IsFaultOf kind fault → IsFaultOf kind result }
 {
     match fault {
         OptionsFault::Refused(text) => told_verbs(text),
@@ -658,7 +658,7 @@ fn is_of_second_file(text: &str) -> bool {
 }
 
 fn told_verbs(mut text: String) -> OptionsFault
-    ensures { (kind : ErrorKind) → IsFaultOf kind (OptionsFault.Refused text.entry) → IsFaultOf kind result }
+    ensures { (kind : ErrorKind) → IsFaultOf kind (OptionsFault.Refused text) → IsFaultOf kind result }
 {
     if !is_of_second_file(text.as_str()) {
         return OptionsFault::Refused(text);

@@ -1,6 +1,6 @@
 //! The verbs: commands with safe defaults, each short for a plain command line.
 
-ghost use Rattle.std.specs.Prelude.{◌≡◌, IfOk, IfErr, None, codes, map};
+ghost use Rattle.std.specs.Prelude.{◌≡◌, IfOk, IfErr, None, codes, false, map};
 ghost use Rattle.clap.specs.Words.{app_of, rule_of};
 ghost use Rattle.crush_options.specs.Options.{IsFaultIn};
 ghost use Rattle.crush_options.specs.Verbs.{AreOptionsBy, AreOptionsOfVerb, AreShortFor, IsFaultBy, IsFaultOfVerb, IsShortFault, app_of_verb, apply, apply_flags, apply_shown, diff, diff_shown, has_conflicts, maps_of_verb, more_scripts, needed, plan, plan_shown, tree, verb_complaint, verb_data, verb_named, verb_of, verb_of_words, words_of_verb};
