@@ -157,15 +157,22 @@ abbrev pub file_words : VerbData → List Text
 file_words w =
     map (λ name. codes "--script=" ++ name) w.scripts ++ (word_with (codes "--output=") w.output ++ (codes "--" ∷ word_with [] w.map))
 
+-- the map since which `apply` tells changes: with `--dry-run` the map that it was given
+abbrev pub since_of_apply : VerbData → Option Text
+since_of_apply w = if w.dry_run then w.map else None
+
+-- the words that only `tree` is short for
+abbrev pub tree_words : List Text
+tree_words = word_if true (codes "--no-history") ++ word_if true (codes "--tree")
+
 -- the words that only one verb is short for
 abbrev pub own_words : Verb → VerbData → List Text
 own_words Apply w =
     word_if true (codes "--in-turn") ++ (word_if true (codes "--strict") ++ (word_if (not w.make) (codes "--no-make")
-    ++ (word_if (not w.dry_run) (codes "--no-history") ++ (word_if (not w.dry_run) (codes "--exact")
-    ++ word_with (codes "--since=") (if w.dry_run then w.map else None)))))
+    ++ (word_if (not w.dry_run) (codes "--no-history") ++ (word_if (not w.dry_run) (codes "--exact") ++ word_with (codes "--since=") (since_of_apply w)))))
 own_words Diff w = word_if true (codes "--no-history") ++ word_with (codes "--since=") w.other
 own_words Plan w = word_if true (codes "--no-history") ++ (word_if w.strict (codes "--strict") ++ word_with (codes "--to=") w.other)
-own_words Tree w = word_if true (codes "--no-history") ++ word_if true (codes "--tree")
+own_words Tree w = tree_words
 
 -- WORDS OF A VERB: the plain command line that a verb is short for. Every verb explains.
 abbrev pub words_of_verb : Verb → VerbData → List Text

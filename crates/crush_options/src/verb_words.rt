@@ -1,9 +1,10 @@
 //! The words of a verb's command line, and the plain words that they are short for.
 
 ghost use Rattle.std.specs.Prelude.{◌≡◌, ◌++◌, IfOk, OnOk, codes, map, nat_lt, option_map};
+ghost use Rattle.std.specs.List.{count_by};
 ghost use Rattle.clap.specs.Words.{found_of, rows_of};
 ghost use Rattle.crush_options.specs.Options.{all_named, names_text};
-ghost use Rattle.crush_options.specs.Verbs.{AreVerbWords, apply_complaint, dashes, dashes_of, file_words, is_dash, map_argument, other_argument, own_words, shown_words, shows_without_dry_run, verb_complaint, verb_data, word_if, word_with, words_of_verb};
+ghost use Rattle.crush_options.specs.Verbs.{AreVerbWords, apply_complaint, dashes, dashes_of, file_words, is_dash, map_argument, other_argument, own_words, shown_words, shows_without_dry_run, since_of_apply, tree_words, verb_complaint, verb_data, word_if, word_with, words_of_verb};
 
 use crate::command_line::is_set;
 use crate::verbs::Verb;
@@ -104,16 +105,23 @@ fn dashes_of(name: Option<&str>) -> usize
     }
 }
 
-fn has_two_dashes(words: VerbWords<'_>) -> bool
-    ensures { result ≡ nat_lt 1 (dashes (verb_data words.entry)) }
+fn dashes_among(names: &[&str]) -> usize
+    ensures { result ≡ count_by is_dash (map (λ name. name.now) names.now) }
 {
-    let mut count = dashes_of(words.map) + dashes_of(words.other);
-    for name in words.scripts {
+    let mut count = 0;
+    for name in names {
         if is_dash(name) {
             count += 1;
         }
     }
-    count > 1
+    count
+}
+
+fn has_two_dashes(words: VerbWords<'_>) -> bool
+    ensures { result ≡ nat_lt 1 (dashes (verb_data words.entry)) }
+{
+    let maps = dashes_of(words.map) + dashes_of(words.other);
+    dashes_among(words.scripts).saturating_add(maps) > 1
 }
 
 fn shows_without_dry_run(words: VerbWords<'_>) -> bool
@@ -224,6 +232,13 @@ fn push_files(
     push_with(alloc, "", words.map, plain)
 }
 
+/// Returns the map since which a dry run tells what would change.
+fn since_of_apply<'a>(words: VerbWords<'a>) -> Option<&'a str>
+    ensures { option_map (λ name. name.now) result ≡ since_of_apply (verb_data words.entry) }
+{
+    if words.dry_run { words.map } else { None }
+}
+
 fn push_of_apply(
     alloc: Global,
     words: VerbWords<'_>,
@@ -237,10 +252,40 @@ fn push_of_apply(
     push_if(alloc, !words.make, "--no-make", plain)?;
     push_if(alloc, !words.dry_run, "--no-history", plain)?;
     push_if(alloc, !words.dry_run, "--exact", plain)?;
-    if words.dry_run {
-        return push_with(alloc, "--since=", words.map, plain);
-    }
-    Ok(())
+    push_with(alloc, "--since=", since_of_apply(words), plain)
+}
+
+fn push_of_diff(
+    alloc: Global,
+    words: VerbWords<'_>,
+    plain: &mut Vec<String>,
+) -> Result<(), AllocError>
+    ensures { OnOk result (names_text plain.new.items
+        ≡ names_text plain.old.items ++ own_words Verb.Diff (verb_data words.entry)) }
+{
+    push_if(alloc, true, "--no-history", plain)?;
+    push_with(alloc, "--since=", words.other, plain)
+}
+
+fn push_of_plan(
+    alloc: Global,
+    words: VerbWords<'_>,
+    plain: &mut Vec<String>,
+) -> Result<(), AllocError>
+    ensures { OnOk result (names_text plain.new.items
+        ≡ names_text plain.old.items ++ own_words Verb.Plan (verb_data words.entry)) }
+{
+    push_if(alloc, true, "--no-history", plain)?;
+    push_if(alloc, words.strict, "--strict", plain)?;
+    push_with(alloc, "--to=", words.other, plain)
+}
+
+fn push_of_tree(alloc: Global, plain: &mut Vec<String>) -> Result<(), AllocError>
+    ensures { OnOk result (names_text plain.new.items
+        ≡ names_text plain.old.items ++ tree_words) }
+{
+    push_if(alloc, true, "--no-history", plain)?;
+    push_if(alloc, true, "--tree", plain)
 }
 
 fn push_own(
@@ -252,17 +297,11 @@ fn push_own(
     ensures { OnOk result (names_text plain.new.items
         ≡ names_text plain.old.items ++ own_words verb (verb_data words.entry)) }
 {
-    if let Verb::Apply = verb {
-        return push_of_apply(alloc, words, plain);
-    }
-    push_if(alloc, true, "--no-history", plain)?;
     match verb {
-        Verb::Diff => push_with(alloc, "--since=", words.other, plain),
-        Verb::Plan => {
-            push_if(alloc, words.strict, "--strict", plain)?;
-            push_with(alloc, "--to=", words.other, plain)
-        }
-        Verb::Apply | Verb::Tree => push_if(alloc, true, "--tree", plain),
+        Verb::Apply => push_of_apply(alloc, words, plain),
+        Verb::Diff => push_of_diff(alloc, words, plain),
+        Verb::Plan => push_of_plan(alloc, words, plain),
+        Verb::Tree => push_of_tree(alloc, plain),
     }
 }
 

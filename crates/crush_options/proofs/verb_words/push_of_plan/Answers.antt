@@ -1,0 +1,15 @@
+use Rattle.std.proofs.Common.{◌++◌, List, codes, true}
+use Rattle.std.proofs.lemmas.Result.{on_ok_weaker}
+use Rattle.clap.specs.Words.{Text}
+use Rattle.crush_options.specs.Options.{names_text}
+use Rattle.crush_options.specs.Verbs.{VerbData, verb_data, word_if, word_with}
+use Rattle.crush_options.proofs.Pushes.{then_pushed}
+use Rattle.crush_options.proofs.verb_words.push_of_plan.Goals as goal
+
+pub returns : goal.returns
+returns c =
+    let w : VerbData = verb_data c.args.words in
+    let r3 : List Text = word_with (codes "--to=") w.other in
+    let r2 : List Text = word_if w.strict (codes "--strict") ++ r3 in
+    let last : List Text = names_text c.push_with.new.plain.items in
+    on_ok_weaker c.push_with.result (λ e. then_pushed (names_text c.args.plain.now.items) (names_text c.push_if.new.plain.items) last (word_if true (codes "--no-history")) r2 c.in_ok-push_if.ensures (then_pushed (names_text c.push_if.new.plain.items) (names_text c.push_if-2.new.plain.items) last (word_if w.strict (codes "--strict")) r3 c.in_ok-push_if-2.ensures e)) c.push_with.ensures
