@@ -29,9 +29,13 @@ bad_line_reason origin bytes line =
     if own_line origin line == 0 then codes "the file's name is no operator's: begin it with a line %operator NAME"
     else line_reason (line_words (first_line (line_at bytes line)))
 
--- the place of a fault of the map's text, and the reason for it
+-- the place of a fault of the map's text
+abbrev pub flaw_place_text : OriginData → List ℕ → TextFault → List ℕ
+flaw_place_text origin bytes fault = place_text origin bytes (flaw_place bytes fault.kind fault.place)
+
+-- the same, and the reason for the fault
 abbrev pub flaw_text : OriginData → List ℕ → TextFault → List ℕ
-flaw_text origin bytes fault = place_text origin bytes (flaw_place bytes fault.kind fault.place) ++ reason_line (flaw_reason origin bytes fault.kind fault.place)
+flaw_text origin bytes fault = flaw_place_text origin bytes fault ++ reason_line (flaw_reason origin bytes fault.kind fault.place)
 
 -- FAULT TEXT: the place of a fault, and what is wanted; for a fault without a place, only what is wanted
 abbrev pub fault_text : OriginData → List ℕ → JobFault → List ℕ

@@ -3,7 +3,7 @@
 ghost use Rattle.std.specs.Prelude.{◌≡◌, ◌<◌, ◌^◌, ◌++◌, IfOk, OnOk, length};
 ghost use Rattle.crush_text.specs.declared.fault.TextFault.{TextFault};
 ghost use Rattle.crush_reasons.specs.Shown.{reason_line};
-ghost use Rattle.crush_reasons.specs.Fault.{bad_line_reason, fault_line, fault_text, flaw_text};
+ghost use Rattle.crush_reasons.specs.Fault.{bad_line_reason, fault_line, fault_text, flaw_place_text, flaw_text};
 ghost use Rattle.crush_reasons.specs.Place.{at_line, number_line, origin_data, shown_line};
 
 use crate::flaws::{flaw_place, push_flaw_reason};
@@ -143,5 +143,22 @@ pub fn fault_text(
 {
     let mut text = Vec::new(alloc);
     push_fault(origin, bytes, fault, &mut text)?;
+    Ok(text)
+}
+
+/// Returns the place of a flaw of a map's text as [`fault_text`] does, but without the sentence that
+/// follows it. `bytes` are the whole job. Fails if memory runs out.
+pub fn flaw_place_text(
+    alloc: Global,
+    origin: Origin<'_>,
+    bytes: &[u8],
+    fault: TextFault,
+) -> Result<Vec<u8>, AllocError>
+    requires { length bytes.now < 2 ^ 32 }
+    ensures { IfOk result (λ text. text.items
+        ≡ flaw_place_text (origin_data origin.entry) bytes.now fault) }
+{
+    let mut text = Vec::new(alloc);
+    push_place(origin, bytes, flaw_place(bytes, fault), &mut text)?;
     Ok(text)
 }

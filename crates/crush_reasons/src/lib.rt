@@ -29,7 +29,7 @@ mod written;
 
 pub use ceph::ceph_text;
 pub use explained::{explained_job, explained_text};
-pub use fault::{fault_line, fault_text};
+pub use fault::{fault_line, fault_text, flaw_place_text};
 pub use locates::{JobText, Locates};
 pub use place::Origin;
 pub use replay::edits_lead_to_the_map_after;

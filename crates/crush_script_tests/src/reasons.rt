@@ -9,7 +9,7 @@ use crush_history::{Entry, Script};
 use crush_map::{CrushMap, Hashing};
 use crush_reasons::{
     JobText, Locates, Origin, ceph_text, explained_job, explained_text, fault_line, fault_text,
-    shown_byte, written_text,
+    flaw_place_text, shown_byte, written_text,
 };
 use crush_script::{Job, JobFault, read_job};
 use std::alloc::Global;
@@ -64,6 +64,38 @@ fn a_fault_is_told_with_its_place(rt: HostRuntime) {
             },
             b"# nothing\n%operator alice\nfly\tx\n",
             b"  alice.txt line 3\n    fly x\n  the first word of a line is to be a command: --help has all of them\n"
+        )
+    );
+}
+
+fn has_place(
+    rt: &(impl Abort + AllocGlobal),
+    origin: Origin<'_>,
+    bytes: &[u8],
+    told: &[u8],
+) -> bool {
+    if bytes.len() > 10_000 {
+        return false;
+    }
+    let JobFault::Text(fault) = fault_of(rt, bytes) else {
+        return false;
+    };
+    let text = flaw_place_text(rt.alloc(), origin, bytes, fault).expect(rt, "no memory");
+    text.as_slice() == told
+}
+
+#[test]
+fn the_place_of_a_flaw_is_told_alone(rt: HostRuntime) {
+    let origin = Origin {
+        name: b"m",
+        before: 0,
+    };
+    assert!(rt;
+        has_place(
+            &rt,
+            origin,
+            MISSPELT,
+            b"  m line 24, column 1\n    hots h2 {\n    ^\n"
         )
     );
 }
