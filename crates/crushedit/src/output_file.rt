@@ -20,11 +20,17 @@ const MOST_NAMES: u32 = 100;
 /// leave the new file, whose name is that of the file with `.crushedit-N` at its end.
 pub(crate) fn replace(rt: &HostRuntime, name: &str, bytes: &[u8]) -> io::Result<()> {
     match fs::metadata(rt, name) {
-        Ok(old) if old.is_file() => replace_plain(rt, name, Some(old), bytes),
-        Ok(_) => write_to(rt, name, bytes),
+        Ok(old) => replace_found(rt, name, old, bytes),
         Err(error) if error.kind() == ErrorKind::NotFound => replace_plain(rt, name, None, bytes),
         Err(error) => Err(error),
     }
+}
+
+fn replace_found(rt: &HostRuntime, name: &str, old: Metadata, bytes: &[u8]) -> io::Result<()> {
+    if old.is_file() {
+        return replace_plain(rt, name, Some(old), bytes);
+    }
+    write_to(rt, name, bytes)
 }
 
 /// Writes the bytes to a device or a pipe, which must never be renamed over.
