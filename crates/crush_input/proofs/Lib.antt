@@ -8,3 +8,4 @@ pub mod Parts
 pub mod Reading
 pub mod ShownBytes
 pub mod Told
+pub mod VerbMaps

@@ -1,6 +1,6 @@
 -- The maps of verbs: what their files have to be, and what standard error gets if they aren't.
-use Rattle.std.specs.Prelude.{◌≡◌, ◌<◌, ◌≤◌, ◌+◌, ◌==◌, ◌++◌, ◌&&◌, ◌||◌, not, ℕ, Bool, true, false, List, [], ◌∷◌, codes, decimal, drop, if◌then◌else◌, length, min, take}
-use Rattle.std.specs.Slice.{ends_with}
+use Rattle.std.specs.Prelude.{◌≡◌, ◌⊎◌, ◌<◌, ◌≤◌, ◌+◌, ◌-◌, ◌==◌, ◌++◌, ◌&&◌, ◌||◌, not, ℕ, Bool, true, false, List, [], ◌∷◌, Option, IfSome, codes, decimal, drop, if◌then◌else◌, length, min, slice_index, take}
+use Rattle.std.specs.List.{ends_with}
 use Rattle.std.specs.Str.{bytes_eq}
 use Rattle.crush_units.specs.declared.limits.TheConstants.{LONGEST_JOB}
 use Rattle.crush_edits.specs.Setting.{SettingData}
@@ -9,6 +9,10 @@ use Rattle.crush_text.specs.Document.{IsMapText}
 use Rattle.crush_text.specs.Fault.{fault_name}
 use Rattle.crush_text.specs.Flaw.{IsMapFlaw}
 use Rattle.crush_text.specs.declared.fault.TextFault.{TextFault}
+use Rattle.crush_text.specs.declared.fault.TextFaultKind.{TextFaultKind}
+use Rattle.crush_text.specs.declared.fault.TextFaultKind.TheVariants as text
+use Rattle.crush_reasons.specs.Fault.{fault_text, flaw_place_text}
+use Rattle.crush_script.specs.declared.fault.JobFault.TheVariants as job
 use Rattle.crush_script.specs.Lines.{line_feeds}
 use Rattle.crush_options.specs.declared.parsed_options.MapForm.{MapForm}
 use Rattle.crush_options.specs.declared.parsed_options.MapForm.TheVariants as form
@@ -17,16 +21,22 @@ use Rattle.crush_input.specs.declared.verb_maps.VerbMap.TheVariants as which
 use Rattle.crush_input.specs.declared.verb_maps.VerbMapFault.{VerbMapFault}
 use Rattle.crush_input.specs.declared.verb_maps.VerbMapFault.TheVariants as verb
 use Rattle.crush_input.specs.Joined.{is_line_blank}
+use Rattle.crush_input.specs.Notes.{IsNoteOfUnreadFile}
+use Rattle.crush_input.specs.Origins.{whole_of}
 use Rattle.crush_input.specs.Report.{out_of_memory}
 
 -- the last line of the text of a whole map
 abbrev pub end_line : List ℕ
 end_line = codes "# end crush map"
 
+-- whether a byte is neither a blank nor a line feed
+abbrev pub is_text_byte : ℕ → Bool
+is_text_byte b = not (is_line_blank b || b == 10)
+
 -- the number of bytes up to the last one that is neither a blank nor a line feed; `seen` bytes before these were looked at, and `best` is the number so far
 abbrev pub text_length : ℕ → ℕ → List ℕ → ℕ
 text_length seen best [] = best
-text_length seen best (b ∷ bs) = text_length (seen + 1) (if is_line_blank b || b == 10 then best else seen + 1) bs
+text_length seen best (b ∷ bs) = text_length (seen + 1) (if is_text_byte b then seen + 1 else best) bs
 
 -- the bytes without the blanks and line feeds at their end
 abbrev pub without_end : List ℕ → List ℕ
@@ -34,7 +44,7 @@ without_end bytes = take (text_length 0 0 bytes) bytes
 
 -- whether these bytes end in the line `# end crush map`
 abbrev pub ends_in_end_line : List ℕ → Bool
-ends_in_end_line bytes = bytes_eq bytes end_line || ends_with (λ a b. a == b) bytes (codes "\n" ++ end_line)
+ends_in_end_line bytes = bytes_eq bytes end_line || ends_with (λ a b. a == b) bytes (codes "\n# end crush map")
 
 -- WHOLE: whether the last line of a text that has more than blanks is `# end crush map`; blanks may follow it in the line
 abbrev pub is_whole : List ℕ → Bool
@@ -62,21 +72,64 @@ pub record IsVerbMap (maps : MapForm) (bytes : List ℕ) : Type 0 where
   pub text : IsMapText bytes setting table adjusted
   pub whole : is_cut maps bytes ≡ false
 
--- A CUT MAP: the bytes are the text of a map or have a flaw, and count as cut
+-- the bytes count as cut: they are the text of a map, which had to be whole, or have a flaw after whose place no line feed follows
+abbrev pub IsCutText : MapForm → List ℕ → Type 0
+IsCutText maps bytes =
+    ((s : SettingData) × (t : List Row) × (n : ℕ) × IsMapText bytes s t n × (is_cut maps bytes ≡ true))
+    ⊎ ((f : TextFault) × IsMapFlaw bytes f × (is_cut_at maps bytes f.place ≡ true))
+
+-- A CUT MAP: the bytes are no longer than a job may be, and count as cut
 abbrev pub IsCutMap : MapForm → List ℕ → Type 0
-IsCutMap maps bytes = (length bytes ≤ LONGEST_JOB) × (is_cut maps bytes ≡ true)
+IsCutMap maps bytes = (length bytes ≤ LONGEST_JOB) × IsCutText maps bytes
 
 -- a flaw that is told: the text has it, and doesn't count as cut
 abbrev pub IsToldFlaw : MapForm → List ℕ → TextFault → Type 0
 IsToldFlaw maps bytes fault = (length bytes ≤ LONGEST_JOB) × (IsMapFlaw bytes fault × (is_cut_at maps bytes fault.place ≡ false))
 
--- why the bytes of a file are no such map. Nothing is said of a failed read, and of out of memory.
-abbrev pub IsVerbMapFault : MapForm → List ℕ → VerbMapFault → Type 0
-IsVerbMapFault maps bytes (verb.Text fault) = IsToldFlaw maps bytes fault
-IsVerbMapFault maps bytes verb.Cut = IsCutMap maps bytes
-IsVerbMapFault maps bytes verb.TooLong = LONGEST_JOB < length bytes
-IsVerbMapFault maps bytes verb.Read = Unit {0}
-IsVerbMapFault maps bytes verb.Memory = Unit {0}
+-- why these bytes are no such map. It is never a failed read, and nothing is said of out of memory.
+abbrev pub IsVerbTextFault : MapForm → List ℕ → VerbMapFault → Type 0
+IsVerbTextFault maps bytes (verb.Text fault) = IsToldFlaw maps bytes fault
+IsVerbTextFault maps bytes verb.Cut = IsCutMap maps bytes
+IsVerbTextFault maps bytes verb.TooLong = LONGEST_JOB < length bytes
+IsVerbTextFault maps bytes verb.Read = ⊥
+IsVerbTextFault maps bytes verb.Memory = Unit {0}
+
+-- A FAULT OF A FILE: why a file is no such map. If its bytes are known, they have the fault, unless the file wasn't read.
+abbrev pub IsVerbMapFault : MapForm → Option (List ℕ) → VerbMapFault → Type 0
+IsVerbMapFault maps all verb.Read = Unit {0}
+IsVerbMapFault maps all fault = IfSome all (λ bytes. IsVerbTextFault maps bytes fault)
+
+-- whether a kind of flaw is that of a word that no text of a map may have
+abbrev pub is_bad_word : TextFaultKind → Bool
+is_bad_word text.BadWord = true
+is_bad_word kind = false
+
+-- whether a line begins with `%` at the place of this flaw, as the head of a script does
+abbrev pub begins_script : List ℕ → TextFault → Bool
+begins_script bytes fault = is_bad_word fault.kind && (fault.place == 0 || slice_index bytes (fault.place - 1) == 10) && slice_index bytes fault.place == 37
+
+-- NOTES OF A FLAW of a verb's map in a file that is called `shown`: its place and the reason. Of the head of a script they say where scripts go.
+abbrev pub verb_flaw_notes : List ℕ → List ℕ → TextFault → List ℕ
+verb_flaw_notes shown bytes fault =
+    if begins_script bytes fault then flaw_place_text (whole_of shown) bytes fault ++ codes "  scripts are files of their own here: crushedit apply MAP SCRIPT\n"
+    else fault_text (whole_of shown) bytes (job.Text fault)
+
+-- the reason for a fault without a place; nothing for a failed read, whose note is that of the file, and for out of memory
+abbrev pub verb_map_reason : VerbMapFault → List ℕ
+verb_map_reason verb.Cut = codes "  the text doesn't end with `# end crush map`: was it cut? If it is whole, add that line\n"
+verb_map_reason verb.TooLong = codes "  the file of a map has at most 16777216 bytes\n"
+verb_map_reason fault = []
+
+-- the notes of a fault of these bytes
+abbrev pub verb_map_notes : List ℕ → List ℕ → VerbMapFault → List ℕ
+verb_map_notes shown bytes (verb.Text fault) = verb_flaw_notes shown bytes fault
+verb_map_notes shown bytes fault = verb_map_reason fault
+
+-- NOTES OF A FAULT of the file `name`: those above, of which those of a flaw depend on the file's bytes; after a failed read the note of the file
+abbrev pub AreNotesOfVerbMap : List ℕ → List ℕ → Option (List ℕ) → VerbMapFault → List ℕ → Type 0
+AreNotesOfVerbMap name shown all (verb.Text fault) notes = IfSome all (λ bytes. notes ≡ verb_flaw_notes shown bytes fault)
+AreNotesOfVerbMap name shown all verb.Read notes = IsNoteOfUnreadFile name notes
+AreNotesOfVerbMap name shown all fault notes = notes ≡ verb_map_reason fault
 
 -- the word before a fault of a map: nothing for the map from which a run begins
 abbrev pub map_prefix : VerbMap → List ℕ

@@ -1,11 +1,11 @@
 //! Reads the files of a verb that are maps. They have no scripts, and some have to be whole.
 
-ghost use Rattle.std.specs.Prelude.{◌≡◌, ◌++◌, ℕ, List, [], Some, IfErr, IfOk, IfSome, OnOk, drop, length, min, take};
+ghost use Rattle.std.specs.Prelude.{◌≡◌, ◌≤◌, ◌<◌, ◌^◌, ◌++◌, ℕ, List, [], Option, Some, IfErr, IfOk, IfSome, false, length, slice_index, true};
 ghost use Rattle.crush_text.specs.Flaw.{IsFlawOrOutOfMemory};
 ghost use Rattle.crush_units.specs.Writes.{Writes};
-ghost use Rattle.crush_units.specs.declared.limits.TheConstants.{LONGEST_JOB};
 ghost use Rattle.crush_input.specs.Input.{IsInput};
-ghost use Rattle.crush_input.specs.VerbMaps.{IsVerbMap, IsVerbMapFault, ends_in_end_line, is_cut, is_cut_at, is_whole, map_prefix, text_length, verb_map_line, verb_map_status, wants_whole, without_end};
+ghost use Rattle.crush_input.specs.Notes.{AreNotesOfFile};
+ghost use Rattle.crush_input.specs.VerbMaps.{AreNotesOfVerbMap, IsVerbMap, IsVerbMapFault, IsVerbTextFault, begins_script, is_bad_word, is_cut, is_cut_at, is_text_byte, is_whole, map_prefix, text_length, verb_flaw_notes, verb_map_line, verb_map_notes, verb_map_reason, verb_map_status};
 
 use crate::aborted::Aborted;
 use crate::ending::ReportOutcome;
@@ -15,7 +15,7 @@ use crate::input::read_file;
 use crate::job::drawn_hashing;
 use crate::joined::is_line_blank;
 use crush_options::MapForm;
-use crush_reasons::{Origin, fault_text};
+use crush_reasons::{Origin, fault_text, flaw_place_text};
 use crush_script::{JobFault, line_feeds};
 use crush_text::{TextFault, TextFaultKind, read_map_in};
 use crush_units::limits::LONGEST_JOB;
@@ -35,8 +35,6 @@ const CUT_REASON: &[u8] =
 const LONG_REASON: &[u8] = b"  the file of a map has at most 16777216 bytes\n";
 
 const SCRIPT_REASON: &[u8] = b"  scripts are files of their own here: crushedit apply MAP SCRIPT\n";
-
-const MEMORY_REASON: &[u8] = b"  there is less memory than the job wants\n";
 
 /// Which map of a verb a file has.
 #[derive(Clone, Copy, Debug, PartialEq, Eq)]
@@ -72,13 +70,19 @@ pub struct VerbMapRefusal {
     pub notes: Vec<u8>,
 }
 
+fn is_text_byte(byte: u8) -> bool
+    ensures { result ≡ is_text_byte byte }
+{
+    !(is_line_blank(byte) || byte == b'\n')
+}
+
 fn text_length(bytes: &[u8]) -> usize
     ensures length { result ≡ text_length 0 0 bytes.now }
     ensures within { result ≤ length bytes.now }
 {
     let mut best = 0;
     for (place, byte) in bytes.iter().enumerate() {
-        if !is_line_blank(*byte) && *byte != b'\n' {
+        if is_text_byte(*byte) {
             best = place + 1;
         }
     }
@@ -105,6 +109,33 @@ fn is_cut_at(maps: MapForm, bytes: &[u8], place: usize) -> bool
     is_cut(maps, bytes) && line_feeds(rest) == 0
 }
 
+/// Checks the end of a text that is the text of a map.
+fn check_end(maps: MapForm, bytes: &[u8]) -> Result<(), VerbMapFault>
+    ensures whole { IfOk result (λ _. is_cut maps bytes.now ≡ false) }
+    ensures cut { IfErr result (λ fault. (fault ≡ VerbMapFault.Cut)
+        × (is_cut maps bytes.now ≡ true)) }
+{
+    if is_cut(maps, bytes) {
+        return Err(VerbMapFault::Cut);
+    }
+    Ok(())
+}
+
+/// Returns the fault of a text that has this flaw, or for which memory ran out.
+fn fault_of_flaw(maps: MapForm, bytes: &[u8], fault: TextFault) -> VerbMapFault
+    requires few { length bytes.now ≤ LONGEST_JOB }
+    requires flaw { IsFlawOrOutOfMemory bytes.now fault }
+    ensures { IsVerbTextFault maps bytes.now result }
+{
+    if JobFault::Text(fault).lacks_memory() {
+        return VerbMapFault::Memory;
+    }
+    if is_cut_at(maps, bytes, fault.place) {
+        return VerbMapFault::Cut;
+    }
+    VerbMapFault::Text(fault)
+}
+
 /// Parses the text of a map, and returns why the verb can't use it.
 fn check_text<H: AllocGlobal + RandomSource>(
     rt: &H,
@@ -112,37 +143,37 @@ fn check_text<H: AllocGlobal + RandomSource>(
     bytes: &[u8],
 ) -> Result<(), VerbMapFault>
     ensures map { IfOk result (λ _. IsVerbMap maps bytes.now) }
-    ensures fault { IfErr result (IsVerbMapFault maps bytes.now) }
+    ensures fault { IfErr result (IsVerbTextFault maps bytes.now) }
 {
     if bytes.len() > LONGEST_JOB {
         return Err(VerbMapFault::TooLong);
     }
     match read_map_in(rt.alloc(), drawn_hashing(rt), rt.alloc(), bytes) {
-        Ok(_) if is_cut(maps, bytes) => Err(VerbMapFault::Cut),
-        Ok(_) => Ok(()),
-        Err(fault) if JobFault::Text(fault).lacks_memory() => Err(VerbMapFault::Memory),
-        Err(fault) if is_cut_at(maps, bytes, fault.place) => Err(VerbMapFault::Cut),
-        Err(fault) => Err(VerbMapFault::Text(fault)),
+        Ok(_) => check_end(maps, bytes),
+        Err(fault) => Err(fault_of_flaw(maps, bytes, fault)),
     }
+}
+
+/// Returns the byte at a place, or 0 if the place is behind the last byte.
+fn byte_at(bytes: &[u8], place: usize) -> u8
+    ensures { result ≡ slice_index bytes.now place }
+{
+    if place < bytes.len() { bytes[place] } else { 0 }
 }
 
 /// Whether a line begins with `%` at the place of this flaw, as the head of a script does.
-fn begins_script(bytes: &[u8], fault: TextFault) -> bool {
+fn begins_script(bytes: &[u8], fault: TextFault) -> bool
+    ensures { result ≡ begins_script bytes.now fault }
+{
     let place = fault.place;
-    let (before, rest) = bytes.split_at(place.min(bytes.len()));
-    let is_bad_word = matches!(fault.kind, TextFaultKind::BadWord);
-    is_bad_word && matches!(rest, [b'%', ..]) && matches!(before, [] | [.., b'\n'])
+    let begins_line = place == 0 || byte_at(bytes, place - 1) == b'\n';
+    is_bad_word(fault.kind) && begins_line && byte_at(bytes, place) == b'%'
 }
 
-/// Takes away the last line of the notes of a flaw, which is its sentence.
-fn without_sentence(notes: &mut Vec<u8>) {
-    let _ = notes.pop();
-    while let Some(byte) = notes.pop() {
-        if byte == b'\n' {
-            let _ = notes.push(byte);
-            return;
-        }
-    }
+fn is_bad_word(kind: TextFaultKind) -> bool
+    ensures { result ≡ is_bad_word kind }
+{
+    matches!(kind, TextFaultKind::BadWord)
 }
 
 fn flaw_notes(
@@ -151,26 +182,28 @@ fn flaw_notes(
     bytes: &[u8],
     fault: TextFault,
 ) -> Result<Vec<u8>, AllocError>
-    requires { length bytes.now ≤ LONGEST_JOB }
+    requires { length bytes.now < 2 ^ 32 }
+    ensures { IfOk result (λ notes. notes.items ≡ verb_flaw_notes shown.now bytes.now fault) }
 {
     let origin = Origin {
         name: shown.as_bytes(),
         before: 0,
     };
-    let mut notes = fault_text(alloc, origin, bytes, JobFault::Text(fault))?;
-    if begins_script(bytes, fault) {
-        without_sentence(&mut notes);
-        notes.extend_from_slice(SCRIPT_REASON)?;
+    if !begins_script(bytes, fault) {
+        return fault_text(alloc, origin, bytes, JobFault::Text(fault));
     }
+    let mut notes = flaw_place_text(alloc, origin, bytes, fault)?;
+    notes.extend_from_slice(SCRIPT_REASON)?;
     Ok(notes)
 }
 
-fn reason_of(fault: VerbMapFault) -> &'static [u8] {
+fn reason_of(fault: VerbMapFault) -> &'static [u8]
+    ensures { result.now ≡ verb_map_reason fault }
+{
     match fault {
-        VerbMapFault::Text(_) | VerbMapFault::Read => b"",
         VerbMapFault::Cut => CUT_REASON,
         VerbMapFault::TooLong => LONG_REASON,
-        VerbMapFault::Memory => MEMORY_REASON,
+        VerbMapFault::Text(_) | VerbMapFault::Read | VerbMapFault::Memory => b"",
     }
 }
 
@@ -179,41 +212,92 @@ fn notes_of(
     shown: &str,
     bytes: &[u8],
     fault: VerbMapFault,
-) -> Result<Vec<u8>, AllocError> {
-    match fault {
-        VerbMapFault::Text(fault) if bytes.len() <= LONGEST_JOB => {
-            flaw_notes(alloc, shown, bytes, fault)
-        }
-        fault => {
-            let mut notes = Vec::new(alloc);
-            notes.extend_from_slice(reason_of(fault))?;
-            Ok(notes)
-        }
+) -> Result<Vec<u8>, AllocError>
+    requires { length bytes.now < 2 ^ 32 }
+    ensures { IfOk result (λ notes. notes.items ≡ verb_map_notes shown.now bytes.now fault) }
+{
+    if let VerbMapFault::Text(fault) = fault {
+        return flaw_notes(alloc, shown, bytes, fault);
+    }
+    let mut notes = Vec::new(alloc);
+    notes.extend_from_slice(reason_of(fault))?;
+    Ok(notes)
+}
+
+fn memory_refusal(alloc: Global, map: VerbMap) -> VerbMapRefusal
+    ensures map { result.map ≡ map }
+    ensures fault { result.fault ≡ VerbMapFault.Memory }
+    ensures quiet { result.notes.items ≡ [] }
+{
+    VerbMapRefusal {
+        map,
+        fault: VerbMapFault::Memory,
+        notes: Vec::new(alloc),
     }
 }
 
-impl VerbMapRefusal {
-    fn of_memory(alloc: Global, map: VerbMap) -> VerbMapRefusal
-        ensures fault { result.fault ≡ VerbMapFault.Memory }
-        ensures map { result.map ≡ map }
-    {
-        VerbMapRefusal {
+/// The refusal of a file that couldn't be opened or read.
+fn aborted_refusal(alloc: Global, map: VerbMap, aborted: Aborted) -> VerbMapRefusal
+    ensures map { result.map ≡ map }
+    ensures fault { (maps : MapForm) (all : Option (List ℕ))
+        → IsVerbMapFault maps all result.fault }
+    ensures noted { (name shown : List ℕ) (all : Option (List ℕ))
+        → AreNotesOfFile true name aborted.fault aborted.notes.items
+        → AreNotesOfVerbMap name shown all result.fault result.notes.items }
+{
+    let Aborted { fault, notes } = aborted;
+    match fault {
+        RunFault::Read => VerbMapRefusal {
             map,
-            fault: VerbMapFault::Memory,
-            notes: Vec::new(alloc),
-        }
+            fault: VerbMapFault::Read,
+            notes,
+        },
+        _ => memory_refusal(alloc, map),
     }
+}
 
-    /// The refusal of a file that couldn't be opened or read.
-    fn of_aborted(map: VerbMap, aborted: Aborted) -> VerbMapRefusal
-        ensures map { result.map ≡ map }
-    {
-        let Aborted { fault, notes } = aborted;
-        let fault = match fault {
-            RunFault::Read => VerbMapFault::Read,
-            _ => VerbMapFault::Memory,
-        };
-        VerbMapRefusal { map, fault, notes }
+/// The refusal of bytes with this fault. It is out of memory also if there is no memory for the
+/// notes.
+fn text_refusal(
+    alloc: Global,
+    map: VerbMap,
+    shown: &str,
+    bytes: &[u8],
+    fault: VerbMapFault,
+) -> VerbMapRefusal
+    requires { length bytes.now < 2 ^ 32 }
+    ensures map { result.map ≡ map }
+    ensures fault { (maps : MapForm) → IsVerbTextFault maps bytes.now fault
+        → IsVerbTextFault maps bytes.now result.fault }
+    ensures noted { (maps : MapForm) (name : List ℕ) → IsVerbTextFault maps bytes.now fault
+        → AreNotesOfVerbMap name shown.now (Some bytes.now) result.fault result.notes.items }
+{
+    match notes_of(alloc, shown, bytes, fault) {
+        Ok(notes) => VerbMapRefusal { map, fault, notes },
+        Err(_) => memory_refusal(alloc, map),
+    }
+}
+
+/// Returns the bytes of a verb's map as they are, or why the verb can't use them.
+fn checked_map<H: AllocGlobal + RandomSource>(
+    rt: &H,
+    maps: MapForm,
+    map: VerbMap,
+    shown: &str,
+    bytes: Vec<u8>,
+) -> Result<Vec<u8>, VerbMapRefusal>
+    requires { length bytes.items < 2 ^ 32 }
+    ensures map { IfOk result (λ kept. IsVerbMap maps kept.items) }
+    ensures same { IfOk result (λ kept. kept.items ≡ bytes.items) }
+    ensures which { IfErr result (λ refusal. refusal.map ≡ map) }
+    ensures fault { IfErr result (λ refusal. IsVerbTextFault maps bytes.items refusal.fault) }
+    ensures noted { IfErr result (λ refusal. (name : List ℕ)
+        → AreNotesOfVerbMap name shown.now (Some bytes.items) refusal.fault refusal.notes.items) }
+{
+    let text = bytes.as_slice();
+    match check_text(rt, maps, text) {
+        Ok(()) => Ok(bytes),
+        Err(fault) => Err(text_refusal(rt.alloc(), map, shown, text, fault)),
     }
 }
 
@@ -222,7 +306,7 @@ impl VerbMapRefusal {
 ///
 /// Returns the bytes of the file. Fails if the file can't be opened or read, if its text has a
 /// flaw, or if it counts as cut. Then the notes say where and why; they call the file `shown`, or
-/// don't name it if `shown` is empty.
+/// don't name it if `shown` is empty. The note of a file that can't be read names it in any case.
 pub fn read_verb_map<H: AllocGlobal + RandomSource, F: Opens>(
     rt: &H,
     files: &F,
@@ -235,18 +319,14 @@ pub fn read_verb_map<H: AllocGlobal + RandomSource, F: Opens>(
     ensures bytes { IfOk result (λ bytes. IfSome (F.content files.now name.now)
         (IsInput bytes.items)) }
     ensures which { IfErr result (λ refusal. refusal.map ≡ map) }
+    ensures fault { IfErr result (λ refusal.
+        IsVerbMapFault maps (F.content files.now name.now) refusal.fault) }
+    ensures noted { IfErr result (λ refusal. AreNotesOfVerbMap name.now shown.now
+        (F.content files.now name.now) refusal.fault refusal.notes.items) }
 {
-    let alloc = rt.alloc();
-    let bytes = match read_file(alloc, files, true, name) {
-        Ok(bytes) => bytes,
-        Err(aborted) => return Err(VerbMapRefusal::of_aborted(map, aborted)),
-    };
-    let Err(fault) = check_text(rt, maps, bytes.as_slice()) else {
-        return Ok(bytes);
-    };
-    match notes_of(alloc, shown, bytes.as_slice(), fault) {
-        Ok(notes) => Err(VerbMapRefusal { map, fault, notes }),
-        Err(_) => Err(VerbMapRefusal::of_memory(alloc, map)),
+    match read_file(rt.alloc(), files, true, name) {
+        Ok(bytes) => checked_map(rt, maps, map, shown, bytes),
+        Err(aborted) => Err(aborted_refusal(rt.alloc(), map, aborted)),
     }
 }
 

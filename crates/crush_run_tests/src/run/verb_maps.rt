@@ -7,9 +7,11 @@ use crush_options::MapForm;
 use std::io::ErrorKind;
 use std::random::RandomSource;
 
-const CUT_OLD: &[u8] = b"crushedit: old: cut\n  the text doesn't end with `# end crush map`: was it cut? If it is whole, add that line\n";
+const CUT_OLD: &[u8] =
+    b"crushedit: old: cut\n  the text doesn't end with `# end crush map`: was it cut? If it is whole, add that line\n";
 
-const CUT: &[u8] = b"crushedit: cut\n  the text doesn't end with `# end crush map`: was it cut? If it is whole, add that line\n";
+const CUT: &[u8] =
+    b"crushedit: cut\n  the text doesn't end with `# end crush map`: was it cut? If it is whole, add that line\n";
 
 fn read(
     rt: &(impl AllocGlobal + RandomSource),
@@ -61,14 +63,21 @@ fn maps_that_may_be_cut_are_told(rt: HostRuntime) {
         is_told(&rt, VerbMap::First, b"", CUT, 1)
             && is_told(&rt, VerbMap::Old, &PLAIN[..57], CUT_OLD, 1)
             && is_told(&rt, VerbMap::First, b"# end crush map\n# more\n", CUT, 1)
-            && is_told(&rt, VerbMap::First, b"tunable a 1\n ## end crush map\n", CUT, 1)
+            && is_told(
+                &rt,
+                VerbMap::First,
+                b"tunable a 1\n ## end crush map\n",
+                CUT,
+                1
+            )
             && is_told(&rt, VerbMap::First, b"tunable a 1\ntunable b", CUT, 1)
     );
 }
 
 #[test]
 fn flaws_and_scripts_are_told(rt: HostRuntime) {
-    let script = b"crushedit: to: byte 16: BadWord\n  m line 2, column 1\n    %operator a\n    ^\n  scripts are files of their own here: crushedit apply MAP SCRIPT\n";
+    let script =
+        b"crushedit: to: byte 16: BadWord\n  m line 2, column 1\n    %operator a\n    ^\n  scripts are files of their own here: crushedit apply MAP SCRIPT\n";
     let Err(refusal) = read(&rt, MapForm::WholeMap, VerbMap::First, b"hots a {\n") else {
         panic!(rt; "the map is read")
     };
@@ -83,7 +92,9 @@ fn flaws_and_scripts_are_told(rt: HostRuntime) {
             script,
             1
         ) && status == 1
-            && err.as_slice().starts_with(b"crushedit: byte 0: UnknownType\n  m line 1, column 1\n")
+            && err
+                .as_slice()
+                .starts_with(b"crushedit: byte 0: UnknownType\n  m line 1, column 1\n")
     );
 }
 
@@ -108,6 +119,8 @@ fn files_that_fail_are_noted(rt: HostRuntime) {
         is_noted
             && is_quiet
             && status == 3
-            && err.as_slice().starts_with(b"crushedit: old: read fault\n  m: ")
+            && err
+                .as_slice()
+                .starts_with(b"crushedit: old: read fault\n  m: ")
     );
 }
