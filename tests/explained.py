@@ -13,12 +13,17 @@ MOST_SHOWN, MOST_BEFORE = 72, 40
 MOST_LOOKS = 256
 
 
+def unquoted(cell):
+    """A sentence that is in backquotes, two if it has backquotes itself."""
+    return cell[2:-2].strip(" ") if cell.startswith("``") else cell.strip("`")
+
+
 def sentences(heading, name):
     """The sentences of a table of RULES.md, by the words of the column `name`."""
     section = RULES.read_text().partition(f"\n## {heading}\n")[2].partition("\n## ")[0]
     rows = [re.split(r" ?\| ?", line)[1:-1] for line in re.findall(r"(?m)^\|.*\|$", section)]
     own, said = rows[0].index(name), rows[0].index("Sentence")
-    return {row[own].split("`")[1]: row[said].strip("`") for row in rows[2:]}
+    return {row[own].split("`")[1]: unquoted(row[said]) for row in rows[2:]}
 
 
 OF_TEXTS, OF_JOBS = sentences("Faults of a text", "Fault"), sentences("Faults of a job", "Fault")
@@ -40,10 +45,12 @@ MISSING = {"device": "a device is missing, as osd.0", "weight": "a weight is mis
            "count": "a number of changes is missing"}
 OPEN, MOST_EDITS = "a batch is open here: commit ends it", "a batch has at most 65536 edits"
 # What is wanted in a map's text at each place of its grammar, and the range of a number there.
-STATEMENT = "tunable, device, type, rule or a type's name"
-LATER = "rule or a type's name; tunables, devices and types stand above the first bucket or rule"
-STEP_WORDS = "take, choose, chooseleaf, emit or a word that begins with set_"
+STATEMENT = "`tunable`, `device`, `type`, `rule` or the name of a type"
+LATER = "`rule` or the name of a type; tunables, devices and types must come before the first bucket or rule"
+STEP_WORDS = "`take`, `choose`, `chooseleaf`, `emit` or `set_..`"
 LARGE, NEGATIVE = "0 to 2147483647", "-1 to -2147483648"
+NEGATIVE_ID = "a negative id, such as -2", NEGATIVE
+NOT_BEGUN = "this is not a text map: use `crushtool -d` to make one"
 
 
 def shown(text):
@@ -141,63 +148,63 @@ def line_reason(line):
 
 def bucket_wanted(words):
     """What is wanted behind these words of a bucket, which begin behind its name."""
-    head = ["{", "id", ("an id", NEGATIVE)]
+    head = ["`{`", "`id`", NEGATIVE_ID]
     if len(words) < len(head):
         return head[len(words)]
     words = words[3:]
     while words[:1] == ["id"]:
-        class_id = [("an id", NEGATIVE), "class", "a class"]
+        class_id = [NEGATIVE_ID, "`class`", "a device class"]
         if len(words) - 1 < len(class_id):
             return class_id[len(words) - 1]
         words = words[4:]
     if not words:
-        return "id or alg"
+        return "`id` or `alg`"
     if len(words) == 1:
-        return "straw2, straw or list"
+        return "`straw2`, `straw` or `list`"
     words = words[2:]
     if not words:
-        return "hash, item or }"
+        return "`hash`, `item` or `}`"
     if words[0] == "hash":
         if len(words) == 1:
-            return "0", "0"
+            return "a number", "0"
         words = words[2:]
     while words:
         if len(words) == 1:
-            return "an item's name"
+            return "the name of a device or a bucket"
         if len(words) == 2:
-            return "weight, item or }"
+            return "`weight`, `item` or `}`"
         if words[2] == "weight":
             if len(words) == 3:
-                return "a weight"
+                return "a weight, such as 1.5"
             words = words[4:]
         else:
             words = words[2:]
-    return "item or }"
+    return "`item` or `}`"
 
 
 def rule_wanted(words):
     """The same of a rule."""
-    head = ["{", "id or ruleset", ("a number", LARGE), "type", "a word, as replicated"]
+    head = ["`{`", "`id` or `ruleset`", ("a number", LARGE), "`type`", "a rule type, such as replicated"]
     if len(words) < len(head):
         return head[len(words)]
-    words, due = words[5:], "min_size, max_size, step or }"
-    for size, later in (("min_size", "max_size, step or }"), ("max_size", "step or }")):
+    words, due = words[5:], "`min_size`, `max_size`, `step` or `}`"
+    for size, later in (("min_size", "`max_size`, `step` or `}`"), ("max_size", "`step` or `}`")):
         if words[:1] == [size]:
             if len(words) == 1:
                 return "a number", LARGE
             words, due = words[2:], later
     while words:
-        words, due = words[1:], "step or }"
+        words, due = words[1:], "`step` or `}`"
         if not words:
             return STEP_WORDS
         if words[0] == "take":
             if len(words) < 3:
-                return ["a bucket's name", "class, step or }"][len(words) - 1]
+                return ["the name of a bucket", "`class`, `step` or `}`"][len(words) - 1]
             if words[2] == "class" and len(words) == 3:
-                return "a class"
+                return "a device class"
             words = words[4:] if words[2] == "class" else words[2:]
         elif words[0] in ("choose", "chooseleaf"):
-            of_choose = ["firstn or indep", ("a number", "-2147483648 to 2147483647"), "type", "a type's name"]
+            of_choose = ["`firstn` or `indep`", ("a number", "-2147483648 to 2147483647"), "`type`", "the name of a type"]
             if len(words) - 1 < len(of_choose):
                 return of_choose[len(words) - 1]
             words = words[5:]
@@ -218,14 +225,14 @@ def wanted(found):
         texts = [word for _, word in found]
         if texts[0] in ("tunable", "device", "type"):
             due = {"tunable": ["a name", ("a number", "0 to 4294967295")], "device": [("a number", LARGE), "a name"],
-                   "type": [("a number", "0 to 65535"), "a name that begins no statement"]}[texts[0]]
+                   "type": [("a number", "0 to 65535"), "a name other than tunable, device, type, rule, class and choose_args"]}[texts[0]]
             if len(found) - 1 < len(due):
                 return due[len(found) - 1], None
             if texts[0] == "device" and len(found) == 3:
-                return f"class, {STATEMENT}", None
+                return f"`class`, {STATEMENT}", None
             has_class = texts[0] == "device" and texts[3] == "class"
             if has_class and len(found) == 4:
-                return "a class", None
+                return "a device class", None
             found = found[5:] if has_class else found[3:]
             continue
         if len(found) == 1:
@@ -238,36 +245,92 @@ def wanted(found):
     return LATER if late else STATEMENT, None
 
 
+def is_first_of_line(text, at):
+    return not text[:at].rpartition("\n")[2].strip(" \t\r")
+
+
+def defined_at(text, name):
+    """The place of the name of the last bucket that has it in the text."""
+    from reading import words
+
+    found = words(text)[:-1]
+    places = [found[i + 1][0] for i in range(len(found) - 2)
+              if found[i][1] != "rule" and found[i + 1][1] == name and found[i + 2][1] == "{"]
+    return places[-1] if places else 0
+
+
+def not_begun(text):
+    if text.startswith("\xef\xbb\xbf"):
+        return "the text begins with a byte order mark: save it without one"
+    return "this file is compressed with gzip: unpack it first" if text.startswith("\x1f\x8b") else NOT_BEGUN
+
+
 def flaw_told(text, kind, at, files):
     """The place that is shown of a flaw, and what is told of it."""
     from reading import words
 
     word = (re.compile("[{}]|[A-Za-z0-9._-]+").match(text, at) or [""])[0]
-    if kind in ("BadWord", "Unexpected") and at == 0:
-        return at, "no text of a map begins so: is this what crushtool -d prints?"
-    if kind == "UnknownType" and word in FORMS and not text[:at].rpartition("\n")[2].strip(" \t\r"):
-        return at, "commands stand below a line %operator NAME"
-    if kind == "BadWeight" and word.startswith("-"):
-        return at, "crushtool -d prints a bucket's weight from 32768 on as a negative number: write 0, and the sum takes its place"
-    if kind == "LeftOut":
-        return at, {"choose_args": "a map with weight sets can't be edited here: taking them out moves data",
-                    "choosemsr": "a map with MSR rules can't be edited here: a step choosemsr isn't read",
-                    "pos": "items stand in the order of their lines: pos and its number are taken out, where they say "
-                           "the same"}[word]
-    if kind not in ("Ended", "Unexpected", "BadNumber"):
-        return at, OF_TEXTS[kind]
     found = words(text[:at])[:-1]
     due, is_open = wanted(found)
     due, range = due if isinstance(due, tuple) else (due, "")
     block = ""
-    if is_open:
+    if is_open and due != "`{`":
         begun, head = is_open
-        block = f"the {head} that begins at line {line_told(text[:begun].count(chr(10)) + 1, files).rpartition(' ')[2]}"
+        line = line_told(text[:begun].count(chr(10)) + 1, files).rpartition(" ")[2]
+        block = f"{head}, which begins at line {line}"
+    if kind in ("BadWord", "Unexpected") and at == 0:
+        return at, not_begun(text)
+    if kind == "BadWord":
+        return at, "a word has at most 255 characters" if word else OF_TEXTS[kind].replace("WORDS", due)
     if kind == "Ended":
-        return found[-1][0], f"{block} isn't closed" if block else OF_TEXTS[kind]
+        shown_at = found[-1][0] if found else 0
+        return shown_at, f"{block}, is not closed" if block else OF_TEXTS[kind].replace("WORDS", due)
+    if kind == "Unexpected":
+        return at, OF_TEXTS[kind].replace("WORDS", due) + (f" (in {block})" if block else "")
     if kind == "BadNumber":
-        return at, f"a whole number is wanted here: {range}"
-    return at, f"another word is wanted here: {due}" + (f"; in {block}" if block else "")
+        first, _, last = range.partition(" to ")
+        return at, (OF_TEXTS[kind].replace("FIRST", first).replace("LAST", last) if last else "expected 0")
+    if kind == "BadWeight":
+        # What the item is that the weight is of: the name is two words before it.
+        is_device = any(a[1] == "device" and c[1] == found[-2][1] for a, c in zip(found, found[2:]))
+        return at, ("crushtool -d prints a bucket's weight of 32768 and more as a negative number: write 0, and the sum of "
+                    "the bucket's items takes its place" if word.startswith("-")
+                    else OF_TEXTS[kind].replace("LAST", "32767.99998" if is_device else "65535.99998"))
+    before = [word for _, word in found[-2:]]
+    if kind == "DuplicateId":
+        # A type and a device come after their first words. The id of a rule comes after its brace.
+        in_rule = bool(is_open) and block.startswith("rule ")
+        return at, ("another type has this number" if before[-1] == "type" else "another device has this id"
+                    if before[-1] == "device" else "another rule has this id" if in_rule
+                    else "another `id` line has this id")
+    if kind == "DuplicateName":
+        return at, ("this tunable is set above" if before[-1] == "tunable" else
+                    "another type has this name" if before[0] == "type" and before[-1].isdigit() else
+                    "another `id` line of this bucket has this class" if before[-1] == "class" and block else
+                    "another rule has this name" if before[-1] == "rule" else
+                    "another device or bucket has this name")
+    if kind == "UnknownType":
+        if word in FORMS and is_first_of_line(text, at):
+            return at, "this looks like a command: commands go below a line `%operator NAME`"
+        if word == "ID":
+            return at, "this looks like the output of `ceph osd tree`: a text map is the output of `crushtool -d`"
+        hint = "; did you mean `class`?" if due.startswith("`class`, `tunable`") and not is_first_of_line(text, at) else ""
+        return at, OF_TEXTS[kind].replace("NAME", shown_line(word)) + hint
+    if kind in ("UnknownItem", "UnknownBucketInRule"):
+        below = defined_at(text, word)
+        line = line_told(text[:below].count("\n") + 1, files).rpartition(" ")[2]
+        return at, (f"`{shown_line(word)}` is defined below, at line {line}: move that bucket up" if below > at
+                    else OF_TEXTS[kind])
+    if kind == "LeftOut":
+        return at, {"choosemsr": "maps with MSR rules (choosemsr) can't be edited here",
+                    "pos": "`pos` isn't supported: if the items are already in the order of these numbers, remove each "
+                           "`pos` and its number"}.get(word, OF_TEXTS[kind])
+    if kind == "TooMany":
+        if block:
+            return at, "a rule has at most 64 steps" if word == "step" else "a bucket has at most 16 class ids"
+        things = {"tunable": "64 tunables", "device": "65536 devices", "type": "256 types", "rule": "256 rules"}
+        return at, OF_TEXTS[kind].replace("COUNT THINGS", things.get(word, "4096 buckets"))
+    return at, OF_TEXTS[kind]
 
 
 def own_line(line, files):

@@ -15,7 +15,7 @@ from sources import contracts, crate_files, fields_of_records, known_words, page
 
 # Where the sentences of these enums stand, by the words that their definitions begin with; RULES.md has the same.
 SENTENCES = "crush_reasons/specs/Sentences.antt"
-SAID = {("text",): "Faults of a text", ("job",): "Faults of a job", ("refusal", "stale"): "Refusals"}
+SAID = {("job",): "Faults of a job", ("refusal", "stale"): "Refusals"}
 # A fault of the text that a job has, whose sentence is the text's.
 NO_SENTENCE = {"Text"}
 
@@ -61,17 +61,25 @@ def run_sentence_faults():
 
 
 def named_sentence_faults():
-    """Which sentences with a name RULES.md hasn't, and which of its it has that nothing in crush_reasons tells."""
+    """Which sentences with a name RULES.md hasn't, and which sentences of refusals and of faults of a text it has that
+    nothing in crush_reasons tells."""
     specs = "\n".join(path.read_text() for path in sorted((TOP / "crates/crush_reasons/specs").glob("*.antt")))
     told = {quoted(row[0])[0]: row[1].strip("`") for _, rows in tables(sections_of("RULES.md")["Refusals that name what is in the way"]) for row in rows}
     for name, said in re.findall(r'(?m)^said_of refusal\.(\w+) = Some \(codes "(.*)"\)$', specs):
         if told.get(name) != f"NAME{said}":
             yield f"Refusals that name what is in the way has no row of {name} with {said!r}"
+    for title, column in (("Refusals that name what is in the way", 0), ("Faults of a text", 1)):
+        for head, rows in tables(sections_of("RULES.md")[title]):
+            for row in rows:
+                for part in unprinted(row[head.index("Sentence")].strip("`"), specs):
+                    yield f"{title}: nothing prints {part!r}, as of {row[column]}"
+
+
+def unprinted(sentence, specs):
+    """The parts of a sentence, without its words in capital letters, that no definition has."""
     literals = re.findall(r'codes "([^"]*)"', specs)
-    for name, sentence in told.items():
-        for part in re.split(r"\b(?:[A-Z]{4,}|N)\b", sentence):
-            if not any(part.strip() in literal for literal in literals):
-                yield f"Refusals that name what is in the way: nothing prints {part.strip()!r}, as of {name}"
+    parts = [part.strip(" `") for part in re.split(r"\b(?:[A-Z]{4,}|N)\b", sentence)]
+    return [part for part in parts if not any(part in literal for literal in literals)]
 
 
 def gate_faults():

@@ -34,7 +34,7 @@ use Rattle.crush_reasons.specs.Place.{column_line, command_head, from_line, numb
 use Rattle.crush_reasons.specs.Flaws.{begins_at, open_text}
 use Rattle.crush_reasons.specs.Misfit.{misfit_text, with_point}
 use Rattle.crush_reasons.specs.Shown.{reason_line, told}
-use Rattle.crush_reasons.specs.Wanted.{further, opened}
+use Rattle.crush_reasons.specs.Around.{further}
 use Rattle.crush_script.specs.Lines.{words_between_blanks}
 use Rattle.crush_reasons.specs.Sentences.{job_sentence}
 
@@ -143,8 +143,8 @@ twice = refl
 
 -- a type that isn't declared, behind a tab in a second line
 unknown_type : fault_text (record { name = []; before = 0 }) (codes "type 0 osd\n\thots h2 {\n}\n") (job.Text (record { kind = UnknownType; place = 12; expected = Statement false Nothing }))
-    ≡ codes "  line 2, column 2\n     hots h2 {\n     ^\n  no type of this name is declared above\n"
-unfolding column_line digits form_of words_in split up_to_long
+    ≡ codes "  line 2, column 2\n     hots h2 {\n     ^\n  no type named `hots` is declared above\n"
+unfolding column_line digits form_of told words_in split up_to_long
 unknown_type = refl
 
 -- a line of a file that isn't a command
@@ -185,6 +185,6 @@ unfolding number_line from_line digits form_of misfit_text told with_point words
 comma = refl
 
 cut : fault_text (record { name = codes "map.txt"; before = 0 }) (codes "host h1 {\n\tid -2\n%operator a\n") (job.Text (record { kind = Ended; place = 17; expected = IdOrAlg }))
-    ≡ codes "  map.txt line 2, column 5\n     id -2\n        ^\n  the host h1 that begins at line 1 isn't closed\n"
-unfolding begins_at column_line digits further opened open_text words_in split up_to_long
+    ≡ codes "  map.txt line 2, column 5\n     id -2\n        ^\n  host h1, which begins at line 1, is not closed\n"
+unfolding begins_at column_line digits further open_text words_in split up_to_long
 cut = refl

@@ -35,7 +35,7 @@ flaw_place_text origin bytes fault = place_text origin bytes (flaw_place bytes f
 
 -- the same, and the reason for the fault
 abbrev pub flaw_text : OriginData → List ℕ → TextFault → List ℕ
-flaw_text origin bytes fault = flaw_place_text origin bytes fault ++ reason_line (flaw_reason origin bytes fault.kind fault.place)
+flaw_text origin bytes fault = flaw_place_text origin bytes fault ++ reason_line (flaw_reason origin bytes fault.kind fault.place fault.expected)
 
 -- FAULT TEXT: the place of a fault, and what is wanted; for a fault without a place, only what is wanted
 abbrev pub fault_text : OriginData → List ℕ → JobFault → List ℕ

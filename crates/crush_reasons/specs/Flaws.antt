@@ -1,24 +1,20 @@
--- What is wanted at a fault of a map's text, which depends on the word at that place and on the words before.
-use Rattle.std.specs.Prelude.{ℕ, ◌-◌, ◌==◌, Bool, true, false, ◌&&◌, List, [], ◌∷◌, ◌++◌, bytes_eq, codes, decimal, drop, if◌then◌else◌, is_some, length, take}
-use Rattle.std.specs.List.{list_all}
+-- What is expected at a fault of a map's text, and what is wrong there.
+use Rattle.std.specs.Prelude.{ℕ, ◌-◌, ◌==◌, Bool, true, false, ◌&&◌, not, List, [], ◌∷◌, ◌++◌, bytes_eq, codes, decimal, drop, if◌then◌else◌, is_some, length, nat_eq, nat_lt, take}
+use Rattle.std.specs.List.{list_all, starts_with}
+use Rattle.crush_units.specs.Name.{is_name_byte}
 use Rattle.crush_units.specs.Words.{Word, is_blank, words}
+use Rattle.crush_text.specs.declared.expected.Expected.{Expected}
+use Rattle.crush_text.specs.declared.expected.Expected.TheVariants as expect
+use Rattle.crush_text.specs.declared.expected.Optional.{Optional}
+use Rattle.crush_text.specs.declared.expected.Optional.TheVariants as optional
 use Rattle.crush_text.specs.declared.fault.TextFaultKind.{TextFaultKind}
 use Rattle.crush_text.specs.declared.fault.TextFaultKind.TheVariants as text
-use Rattle.crush_reasons.specs.declared.wanted.InLine.{InLine}
-use Rattle.crush_reasons.specs.declared.wanted.InLine.TheVariants as line
-use Rattle.crush_reasons.specs.declared.wanted.Going.{Going}
-use Rattle.crush_reasons.specs.declared.wanted.InBucket.{InBucket}
-use Rattle.crush_reasons.specs.declared.wanted.InBucket.TheVariants as bucket
-use Rattle.crush_reasons.specs.declared.wanted.InRule.{InRule}
-use Rattle.crush_reasons.specs.declared.wanted.InRule.TheVariants as rule
-use Rattle.crush_reasons.specs.declared.wanted.InStep.{InStep}
-use Rattle.crush_reasons.specs.declared.wanted.InStep.TheVariants as step
-use Rattle.crush_reasons.specs.declared.wanted.Wanted.{Wanted}
-use Rattle.crush_reasons.specs.declared.wanted.Wanted.TheVariants as want
+use Rattle.crush_text.specs.Expected.{keyword_word}
+use Rattle.crush_reasons.specs.declared.around.Around.{Around}
+use Rattle.crush_reasons.specs.Around.{around_at, defined_at}
 use Rattle.crush_reasons.specs.Forms.{form_of}
 use Rattle.crush_reasons.specs.Place.{OriginData, behind_feed, last_line, own_line}
-use Rattle.crush_reasons.specs.Sentences.{text_sentence}
-use Rattle.crush_reasons.specs.Wanted.{going_at}
+use Rattle.crush_reasons.specs.Shown.{told}
 
 -- the first of these words, or nothing
 abbrev pub first_of : List Word → List ℕ
@@ -35,103 +31,129 @@ two_of [] = []
 two_of (v ∷ []) = v.text
 two_of (v ∷ w ∷ ws) = v.text ++ codes " " ++ w.text
 
--- THE STATEMENT that isn't closed: its first two words, and the number of the line on which it begins in its file
+-- the number, in its file, of the line of a place
+abbrev pub line_of : OriginData → List ℕ → ℕ → ℕ
+line_of origin bytes place = own_line origin (last_line (take place bytes))
+
+-- THE BUCKET OR RULE that is open: its first two words, and the number of the line on which it begins
 unfoldable pub begins_at : ℕ → List ℕ
-begins_at line = codes " that begins at line " ++ decimal line
+begins_at line = codes ", which begins at line " ++ decimal line
 
 unfoldable pub open_text : OriginData → List ℕ → ℕ → List ℕ
-open_text origin bytes place = codes "the " ++ two_of (words 0 (drop place bytes)).words ++ begins_at (own_line origin (last_line (take place bytes)))
+open_text origin bytes head = two_of (words 0 (drop head bytes)).words ++ begins_at (line_of origin bytes head)
 
--- whether the place is inside a bucket or a rule that has a name already
-abbrev pub is_open : Wanted → Bool
-is_open want.Early = false
-is_open want.Late = false
-is_open (want.Line at) = false
-is_open (want.Bucket bucket.Name) = false
-is_open (want.Bucket at) = true
-is_open (want.Rule rule.Name) = false
-is_open (want.Rule at) = true
-is_open (want.Step at) = true
+-- THE WORDS THAT ARE EXPECTED
+abbrev pub statement_words : Bool → Optional → List ℕ
+statement_words true or = codes "`rule` or the name of a type; tunables, devices and types must come before the first bucket or rule"
+statement_words false optional.Class = codes "`class`, `tunable`, `device`, `type`, `rule` or the name of a type"
+statement_words false or = codes "`tunable`, `device`, `type`, `rule` or the name of a type"
 
--- WHICH WORDS are wanted
-abbrev pub line_wanted : InLine → List ℕ
-line_wanted line.TunableName = codes "a name"
-line_wanted line.TunableNumber = codes "a number"
-line_wanted line.TypeNumber = codes "a number"
-line_wanted line.TypeName = codes "a name that begins no statement"
-line_wanted line.DeviceId = codes "a number"
-line_wanted line.DeviceName = codes "a name"
-line_wanted line.DeviceEnd = codes "class, tunable, device, type, rule or a type's name"
-line_wanted line.DeviceClass = codes "a class"
+abbrev pub item_words : Optional → List ℕ
+item_words optional.Hash = codes "`hash`, `item` or `}`"
+item_words optional.Weight = codes "`weight`, `item` or `}`"
+item_words or = codes "`item` or `}`"
 
-abbrev pub bucket_wanted : InBucket → List ℕ
-bucket_wanted bucket.Name = codes "a name"
-bucket_wanted bucket.Brace = codes "{"
-bucket_wanted bucket.IdKey = codes "id"
-bucket_wanted bucket.Id = codes "an id"
-bucket_wanted bucket.IdOrAlg = codes "id or alg"
-bucket_wanted bucket.ClassId = codes "an id"
-bucket_wanted bucket.ClassKey = codes "class"
-bucket_wanted bucket.Class = codes "a class"
-bucket_wanted bucket.Alg = codes "straw2, straw or list"
-bucket_wanted bucket.AlgEnd = codes "hash, item or }"
-bucket_wanted bucket.Hash = codes "0"
-bucket_wanted bucket.ItemOrEnd = codes "item or }"
-bucket_wanted bucket.Item = codes "an item's name"
-bucket_wanted bucket.ItemEnd = codes "weight, item or }"
-bucket_wanted bucket.Weight = codes "a weight"
+abbrev pub step_words : Optional → List ℕ
+step_words optional.Class = codes "`class`, `step` or `}`"
+step_words optional.MaxSize = codes "`max_size`, `step` or `}`"
+step_words optional.Sizes = codes "`min_size`, `max_size`, `step` or `}`"
+step_words or = codes "`step` or `}`"
 
-abbrev pub rule_wanted : InRule → List ℕ
-rule_wanted rule.Name = codes "a name"
-rule_wanted rule.Brace = codes "{"
-rule_wanted rule.IdKey = codes "id or ruleset"
-rule_wanted rule.Id = codes "a number"
-rule_wanted rule.TypeKey = codes "type"
-rule_wanted rule.Type = codes "a word, as replicated"
-rule_wanted rule.Sizes = codes "min_size, max_size, step or }"
-rule_wanted rule.MinSize = codes "a number"
-rule_wanted rule.MaxOrStep = codes "max_size, step or }"
-rule_wanted rule.MaxSize = codes "a number"
+abbrev pub expected_words : Expected → List ℕ
+expected_words (expect.Statement late or) = statement_words late or
+expected_words (expect.Keyword k) = []
+expected_words (expect.Number most) = codes "a number"
+expected_words expect.TunableName = codes "a name"
+expected_words expect.TypeNumber = codes "a number"
+expected_words expect.TypeName = codes "a name other than tunable, device, type, rule, class and choose_args"
+expected_words expect.DeviceId = codes "a number"
+expected_words expect.NewName = codes "a name"
+expected_words expect.BucketId = codes "a negative id, such as -2"
+expected_words expect.Class = codes "a device class"
+expected_words expect.IdClass = codes "a device class"
+expected_words expect.IdOrAlg = codes "`id` or `alg`"
+expected_words expect.Algorithm = codes "`straw2`, `straw` or `list`"
+expected_words (expect.Weight device) = codes "a weight, such as 1.5"
+expected_words expect.ItemName = codes "the name of a device or a bucket"
+expected_words (expect.ItemOrEnd or) = item_words or
+expected_words expect.RuleName = codes "a name"
+expected_words expect.IdOrRuleset = codes "`id` or `ruleset`"
+expected_words expect.RuleId = codes "a number"
+expected_words expect.RuleType = codes "a rule type, such as replicated"
+expected_words (expect.StepOrEnd or) = step_words or
+expected_words expect.StepWord = codes "`take`, `choose`, `chooseleaf`, `emit` or `set_..`"
+expected_words expect.TakenBucket = codes "the name of a bucket"
+expected_words expect.FirstnOrIndep = codes "`firstn` or `indep`"
+expected_words expect.Count = codes "a number"
+expected_words expect.StepType = codes "the name of a type"
+expected_words expect.Memory = []
 
-abbrev pub step_wanted : InStep → List ℕ
-step_wanted step.StepOrEnd = codes "step or }"
-step_wanted step.Word = codes "take, choose, chooseleaf, emit or a word that begins with set_"
-step_wanted step.Taken = codes "a bucket's name"
-step_wanted step.TakenEnd = codes "class, step or }"
-step_wanted step.Class = codes "a class"
-step_wanted step.Order = codes "firstn or indep"
-step_wanted step.Count = codes "a number"
-step_wanted step.TypeKey = codes "type"
-step_wanted step.Type = codes "a type's name"
-step_wanted step.Number = codes "a number"
+abbrev pub expected_text : Expected → List ℕ
+expected_text (expect.Keyword k) = told (keyword_word k)
+expected_text e = expected_words e
 
-abbrev pub wanted_text : Wanted → List ℕ
-wanted_text want.Early = codes "tunable, device, type, rule or a type's name"
-wanted_text want.Late = codes "rule or a type's name; tunables, devices and types stand above the first bucket or rule"
-wanted_text (want.Line at) = line_wanted at
-wanted_text (want.Bucket at) = bucket_wanted at
-wanted_text (want.Rule at) = rule_wanted at
-wanted_text (want.Step at) = step_wanted at
+-- THE NUMBERS THAT ARE EXPECTED
+unfoldable pub up_to_most : ℕ → List ℕ
+up_to_most most = codes "expected a whole number from 0 to " ++ decimal most
 
--- THE RANGE in which a number is wanted
-abbrev pub line_range : InLine → List ℕ
-line_range line.TunableNumber = codes "0 to 4294967295"
-line_range line.TypeNumber = codes "0 to 65535"
-line_range at = codes "0 to 2147483647"
+abbrev pub number_text : ℕ → List ℕ
+number_text most = if most == 0 then codes "expected 0" else up_to_most most
 
-abbrev pub bucket_range : InBucket → List ℕ
-bucket_range bucket.Hash = codes "0"
-bucket_range at = codes "-1 to -2147483648"
+abbrev pub range_words : Expected → List ℕ
+range_words expect.TypeNumber = codes "expected a whole number from 0 to 65535"
+range_words expect.BucketId = codes "expected a whole number from -1 to -2147483648"
+range_words expect.Count = codes "expected a whole number from -2147483648 to 2147483647"
+range_words e = codes "expected a whole number from 0 to 2147483647"
 
-abbrev pub step_range : InStep → List ℕ
-step_range step.Count = codes "-2147483648 to 2147483647"
-step_range at = codes "0 to 2147483647"
+abbrev pub range_text : Expected → List ℕ
+range_text (expect.Number most) = number_text most
+range_text e = range_words e
 
-abbrev pub range_text : Wanted → List ℕ
-range_text (want.Line at) = line_range at
-range_text (want.Bucket at) = bucket_range at
-range_text (want.Step at) = step_range at
-range_text at = codes "0 to 2147483647"
+-- a number, an id, a name or a class that another line has already
+abbrev pub same_id : Expected → List ℕ
+same_id expect.TypeNumber = codes "another type has this number"
+same_id expect.DeviceId = codes "another device has this id"
+same_id expect.RuleId = codes "another rule has this id"
+same_id e = codes "another `id` line has this id"
+
+abbrev pub same_name : Expected → List ℕ
+same_name expect.TunableName = codes "this tunable is set above"
+same_name expect.TypeName = codes "another type has this name"
+same_name expect.IdClass = codes "another `id` line of this bucket has this class"
+same_name expect.RuleName = codes "another rule has this name"
+same_name e = codes "another device or bucket has this name"
+
+-- a word that isn't a weight. `crushtool -d` prints the 32 bits of a bucket's weight as a signed number
+abbrev pub begins_with_minus : List ℕ → Bool
+begins_with_minus [] = false
+begins_with_minus (b ∷ rest) = b == 45
+
+abbrev pub weight_range : Expected → List ℕ
+weight_range (expect.Weight true) = codes "expected a weight from 0 to 32767.99998"
+weight_range e = codes "expected a weight from 0 to 65535.99998"
+
+abbrev pub bad_weight : List ℕ → Expected → List ℕ
+bad_weight word e = if begins_with_minus word then codes "crushtool -d prints a bucket's weight of 32768 and more as a negative number: write 0, and the sum of the bucket's items takes its place" else weight_range e
+
+-- A PART OF CEPH'S GRAMMAR that isn't supported
+abbrev pub left_out : Expected → List ℕ
+left_out expect.StepWord = codes "maps with MSR rules (choosemsr) can't be edited here"
+left_out (expect.ItemOrEnd or) = codes "`pos` isn't supported: if the items are already in the order of these numbers, remove each `pos` and its number"
+left_out e = codes "maps with weight sets (choose_args) can't be edited here; removing them moves data"
+
+-- one more than a map may have, by the first word of the statement
+unfoldable pub most_statements : List ℕ → List ℕ
+most_statements word =
+    if bytes_eq word (codes "tunable") then codes "a map has at most 64 tunables"
+    else if bytes_eq word (codes "device") then codes "a map has at most 65536 devices"
+    else if bytes_eq word (codes "type") then codes "a map has at most 256 types"
+    else if bytes_eq word (codes "rule") then codes "a map has at most 256 rules"
+    else codes "a map has at most 4096 buckets"
+
+abbrev pub too_many : List ℕ → Expected → List ℕ
+too_many word expect.IdOrAlg = codes "a bucket has at most 16 class ids"
+too_many word (expect.StepOrEnd or) = codes "a rule has at most 64 steps"
+too_many word e = most_statements word
 
 -- whether the word at a place is the first of its line
 abbrev pub begins_line : List ℕ → Bool
@@ -141,61 +163,87 @@ begins_line before = list_all is_blank (drop (length before - behind_feed before
 abbrev pub is_command : List ℕ → ℕ → Bool
 is_command bytes place = begins_line (take place bytes) && is_some (form_of (word_at bytes place))
 
--- A PART OF CEPH'S GRAMMAR that isn't read: the sentence for its first word
-unfoldable pub left_out : List ℕ → List ℕ
-left_out word =
-    if bytes_eq word (codes "choose_args") then codes "a map with weight sets can't be edited here: taking them out moves data"
-    else if bytes_eq word (codes "choosemsr") then codes "a map with MSR rules can't be edited here: a step choosemsr isn't read"
-    else codes "items stand in the order of their lines: pos and its number are taken out, where they say the same"
+-- whether a device without a class comes just before
+abbrev pub can_be_class : Expected → Bool
+can_be_class (expect.Statement late optional.Class) = true
+can_be_class e = false
 
--- the sentence for a text whose first byte has the fault
-abbrev pub not_begun : List ℕ
-not_begun = codes "no text of a map begins so: is this what crushtool -d prints?"
+-- AN UNKNOWN TYPE: a word on the line of a device may have been meant as `class`
+abbrev pub type_hint : List ℕ → ℕ → Expected → List ℕ
+type_hint bytes place e = if can_be_class e && not (begins_line (take place bytes)) then codes "; did you mean `class`?" else []
 
--- the sentence if another word is wanted
-abbrev pub inside : OriginData → List ℕ → Going → List ℕ
-inside origin bytes g = if is_open g.wanted then codes "; in " ++ open_text origin bytes g.begun else []
+-- a word that no type has, or the first word of a command, or of what `ceph osd tree` prints
+abbrev pub unknown_type : List ℕ → ℕ → Expected → List ℕ
+unknown_type bytes place e =
+    if is_command bytes place then codes "this looks like a command: commands go below a line `%operator NAME`"
+    else if bytes_eq (word_at bytes place) (codes "ID") then codes "this looks like the output of `ceph osd tree`: a text map is the output of `crushtool -d`"
+    else codes "no type named " ++ told (word_at bytes place) ++ codes " is declared above" ++ type_hint bytes place e
 
-abbrev pub unexpected : OriginData → List ℕ → Going → List ℕ
-unexpected origin bytes g = codes "another word is wanted here: " ++ wanted_text g.wanted ++ inside origin bytes g
+-- AN UNKNOWN ITEM OR BUCKET, which may be defined below
+unfoldable pub defined_below : OriginData → List ℕ → List ℕ → ℕ → List ℕ
+defined_below origin bytes name at = told name ++ codes " is defined below, at line " ++ decimal (line_of origin bytes at) ++ codes ": move that bucket up"
+
+abbrev pub missing : OriginData → List ℕ → ℕ → List ℕ → List ℕ
+missing origin bytes place sentence =
+    if nat_lt place (defined_at bytes (word_at bytes place)) then defined_below origin bytes (word_at bytes place) (defined_at bytes (word_at bytes place))
+    else sentence
+
+-- A TEXT THAT ISN'T A MAP: a byte order mark, what `gzip` writes, or anything else
+abbrev pub not_begun : List ℕ → List ℕ
+not_begun bytes =
+    if starts_with nat_eq bytes (239 ∷ 187 ∷ 191 ∷ []) then codes "the text begins with a byte order mark: save it without one"
+    else if starts_with nat_eq bytes (31 ∷ 139 ∷ []) then codes "this file is compressed with gzip: unpack it first"
+    else codes "this is not a text map: use `crushtool -d` to make one"
+
+-- a byte that no word may have, or a word that is too long
+abbrev pub begins_word : List ℕ → Bool
+begins_word [] = false
+begins_word (b ∷ rest) = is_name_byte b
+
+abbrev pub bad_word : List ℕ → ℕ → Expected → List ℕ
+bad_word bytes place e =
+    if place == 0 then not_begun bytes
+    else if begins_word (drop place bytes) then codes "a word has at most 255 characters"
+    else codes "this character can't be in a word: letters, digits, `-`, `_` and `.` only; expected " ++ expected_text e
+
+-- the sentence if another word is expected
+abbrev pub inside : OriginData → List ℕ → Around → List ℕ
+inside origin bytes a = if a.is_open then codes " (in " ++ open_text origin bytes a.head ++ codes ")" else []
+
+abbrev pub unexpected : OriginData → List ℕ → Expected → Around → List ℕ
+unexpected origin bytes e a = codes "unexpected word: expected " ++ expected_text e ++ inside origin bytes a
+
+abbrev pub no_word : OriginData → List ℕ → ℕ → Expected → List ℕ
+no_word origin bytes place e = if place == 0 then not_begun bytes else unexpected origin bytes e (around_at bytes place)
 
 -- the sentence if the text ends inside a statement
-abbrev pub unclosed : OriginData → List ℕ → Going → List ℕ
-unclosed origin bytes g = if is_open g.wanted then open_text origin bytes g.begun ++ codes " isn't closed" else text_sentence text.Ended
+abbrev pub unclosed : OriginData → List ℕ → Expected → Around → List ℕ
+unclosed origin bytes e a = if a.is_open then open_text origin bytes a.head ++ codes ", is not closed" else codes "the text ends too early: expected " ++ expected_text e
 
-abbrev pub no_word : OriginData → List ℕ → ℕ → List ℕ
-no_word origin bytes place = if place == 0 then not_begun else unexpected origin bytes (going_at bytes place)
+-- the sentence for a fault, if it depends on no more than what is expected and the word at the fault's place
+abbrev pub word_sentence : TextFaultKind → List ℕ → Expected → List ℕ
+word_sentence text.BadWeight word e = bad_weight word e
+word_sentence text.DuplicateId word e = same_id e
+word_sentence text.DuplicateName word e = same_name e
+word_sentence text.SecondParent word e = codes "this item is already in a bucket; an item can be in only one"
+word_sentence text.OtherAlgorithm word e = codes "expected `straw2`, `straw` or `list`; maps with other algorithms can't be edited here, and changing the algorithm moves data"
+word_sentence text.LeftOut word e = left_out e
+word_sentence text.TooMany word e = too_many word e
+word_sentence text.SumTooLarge word e = codes "the total weight is too large: at most 65535.99998 for a bucket and 134217727.99998 for all devices"
+word_sentence kind word e = codes "not enough memory for the map"
 
--- the sentence for a fault, if it depends on no more than the word at its place
-abbrev pub bad_word : ℕ → List ℕ
-bad_word place = if place == 0 then not_begun else text_sentence text.BadWord
-
--- a word that isn't a weight and begins with `-`: `crushtool -d` prints the 32 bits of a bucket's weight as a signed number
-abbrev pub begins_with_minus : List ℕ → Bool
-begins_with_minus [] = false
-begins_with_minus (b ∷ rest) = b == 45
-
-abbrev pub bad_weight : List ℕ → List ℕ
-bad_weight word = if begins_with_minus word then codes "crushtool -d prints a bucket's weight from 32768 on as a negative number: write 0, and the sum takes its place" else text_sentence text.BadWeight
-
-abbrev pub unknown_type : List ℕ → ℕ → List ℕ
-unknown_type bytes place = if is_command bytes place then codes "commands stand below a line %operator NAME" else text_sentence text.UnknownType
-
-abbrev pub flaw_sentence : List ℕ → TextFaultKind → ℕ → List ℕ
-flaw_sentence bytes text.BadWord place = bad_word place
-flaw_sentence bytes text.BadWeight place = bad_weight (word_at bytes place)
-flaw_sentence bytes text.UnknownType place = unknown_type bytes place
-flaw_sentence bytes text.LeftOut place = left_out (word_at bytes place)
-flaw_sentence bytes kind place = text_sentence kind
-
--- WHAT IS WANTED at a fault of a text
-abbrev pub flaw_reason : OriginData → List ℕ → TextFaultKind → ℕ → List ℕ
-flaw_reason origin bytes text.Ended place = unclosed origin bytes (going_at bytes place)
-flaw_reason origin bytes text.Unexpected place = no_word origin bytes place
-flaw_reason origin bytes text.BadNumber place = codes "a whole number is wanted here: " ++ range_text (going_at bytes place).wanted
-flaw_reason origin bytes kind place = flaw_sentence bytes kind place
+-- WHAT IS WRONG at a fault of a text, and what is expected there
+abbrev pub flaw_reason : OriginData → List ℕ → TextFaultKind → ℕ → Expected → List ℕ
+flaw_reason origin bytes text.BadWord place e = bad_word bytes place e
+flaw_reason origin bytes text.Ended place e = unclosed origin bytes e (around_at bytes place)
+flaw_reason origin bytes text.Unexpected place e = no_word origin bytes place e
+flaw_reason origin bytes text.BadNumber place e = range_text e
+flaw_reason origin bytes text.UnknownType place e = unknown_type bytes place e
+flaw_reason origin bytes text.UnknownItem place e = missing origin bytes place (codes "no device or finished bucket above has this name")
+flaw_reason origin bytes text.UnknownBucketInRule place e = missing origin bytes place (codes "no finished bucket above has this name")
+flaw_reason origin bytes kind place e = word_sentence kind (word_at bytes place) e
 
 -- the place that is shown for a fault; if the text ends too early, the place of its last word
 abbrev pub flaw_place : List ℕ → TextFaultKind → ℕ → ℕ
-flaw_place bytes text.Ended place = (going_at bytes place).last
+flaw_place bytes text.Ended place = (around_at bytes place).last
 flaw_place bytes kind place = place

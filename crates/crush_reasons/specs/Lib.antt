@@ -10,7 +10,7 @@ pub mod Shown
 pub mod Place
 pub mod Forms
 pub mod Misfit
-pub mod Wanted
+pub mod Around
 pub mod Flaws
 pub mod EditLines
 pub mod EditsLeft

@@ -6,36 +6,15 @@ use Rattle.crush_edits.specs.declared.refusal.Refusal.{Refusal}
 use Rattle.crush_edits.specs.declared.refusal.Refusal.TheVariants as refusal
 use Rattle.crush_script.specs.declared.fault.JobFault.{JobFault}
 use Rattle.crush_script.specs.declared.fault.JobFault.TheVariants as job
-use Rattle.crush_text.specs.declared.fault.TextFaultKind.{TextFaultKind}
-use Rattle.crush_text.specs.declared.fault.TextFaultKind.TheVariants as text
 
--- FAULTS OF A TEXT
-abbrev pub text_sentence : TextFaultKind → List ℕ
-text_sentence text.BadWord = codes "a word has letters, digits, - _ and . alone, and at most 255 of them"
-text_sentence text.Ended = codes "the text ends inside a statement: its end is wanted"
-text_sentence text.Unexpected = codes "another word is wanted here"
-text_sentence text.BadNumber = codes "a whole number is wanted that is in range here"
-text_sentence text.BadWeight = codes "a weight is wanted, 0 to 65535.99998, of a device at most 32767.99998"
-text_sentence text.DuplicateId = codes "a number or an id is wanted that no line above has"
-text_sentence text.DuplicateName = codes "a name or a class is wanted that no line above has"
-text_sentence text.UnknownType = codes "no type of this name is declared above"
-text_sentence text.UnknownItem = codes "no device is declared and no bucket is closed above with this name"
-text_sentence text.SecondParent = codes "a bucket above holds this item: an item stands in one bucket"
-text_sentence text.OtherAlgorithm = codes "the algorithm is to be straw2, straw or list: a bucket of another can't be edited here, and changing it moves data"
-text_sentence text.LeftOut = codes "a map of this kind can't be edited here"
-text_sentence text.UnknownBucketInRule = codes "a rule takes a bucket that is closed above"
-text_sentence text.TooMany = codes "the map has as many of these already as it may have"
-text_sentence text.SumTooLarge = codes "with this item a bucket weighs more than 65535.99998, or all devices more than 134217727.99998"
-text_sentence text.OutOfMemory = codes "there is no memory for the map"
-
--- FAULTS OF A JOB
+-- FAULTS OF A JOB. `Flaws` defines the sentences for a fault of the map's text
 abbrev pub job_sentence : JobFault → List ℕ
 job_sentence (job.BadLine number) = codes "the line is not of the form that its first word asks for"
 job_sentence (job.NoSuchCommand number) = codes "the first word of a line is to be a command: --help has all of them"
 job_sentence (job.OpenBatch number) = codes "the batch that begins here is to end by commit, before the next operator"
 job_sentence (job.TooManyOperators number) = codes "a job has at most 16 operators"
 job_sentence (job.DuplicateOperator number) = codes "an operator above has this name"
-job_sentence (job.Text fault) = text_sentence fault.kind
+job_sentence (job.Text fault) = []
 job_sentence job.OutOfMemory = codes "there is no memory for the job"
 job_sentence job.TooLong = codes "a job has at most 16777216 bytes"
 job_sentence (job.TooManyCalls number) = codes "a job has at most 65536 commands and batches"

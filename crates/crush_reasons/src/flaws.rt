@@ -1,27 +1,29 @@
-//! Says what is wanted at a fault of a map's text, from the word at that place and the words before.
+//! Says what is wrong at a fault of a map's text, and what is expected there.
 
-ghost use Rattle.std.specs.Prelude.{◌≡◌, ◌++◌, ◌<◌, ◌^◌, OnOk, codes, drop, length};
-ghost use Rattle.std.specs.List.{list_all};
+ghost use Rattle.std.specs.Prelude.{◌≡◌, ◌++◌, ◌<◌, ◌^◌, OnOk, [], ◌∷◌, codes, drop, length, nat_eq};
+ghost use Rattle.std.specs.List.{list_all, starts_with};
 ghost use Rattle.crush_units.specs.Words.{is_blank, words};
-ghost use Rattle.crush_reasons.specs.Flaws.{bad_weight, bad_word, begins_at, begins_line, bucket_wanted, first_of, flaw_place, flaw_reason, flaw_sentence, inside, is_command, is_open, left_out, line_wanted, no_word, open_text, range_text, rule_wanted, step_wanted, two_of, unclosed, unexpected, unknown_type, wanted_text, word_at};
+ghost use Rattle.crush_reasons.specs.Flaws.{bad_weight, bad_word, begins_at, begins_line, begins_word, can_be_class, defined_below, expected_text, expected_words, first_of, flaw_place, flaw_reason, inside, is_command, item_words, left_out, line_of, missing, most_statements, no_word, not_begun, number_text, open_text, range_text, range_words, same_id, same_name, statement_words, step_words, too_many, two_of, type_hint, unclosed, unexpected, unknown_type, up_to_most, weight_range, word_at, word_sentence};
 ghost use Rattle.crush_reasons.specs.Place.{origin_data};
+ghost use Rattle.crush_reasons.specs.Shown.{told};
 
+use crate::around::{Around, around_at, defined_at};
 use crate::forms::form_of;
 use crate::place::{Origin, behind_feed, last_line};
-use crate::sentences::text_sentence;
-use crate::wanted::{Going, InBucket, InLine, InRule, InStep, Wanted, going_at};
+use crate::shown::push_told;
 use crate::words::{from_place, next_placed, push_all, push_bytes, up_to};
-use crush_text::{TextFault, TextFaultKind};
-use crush_units::Reader;
+use crush_text::{Expected, Optional, TextFault, TextFaultKind};
+use crush_units::{Reader, is_name_byte};
 use itoa::Buffer;
 use std::alloc::AllocError;
 
-const NOT_BEGUN: &str = "no text of a map begins so: is this what crushtool -d prints?";
-
 const NEGATIVE: &str =
-    "crushtool -d prints a bucket's weight from 32768 on as a negative number: write 0, and the sum takes its place";
+    "crushtool -d prints a bucket's weight of 32768 and more as a negative number: write 0, and the sum of the bucket's items takes its place";
 
-const NO_OPERATOR: &str = "commands stand below a line %operator NAME";
+const NO_OPERATOR: &str = "this looks like a command: commands go below a line `%operator NAME`";
+
+const TREE: &str =
+    "this looks like the output of `ceph osd tree`: a text map is the output of `crushtool -d`";
 
 fn word_at(bytes: &[u8], place: usize) -> &[u8]
     ensures { result.now ≡ word_at bytes.now place }
@@ -48,6 +50,14 @@ fn push_two(bytes: &[u8], place: usize, text: &mut Vec<u8>) -> Result<(), AllocE
     push_all(&[b" ".as_slice(), second.text], text)
 }
 
+/// Returns the number, in its file, of the line of a place.
+fn line_of(origin: Origin<'_>, bytes: &[u8], place: usize) -> usize
+    requires { length bytes.now < 2 ^ 32 }
+    ensures { result ≡ line_of (origin_data origin.entry) bytes.now place }
+{
+    origin.own_line(last_line(up_to(place, bytes)))
+}
+
 #[tactic(auto, unfolding(crate::specs::Flaws::begins_at))]
 fn push_begins_at(line: usize, text: &mut Vec<u8>) -> Result<(), AllocError>
     ensures { OnOk result (text.new.items ≡ text.old.items ++ begins_at line) }
@@ -55,7 +65,7 @@ fn push_begins_at(line: usize, text: &mut Vec<u8>) -> Result<(), AllocError>
     let mut buffer = Buffer::new();
     push_all(
         &[
-            b" that begins at line ".as_slice(),
+            b", which begins at line ".as_slice(),
             buffer.format(line).as_bytes(),
         ],
         text,
@@ -65,131 +75,220 @@ fn push_begins_at(line: usize, text: &mut Vec<u8>) -> Result<(), AllocError>
 fn push_open(
     origin: Origin<'_>,
     bytes: &[u8],
-    place: usize,
+    head: usize,
     text: &mut Vec<u8>,
 ) -> Result<(), AllocError>
     requires { length bytes.now < 2 ^ 32 }
     ensures { OnOk result (text.new.items
-        ≡ text.old.items ++ open_text (origin_data origin.entry) bytes.now place) }
+        ≡ text.old.items ++ open_text (origin_data origin.entry) bytes.now head) }
 {
-    let line = origin.own_line(last_line(up_to(place, bytes)));
-    text.extend_from_slice(b"the ")?;
-    push_two(bytes, place, text)?;
+    let line = line_of(origin, bytes, head);
+    push_two(bytes, head, text)?;
     push_begins_at(line, text)
 }
 
-/// Whether the place is inside a bucket or a rule that has a name already.
-fn is_open(wanted: Wanted) -> bool
-    ensures { result ≡ is_open wanted }
+fn statement_words(late: bool, or: Optional) -> &'static str
+    ensures { result.now ≡ statement_words late or }
 {
-    match wanted {
-        Wanted::Early | Wanted::Late | Wanted::Line(_) => false,
-        Wanted::Bucket(InBucket::Name) => false,
-        Wanted::Bucket(_) => true,
-        Wanted::Rule(InRule::Name) => false,
-        Wanted::Rule(_) => true,
-        Wanted::Step(_) => true,
+    if late {
+        return "`rule` or the name of a type; tunables, devices and types must come before the first bucket or rule";
+    }
+    match or {
+        Optional::Class => "`class`, `tunable`, `device`, `type`, `rule` or the name of a type",
+        _ => "`tunable`, `device`, `type`, `rule` or the name of a type",
     }
 }
 
-fn line_wanted(at: InLine) -> &'static str
-    ensures { result.now ≡ line_wanted at }
+fn item_words(or: Optional) -> &'static str
+    ensures { result.now ≡ item_words or }
 {
-    match at {
-        InLine::TunableName => "a name",
-        InLine::TunableNumber => "a number",
-        InLine::TypeNumber => "a number",
-        InLine::TypeName => "a name that begins no statement",
-        InLine::DeviceId => "a number",
-        InLine::DeviceName => "a name",
-        InLine::DeviceEnd => "class, tunable, device, type, rule or a type's name",
-        InLine::DeviceClass => "a class",
+    match or {
+        Optional::Hash => "`hash`, `item` or `}`",
+        Optional::Weight => "`weight`, `item` or `}`",
+        _ => "`item` or `}`",
     }
 }
 
-fn bucket_wanted(at: InBucket) -> &'static str
-    ensures { result.now ≡ bucket_wanted at }
+fn step_words(or: Optional) -> &'static str
+    ensures { result.now ≡ step_words or }
 {
-    match at {
-        InBucket::Name => "a name",
-        InBucket::Brace => "{",
-        InBucket::IdKey => "id",
-        InBucket::Id => "an id",
-        InBucket::IdOrAlg => "id or alg",
-        InBucket::ClassId => "an id",
-        InBucket::ClassKey => "class",
-        InBucket::Class => "a class",
-        InBucket::Alg => "straw2, straw or list",
-        InBucket::AlgEnd => "hash, item or }",
-        InBucket::Hash => "0",
-        InBucket::ItemOrEnd => "item or }",
-        InBucket::Item => "an item's name",
-        InBucket::ItemEnd => "weight, item or }",
-        InBucket::Weight => "a weight",
+    match or {
+        Optional::Class => "`class`, `step` or `}`",
+        Optional::MaxSize => "`max_size`, `step` or `}`",
+        Optional::Sizes => "`min_size`, `max_size`, `step` or `}`",
+        _ => "`step` or `}`",
     }
 }
 
-fn rule_wanted(at: InRule) -> &'static str
-    ensures { result.now ≡ rule_wanted at }
+/// Returns the words that are expected, if they are no keyword that stands alone.
+fn expected_words(expected: Expected) -> &'static str
+    ensures { result.now ≡ expected_words expected }
 {
-    match at {
-        InRule::Name => "a name",
-        InRule::Brace => "{",
-        InRule::IdKey => "id or ruleset",
-        InRule::Id => "a number",
-        InRule::TypeKey => "type",
-        InRule::Type => "a word, as replicated",
-        InRule::Sizes => "min_size, max_size, step or }",
-        InRule::MinSize => "a number",
-        InRule::MaxOrStep => "max_size, step or }",
-        InRule::MaxSize => "a number",
-    }
-}
-
-fn step_wanted(at: InStep) -> &'static str
-    ensures { result.now ≡ step_wanted at }
-{
-    match at {
-        InStep::StepOrEnd => "step or }",
-        InStep::Word => "take, choose, chooseleaf, emit or a word that begins with set_",
-        InStep::Taken => "a bucket's name",
-        InStep::TakenEnd => "class, step or }",
-        InStep::Class => "a class",
-        InStep::Order => "firstn or indep",
-        InStep::Count => "a number",
-        InStep::TypeKey => "type",
-        InStep::Type => "a type's name",
-        InStep::Number => "a number",
-    }
-}
-
-fn wanted_text(wanted: Wanted) -> &'static str
-    ensures { result.now ≡ wanted_text wanted }
-{
-    match wanted {
-        Wanted::Early => "tunable, device, type, rule or a type's name",
-        Wanted::Late => {
-            "rule or a type's name; tunables, devices and types stand above the first bucket or rule"
+    match expected {
+        Expected::Statement { late, or } => statement_words(late, or),
+        Expected::Keyword(_) => "",
+        Expected::Number { .. } => "a number",
+        Expected::TunableName => "a name",
+        Expected::TypeNumber => "a number",
+        Expected::TypeName => {
+            "a name other than tunable, device, type, rule, class and choose_args"
         }
-        Wanted::Line(at) => line_wanted(at),
-        Wanted::Bucket(at) => bucket_wanted(at),
-        Wanted::Rule(at) => rule_wanted(at),
-        Wanted::Step(at) => step_wanted(at),
+        Expected::DeviceId => "a number",
+        Expected::NewName => "a name",
+        Expected::BucketId => "a negative id, such as -2",
+        Expected::Class => "a device class",
+        Expected::IdClass => "a device class",
+        Expected::IdOrAlg => "`id` or `alg`",
+        Expected::Algorithm => "`straw2`, `straw` or `list`",
+        Expected::Weight { .. } => "a weight, such as 1.5",
+        Expected::ItemName => "the name of a device or a bucket",
+        Expected::ItemOrEnd { or } => item_words(or),
+        Expected::RuleName => "a name",
+        Expected::IdOrRuleset => "`id` or `ruleset`",
+        Expected::RuleId => "a number",
+        Expected::RuleType => "a rule type, such as replicated",
+        Expected::StepOrEnd { or } => step_words(or),
+        Expected::StepWord => "`take`, `choose`, `chooseleaf`, `emit` or `set_..`",
+        Expected::TakenBucket => "the name of a bucket",
+        Expected::FirstnOrIndep => "`firstn` or `indep`",
+        Expected::Count => "a number",
+        Expected::StepType => "the name of a type",
+        Expected::Memory => "",
     }
 }
 
-fn range_text(wanted: Wanted) -> &'static str
-    ensures { result.now ≡ range_text wanted }
+fn push_expected(expected: Expected, text: &mut Vec<u8>) -> Result<(), AllocError>
+    ensures { OnOk result (text.new.items ≡ text.old.items ++ expected_text expected) }
 {
-    match wanted {
-        Wanted::Line(InLine::TunableNumber) => "0 to 4294967295",
-        Wanted::Line(InLine::TypeNumber) => "0 to 65535",
-        Wanted::Line(_) => "0 to 2147483647",
-        Wanted::Bucket(InBucket::Hash) => "0",
-        Wanted::Bucket(_) => "-1 to -2147483648",
-        Wanted::Step(InStep::Count) => "-2147483648 to 2147483647",
-        Wanted::Step(_) => "0 to 2147483647",
-        Wanted::Early | Wanted::Late | Wanted::Rule(_) => "0 to 2147483647",
+    match expected {
+        Expected::Keyword(keyword) => push_told(keyword.text().as_bytes(), text),
+        _ => push_bytes(expected_words(expected).as_bytes(), text),
+    }
+}
+
+#[tactic(auto, unfolding(crate::specs::Flaws::up_to_most))]
+fn push_up_to_most(most: u32, text: &mut Vec<u8>) -> Result<(), AllocError>
+    ensures { OnOk result (text.new.items ≡ text.old.items ++ up_to_most most) }
+{
+    let mut buffer = Buffer::new();
+    push_all(
+        &[
+            b"expected a whole number from 0 to ".as_slice(),
+            buffer.format(most).as_bytes(),
+        ],
+        text,
+    )
+}
+
+fn push_number(most: u32, text: &mut Vec<u8>) -> Result<(), AllocError>
+    ensures { OnOk result (text.new.items ≡ text.old.items ++ number_text most) }
+{
+    if most == 0 {
+        text.extend_from_slice(b"expected 0")
+    } else {
+        push_up_to_most(most, text)
+    }
+}
+
+/// Returns the numbers that are expected, if they don't begin at 0 and end at a number that differs
+/// from place to place.
+fn range_words(expected: Expected) -> &'static str
+    ensures { result.now ≡ range_words expected }
+{
+    match expected {
+        Expected::TypeNumber => "expected a whole number from 0 to 65535",
+        Expected::BucketId => "expected a whole number from -1 to -2147483648",
+        Expected::Count => "expected a whole number from -2147483648 to 2147483647",
+        _ => "expected a whole number from 0 to 2147483647",
+    }
+}
+
+fn push_range(expected: Expected, text: &mut Vec<u8>) -> Result<(), AllocError>
+    ensures { OnOk result (text.new.items ≡ text.old.items ++ range_text expected) }
+{
+    match expected {
+        Expected::Number { most } => push_number(most, text),
+        _ => push_bytes(range_words(expected).as_bytes(), text),
+    }
+}
+
+fn same_id(expected: Expected) -> &'static str
+    ensures { result.now ≡ same_id expected }
+{
+    match expected {
+        Expected::TypeNumber => "another type has this number",
+        Expected::DeviceId => "another device has this id",
+        Expected::RuleId => "another rule has this id",
+        _ => "another `id` line has this id",
+    }
+}
+
+fn same_name(expected: Expected) -> &'static str
+    ensures { result.now ≡ same_name expected }
+{
+    match expected {
+        Expected::TunableName => "this tunable is set above",
+        Expected::TypeName => "another type has this name",
+        Expected::IdClass => "another `id` line of this bucket has this class",
+        Expected::RuleName => "another rule has this name",
+        _ => "another device or bucket has this name",
+    }
+}
+
+fn weight_range(expected: Expected) -> &'static str
+    ensures { result.now ≡ weight_range expected }
+{
+    match expected {
+        Expected::Weight { device: true } => "expected a weight from 0 to 32767.99998",
+        _ => "expected a weight from 0 to 65535.99998",
+    }
+}
+
+fn bad_weight(word: &[u8], expected: Expected) -> &'static str
+    ensures { result.now ≡ bad_weight word.now expected }
+{
+    match word {
+        [b'-', ..] => NEGATIVE,
+        _ => weight_range(expected),
+    }
+}
+
+fn left_out(expected: Expected) -> &'static str
+    ensures { result.now ≡ left_out expected }
+{
+    match expected {
+        Expected::StepWord => "maps with MSR rules (choosemsr) can't be edited here",
+        Expected::ItemOrEnd { .. } => {
+            "`pos` isn't supported: if the items are already in the order of these numbers, remove each `pos` and its number"
+        }
+        _ => "maps with weight sets (choose_args) can't be edited here; removing them moves data",
+    }
+}
+
+#[tactic(auto, unfolding(crate::specs::Flaws::most_statements))]
+fn most_statements(word: &[u8]) -> &'static str
+    ensures { result.now ≡ most_statements word.now }
+{
+    if word == b"tunable".as_slice() {
+        "a map has at most 64 tunables"
+    } else if word == b"device".as_slice() {
+        "a map has at most 65536 devices"
+    } else if word == b"type".as_slice() {
+        "a map has at most 256 types"
+    } else if word == b"rule".as_slice() {
+        "a map has at most 256 rules"
+    } else {
+        "a map has at most 4096 buckets"
+    }
+}
+
+fn too_many(word: &[u8], expected: Expected) -> &'static str
+    ensures { result.now ≡ too_many word.now expected }
+{
+    match expected {
+        Expected::IdOrAlg => "a bucket has at most 16 class ids",
+        Expected::StepOrEnd { .. } => "a rule has at most 64 steps",
+        _ => most_statements(word),
     }
 }
 
@@ -220,134 +319,250 @@ fn is_command(bytes: &[u8], place: usize) -> bool
     begins_line(up_to(place, bytes)) && form_of(word_at(bytes, place)).is_some()
 }
 
-/// Returns the sentence for the first word of a part of Ceph's grammar that isn't read.
-#[tactic(auto, unfolding(crate::specs::Flaws::left_out))]
-fn left_out(word: &[u8]) -> &'static str
-    ensures { result.now ≡ left_out word.now }
+/// Whether a device without a class comes just before.
+fn can_be_class(expected: Expected) -> bool
+    ensures { result ≡ can_be_class expected }
 {
-    if word == b"choose_args".as_slice() {
-        "a map with weight sets can't be edited here: taking them out moves data"
-    } else if word == b"choosemsr".as_slice() {
-        "a map with MSR rules can't be edited here: a step choosemsr isn't read"
+    matches!(
+        expected,
+        Expected::Statement {
+            or: Optional::Class,
+            ..
+        }
+    )
+}
+
+fn type_hint(bytes: &[u8], place: usize, expected: Expected) -> &'static str
+    requires { length bytes.now < 2 ^ 32 }
+    ensures { result.now ≡ type_hint bytes.now place expected }
+{
+    if can_be_class(expected) && !begins_line(up_to(place, bytes)) {
+        "; did you mean `class`?"
     } else {
-        "items stand in the order of their lines: pos and its number are taken out, where they say the same"
+        ""
     }
+}
+
+fn push_no_type(word: &[u8], hint: &str, text: &mut Vec<u8>) -> Result<(), AllocError>
+    ensures { OnOk result (text.new.items ≡ text.old.items
+        ++ (codes "no type named " ++ told word.now ++ codes " is declared above" ++ hint.now)) }
+{
+    text.extend_from_slice(b"no type named ")?;
+    push_told(word, text)?;
+    push_all(&[b" is declared above".as_slice(), hint.as_bytes()], text)
+}
+
+fn push_unknown_type(
+    bytes: &[u8],
+    place: usize,
+    expected: Expected,
+    text: &mut Vec<u8>,
+) -> Result<(), AllocError>
+    requires { length bytes.now < 2 ^ 32 }
+    ensures { OnOk result (text.new.items
+        ≡ text.old.items ++ unknown_type bytes.now place expected) }
+{
+    if is_command(bytes, place) {
+        return text.extend_from_slice(NO_OPERATOR.as_bytes());
+    }
+    let word = word_at(bytes, place);
+    if word == b"ID".as_slice() {
+        return text.extend_from_slice(TREE.as_bytes());
+    }
+    push_no_type(word, type_hint(bytes, place, expected), text)
+}
+
+#[tactic(auto, unfolding(crate::specs::Flaws::defined_below))]
+fn push_defined_below(
+    origin: Origin<'_>,
+    bytes: &[u8],
+    name: &[u8],
+    at: usize,
+    text: &mut Vec<u8>,
+) -> Result<(), AllocError>
+    requires { length bytes.now < 2 ^ 32 }
+    ensures { OnOk result (text.new.items
+        ≡ text.old.items ++ defined_below (origin_data origin.entry) bytes.now name.now at) }
+{
+    let line = line_of(origin, bytes, at);
+    let mut buffer = Buffer::new();
+    push_told(name, text)?;
+    push_all(
+        &[
+            b" is defined below, at line ".as_slice(),
+            buffer.format(line).as_bytes(),
+            b": move that bucket up".as_slice(),
+        ],
+        text,
+    )
+}
+
+/// Appends where the bucket that the word at the place names is defined, if that is below. Otherwise
+/// appends the sentence.
+fn push_missing(
+    origin: Origin<'_>,
+    bytes: &[u8],
+    place: usize,
+    sentence: &str,
+    text: &mut Vec<u8>,
+) -> Result<(), AllocError>
+    requires { length bytes.now < 2 ^ 32 }
+    ensures { OnOk result (text.new.items
+        ≡ text.old.items ++ missing (origin_data origin.entry) bytes.now place sentence.now) }
+{
+    let name = word_at(bytes, place);
+    let at = defined_at(bytes, name);
+    if place < at {
+        push_defined_below(origin, bytes, name, at, text)
+    } else {
+        push_bytes(sentence.as_bytes(), text)
+    }
+}
+
+fn has_mark(bytes: &[u8]) -> bool
+    ensures { result ≡ starts_with nat_eq bytes.now (239 ∷ 187 ∷ 191 ∷ []) }
+{
+    matches!(bytes, [0xEF, 0xBB, 0xBF, ..])
+}
+
+fn is_zipped(bytes: &[u8]) -> bool
+    ensures { result ≡ starts_with nat_eq bytes.now (31 ∷ 139 ∷ []) }
+{
+    matches!(bytes, [0x1F, 0x8B, ..])
+}
+
+/// Returns the sentence for a text whose first byte has the fault.
+fn not_begun(bytes: &[u8]) -> &'static str
+    ensures { result.now ≡ not_begun bytes.now }
+{
+    if has_mark(bytes) {
+        "the text begins with a byte order mark: save it without one"
+    } else if is_zipped(bytes) {
+        "this file is compressed with gzip: unpack it first"
+    } else {
+        "this is not a text map: use `crushtool -d` to make one"
+    }
+}
+
+fn begins_word(bytes: &[u8]) -> bool
+    ensures { result ≡ begins_word bytes.now }
+{
+    match bytes {
+        [] => false,
+        [byte, ..] => is_name_byte(*byte),
+    }
+}
+
+fn push_bad_word(
+    bytes: &[u8],
+    place: usize,
+    expected: Expected,
+    text: &mut Vec<u8>,
+) -> Result<(), AllocError>
+    ensures { OnOk result (text.new.items ≡ text.old.items ++ bad_word bytes.now place expected) }
+{
+    if place == 0 {
+        return text.extend_from_slice(not_begun(bytes).as_bytes());
+    }
+    if begins_word(from_place(place, bytes)) {
+        return text.extend_from_slice(b"a word has at most 255 characters");
+    }
+    text.extend_from_slice(
+        b"this character can't be in a word: letters, digits, `-`, `_` and `.` only; expected ",
+    )?;
+    push_expected(expected, text)
 }
 
 fn push_inside(
     origin: Origin<'_>,
     bytes: &[u8],
-    going: Going,
+    around: Around,
     text: &mut Vec<u8>,
 ) -> Result<(), AllocError>
     requires { length bytes.now < 2 ^ 32 }
     ensures { OnOk result (text.new.items
-        ≡ text.old.items ++ inside (origin_data origin.entry) bytes.now going) }
+        ≡ text.old.items ++ inside (origin_data origin.entry) bytes.now around) }
 {
-    if !is_open(going.wanted) {
+    if !around.is_open {
         return Ok(());
     }
-    text.extend_from_slice(b"; in ")?;
-    push_open(origin, bytes, going.begun, text)
+    text.extend_from_slice(b" (in ")?;
+    push_open(origin, bytes, around.head, text)?;
+    text.extend_from_slice(b")")
 }
 
 fn push_unexpected(
     origin: Origin<'_>,
     bytes: &[u8],
-    going: Going,
+    expected: Expected,
+    around: Around,
     text: &mut Vec<u8>,
 ) -> Result<(), AllocError>
     requires { length bytes.now < 2 ^ 32 }
     ensures { OnOk result (text.new.items
-        ≡ text.old.items ++ unexpected (origin_data origin.entry) bytes.now going) }
+        ≡ text.old.items ++ unexpected (origin_data origin.entry) bytes.now expected around) }
 {
-    text.extend_from_slice(b"another word is wanted here: ")?;
-    text.extend_from_slice(wanted_text(going.wanted).as_bytes())?;
-    push_inside(origin, bytes, going, text)
+    text.extend_from_slice(b"unexpected word: expected ")?;
+    push_expected(expected, text)?;
+    push_inside(origin, bytes, around, text)
 }
 
 fn push_no_word(
     origin: Origin<'_>,
     bytes: &[u8],
     place: usize,
+    expected: Expected,
     text: &mut Vec<u8>,
 ) -> Result<(), AllocError>
     requires { length bytes.now < 2 ^ 32 }
     ensures { OnOk result (text.new.items
-        ≡ text.old.items ++ no_word (origin_data origin.entry) bytes.now place) }
+        ≡ text.old.items ++ no_word (origin_data origin.entry) bytes.now place expected) }
 {
     if place == 0 {
-        text.extend_from_slice(NOT_BEGUN.as_bytes())
+        text.extend_from_slice(not_begun(bytes).as_bytes())
     } else {
-        push_unexpected(origin, bytes, going_at(bytes, place), text)
+        push_unexpected(origin, bytes, expected, around_at(bytes, place), text)
     }
 }
 
 fn push_unclosed(
     origin: Origin<'_>,
     bytes: &[u8],
-    going: Going,
+    expected: Expected,
+    around: Around,
     text: &mut Vec<u8>,
 ) -> Result<(), AllocError>
     requires { length bytes.now < 2 ^ 32 }
     ensures { OnOk result (text.new.items
-        ≡ text.old.items ++ unclosed (origin_data origin.entry) bytes.now going) }
+        ≡ text.old.items ++ unclosed (origin_data origin.entry) bytes.now expected around) }
 {
-    if !is_open(going.wanted) {
-        return text.extend_from_slice(text_sentence(TextFaultKind::Ended).as_bytes());
+    if !around.is_open {
+        text.extend_from_slice(b"the text ends too early: expected ")?;
+        return push_expected(expected, text);
     }
-    push_open(origin, bytes, going.begun, text)?;
-    text.extend_from_slice(b" isn't closed")
+    push_open(origin, bytes, around.head, text)?;
+    text.extend_from_slice(b", is not closed")
 }
 
-fn push_range(going: Going, text: &mut Vec<u8>) -> Result<(), AllocError>
-    ensures { OnOk result (text.new.items ≡ text.old.items
-        ++ (codes "a whole number is wanted here: " ++ range_text going.wanted)) }
+fn word_sentence(kind: TextFaultKind, word: &[u8], expected: Expected) -> &'static str
+    ensures { result.now ≡ word_sentence kind word.now expected }
 {
-    text.extend_from_slice(b"a whole number is wanted here: ")?;
-    push_bytes(range_text(going.wanted).as_bytes(), text)
-}
-
-fn bad_word(place: usize) -> &'static str
-    ensures { result.now ≡ bad_word place }
-{
-    if place == 0 {
-        NOT_BEGUN
-    } else {
-        text_sentence(TextFaultKind::BadWord)
-    }
-}
-
-fn bad_weight(word: &[u8]) -> &'static str
-    ensures { result.now ≡ bad_weight word.now }
-{
-    match word {
-        [b'-', ..] => NEGATIVE,
-        _ => text_sentence(TextFaultKind::BadWeight),
-    }
-}
-
-fn unknown_type(bytes: &[u8], place: usize) -> &'static str
-    requires { length bytes.now < 2 ^ 32 }
-    ensures { result.now ≡ unknown_type bytes.now place }
-{
-    if is_command(bytes, place) {
-        NO_OPERATOR
-    } else {
-        text_sentence(TextFaultKind::UnknownType)
-    }
-}
-
-fn flaw_sentence(bytes: &[u8], fault: TextFault) -> &'static str
-    requires { length bytes.now < 2 ^ 32 }
-    ensures { result.now ≡ flaw_sentence bytes.now fault.kind fault.place }
-{
-    match fault.kind {
-        TextFaultKind::BadWord => bad_word(fault.place),
-        TextFaultKind::BadWeight => bad_weight(word_at(bytes, fault.place)),
-        TextFaultKind::UnknownType => unknown_type(bytes, fault.place),
-        TextFaultKind::LeftOut => left_out(word_at(bytes, fault.place)),
-        kind => text_sentence(kind),
+    match kind {
+        TextFaultKind::BadWeight => bad_weight(word, expected),
+        TextFaultKind::DuplicateId => same_id(expected),
+        TextFaultKind::DuplicateName => same_name(expected),
+        TextFaultKind::SecondParent => {
+            "this item is already in a bucket; an item can be in only one"
+        }
+        TextFaultKind::OtherAlgorithm => {
+            "expected `straw2`, `straw` or `list`; maps with other algorithms can't be edited here, and changing the algorithm moves data"
+        }
+        TextFaultKind::LeftOut => left_out(expected),
+        TextFaultKind::TooMany => too_many(word, expected),
+        TextFaultKind::SumTooLarge => {
+            "the total weight is too large: at most 65535.99998 for a bucket and 134217727.99998 for all devices"
+        }
+        _ => "not enough memory for the map",
     }
 }
 
@@ -359,13 +574,36 @@ pub(crate) fn push_flaw_reason(
 ) -> Result<(), AllocError>
     requires { length bytes.now < 2 ^ 32 }
     ensures { OnOk result (text.new.items ≡ text.old.items
-        ++ flaw_reason (origin_data origin.entry) bytes.now fault.kind fault.place) }
+        ++ flaw_reason (origin_data origin.entry) bytes.now fault.kind fault.place fault.expected) }
 {
+    let place = fault.place;
+    let expected = fault.expected;
     match fault.kind {
-        TextFaultKind::Ended => push_unclosed(origin, bytes, going_at(bytes, fault.place), text),
-        TextFaultKind::Unexpected => push_no_word(origin, bytes, fault.place, text),
-        TextFaultKind::BadNumber => push_range(going_at(bytes, fault.place), text),
-        _ => text.extend_from_slice(flaw_sentence(bytes, fault).as_bytes()),
+        TextFaultKind::BadWord => push_bad_word(bytes, place, expected, text),
+        TextFaultKind::Ended => {
+            push_unclosed(origin, bytes, expected, around_at(bytes, place), text)
+        }
+        TextFaultKind::Unexpected => push_no_word(origin, bytes, place, expected, text),
+        TextFaultKind::BadNumber => push_range(expected, text),
+        TextFaultKind::UnknownType => push_unknown_type(bytes, place, expected, text),
+        TextFaultKind::UnknownItem => push_missing(
+            origin,
+            bytes,
+            place,
+            "no device or finished bucket above has this name",
+            text,
+        ),
+        TextFaultKind::UnknownBucketInRule => push_missing(
+            origin,
+            bytes,
+            place,
+            "no finished bucket above has this name",
+            text,
+        ),
+        kind => push_bytes(
+            word_sentence(kind, word_at(bytes, place), expected).as_bytes(),
+            text,
+        ),
     }
 }
 
@@ -375,7 +613,7 @@ pub(crate) fn flaw_place(bytes: &[u8], fault: TextFault) -> usize
     ensures { result ≡ flaw_place bytes.now fault.kind fault.place }
 {
     match fault.kind {
-        TextFaultKind::Ended => going_at(bytes, fault.place).last,
+        TextFaultKind::Ended => around_at(bytes, fault.place).last,
         _ => fault.place,
     }
 }

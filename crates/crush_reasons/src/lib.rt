@@ -6,6 +6,7 @@
 //! memory runs out.
 #![tactic(auto)]
 
+mod around;
 mod ceph;
 mod edit_lines;
 mod edits_left;
@@ -22,7 +23,6 @@ mod replay;
 mod sentences;
 mod shown;
 mod sums;
-mod wanted;
 mod way;
 mod words;
 mod written;

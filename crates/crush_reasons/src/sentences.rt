@@ -1,55 +1,18 @@
 //! The sentences for faults and refusals, in an operator's words.
 
 ghost use Rattle.std.specs.Prelude.{◌≡◌};
-ghost use Rattle.crush_reasons.specs.Sentences.{job_sentence, refusal_sentence, reply_sentence, stale_sentence, text_sentence};
+ghost use Rattle.crush_reasons.specs.Sentences.{job_sentence, refusal_sentence, reply_sentence, stale_sentence};
 
 use crush_edits::Refusal;
 use crush_history::Reply;
 use crush_script::JobFault;
-use crush_text::TextFaultKind;
 
 /// The sentence for a guarded batch that came too late.
 pub(crate) const STALE: &str =
     "the map has changed since: look at it again, and name the number of changes that is told";
 
-/// Returns the sentence for a fault of a map's text.
-pub fn text_sentence(kind: TextFaultKind) -> &'static str
-    ensures { result.now ≡ text_sentence kind }
-{
-    match kind {
-        TextFaultKind::BadWord => {
-            "a word has letters, digits, - _ and . alone, and at most 255 of them"
-        }
-        TextFaultKind::Ended => "the text ends inside a statement: its end is wanted",
-        TextFaultKind::Unexpected => "another word is wanted here",
-        TextFaultKind::BadNumber => "a whole number is wanted that is in range here",
-        TextFaultKind::BadWeight => {
-            "a weight is wanted, 0 to 65535.99998, of a device at most 32767.99998"
-        }
-        TextFaultKind::DuplicateId => "a number or an id is wanted that no line above has",
-        TextFaultKind::DuplicateName => "a name or a class is wanted that no line above has",
-        TextFaultKind::UnknownType => "no type of this name is declared above",
-        TextFaultKind::UnknownItem => {
-            "no device is declared and no bucket is closed above with this name"
-        }
-        TextFaultKind::SecondParent => {
-            "a bucket above holds this item: an item stands in one bucket"
-        }
-        TextFaultKind::OtherAlgorithm => {
-            "the algorithm is to be straw2, straw or list: a bucket of another can't be edited here, and changing it moves data"
-        }
-        TextFaultKind::LeftOut => "a map of this kind can't be edited here",
-        TextFaultKind::UnknownBucketInRule => "a rule takes a bucket that is closed above",
-        TextFaultKind::TooMany => "the map has as many of these already as it may have",
-        TextFaultKind::SumTooLarge => {
-            "with this item a bucket weighs more than 65535.99998, or all devices more than 134217727.99998"
-        }
-        TextFaultKind::OutOfMemory => "there is no memory for the map",
-    }
-}
-
-/// Returns the sentence for a fault of a job. For a fault of the map's text, it is that of
-/// [`text_sentence`].
+/// Returns the sentence for a fault of a job, and nothing for a fault of the map's text, whose
+/// sentence depends on the text.
 pub fn job_sentence(fault: JobFault) -> &'static str
     ensures { result.now ≡ job_sentence fault }
 {
@@ -63,7 +26,7 @@ pub fn job_sentence(fault: JobFault) -> &'static str
         }
         JobFault::TooManyOperators(_) => "a job has at most 16 operators",
         JobFault::DuplicateOperator(_) => "an operator above has this name",
-        JobFault::Text(fault) => text_sentence(fault.kind),
+        JobFault::Text(_) => "",
         JobFault::OutOfMemory => "there is no memory for the job",
         JobFault::TooLong => "a job has at most 16777216 bytes",
         JobFault::TooManyCalls(_) => "a job has at most 65536 commands and batches",

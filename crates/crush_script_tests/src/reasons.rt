@@ -55,7 +55,7 @@ fn a_fault_is_told_with_its_place(rt: HostRuntime) {
                 before: 0
             },
             MISSPELT,
-            b"  line 24, column 1\n    hots h2 {\n    ^\n  no type of this name is declared above\n"
+            b"  line 24, column 1\n    hots h2 {\n    ^\n  no type named `hots` is declared above\n"
         ) && is_listed(
             &rt,
             Origin {
@@ -120,12 +120,88 @@ fn what_does_not_fit_is_told(rt: HostRuntime) {
             &rt,
             origin,
             CUT,
-            b"  line 3, column 5\n     id -2\n        ^\n  the host h1 that begins at line 2 isn't closed\n"
+            b"  line 3, column 5\n     id -2\n        ^\n  host h1, which begins at line 2, is not closed\n"
         ) && is_listed(
             &rt,
             origin,
             ALGO,
-            b"  line 4, column 2\n     algo straw2\n     ^\n  another word is wanted here: id or alg; in the host h1 that begins at line 2\n"
+            b"  line 4, column 2\n     algo straw2\n     ^\n  unexpected word: expected `id` or `alg` (in host h1, which begins at line 2)\n"
+        )
+    );
+}
+
+const BELOW: &[u8] =
+    b"type 1 host\ntype 2 root\nroot default {\nid -1\nalg straw2\nitem h1\n}\nhost h1 {\nid -2\nalg straw2\n}\n";
+
+#[test]
+fn a_misspelt_class_and_a_bucket_below_are_told(rt: HostRuntime) {
+    let origin = Origin {
+        name: b"",
+        before: 0,
+    };
+    assert!(rt;
+        is_listed(
+            &rt,
+            origin,
+            b"device 0 osd.0 clas ssd\n",
+            b"  line 1, column 16\n    device 0 osd.0 clas ssd\n                   ^\n  no type named `clas` is declared above; did you mean `class`?\n"
+        ) && is_listed(
+            &rt,
+            origin,
+            BELOW,
+            b"  line 6, column 6\n    item h1\n         ^\n  `h1` is defined below, at line 8: move that bucket up\n"
+        )
+    );
+}
+
+#[test]
+fn texts_that_are_no_maps_are_named(rt: HostRuntime) {
+    let origin = Origin {
+        name: b"",
+        before: 0,
+    };
+    assert!(rt;
+        is_listed(
+            &rt,
+            origin,
+            b"\xEF\xBB\xBFtype 1 host\n",
+            b"  line 1, column 1\n    ???type 1 host\n    ^\n  the text begins with a byte order mark: save it without one\n"
+        ) && is_listed(
+            &rt,
+            origin,
+            b"\x1F\x8B\x08\n",
+            b"  line 1, column 1\n    ???\n    ^\n  this file is compressed with gzip: unpack it first\n"
+        ) && is_listed(
+            &rt,
+            origin,
+            b"ID  CLASS  WEIGHT\n",
+            b"  line 1, column 1\n    ID  CLASS  WEIGHT\n    ^\n  this looks like the output of `ceph osd tree`: a text map is the output of `crushtool -d`\n"
+        )
+    );
+}
+
+#[test]
+fn numbers_and_words_that_are_expected_are_told(rt: HostRuntime) {
+    let origin = Origin {
+        name: b"",
+        before: 0,
+    };
+    assert!(rt;
+        is_listed(
+            &rt,
+            origin,
+            b"tunable a 4294967296\n",
+            b"  line 1, column 11\n    tunable a 4294967296\n              ^\n  expected a whole number from 0 to 4294967295\n"
+        ) && is_listed(
+            &rt,
+            origin,
+            b"type 1 host\nhost h1 id",
+            b"  line 2, column 9\n    host h1 id\n            ^\n  unexpected word: expected `{`\n"
+        ) && is_listed(
+            &rt,
+            origin,
+            b"device 0 osd.0\ndevice 1",
+            b"  line 2, column 8\n    device 1\n           ^\n  the text ends too early: expected a name\n"
         )
     );
 }
@@ -144,7 +220,7 @@ fn a_negative_weight_is_told_as_that_of_a_heavy_bucket(rt: HostRuntime) {
             &rt,
             origin,
             NEGATIVE,
-            b"  line 10, column 16\n    item h1 weight -32767.00000\n                   ^\n  crushtool -d prints a bucket's weight from 32768 on as a negative number: write 0, and the sum takes its place\n"
+            b"  line 10, column 16\n    item h1 weight -32767.00000\n                   ^\n  crushtool -d prints a bucket's weight of 32768 and more as a negative number: write 0, and the sum of the bucket's items takes its place\n"
         )
     );
 }

@@ -1,0 +1,47 @@
+-- Which bucket or rule of a map's text is around a place, and where a bucket is defined.
+use Rattle.std.specs.Prelude.{ℕ, Bool, true, false, ◌&&◌, ◌||◌, not, List, [], ◌∷◌, bytes_eq, codes, if◌then◌else◌, take}
+use Rattle.crush_units.specs.Words.{Word, words}
+use Rattle.crush_reasons.specs.declared.around.Around.{Around}
+use Rattle.crush_reasons.specs.declared.around.Search.{Search}
+
+-- before the first word
+abbrev pub nothing_yet : Around
+nothing_yet = record { is_open = false; head = 0; before = 0; last = 0 }
+
+-- after one word more: `{` opens the bucket or the rule that begins with the two words before it, and `}` closes it
+abbrev pub one_further : Around → Word → Around
+one_further a w = record {
+  is_open = bytes_eq w.text (codes "{") || (a.is_open && not (bytes_eq w.text (codes "}")));
+  head = if bytes_eq w.text (codes "{") then a.before else a.head;
+  before = a.last;
+  last = w.place;
+}
+
+unfoldable pub further : Around → List Word → Around
+further a [] = a
+further a (w ∷ ws) = further (one_further a w) ws
+
+-- WHAT IS AROUND a place: which bucket or rule is open there, and the last word before the place
+abbrev pub around_at : List ℕ → ℕ → Around
+around_at bytes place = further nothing_yet (words 0 (take place bytes)).words
+
+-- before the first word, of the search for a bucket
+abbrev pub nothing_seen : Search
+nothing_seen = record { is_name = false; is_rule = false; last = 0; found = 0 }
+
+-- after one word more: a bucket is defined where its name, which doesn't follow `rule`, comes before `{`
+abbrev pub looked_further : List ℕ → Search → Word → Search
+looked_further name s w = record {
+  is_name = bytes_eq w.text name && not s.is_rule;
+  is_rule = bytes_eq w.text (codes "rule");
+  last = w.place;
+  found = if bytes_eq w.text (codes "{") && s.is_name then s.last else s.found;
+}
+
+unfoldable pub looked_for : List ℕ → Search → List Word → Search
+looked_for name s [] = s
+looked_for name s (w ∷ ws) = looked_for name (looked_further name s w) ws
+
+-- WHERE A BUCKET IS DEFINED: the place of the name of the last bucket with this name, or 0
+abbrev pub defined_at : List ℕ → List ℕ → ℕ
+defined_at bytes name = (looked_for name nothing_seen (words 0 bytes).words).found

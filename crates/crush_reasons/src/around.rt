@@ -1,0 +1,108 @@
+//! Says which bucket or rule of a map's text is around a place, and where a bucket is defined.
+
+ghost use Rattle.std.specs.Prelude.{◌≡◌};
+ghost use Rattle.crush_units.specs.Words.{words};
+ghost use Rattle.crush_reasons.specs.Around.{around_at, defined_at, further, looked_for, looked_further, nothing_seen, nothing_yet, one_further};
+
+use crate::words::{next_placed, up_to};
+use crush_units::Reader;
+
+/// What the words before a place say, if none of them has a fault.
+#[derive(Clone, Copy)]
+pub(crate) struct Around {
+    /// Whether the place is between the braces of a bucket or a rule.
+    pub(crate) is_open: bool,
+    /// The place of the first word of this bucket or rule.
+    pub(crate) head: usize,
+    /// The place of the word before the last word.
+    pub(crate) before: usize,
+    /// The place of the last word.
+    pub(crate) last: usize,
+}
+
+impl Around {
+    fn one_further(self, place: usize, word: &[u8]) -> Around
+        ensures { result ≡ one_further self (record { place = place; text = word.now }) }
+    {
+        let opens = word == b"{".as_slice();
+        let closes = word == b"}".as_slice();
+        Around {
+            is_open: opens || (self.is_open && !closes),
+            head: if opens { self.before } else { self.head },
+            before: self.last,
+            last: place,
+        }
+    }
+}
+
+#[tactic(auto, unfolding(crate::specs::Around::further))]
+fn go_through(text: &[u8]) -> Around
+    ensures { result ≡ further nothing_yet (words 0 text.now).words }
+{
+    let mut around = Around {
+        is_open: false,
+        head: 0,
+        before: 0,
+        last: 0,
+    };
+    let mut reader = Reader::new(text);
+    while let Some(word) = next_placed(&mut reader) {
+        around = around.one_further(word.place, word.text);
+    }
+    around
+}
+
+pub(crate) fn around_at(bytes: &[u8], place: usize) -> Around
+    ensures { result ≡ around_at bytes.now place }
+{
+    go_through(up_to(place, bytes))
+}
+
+/// What the words so far say about the bucket with a name.
+#[derive(Clone, Copy)]
+pub(crate) struct Search {
+    /// Whether the last word is this name and the word before it isn't `rule`.
+    pub(crate) is_name: bool,
+    /// Whether the last word is `rule`.
+    pub(crate) is_rule: bool,
+    /// The place of the last word.
+    pub(crate) last: usize,
+    /// The place of the name of the last bucket that has it, or 0.
+    pub(crate) found: usize,
+}
+
+impl Search {
+    fn looked_further(self, name: &[u8], place: usize, word: &[u8]) -> Search
+        ensures { result ≡ looked_further name.now self (record { place = place; text = word.now }) }
+    {
+        let opens = word == b"{".as_slice();
+        Search {
+            is_name: word == name && !self.is_rule,
+            is_rule: word == b"rule".as_slice(),
+            last: place,
+            found: if opens && self.is_name {
+                self.last
+            } else {
+                self.found
+            },
+        }
+    }
+}
+
+/// Returns the place of the name of the last bucket with this name, or 0 if there is none.
+#[tactic(auto, unfolding(crate::specs::Around::looked_for))]
+pub(crate) fn defined_at(bytes: &[u8], name: &[u8]) -> usize
+    ensures { result ≡ defined_at bytes.now name.now }
+{
+    let mut search = Search {
+        is_name: false,
+        is_rule: false,
+        last: 0,
+        found: 0,
+    };
+    let mut reader = Reader::new(bytes);
+    while let Some(word) = next_placed(&mut reader) {
+        search = search.looked_further(name, word.place, word.text);
+    }
+    search.found
+}
