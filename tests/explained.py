@@ -2,6 +2,7 @@
 docs/user/RULES.md."""
 
 import collections
+import os
 import pathlib
 import re
 
@@ -31,7 +32,7 @@ OF_REFUSALS, OF_RUNS = sentences("Refusals", "Refusal"), sentences("Sentences of
 OF_NAMES = sentences("Refusals that name what is in the way", "Refusal")
 # The forms of lines by their first words, and what each word behind is to be.
 FORMS = {
-    "%operator": ("NAME", ["name"]), "begin": ("", ["at", "count"]), "commit": ("", []),
+    "%operator": ("NAME", ["name"]), "begin": ("at N", ["at", "count"]), "commit": ("", []),
     "add": ("osd.N WEIGHT TYPE=NAME ..", ["device", "weight", "pairs"]),
     "set": ("osd.N WEIGHT TYPE=NAME ..", ["device", "weight", "pairs"]),
     "create-or-move": ("osd.N WEIGHT TYPE=NAME ..", ["device", "weight", "pairs"]),
@@ -41,9 +42,14 @@ FORMS = {
     "rename-bucket": ("FROM TO", ["name", "name"]), "set-device-class": ("CLASS NAME", ["name", "name"]),
     "rm-device-class": ("NAME", ["name"]),
 }
-MISSING = {"device": "a device is missing, as osd.0", "weight": "a weight is missing, as 1.5", "name": "a name is missing",
-           "count": "a number of changes is missing"}
-OPEN, MOST_EDITS = "a batch is open here: commit ends it", "a batch has at most 65536 edits"
+# The commands in the order in which one is looked for that is near to a word.
+COMMANDS = ["add", "set", "create-or-move", "move", "swap-bucket", "reweight", "reweight-subtree", "rm", "add-bucket",
+            "rename-bucket", "set-device-class", "rm-device-class", "begin", "commit"]
+OPEN, MOST_EDITS = "a batch is already open: end it with `commit`", "a batch has at most 65536 edits"
+OF_FILES = {
+    "BadLine": "the file's name can't be used as an operator's name: begin the file with a line %operator NAME",
+    "DuplicateOperator": "another operator above has this name: give one of the two files a line %operator NAME",
+}
 # What is wanted in a map's text at each place of its grammar, and the range of a number there.
 STATEMENT = "`tunable`, `device`, `type`, `rule` or the name of a type"
 LATER = "`rule` or the name of a type; tunables, devices and types must come before the first bucket or rule"
@@ -87,11 +93,15 @@ def bare(word):
 
 
 def weight_meant(word):
-    plain = word[:-1] if word.endswith("T") else word
-    if not weight_fault(plain):
-        return plain
+    if not weight_fault(word):
+        return f"did you mean {word}?"
     parts = re.fullmatch("([0-9]{0,10})[,.]([0-9]{1,18})", word)
-    return f"{parts[1] or 0}.{parts[2]}" if parts else "a number as 1.5"
+    if parts:
+        return f"did you mean {parts[1] or 0}.{parts[2]}?"
+    number = re.match("[0-9.]*", word)[0]
+    if not weight_fault(number) and re.fullmatch("[A-Za-z]+", word[len(number):]):
+        return "weights are in TiB, without a unit: a disk sold as 4 TB weighs 3.63869"
+    return "write a number such as 1.5"
 
 
 def wrong(slot, word, count):
@@ -100,18 +110,21 @@ def wrong(slot, word, count):
     if slot == "device":
         digits = re.sub("^osd\\.", "", bare(word))
         is_number = re.fullmatch("[0-9]{1,10}", digits) and int(digits) < 2**31
-        return f"{told} is no device; write osd.{int(digits) if is_number else 'N, N from 0 to 2147483647'}"
+        return f"{told} is not a device: " + (f"did you mean osd.{int(digits)}?" if is_number else
+                                              "write osd.N with N from 0 to 2147483647")
     if slot == "weight":
-        large = weight_fault(word) == "large"
-        return told + (" is no weight: 0 to 65535.99998" if large else f" is no weight; write {weight_meant(bare(word))}")
+        large = weight_fault(word) == "large" or re.fullmatch("[0-9]{11,}", word)
+        return told + (" is too large: weights are in TiB, at most 65535.99998" if large
+                       else f" is not a weight: {weight_meant(bare(word))}")
     if slot == "name":
         own = bare(word)
-        return told + (f" is no name; write {own}" if is_name(own) else
-                       " is no name: letters, digits, - _ and . alone, at most 255")
+        return told + (f" is not a name: did you mean {own}?" if is_name(own) else
+                       " is not a name: use letters, digits, `-`, `_` and `.`, at most 255")
     if slot == "pairs":
-        return told + (" is no pair; write TYPE=NAME without blanks" if count < 16 else
-                       " is a pair too many: a location has at most 16")
-    return told + (" is no number of changes, 0 to 65536" if slot == "count" else " is a word too many")
+        return f"{told} is not a pair: write TYPE=NAME without spaces" if count < 16 else "too many pairs: at most 16"
+    if slot == "at":
+        return f"unexpected word {told}: expected `at N` or the end of the line"
+    return f"{told} is not a number of changes: expected 0 to 65536" if slot == "count" else f"unexpected extra word {told}"
 
 
 def fits(slot, word, count):
@@ -126,24 +139,41 @@ def line_words(line):
 
 
 def line_reason(line):
-    """What is told of a line that isn't of its form: the form, and the first word that doesn't fit."""
+    """The number of the word of a line that doesn't fit, if the line has it, and what is told: the form, and this word."""
     first, *rest = line_words(line)
     if first not in FORMS:
-        return "a line that begins with % is %operator NAME"
+        return None, "a line that begins with % must be `%operator NAME`"
     form, slots = FORMS[first]
-    head = "begin, or begin at N" if first == "begin" else f"{'rm' if first == 'remove' else first} {form}".rstrip()
+    form = f"{'rm' if first == 'remove' else first} {form}".rstrip()
     slots, count = list(slots), 0
-    for word in rest:
+    for number, word in enumerate(rest, 1):
         slot = slots[0] if slots else ""
         if not slot or not fits(slot, word, count):
-            return f"{head}: {wrong(slot, word, count)}"
+            return number, f"{form}: {wrong(slot, word, count)}"
         count += slot == "pairs"
         slots = slots if slot == "pairs" else slots[1:]
+    if slots and slots[0] not in ("pairs", "at"):
+        return None, f"{form}: {form.split()[len(rest) + 1]} is missing"
     if first == "commit":
-        return f"{head}: no batch is open here: begin begins one"
-    if first == "begin":
-        return f"{head}: {MISSING['count'] if slots == ['count'] else OPEN}"
-    return f"{head}: {MISSING[slots[0]] if slots and slots[0] != 'pairs' else MOST_EDITS}"
+        return None, "no batch is open: start one with `begin`"
+    return None, OPEN if first == "begin" else MOST_EDITS
+
+
+def is_near_command(word, command):
+    """Whether one byte is changed, left out or put in, or two beside one another are exchanged."""
+    same = len(os.path.commonprefix([word, command]))
+    word, command = word[same:], command[same:]
+    return word[1:] == command[1:] or word[1:] == command or word == command[1:] or (
+        len(word) > 1 and word[1::-1] == command[:2] and word[2:] == command[2:])
+
+
+def no_command(line):
+    """What is told of a line whose first word is no command."""
+    words = line_words(line)
+    if words[:3] == ["ceph", "osd", "crush"]:
+        return "leave out `ceph osd crush`"
+    meant = [command for command in COMMANDS if is_near_command(words[0], command)]
+    return f"`{shown_line(words[0])}` is not a command: " + (f"did you mean {meant[0]}?" if meant else "see --help")
 
 
 def bucket_wanted(words):
@@ -383,13 +413,19 @@ def fault_text(text, fault, files=(("", 1, 1),), of_runs=""):
         return f"  {place(text, at, files)}  {reason}\n"
     if where.startswith("line "):
         number = int(where[5:])
-        line, told = text.split("\n")[number - 1], line_told(number, files)
-        reason = OF_JOBS[kind]
-        if kind == "BadLine":
-            put = told.endswith("line 0")
-            reason = ("the file's name is no operator's: begin it with a line %operator NAME" if put
-                      else line_reason(line))
-        return f"  {told}\n    {shown_line(line)}\n  {reason}\n"
+        lines, told = text.split("\n"), line_told(number, files)
+        line, word, reason = lines[number - 1], None, OF_JOBS[kind]
+        if told.endswith("line 0"):
+            reason = OF_FILES.get(kind, reason)
+        elif kind == "BadLine":
+            word, reason = line_reason(line)
+        elif kind == "NoSuchCommand":
+            word, reason = 0, no_command(line)
+        if word is None:
+            return f"  {told}\n    {shown_line(line)}\n  {reason}\n"
+        starts = [found.start() for found in re.finditer("[^ \t]+", line)]
+        at = sum(len(before) + 1 for before in lines[: number - 1]) + starts[word]
+        return f"  {place(text, at, files)}  {reason}\n"
     return f"  {OF_RUNS[of_runs + kind] if of_runs else OF_JOBS[kind]}\n"
 
 

@@ -171,7 +171,7 @@ class Refusals(Trial):
     def test_faulty_line(self):
         printed = self.try_commands("reweight osd.2 1.0\nfly h1\n", 1)
         self.assertIn("commands, line 2: NoSuchCommand: fly h1\n", printed)
-        self.assertIn("\n  the first word of a line is to be a command", printed)
+        self.assertIn("is not a command: see --help", printed)
         self.assertNotRegex(printed, "line [0-9][0-9]")
 
     def test_faulty_line_of_a_section(self):

@@ -19,7 +19,7 @@ at_origins o p xs ys f same origins = λ i. fault_text (origins i (fault_line (s
 
 -- the notes of a fault are the same for both bytes: if the fault has a place, the bytes are no more than a job may have, and then both are the same
 same_text : (o p : ℕ → OriginData) (xs ys : List ℕ) (f : JobFault) → (length xs ≤ LONGEST_JOB → xs ≡ ys) → (length xs ≤ LONGEST_JOB → o ≡ p) → IsJobFault xs f → fault_text (o (fault_line xs f)) xs f ≡ fault_text (p (fault_line ys f)) ys f
-same_text o p xs ys (BadLine n) same origins h = at_origins o p xs ys (BadLine n) (same h.short) (origins h.short)
+same_text o p xs ys (BadLine n why) same origins h = at_origins o p xs ys (BadLine n why) (same h.short) (origins h.short)
 same_text o p xs ys (NoSuchCommand n) same origins h = at_origins o p xs ys (NoSuchCommand n) (same h.short) (origins h.short)
 same_text o p xs ys (OpenBatch n) same origins h = at_origins o p xs ys (OpenBatch n) (same h.short) (origins h.short)
 same_text o p xs ys (TooManyOperators n) same origins h = at_origins o p xs ys (TooManyOperators n) (same h.short) (origins h.short)

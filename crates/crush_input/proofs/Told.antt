@@ -58,7 +58,7 @@ same_of_job all bytes xs job input is_xs is =
 
 -- a fault of the bytes that were read is also a fault of all bytes
 fault_of_all : (bytes xs : List ℕ) (f : JobFault) → IsInput bytes xs → IsJobFault bytes f → IsJobFault xs f
-fault_of_all bytes xs (BadLine n) input h = subst (λ (z : List ℕ). IsJobFault z (BadLine n)) (input.read h.short) h
+fault_of_all bytes xs (BadLine n why) input h = subst (λ (z : List ℕ). IsJobFault z (BadLine n why)) (input.read h.short) h
 fault_of_all bytes xs (NoSuchCommand n) input h = subst (λ (z : List ℕ). IsJobFault z (NoSuchCommand n)) (input.read h.short) h
 fault_of_all bytes xs (OpenBatch n) input h = subst (λ (z : List ℕ). IsJobFault z (OpenBatch n)) (input.read h.short) h
 fault_of_all bytes xs (TooManyOperators n) input h = subst (λ (z : List ℕ). IsJobFault z (TooManyOperators n)) (input.read h.short) h

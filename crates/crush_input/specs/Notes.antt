@@ -11,6 +11,7 @@ use Rattle.crush_reasons.specs.Shown.{shown_byte}
 use Rattle.crush_reasons.specs.Written.{written_text}
 use Rattle.crush_model.specs.Table.{Row}
 use Rattle.crush_script.specs.Lines.{map_part}
+use Rattle.crush_script.specs.Sections.{job_lines, lines_data}
 use Rattle.crush_text.specs.declared.fault.TextFault.{TextFault}
 use Rattle.crush_script.specs.declared.fault.JobFault.{JobFault}
 use Rattle.crush_script.specs.declared.fault.JobFault.TheVariants as job
@@ -28,21 +29,22 @@ abbrev pub IsKept : Option MapData → SettingData → List Row → Type 0
 IsKept None s t = ⊥
 IsKept (Some m) s t = MapStands m s t
 
--- WHAT IS KEPT OF A JOB'S TEXT to write notes from: the file that each line comes from, the bytes, and the notes on bucket weights in the text that aren't the sum
+-- WHAT IS KEPT OF A JOB'S TEXT to write notes from: the file that each line comes from, the lines of each script's edits, the bytes, and the notes on bucket weights in the text that aren't the sum
 pub record TextData : Type 0 where
   pub origin : ℕ → OriginData
+  pub lines : List (List ℕ)
   pub bytes : List ℕ
   pub weights : List ℕ
 
 -- what the program keeps, as data
 abbrev pub text_data : KeptText → TextData
-text_data k = record { origin = origin_of k.origins; bytes = k.bytes.items; weights = k.weights.items }
+text_data k = record { origin = origin_of k.origins; lines = lines_data k.lines.items; bytes = k.bytes.items; weights = k.weights.items }
 
 -- NOTES OF REFUSED CALLS: with `--explain`, the lines of these calls with reasons, which depend on the job's text and on the setting
 -- and the table before the first call; in any other strict run, the lines without reasons; otherwise nothing
 abbrev pub refused_notes : Mode → TextData → SettingData → List Row → List (List ℕ) → List EntryData → List ℕ
 refused_notes mode text s t names h =
-    if mode.explain then explained_job text.origin text.bytes s t names h else (if mode.strict then refused_text names 1 h else [])
+    if mode.explain then explained_job text.origin text.lines s t names h else (if mode.strict then refused_text names 1 h else [])
 
 -- NOTES OF WEIGHTS: with `--explain`, a warning line if the map's text has carriage returns and no line feed, and then a line for each bucket item
 -- of this text whose weight isn't the sum in the job's table; otherwise nothing
@@ -55,7 +57,7 @@ bytes_kept explain bytes = if explain then bytes else []
 
 -- THE TEXT that a run keeps of a job with these bytes and this table, whose lines have these origins
 abbrev pub text_of : Bool → (ℕ → OriginData) → List ℕ → List Row → TextData
-text_of explain origin bytes t = record { origin = origin; bytes = bytes_kept explain bytes; weights = weight_notes explain bytes t }
+text_of explain origin bytes t = record { origin = origin; lines = job_lines bytes; bytes = bytes_kept explain bytes; weights = weight_notes explain bytes t }
 
 -- the notes of refused calls, followed by those of weights, which were kept
 abbrev pub history_notes : Mode → TextData → SettingData → List Row → List (List ℕ) → List EntryData → List ℕ

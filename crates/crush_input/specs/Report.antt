@@ -33,7 +33,7 @@ text_fault f = codes "crushedit: byte " ++ decimal f.place ++ codes ": " ++ faul
 
 -- the line for a fault of the job
 abbrev pub job_fault : JobFault → List ℕ
-job_fault (BadLine number) = line_fault number (codes "BadLine")
+job_fault (BadLine number why) = line_fault number (codes "BadLine")
 job_fault (NoSuchCommand number) = line_fault number (codes "NoSuchCommand")
 job_fault (OpenBatch number) = line_fault number (codes "OpenBatch")
 job_fault (TooManyOperators number) = line_fault number (codes "TooManyOperators")

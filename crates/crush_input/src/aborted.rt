@@ -12,6 +12,8 @@ use std::alloc::Global;
 pub struct KeptText<'a> {
     /// The bytes of the job; empty without `explain`.
     pub bytes: Vec<u8>,
+    /// For each script of the job, the numbers of the lines that say its edits.
+    pub lines: Vec<Vec<u32>>,
     /// The files that the lines of the job come from.
     pub origins: Origins<'a>,
     /// The notes on carriage returns in the map's text, and on bucket weights in it that aren't the
@@ -22,6 +24,7 @@ pub struct KeptText<'a> {
 /// A job, and what is kept of its text.
 #[derive(Drop)]
 pub struct ParsedJob<'a> {
+    /// The job, without the lines of its edits, which are kept with the text.
     pub job: Job,
     pub text: KeptText<'a>,
 }

@@ -66,7 +66,7 @@ fn write_job_fault<E: Write>(fault: JobFault, err: &mut E) -> Result<(), WriteFa
     ensures { Writes result (E.contents err.old) (E.contents err.new) (job_fault fault) }
 {
     match fault {
-        JobFault::BadLine(number) => write_line_fault(number, "BadLine", err),
+        JobFault::BadLine { line, .. } => write_line_fault(line, "BadLine", err),
         JobFault::NoSuchCommand(number) => write_line_fault(number, "NoSuchCommand", err),
         JobFault::OpenBatch(number) => write_line_fault(number, "OpenBatch", err),
         JobFault::TooManyOperators(number) => write_line_fault(number, "TooManyOperators", err),

@@ -7,7 +7,8 @@ ghost use Rattle.crush_edits.specs.Setting.{SettingData};
 ghost use Rattle.crush_history.specs.Entries.{AreOf};
 ghost use Rattle.crush_history.specs.HistoryText.{names_of};
 ghost use Rattle.crush_history.specs.Script.{scripts_data};
-ghost use Rattle.crush_script.specs.Job.{IsJobFault};
+ghost use Rattle.crush_script.specs.Job.{IsJobFault, JobData, JobStands};
+ghost use Rattle.crush_script.specs.Sections.{lines_data};
 ghost use Rattle.crush_input.specs.Notes.{AreNotesOfFault, AreNotesOfFile, IsKept, IsNoteOfUnreadFile, bytes_kept, history_notes, place_notes, refused_notes, text_data, weight_notes, IsStrict};
 ghost use Rattle.crush_reasons.specs.Explained.{explained_job};
 ghost use Rattle.crush_input.specs.Origins.{origin_of};
@@ -21,7 +22,7 @@ use crate::shown::put_shown;
 use crush_history::{Entry, Script, count_refused, refused_text};
 use crush_map::CrushMap;
 use crush_options::Mode;
-use crush_reasons::{JobText, Locates, explained_job, fault_line, fault_text, written_text};
+use crush_reasons::{JobLines, Locates, explained_job, fault_line, fault_text, written_text};
 use crush_script::{Job, JobFault, map_part};
 use crush_units::limits::LONGEST_JOB;
 use std::alloc::{AllocError, Global};
@@ -113,24 +114,23 @@ fn reasons_of(
     history: History<'_>,
     text: &KeptText<'_>,
 ) -> Result<Vec<u8>, AllocError>
-    requires short { length text.now.bytes.items ≤ LONGEST_JOB }
     requires few { length history.entries.now ≤ MOST_ENTRIES }
     requires operators { AreOf (length history.scripts.now) history.entries.now }
     requires kept { is_some history.opening.now ≡ true }
     ensures { IfOk result (λ lines. (s : SettingData) (t : List Row)
         → IsKept history.entry.opening.now s t → lines.items
-        ≡ explained_job (origin_of text.now.origins) text.now.bytes.items s t
+        ≡ explained_job (origin_of text.now.origins) (lines_data text.now.lines.items) s t
         (names_of (scripts_data history.entry.scripts.now)) history.entry.entries.now) }
 {
     let Some(opening) = history.opening else {
         unreachable!()
     };
     let opening = opening.try_copy()?;
-    let job = JobText {
-        bytes: text.bytes.as_slice(),
+    let lines = JobLines {
+        edits: text.lines.as_slice(),
         origins: &text.origins,
     };
-    explained_job(alloc, job, opening, history.scripts, history.entries)
+    explained_job(alloc, lines, opening, history.scripts, history.entries)
 }
 
 /// Returns the notes on bucket weights in a job's text that aren't the sum, after a warning line if
@@ -167,7 +167,10 @@ pub(crate) fn parsed_job<'a>(
     bytes: Vec<u8>,
     job: Job,
 ) -> Result<ParsedJob<'a>, AllocError>
-    ensures job { IfOk result (λ read. read.job ≡ job) }
+    ensures job { IfOk result (λ read. (said : JobData) → JobStands job said
+        → JobStands read.job said) }
+    ensures scripts { IfOk result (λ read. read.job.scripts ≡ job.scripts) }
+    ensures lines { IfOk result (λ read. read.text.lines ≡ job.lines) }
     ensures bytes { IfOk result (λ read. read.text.bytes.items ≡ bytes_kept explain bytes.items) }
     ensures origins { IfOk result (λ read. read.text.origins ≡ origins.entry) }
     ensures weights { IfOk result (λ read. (t : List Row) → Stands job.map.forest t
@@ -175,10 +178,23 @@ pub(crate) fn parsed_job<'a>(
     ensures plain { IfOk result (λ read. explain ≡ false → read.text.weights.items ≡ []) }
 {
     let weights = weight_notes(alloc, explain, bytes.as_slice(), &job.map)?;
+    let Job {
+        map,
+        adjusted,
+        scripts,
+        lines,
+    } = job;
     let text = KeptText {
+        lines,
         bytes: bytes_kept(alloc, explain, bytes),
         origins,
         weights,
+    };
+    let job = Job {
+        map,
+        adjusted,
+        scripts,
+        lines: Vec::new(alloc),
     };
     Ok(ParsedJob { job, text })
 }

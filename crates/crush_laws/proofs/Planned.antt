@@ -19,7 +19,7 @@ use Rattle.crush_history.specs.declared.call.Call.{Call}
 use Rattle.crush_history.specs.declared.call.Call.TheVariants.{One}
 use Rattle.crush_history.specs.HistoryText.{edit_text}
 use Rattle.crush_history.specs.History.{Counted, EntryData, counted_after, edit_outcome, entry_on, is_change, later, turn, turns_from, untouched}
-use Rattle.crush_script.specs.Command.{command, end_at, name_at, operator}
+use Rattle.crush_script.specs.Command.{command, end_at, name_at, one_name_at, operator}
 use Rattle.crush_script.specs.Lines.{begins_section, length_to_section, line_words, lines, map_part, section_line, section_part, without_comment, words_between_blanks}
 use Rattle.crush_history.specs.Said.{IsSaid}
 use Rattle.crush_script.specs.ScriptsText.{ends_line}
@@ -146,8 +146,8 @@ comments_read (line ∷ ls) n s none all =
     rw one (comments_read ls (n + 1) s none (All-tail IsComment line ls all))
 
 -- EDITS are calls of the one script
-abbrev state : List ℕ → List Call → ℕ → SectionsData
-state name calls count = record { scripts = (record { name = name; calls = calls }) ∷ []; calls = count; begun = None }
+abbrev state : List ℕ → List ℕ → List Call → ℕ → SectionsData
+state numbers name calls count = record { scripts = (record { name = name; calls = calls }) ∷ []; lines = numbers ∷ []; calls = count; begun = None }
 
 begins_none : (e : Edit) → begins_section (edit_text e) ≡ false
 begins_none (Insert d n w l) = refl
@@ -166,25 +166,25 @@ begins_none (RemoveClass n) = refl
 few : (k m : ℕ) → k < m → nat_le m k ≡ false
 few k m less = search (rules, tests)
 
-edit_read : (n : ℕ) (name : List ℕ) (calls : List Call) (k : ℕ) (e : Edit) → IsSaid e → k < MOST_CALLS → with_line n (state name calls k) (edit_text e) ≡ Ok (state name (calls ++ One e ∷ []) (k + 1))
+edit_read : (n : ℕ) (numbers name : List ℕ) (calls : List Call) (k : ℕ) (e : Edit) → IsSaid e → k < MOST_CALLS → with_line n (state numbers name calls k) (edit_text e) ≡ Ok (state (numbers ++ n ∷ []) name (calls ++ One e ∷ []) (k + 1))
 unfolding with_line
-edit_read n name calls k e is room =
+edit_read n numbers name calls k e is room =
     let starts = begins_none e in
     let reads = printed_is_read e is in
     let less = few k MOST_CALLS room in
     rw (starts, reads, less) refl
 
-edits_read : (es : List Edit) (n : ℕ) (name : List ℕ) (calls : List Call) (k : ℕ) (rest : List (List ℕ)) → All IsSaid es → k + length es ≤ MOST_CALLS
-    → (m : ℕ) × (with_lines n (state name calls k) (map edit_text es ++ rest) ≡ with_lines m (state name (calls ++ map One es) (k + length es)) rest)
+edits_read : (es : List Edit) (n : ℕ) (numbers name : List ℕ) (calls : List Call) (k : ℕ) (rest : List (List ℕ)) → All IsSaid es → k + length es ≤ MOST_CALLS
+    → (m : ℕ) × (all : List ℕ) × (with_lines n (state numbers name calls k) (map edit_text es ++ rest) ≡ with_lines m (state all name (calls ++ map One es) (k + length es)) rest)
 unfolding with_lines
-edits_read [] n name calls k rest all room =
+edits_read [] n numbers name calls k rest all room =
     let none : k ≡ k + 0 = omega arith in
-    (n, λ i. with_lines n (state name (sym (append-nil calls) i) (none i)) rest)
-edits_read (e ∷ es) n name calls k rest all room =
-    let one = edit_read n name calls k e (All-head IsSaid e es all) (omega (arith, room)) in
-    let others = edits_read es (n + 1) name (calls ++ One e ∷ []) (k + 1) rest (All-tail IsSaid e es all) (omega (arith, room)) in
+    (n, numbers, λ i. with_lines n (state numbers name (sym (append-nil calls) i) (none i)) rest)
+edits_read (e ∷ es) n numbers name calls k rest all room =
+    let one = edit_read n numbers name calls k e (All-head IsSaid e es all) (omega (arith, room)) in
+    let others = edits_read es (n + 1) (numbers ++ n ∷ []) name (calls ++ One e ∷ []) (k + 1) rest (All-tail IsSaid e es all) (omega (arith, room)) in
     let more : k + 1 + length es ≡ k + length (e ∷ es) = omega arith in
-    (others.0, rw one (others.1 ∙ (λ i. with_lines others.0 (state name (append_assoc calls (One e ∷ []) (map One es) i) (more i)) rest)))
+    (others.0, others.1, rw one (others.2 ∙ (λ i. with_lines others.0 (state others.1 name (append_assoc calls (One e ∷ []) (map One es) i) (more i)) rest)))
 
 edits_lines : (es : List Edit) (rest : List ℕ) → All IsSaid es → lines (flat_map (plan_line Script) es ++ rest) ≡ map edit_text es ++ lines rest
 edits_lines [] rest all = refl
@@ -198,8 +198,8 @@ edits_lines (e ∷ es) rest all =
 operator_word : IsWord (codes "%operator")
 operator_word = record { some = omega arith; bytes = refl }
 
-operator_read : (n : ℕ) (name : List ℕ) → IsName name → with_line n no_sections (codes "%operator " ++ name) ≡ Ok (state name [] 0)
-unfolding with_line operator name_at end_at
+operator_read : (n : ℕ) (name : List ℕ) → IsName name → with_line n no_sections (codes "%operator " ++ name) ≡ Ok (state [] name [] 0)
+unfolding with_line operator one_name_at name_at end_at
 operator_read n name is =
     let words = line_words-joined (codes "%operator") (name ∷ []) operator_word (name_word name is, tt) in
     let holds = is_name_true name is in
@@ -235,14 +235,17 @@ module _ (name : List ℕ) (plan : PlanData) (is : IsName name) (said : All IsSa
       ∙ lines-ended (codes "%operator " ++ name) (plan_text Script plan) (both_in_line (codes "%operator ") name refl (name_in_line name is))
       ∙ ap (λ (ls : List (List ℕ)). (codes "%operator " ++ name) ∷ ls) plan_lines
 
-  section_read : (n : ℕ) → length plan.edits ≤ MOST_CALLS → with_lines n no_sections (lines section) ≡ Ok (state name (map One plan.edits) (0 + length plan.edits))
+  section_read : (n : ℕ) → length plan.edits ≤ MOST_CALLS → (all : List ℕ) × (with_lines n no_sections (lines section) ≡ Ok (state all name (map One plan.edits) (0 + length plan.edits)))
   unfolding with_lines
   section_read n room =
       let first = operator_read n name is in
-      let second = comment_read (n + 1) (state name [] 0) (count_line (length plan.edits)) (codes " " ++ decimal (length plan.edits) ++ codes " commands", refl) in
-      let edits = edits_read plan.edits (n + 1 + 1) name [] 0 (lines tail) said (omega (arith, room)) in
-      ap (with_lines n no_sections) section_lines
-      ∙ rw (first, second) (edits.1 ∙ comments_read (lines tail) edits.0 (state name (map One plan.edits) (0 + length plan.edits)) refl (lines_are false tail (tail_is plan.rest (aside_text plan.aside))))
+      let second = comment_read (n + 1) (state [] name [] 0) (count_line (length plan.edits)) (codes " " ++ decimal (length plan.edits) ++ codes " commands", refl) in
+      let edits = edits_read plan.edits (n + 1 + 1) [] name [] 0 (lines tail) said (omega (arith, room)) in
+      (
+        edits.1,
+        ap (with_lines n no_sections) section_lines
+        ∙ rw (first, second) (edits.2 ∙ comments_read (lines tail) edits.0 (state edits.1 name (map One plan.edits) (0 + length plan.edits)) refl (lines_are false tail (tail_is plan.rest (aside_text plan.aside)))),
+      )
 
 -- THE MAP'S TEXT before it
 cut_behind : (starts : Bool) (text rest : List ℕ) → length_to_section starts text ≡ length text → ends_line starts text ≡ true → begins_section rest ≡ true → length_to_section starts (text ++ rest) ≡ length text
@@ -269,11 +272,12 @@ plans_are_scripts under old new text adjusted name plan map_text last is found r
     let front : map_part (text ++ rest) ≡ text = ap (λ (n : ℕ). take n (text ++ rest)) place ∙ take-append_seam text rest in
     let back : section_part (text ++ rest) ≡ rest = ap (λ (n : ℕ). drop n (text ++ rest)) place ∙ drop-append_seam text rest in
     let number : ℕ = section_line (text ++ rest) in
+    let read = section_read name plan is said number room in
     record {
       short = short;
       map = subst (λ (m : List ℕ). IsMapText m old.setting old.table adjusted) (sym front) map_text;
-      said = state name (map One plan.edits) (0 + length plan.edits);
-      sections = ap (λ (bytes : List ℕ). with_lines number no_sections (lines bytes)) back ∙ section_read name plan is said number room;
+      said = state read.0 name (map One plan.edits) (0 + length plan.edits);
+      sections = ap (λ (bytes : List ℕ). with_lines number no_sections (lines bytes)) back ∙ read.1;
       scripts = refl;
     }
 

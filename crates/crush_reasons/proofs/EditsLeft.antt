@@ -7,8 +7,7 @@ use Rattle.std.specs.Option.{option_map_or}
 use Rattle.std.specs.Prelude.{Option, None, Some, set, slice_get, slice_index_or}
 use Rattle.crush_history.specs.declared.entry.Entry.{Entry}
 use Rattle.crush_history.specs.History.{EntryData}
-use Rattle.crush_reasons.specs.EditLines.{line_in}
-use Rattle.crush_reasons.specs.EditsLeft.{AreLeft, edits_given, entry_place, head_in, head_left, left_behind, line_place, refused_index}
+use Rattle.crush_reasons.specs.EditsLeft.{AreLeft, edits_given, entry_place, head_in, head_left, left_behind, line_in, line_place, refused_index}
 use Rattle.crush_reasons.specs.Place.{OriginData}
 use Rattle.crush_reasons.specs.Replay.{edits_of}
 

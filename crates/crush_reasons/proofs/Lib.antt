@@ -4,10 +4,8 @@ pub mod Replays
 pub mod LawReplay
 pub mod CephLines
 pub mod Lines
-pub mod Misfits
 pub mod Examples
 pub mod Naming
 pub mod Nearing
 pub mod Scanning
 pub mod SumLaws
-pub mod Sections

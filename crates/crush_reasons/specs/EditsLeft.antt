@@ -1,5 +1,5 @@
 -- The lines of a job from which the refused edits of batches come.
-use Rattle.std.specs.Prelude.{◌≡◌, ℕ, ◌+◌, ◌==◌, Bool, List, [], Option, None, Some, drop, if◌then◌else◌, length, map, nat_lt, set, slice_index_or}
+use Rattle.std.specs.Prelude.{◌≡◌, ℕ, ◌+◌, ◌==◌, Bool, List, [], Option, None, Some, drop, if◌then◌else◌, length, map, nat_lt, set, slice_get, slice_index_or}
 use Rattle.std.specs.List.{sum_by}
 use Rattle.std.specs.Option.{option_map_or}
 use Rattle.crush_history.specs.declared.call.Reply.{Reply}
@@ -10,7 +10,6 @@ use Rattle.crush_reasons.specs.declared.edits_left.EditPlace.{EditPlace}
 use Rattle.crush_reasons.specs.declared.edits_left.EditsLeft.{EditsLeft}
 use Rattle.crush_reasons.specs.declared.explained.EntryHead.{EntryHead}
 use Rattle.crush_reasons.specs.declared.near.TheConstants.{MOST_LOOKS}
-use Rattle.crush_reasons.specs.EditLines.{line_in}
 use Rattle.crush_reasons.specs.Place.{OriginData, command_head, origin_data}
 use Rattle.crush_reasons.specs.Replay.{edits_of}
 
@@ -38,6 +37,10 @@ pub record HeadData : Type 0 where
 
 abbrev pub entry_head : (ℕ → ℕ → List ℕ) → List EntryData → EntryData → HeadData
 entry_head head before e = record { place = entry_place head before e; looks = looks_behind before }
+
+-- EDIT LINE: the line of the edit with this number, counted from 0, of this operator, given the lines of each operator's edits; none if there are fewer edits
+abbrev pub line_in : List (List ℕ) → ℕ → ℕ → Option ℕ
+line_in sections operator k = slice_get (slice_index_or sections operator []) k
 
 -- the place of the line from which an edit comes: the name of its file, and the line's number there
 abbrev pub line_place : (ℕ → OriginData) → Option ℕ → List ℕ

@@ -13,7 +13,6 @@ use Rattle.crush_history.specs.declared.call.Reply.TheVariants.{Refused, BatchRe
 use Rattle.crush_history.specs.History.{EntryData}
 use Rattle.crush_history.specs.HistoryText.{edit_text, entry_text}
 use Rattle.crush_history.specs.Refused.{is_refused}
-use Rattle.crush_reasons.specs.EditLines.{job_edits}
 use Rattle.crush_reasons.specs.EditsLeft.{HeadData, entry_head, head_in}
 use Rattle.crush_reasons.specs.Named.{edit_reason}
 use Rattle.crush_reasons.specs.Place.{OriginData}
@@ -64,9 +63,9 @@ explained_behind head s t names number before (e ∷ h) =
     explained_line s t number (slice_index_or names e.operator []) (entry_head head before e) e
     ++ explained_behind head s (table_after_entry s t e) names (number + 1) (before ++ e ∷ []) h
 
--- EXPLAINED JOB: these lines for the history of a job with this text, whose lines have these origins
-abbrev pub explained_job : (ℕ → OriginData) → List ℕ → SettingData → List Row → List (List ℕ) → List EntryData → List ℕ
-explained_job origin job s t names h = explained_behind (head_in origin (job_edits job)) s t names 1 [] h
+-- EXPLAINED JOB: these lines for the history of a job, given the lines of each operator's edits and the origins of the job's lines
+abbrev pub explained_job : (ℕ → OriginData) → List (List ℕ) → SettingData → List Row → List (List ℕ) → List EntryData → List ℕ
+explained_job origin lines s t names h = explained_behind (head_in origin lines) s t names 1 [] h
 
 -- EXPLAINED TEXT: these lines for a history whose text isn't known
 abbrev pub no_head : ℕ → ℕ → List ℕ

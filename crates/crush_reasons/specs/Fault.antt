@@ -1,18 +1,19 @@
 -- The place of a fault of a job, and what is wanted there.
-use Rattle.std.specs.Prelude.{ℕ, ◌==◌, List, ◌++◌, codes, if◌then◌else◌, take}
+use Rattle.std.specs.Prelude.{ℕ, ◌+◌, ◌-◌, ◌==◌, List, ◌++◌, Option, Some, None, codes, if◌then◌else◌, length, take}
 use Rattle.crush_script.specs.declared.fault.JobFault.{JobFault}
 use Rattle.crush_script.specs.declared.fault.JobFault.TheVariants.{BadLine, NoSuchCommand, OpenBatch, TooManyOperators, DuplicateOperator, Text, OutOfMemory, TooLong, TooManyCalls}
-use Rattle.crush_script.specs.Lines.{line_words}
+use Rattle.crush_script.specs.Lines.{place_in_line}
 use Rattle.crush_text.specs.declared.fault.TextFault.{TextFault}
 use Rattle.crush_reasons.specs.Shown.{reason_line}
 use Rattle.crush_reasons.specs.Flaws.{flaw_place, flaw_reason}
-use Rattle.crush_reasons.specs.Misfit.{line_reason}
-use Rattle.crush_reasons.specs.Place.{OriginData, at_line, first_line, last_line, line_at, own_line, place_text}
+use Rattle.crush_reasons.specs.Commands.{no_command}
+use Rattle.crush_reasons.specs.Misfit.{line_reason, misfit_index}
+use Rattle.crush_reasons.specs.Place.{OriginData, first_line, last_line, line_at, number_line, own_line, place_text, shown_line}
 use Rattle.crush_reasons.specs.Sentences.{job_sentence}
 
 -- FAULT LINE: the number of the line of a job that has a fault, from 1, or 0 if the fault has no line
 abbrev pub fault_line : List ℕ → JobFault → ℕ
-fault_line bytes (BadLine line) = line
+fault_line bytes (BadLine line why) = line
 fault_line bytes (NoSuchCommand line) = line
 fault_line bytes (OpenBatch line) = line
 fault_line bytes (TooManyOperators line) = line
@@ -22,12 +23,40 @@ fault_line bytes (Text fault) = last_line (take (flaw_place bytes fault.kind fau
 fault_line bytes TooLong = 0
 fault_line bytes OutOfMemory = 0
 
--- the reason for a line that doesn't have the form that it should have: the form, and the first word that doesn't fit. If the line was put before
--- a script, because the file's name isn't a valid name of an operator: what to write
-abbrev pub bad_line_reason : OriginData → List ℕ → ℕ → List ℕ
-bad_line_reason origin bytes line =
-    if own_line origin line == 0 then codes "the file's name is no operator's: begin it with a line %operator NAME"
-    else line_reason (line_words (first_line (line_at bytes line)))
+-- THE REASON for a fault of a line with these bytes
+abbrev pub own_reason : JobFault → List ℕ → List ℕ
+own_reason (BadLine line why) text = line_reason why text
+own_reason (NoSuchCommand line) text = no_command text
+own_reason fault text = job_sentence fault
+
+-- the reason for a line that was put before a script, whose operator is called as the script's file: what to write in the file
+abbrev pub put_reason : JobFault → List ℕ
+put_reason (BadLine line why) = codes "the file's name can't be used as an operator's name: begin the file with a line %operator NAME"
+put_reason (DuplicateOperator line) = codes "another operator above has this name: give one of the two files a line %operator NAME"
+put_reason fault = job_sentence fault
+
+-- the one or the other, by the number of the line in its file, which is 0 for a line that was put
+abbrev pub line_fault_reason : ℕ → JobFault → List ℕ → List ℕ
+line_fault_reason own fault text = if own == 0 then put_reason fault else own_reason fault text
+
+-- the index of the word of a line that doesn't fit, if there is such a word and the line wasn't put before a script
+abbrev pub own_index : JobFault → List ℕ → Option ℕ
+own_index (BadLine line why) text = misfit_index why text
+own_index (NoSuchCommand line) text = Some 0
+own_index fault text = None
+
+abbrev pub line_fault_index : ℕ → JobFault → List ℕ → Option ℕ
+line_fault_index own fault text = if own == 0 then None else own_index fault text
+
+-- A LINE with its number, and with the column of the word with this index and a sign below it if there is one
+abbrev pub line_shown : OriginData → List ℕ → ℕ → Option ℕ → List ℕ
+line_shown origin bytes line None = number_line origin line ++ shown_line (line_at bytes line)
+line_shown origin bytes line (Some index) = place_text origin bytes (length bytes - length (line_at bytes line) + place_in_line index (first_line (line_at bytes line)))
+
+abbrev pub line_text : OriginData → List ℕ → ℕ → JobFault → List ℕ
+line_text origin bytes line fault =
+    line_shown origin bytes line (line_fault_index (own_line origin line) fault (first_line (line_at bytes line)))
+    ++ reason_line (line_fault_reason (own_line origin line) fault (first_line (line_at bytes line)))
 
 -- the place of a fault of the map's text
 abbrev pub flaw_place_text : OriginData → List ℕ → TextFault → List ℕ
@@ -39,12 +68,12 @@ flaw_text origin bytes fault = flaw_place_text origin bytes fault ++ reason_line
 
 -- FAULT TEXT: the place of a fault, and what is wanted; for a fault without a place, only what is wanted
 abbrev pub fault_text : OriginData → List ℕ → JobFault → List ℕ
-fault_text origin bytes (BadLine line) = at_line origin bytes line (bad_line_reason origin bytes line)
-fault_text origin bytes (NoSuchCommand line) = at_line origin bytes line (job_sentence (NoSuchCommand line))
-fault_text origin bytes (OpenBatch line) = at_line origin bytes line (job_sentence (OpenBatch line))
-fault_text origin bytes (TooManyOperators line) = at_line origin bytes line (job_sentence (TooManyOperators line))
-fault_text origin bytes (DuplicateOperator line) = at_line origin bytes line (job_sentence (DuplicateOperator line))
-fault_text origin bytes (TooManyCalls line) = at_line origin bytes line (job_sentence (TooManyCalls line))
+fault_text origin bytes (BadLine line why) = line_text origin bytes line (BadLine line why)
+fault_text origin bytes (NoSuchCommand line) = line_text origin bytes line (NoSuchCommand line)
+fault_text origin bytes (OpenBatch line) = line_text origin bytes line (OpenBatch line)
+fault_text origin bytes (TooManyOperators line) = line_text origin bytes line (TooManyOperators line)
+fault_text origin bytes (DuplicateOperator line) = line_text origin bytes line (DuplicateOperator line)
+fault_text origin bytes (TooManyCalls line) = line_text origin bytes line (TooManyCalls line)
 fault_text origin bytes (Text fault) = flaw_text origin bytes fault
 fault_text origin bytes TooLong = reason_line (job_sentence TooLong)
 fault_text origin bytes OutOfMemory = reason_line (job_sentence OutOfMemory)

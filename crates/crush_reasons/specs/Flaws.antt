@@ -10,9 +10,9 @@ use Rattle.crush_text.specs.declared.expected.Optional.TheVariants as optional
 use Rattle.crush_text.specs.declared.fault.TextFaultKind.{TextFaultKind}
 use Rattle.crush_text.specs.declared.fault.TextFaultKind.TheVariants as text
 use Rattle.crush_text.specs.Expected.{keyword_word}
+use Rattle.crush_script.specs.Keyword.{form_of}
 use Rattle.crush_reasons.specs.declared.around.Around.{Around}
 use Rattle.crush_reasons.specs.Around.{around_at, defined_at}
-use Rattle.crush_reasons.specs.Forms.{form_of}
 use Rattle.crush_reasons.specs.Place.{OriginData, behind_feed, last_line, own_line}
 use Rattle.crush_reasons.specs.Shown.{told}
 

@@ -8,11 +8,10 @@ pub mod Explained
 pub mod Ceph
 pub mod Shown
 pub mod Place
-pub mod Forms
+pub mod Commands
 pub mod Misfit
 pub mod Around
 pub mod Flaws
-pub mod EditLines
 pub mod EditsLeft
 pub mod Fault
 pub mod Sums

@@ -1,17 +1,22 @@
--- What is told of a line that isn't of its form: the form, and the first word that doesn't fit.
-use Rattle.std.specs.Prelude.{ℕ, ◌-◌, ◌==◌, Bool, true, false, ◌&&◌, ◌||◌, List, [], ◌∷◌, ◌++◌, Option, Some, None, Result, Ok, Err, bytes_eq, codes, decimal, drop, if◌then◌else◌, length, nat_le, nat_lt, slice_index, take}
-use Rattle.std.specs.List.{position_or_len}
+-- What is told of a line that can't be at its place: the form of its command and the first word that doesn't fit, or another reason.
+use Rattle.std.specs.Prelude.{ℕ, ◌-◌, ◌==◌, Bool, true, false, not, ◌&&◌, ◌||◌, List, ◌++◌, Option, Some, None, Result, Ok, Err, bytes_eq, codes, decimal, drop, if◌then◌else◌, length, nat_le, nat_lt, slice_index, take}
+use Rattle.std.specs.Char.{is_ascii_alphabetic, is_ascii_digit}
+use Rattle.std.specs.List.{list_all, position_or_len}
+use Rattle.std.specs.Option.{option_map_or}
 use Rattle.std.specs.Str.Parse.{digits_value}
 use Rattle.crush_units.specs.Name.{is_name}
 use Rattle.crush_units.specs.Weight.{are_digits, weight_of_text}
 use Rattle.crush_units.specs.declared.weight.WeightFault.{WeightFault}
 use Rattle.crush_units.specs.declared.weight.WeightFault.TheVariants.{Syntax, TooLarge}
-use Rattle.crush_units.specs.declared.limits.TheConstants.{LAST_DEVICE_ID, MOST_PAIRS}
+use Rattle.crush_units.specs.declared.limits.TheConstants.{LAST_DEVICE_ID}
 use Rattle.crush_units.specs.Numbers.{is_number}
-use Rattle.crush_reasons.specs.declared.forms.Form.{Form}
-use Rattle.crush_reasons.specs.declared.forms.Due.{Due}
-use Rattle.crush_reasons.specs.declared.forms.Due.TheVariants as due
-use Rattle.crush_reasons.specs.Forms.{after, first_due, form_of, form_text, is_weight}
+use Rattle.crush_script.specs.declared.fault.BadLine.{BadLine}
+use Rattle.crush_script.specs.declared.fault.BadLine.TheVariants as bad
+use Rattle.crush_script.specs.declared.fault.Due.{Due}
+use Rattle.crush_script.specs.declared.fault.Due.TheVariants as due
+use Rattle.crush_script.specs.declared.fault.Misfit.{Misfit}
+use Rattle.crush_script.specs.Keyword.{form_of, form_text}
+use Rattle.crush_script.specs.Lines.{word_in_line}
 use Rattle.crush_reasons.specs.Shown.{told}
 
 -- whether a byte is a quotation mark
@@ -25,25 +30,32 @@ is_quoted word = nat_lt 1 (length word) && (is_quote (slice_index word 0) && is_
 abbrev pub bare : List ℕ → List ℕ
 bare word = if is_quoted word then take (length word - 2) (drop 1 word) else word
 
--- OF NO NAME: it without quotation marks, where that is one
+-- OF NO NAME: the word without quotation marks, if that is a name
 abbrev pub name_meant : List ℕ → List ℕ
-name_meant meant = if is_name meant then codes " is no name; write " ++ meant else codes " is no name: letters, digits, - _ and . alone, at most 255"
+name_meant meant = if is_name meant then codes " is not a name: did you mean " ++ meant ++ codes "?" else codes " is not a name: use letters, digits, `-`, `_` and `.`, at most 255"
 
 abbrev pub no_name : List ℕ → List ℕ
 no_name word = told word ++ name_meant (bare word)
 
--- OF NO DEVICE: the device of its number, where it has one
+-- OF NO DEVICE: the device with its number, if it has one
 abbrev pub digits_of : List ℕ → List ℕ
 digits_of word = if nat_le 4 (length word) && bytes_eq (take 4 word) (codes "osd.") then drop 4 word else word
 
 abbrev pub device_meant : List ℕ → List ℕ
-device_meant digits = if is_number LAST_DEVICE_ID digits then decimal (digits_value 10 digits) else codes "N, N from 0 to 2147483647"
+device_meant digits = if is_number LAST_DEVICE_ID digits then codes "did you mean osd." ++ decimal (digits_value 10 digits) ++ codes "?" else codes "write osd.N with N from 0 to 2147483647"
 
 abbrev pub no_device : List ℕ → List ℕ
-no_device word = told word ++ codes " is no device; write osd." ++ device_meant (digits_of (bare word))
+no_device word = told word ++ codes " is not a device: " ++ device_meant (digits_of (bare word))
 
--- OF NO WEIGHT: where a comma stands for the point, or no digit before it, the weight that may be meant; so of one in quotation
--- marks or with a T behind it
+-- OF NO WEIGHT: whether a text is a weight
+abbrev pub is_read : Result ℕ WeightFault → Bool
+is_read (Ok units) = true
+is_read (Err fault) = false
+
+abbrev pub is_weight : List ℕ → Bool
+is_weight word = is_read (weight_of_text word)
+
+-- whether a comma is in the place of the point of a weight, or no digit is before the point; and this weight with its point
 abbrev pub is_separator : ℕ → Bool
 is_separator b = b == 44 || b == 46
 
@@ -63,94 +75,81 @@ abbrev pub front_of : List ℕ → List ℕ
 front_of whole = if length whole == 0 then codes "0" else whole
 
 unfoldable pub with_point : List ℕ → List ℕ
-with_point word = front_of (whole_of word) ++ codes "." ++ parts_of word
+with_point word = codes "did you mean " ++ front_of (whole_of word) ++ codes "." ++ parts_of word ++ codes "?"
 
-abbrev pub without_unit : List ℕ → List ℕ
-without_unit word = if slice_index word (length word - 1) == 84 then take (length word - 1) word else word
+-- whether letters follow a weight, as in `4T` or `3.6TiB`
+abbrev pub is_of_number : ℕ → Bool
+is_of_number b = is_ascii_digit b || b == 46
 
+abbrev pub unit_at : List ℕ → ℕ
+unit_at word = position_or_len (λ b. not (is_of_number b)) word
+
+abbrev pub has_unit : List ℕ → Bool
+has_unit word = nat_lt (unit_at word) (length word) && (is_weight (take (unit_at word) word) && list_all is_ascii_alphabetic (drop (unit_at word) word))
+
+-- what may be meant by a word that is neither a weight nor too large a number; the word has no quotation marks at both ends
 abbrev pub weight_meant : List ℕ → List ℕ
 weight_meant word =
-    if is_weight (without_unit word) then without_unit word
-    else (if is_mistyped word then with_point word else codes "a number as 1.5")
+    if is_weight word then codes "did you mean " ++ word ++ codes "?"
+    else if is_mistyped word then with_point word
+    else if has_unit word then codes "weights are in TiB, without a unit: a disk sold as 4 TB weighs 3.63869"
+    else codes "write a number such as 1.5"
 
+-- whether a word is too large a number for a weight, for example a number of bytes
 abbrev pub is_fault_large : Result ℕ WeightFault → Bool
 is_fault_large (Ok units) = false
 is_fault_large (Err Syntax) = false
 is_fault_large (Err TooLarge) = true
 
 abbrev pub is_large : List ℕ → Bool
-is_large word = is_fault_large (weight_of_text word)
+is_large word = is_fault_large (weight_of_text word) || (nat_lt 10 (length word) && list_all is_ascii_digit word)
 
 abbrev pub mistyped : List ℕ → List ℕ
-mistyped word = codes " is no weight; write " ++ weight_meant (bare word)
+mistyped word = codes " is not a weight: " ++ weight_meant (bare word)
 
 abbrev pub weight_said : List ℕ → List ℕ
-weight_said word = if is_large word then codes " is no weight: 0 to 65535.99998" else mistyped word
+weight_said word = if is_large word then codes " is too large: weights are in TiB, at most 65535.99998" else mistyped word
 
 abbrev pub no_weight : List ℕ → List ℕ
 no_weight word = told word ++ weight_said word
 
--- OF NO PAIR, or of one more than a location may have
-abbrev pub pair_said : ℕ → List ℕ
-pair_said count = if nat_lt count MOST_PAIRS then codes " is no pair; write TYPE=NAME without blanks" else codes " is a pair too many: a location has at most 16"
-
-abbrev pub no_pair : ℕ → List ℕ → List ℕ
-no_pair count word = told word ++ pair_said count
-
--- of a word where none is due
-abbrev pub too_many : List ℕ → List ℕ
-too_many word = told word ++ codes " is a word too many"
-
--- of no number of changes
-abbrev pub no_count : List ℕ → List ℕ
-no_count word = told word ++ codes " is no number of changes, 0 to 65536"
-
--- A WORD THAT DOESN'T FIT
+-- A WORD THAT ISN'T WHAT IS DUE
 abbrev pub wrong_text : Due → List ℕ → List ℕ
 wrong_text due.Device word = no_device word
-wrong_text due.DeviceWeight word = no_weight word
-wrong_text due.Located word = no_name word
-wrong_text (due.Pairs count) word = no_pair count word
-wrong_text due.FirstName word = no_name word
-wrong_text due.Weighed word = no_name word
-wrong_text due.LastName word = no_name word
-wrong_text due.LastWeight word = no_weight word
-wrong_text due.At word = too_many word
-wrong_text due.Count word = no_count word
-wrong_text due.EditEnd word = too_many word
-wrong_text due.BeginEnd word = too_many word
-wrong_text due.CommitEnd word = too_many word
+wrong_text due.Weight word = no_weight word
+wrong_text due.Name word = no_name word
+wrong_text due.Pair word = told word ++ codes " is not a pair: write TYPE=NAME without spaces"
+wrong_text due.NoMorePairs word = codes "too many pairs: at most 16"
+wrong_text due.At word = codes "unexpected word " ++ told word ++ codes ": expected `at N` or the end of the line"
+wrong_text due.Changes word = told word ++ codes " is not a number of changes: expected 0 to 65536"
+wrong_text due.End word = codes "unexpected extra word " ++ told word
 
--- NO WORD where one is due; or a line of its form, which stands where it may not
-abbrev pub left_text : Due → List ℕ
-left_text due.Device = codes "a device is missing, as osd.0"
-left_text due.DeviceWeight = codes "a weight is missing, as 1.5"
-left_text due.Located = codes "a name is missing"
-left_text (due.Pairs count) = codes "a batch has at most 65536 edits"
-left_text due.FirstName = codes "a name is missing"
-left_text due.Weighed = codes "a name is missing"
-left_text due.LastName = codes "a name is missing"
-left_text due.LastWeight = codes "a weight is missing, as 1.5"
-left_text due.At = codes "a batch is open here: commit ends it"
-left_text due.Count = codes "a number of changes is missing"
-left_text due.EditEnd = codes "a batch has at most 65536 edits"
-left_text due.BeginEnd = codes "a batch is open here: commit ends it"
-left_text due.CommitEnd = codes "no batch is open here: begin begins one"
+-- THE MISFIT of a line with this form: the word that is there isn't what is due, or the form's word is missing
+abbrev pub misfit_text : Misfit → List ℕ → List ℕ → List ℕ
+misfit_text m form word = if length word == 0 then word_in_line m.word form ++ codes " is missing" else wrong_text m.due word
 
--- THE FIRST MISFIT of the words behind those that fit
-abbrev pub go_on : Option Due → (Due → List ℕ) → List ℕ → List ℕ
-go_on None more wrong = wrong
-go_on (Some next) more wrong = more next
+-- the form of a line, if its first word has one, before such a text
+abbrev pub form_head : List ℕ → List ℕ
+form_head form = if length form == 0 then form else form ++ codes ": "
 
-unfoldable pub misfit_text : Due → List (List ℕ) → List ℕ
-misfit_text d [] = left_text d
-misfit_text d (word ∷ words) = go_on (after d word) (λ next. misfit_text next words) (wrong_text d word)
+abbrev pub form_in_line : List ℕ → List ℕ
+form_in_line line = option_map_or form_text (form_of (word_in_line 0 line)) (codes "")
 
--- A LINE THAT ISN'T OF ITS FORM, by its words
-abbrev pub by_form : Option Form → List (List ℕ) → List ℕ
-by_form None words = codes "a line that begins with % is %operator NAME"
-by_form (Some f) words = form_text f ++ codes ": " ++ misfit_text (first_due f) words
+abbrev pub word_reason : Misfit → List ℕ → List ℕ
+word_reason m line = form_head (form_in_line line) ++ misfit_text m (form_in_line line) (word_in_line m.word line)
 
-abbrev pub line_reason : List (List ℕ) → List ℕ
-line_reason [] = []
-line_reason (first ∷ words) = by_form (form_of first) words
+-- WHY A LINE can't be at its place
+abbrev pub line_reason : BadLine → List ℕ → List ℕ
+line_reason (bad.Word m) line = word_reason m line
+line_reason bad.NoOperator line = codes "a line that begins with % must be `%operator NAME`"
+line_reason bad.BatchOpen line = codes "a batch is already open: end it with `commit`"
+line_reason bad.NoBatch line = codes "no batch is open: start one with `begin`"
+line_reason bad.BatchFull line = codes "a batch has at most 65536 edits"
+
+-- THE WORD that doesn't fit: its index in the line, if the line has it
+abbrev pub index_in_line : ℕ → List ℕ → Option ℕ
+index_in_line index line = if length (word_in_line index line) == 0 then None else Some index
+
+abbrev pub misfit_index : BadLine → List ℕ → Option ℕ
+misfit_index (bad.Word m) line = index_in_line m.word line
+misfit_index why line = None

@@ -3,7 +3,7 @@ use Rattle.std.specs.Prelude.{ℕ, zero, suc, ◌+◌, ◌-◌, ◌==◌, List, 
 use Rattle.std.specs.List.{position_or_len}
 use Rattle.crush_script.specs.Lines.{line_feeds}
 use Rattle.crush_reasons.specs.declared.place.Origin.{Origin}
-use Rattle.crush_reasons.specs.Shown.{reason_line, shown_byte}
+use Rattle.crush_reasons.specs.Shown.{shown_byte}
 
 -- the file that a line of a job comes from: its name, which is empty if no file is to be named, and how many lines of the job come before the file's first line
 pub record OriginData : Type 0 where
@@ -74,12 +74,9 @@ from_line (suc n) bytes = behind_line (from_line n bytes)
 unfoldable pub number_line : OriginData → ℕ → List ℕ
 number_line origin line = codes "  " ++ name_head origin.name ++ codes "line " ++ decimal (own_line origin line) ++ codes "\n"
 
--- A LINE of a job, which counts from 1, and on the next line what is wanted
+-- a job from the beginning of a line on; lines count from 1
 abbrev pub line_at : List ℕ → ℕ → List ℕ
 line_at bytes line = from_line (line - 1) bytes
-
-abbrev pub at_line : OriginData → List ℕ → ℕ → List ℕ → List ℕ
-at_line origin bytes line reason = number_line origin line ++ shown_line (line_at bytes line) ++ reason_line reason
 
 -- the place of a command, which is shown before it: the name of the file as it is shown, and the line's number there, or only the number if no file is named
 abbrev pub named_head : List ℕ → ℕ → List ℕ

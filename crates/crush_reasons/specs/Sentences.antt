@@ -9,11 +9,11 @@ use Rattle.crush_script.specs.declared.fault.JobFault.TheVariants as job
 
 -- FAULTS OF A JOB. `Flaws` defines the sentences for a fault of the map's text
 abbrev pub job_sentence : JobFault → List ℕ
-job_sentence (job.BadLine number) = codes "the line is not of the form that its first word asks for"
-job_sentence (job.NoSuchCommand number) = codes "the first word of a line is to be a command: --help has all of them"
-job_sentence (job.OpenBatch number) = codes "the batch that begins here is to end by commit, before the next operator"
+job_sentence (job.BadLine number why) = codes "the line doesn't have the form that its first word requires"
+job_sentence (job.NoSuchCommand number) = codes "the first word of a line must be a command: see --help"
+job_sentence (job.OpenBatch number) = codes "this batch is not ended: add `commit` before the next %operator line"
 job_sentence (job.TooManyOperators number) = codes "a job has at most 16 operators"
-job_sentence (job.DuplicateOperator number) = codes "an operator above has this name"
+job_sentence (job.DuplicateOperator number) = codes "another operator above has this name"
 job_sentence (job.Text fault) = []
 job_sentence job.OutOfMemory = codes "there is no memory for the job"
 job_sentence job.TooLong = codes "a job has at most 16777216 bytes"

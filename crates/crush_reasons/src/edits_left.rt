@@ -1,8 +1,7 @@
 //! Finds the line of a job from which the refused edit of a batch comes.
 
 ghost use Rattle.std.specs.Prelude.{◌≡◌, ◌++◌, IfOk, OnOk, drop, map as each, slice_get, slice_index_or, []};
-ghost use Rattle.crush_reasons.specs.EditLines.{line_in};
-ghost use Rattle.crush_reasons.specs.EditsLeft.{head_left, left_behind, line_place, lines_left, refused_index, told_place};
+ghost use Rattle.crush_reasons.specs.EditsLeft.{head_left, left_behind, line_in, line_place, lines_left, refused_index, told_place};
 
 use crate::locates::Locates;
 use crate::place::{Origin, push_command_head};
@@ -42,14 +41,11 @@ fn refused_index(reply: Reply) -> Option<usize>
 /// far.
 #[derive(Drop)]
 pub(crate) struct EditsLeft<'a> {
-    lines: Vec<&'a [usize]>,
+    lines: Vec<&'a [u32]>,
 }
 
 impl<'a> EditsLeft<'a> {
-    pub(crate) fn new(
-        alloc: Global,
-        sections: &'a [Vec<usize>],
-    ) -> Result<EditsLeft<'a>, AllocError>
+    pub(crate) fn new(alloc: Global, sections: &'a [Vec<u32>]) -> Result<EditsLeft<'a>, AllocError>
         ensures { IfOk result (λ left. lines_left left
             ≡ each (λ numbers. numbers.items) sections.now) }
     {
@@ -62,7 +58,7 @@ impl<'a> EditsLeft<'a> {
         Ok(EditsLeft { lines })
     }
 
-    fn of(&self, operator: usize) -> &'a [usize]
+    fn of(&self, operator: usize) -> &'a [u32]
         ensures { result.now ≡ slice_index_or (lines_left self.now) operator [] }
     {
         if operator < self.lines.len() {
@@ -73,7 +69,7 @@ impl<'a> EditsLeft<'a> {
     }
 
     /// Returns the line of the edit at `index`, which counts from 0 among the edits that are left.
-    fn line(&self, operator: usize, index: usize) -> Option<usize>
+    fn line(&self, operator: usize, index: usize) -> Option<u32>
         ensures { result ≡ line_in (lines_left self.now) operator index }
     {
         line_of(self.of(operator), index)
@@ -89,7 +85,7 @@ impl<'a> EditsLeft<'a> {
     }
 }
 
-fn line_of(lines: &[usize], index: usize) -> Option<usize>
+fn line_of(lines: &[u32], index: usize) -> Option<u32>
     ensures { result ≡ slice_get lines.now index }
 {
     if index < lines.len() {
@@ -99,7 +95,7 @@ fn line_of(lines: &[usize], index: usize) -> Option<usize>
     }
 }
 
-fn from_line(index: usize, lines: &[usize]) -> &[usize]
+fn from_line(index: usize, lines: &[u32]) -> &[u32]
     ensures { result.now ≡ drop index lines.now }
 {
     if index < lines.len() {
@@ -109,10 +105,10 @@ fn from_line(index: usize, lines: &[usize]) -> &[usize]
     }
 }
 
-fn place_of<O: Locates>(origins: &O, line: Option<usize>) -> Option<EditPlace<'_>>
+fn place_of<O: Locates>(origins: &O, line: Option<u32>) -> Option<EditPlace<'_>>
     ensures { told_place result ≡ line_place (O.origin origins.now) line }
 {
-    let line = line?;
+    let line = line? as usize;
     Some(EditPlace {
         origin: origins.at(line),
         line,

@@ -12,9 +12,8 @@ ghost use Rattle.crush_reasons.specs.EditsLeft.{head_data, head_in};
 ghost use Rattle.crush_reasons.specs.Shown.{reason_line};
 ghost use Rattle.crush_reasons.specs.Replay.{table_after_entry};
 
-use crate::edit_lines::job_edits;
 use crate::edits_left::{EditPlace, EditsLeft, push_place, refused_place};
-use crate::locates::{JobText, Locates, Nowhere};
+use crate::locates::{JobLines, Locates, Nowhere};
 use crate::named::push_edit_reason;
 use crate::near::MOST_LOOKS;
 use crate::replay::{make_edits, make_entry};
@@ -279,7 +278,7 @@ fn push_entries<O: Locates>(
 #[derive(Clone, Copy)]
 struct Subject<'a, O> {
     scripts: &'a [Script],
-    sections: &'a [Vec<usize>],
+    sections: &'a [Vec<u32>],
     origins: &'a O,
 }
 
@@ -291,27 +290,26 @@ struct Subject<'a, O> {
 /// `FILE:LINE: `, or `line LINE: ` without a file, and with the edit's command. For the first 256
 /// refused entries, the whole map is searched for a name that is similar to a missing one.
 ///
-/// `opening` is the map before the first call. `scripts` are the scripts of the text of `job`, in
-/// the order of its sections. Fails if memory runs out.
+/// `opening` is the map before the first call. `scripts` are the scripts of the job whose lines are
+/// `lines`, in the order of its sections. Fails if memory runs out.
 pub fn explained_job<O: Locates>(
     alloc: Global,
-    job: JobText<'_, O>,
+    lines: JobLines<'_, O>,
     opening: CrushMap<Global>,
     scripts: &[Script],
     entries: &[Entry],
 ) -> Result<Vec<u8>, AllocError>
-    requires short { length job.bytes.now < 2 ^ 32 }
     requires few { length entries.now < 2 ^ 32 }
     requires operators { AreOf (length scripts.now) entries.now }
     ensures { IfOk result (λ text. (t : List Row) → Stands opening.forest t → text.items
-        ≡ explained_job (O.origin job.entry.origins.now) job.entry.bytes.now opening.setting t
+        ≡ explained_job (O.origin lines.entry.origins.now)
+        (each (λ numbers. numbers.items) lines.entry.edits.now) opening.setting t
         (names_of (scripts_data scripts.now)) entries.now) }
 {
-    let sections = job_edits(alloc, job.bytes)?;
     let told = Subject {
         scripts,
-        sections: sections.as_slice(),
-        origins: job.origins,
+        sections: lines.edits,
+        origins: lines.origins,
     };
     explained(alloc, opening, &told, entries)
 }

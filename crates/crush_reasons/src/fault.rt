@@ -2,64 +2,129 @@
 
 ghost use Rattle.std.specs.Prelude.{◌≡◌, ◌<◌, ◌^◌, ◌++◌, IfOk, OnOk, length};
 ghost use Rattle.crush_text.specs.declared.fault.TextFault.{TextFault};
-ghost use Rattle.crush_reasons.specs.Shown.{reason_line};
-ghost use Rattle.crush_reasons.specs.Fault.{bad_line_reason, fault_line, fault_text, flaw_place_text, flaw_text};
-ghost use Rattle.crush_reasons.specs.Place.{at_line, number_line, origin_data, shown_line};
+ghost use Rattle.crush_reasons.specs.Fault.{fault_line, fault_text, flaw_place_text, flaw_text, line_fault_index, line_fault_reason, line_shown, line_text, own_index, own_reason, put_reason};
+ghost use Rattle.crush_reasons.specs.Place.{origin_data};
 
+use crate::commands::push_no_command;
 use crate::flaws::{flaw_place, push_flaw_reason};
-use crate::misfit::push_line_reason;
+use crate::misfit::{misfit_index, push_line_reason};
 use crate::place::{Origin, first_line, last_line, line_at, push_at_line, push_place};
 use crate::sentences::job_sentence;
-use crate::words::{push_reason, up_to};
-use crush_script::{JobFault, LineWords};
+use crate::words::{push_bytes, push_reason, up_to};
+use crush_script::{JobFault, placed_word};
 use crush_text::TextFault;
 use std::alloc::{AllocError, Global};
 
-fn push_bad_line_reason(
-    origin: Origin<'_>,
-    bytes: &[u8],
-    line: usize,
-    text: &mut Vec<u8>,
-) -> Result<(), AllocError>
-    ensures { OnOk result (text.new.items ≡ text.old.items
-        ++ bad_line_reason (origin_data origin.entry) bytes.now line) }
+/// Appends the reason for a fault of a line that the job's files have.
+fn push_own_reason(fault: JobFault, line: &[u8], text: &mut Vec<u8>) -> Result<(), AllocError>
+    ensures { OnOk result (text.new.items ≡ text.old.items ++ own_reason fault line.now) }
 {
-    if origin.own_line(line) == 0 {
-        return text.extend_from_slice(
-            b"the file's name is no operator's: begin it with a line %operator NAME",
-        );
+    let sentence = job_sentence(fault);
+    match fault {
+        JobFault::BadLine { why, .. } => push_line_reason(why, line, text),
+        JobFault::NoSuchCommand(_) => push_no_command(line, text),
+        _ => push_bytes(sentence.as_bytes(), text),
     }
-    push_line_reason(LineWords::of_line(first_line(line_at(bytes, line))), text)
 }
 
-fn push_bad_line(
+/// Returns the reason for a fault of a line that was put before a script.
+fn put_reason(fault: JobFault) -> &'static str
+    ensures { result.now ≡ put_reason fault }
+{
+    let sentence = job_sentence(fault);
+    match fault {
+        JobFault::BadLine { .. } => {
+            "the file's name can't be used as an operator's name: begin the file with a line %operator NAME"
+        }
+        JobFault::DuplicateOperator(_) => {
+            "another operator above has this name: give one of the two files a line %operator NAME"
+        }
+        _ => sentence,
+    }
+}
+
+/// Appends the reason for a fault of a line. `own` is the number of the line in its file.
+fn push_line_fault_reason(
+    own: usize,
+    fault: JobFault,
+    line: &[u8],
+    text: &mut Vec<u8>,
+) -> Result<(), AllocError>
+    ensures { OnOk result (text.new.items
+        ≡ text.old.items ++ line_fault_reason own fault line.now) }
+{
+    if own == 0 {
+        push_bytes(put_reason(fault).as_bytes(), text)
+    } else {
+        push_own_reason(fault, line, text)
+    }
+}
+
+fn own_index(fault: JobFault, line: &[u8]) -> Option<usize>
+    ensures { result ≡ own_index fault line.now }
+{
+    match fault {
+        JobFault::BadLine { why, .. } => misfit_index(why, line),
+        JobFault::NoSuchCommand(_) => Some(0),
+        _ => None,
+    }
+}
+
+fn line_fault_index(own: usize, fault: JobFault, line: &[u8]) -> Option<usize>
+    ensures { result ≡ line_fault_index own fault line.now }
+{
+    if own == 0 {
+        None
+    } else {
+        own_index(fault, line)
+    }
+}
+
+/// Appends a line of the job, with a sign below the word with this index if there is one.
+fn push_line_shown(
     origin: Origin<'_>,
     bytes: &[u8],
     line: usize,
+    index: Option<usize>,
     text: &mut Vec<u8>,
 ) -> Result<(), AllocError>
-    ensures { OnOk result (text.new.items ≡ text.old.items
-        ++ at_line (origin_data origin.entry) bytes.now line
-        (bad_line_reason (origin_data origin.entry) bytes.now line)) }
+    requires { length bytes.now < 2 ^ 32 }
+    ensures { OnOk result (text.new.items
+        ≡ text.old.items ++ line_shown (origin_data origin.entry) bytes.now line index) }
 {
-    push_at_line(origin, bytes, line, text)?;
-    text.extend_from_slice(b"  ")?;
-    push_bad_line_reason(origin, bytes, line, text)?;
-    text.extend_from_slice(b"\n")
+    match index {
+        None => push_at_line(origin, bytes, line, text),
+        Some(index) => {
+            let rest = line_at(bytes, line);
+            let place = placed_word(first_line(rest), index).place;
+            push_place(
+                origin,
+                bytes,
+                bytes.len().saturating_sub(rest.len()) + place,
+                text,
+            )
+        }
+    }
 }
 
 fn push_line_fault(
     origin: Origin<'_>,
     bytes: &[u8],
     line: usize,
-    sentence: &str,
+    fault: JobFault,
     text: &mut Vec<u8>,
 ) -> Result<(), AllocError>
+    requires { length bytes.now < 2 ^ 32 }
     ensures { OnOk result (text.new.items
-        ≡ text.old.items ++ at_line (origin_data origin.entry) bytes.now line sentence.now) }
+        ≡ text.old.items ++ line_text (origin_data origin.entry) bytes.now line fault) }
 {
-    push_at_line(origin, bytes, line, text)?;
-    push_reason(sentence, text)
+    let own = origin.own_line(line);
+    let told = first_line(line_at(bytes, line));
+    let index = line_fault_index(own, fault, told);
+    push_line_shown(origin, bytes, line, index, text)?;
+    text.extend_from_slice(b"  ")?;
+    push_line_fault_reason(own, fault, told, text)?;
+    text.extend_from_slice(b"\n")
 }
 
 fn push_flaw(
@@ -90,12 +155,12 @@ fn push_fault(
 {
     let sentence = job_sentence(fault);
     match fault {
-        JobFault::BadLine(line) => push_bad_line(origin, bytes, line, text),
-        JobFault::NoSuchCommand(line)
+        JobFault::BadLine { line, .. }
+        | JobFault::NoSuchCommand(line)
         | JobFault::OpenBatch(line)
         | JobFault::TooManyOperators(line)
         | JobFault::DuplicateOperator(line)
-        | JobFault::TooManyCalls(line) => push_line_fault(origin, bytes, line, sentence, text),
+        | JobFault::TooManyCalls(line) => push_line_fault(origin, bytes, line, fault, text),
         JobFault::Text(fault) => push_flaw(origin, bytes, fault, text),
         JobFault::TooLong | JobFault::OutOfMemory => push_reason(sentence, text),
     }
@@ -110,7 +175,7 @@ pub fn fault_line(bytes: &[u8], fault: JobFault) -> usize
     ensures { result ≡ fault_line bytes.now fault }
 {
     match fault {
-        JobFault::BadLine(line)
+        JobFault::BadLine { line, .. }
         | JobFault::NoSuchCommand(line)
         | JobFault::OpenBatch(line)
         | JobFault::TooManyOperators(line)
@@ -124,7 +189,8 @@ pub fn fault_line(bytes: &[u8], fault: JobFault) -> usize
 /// Returns the place of a fault of a job, followed by a sentence that says what is wanted.
 ///
 /// For a fault of the map's text, the text has the line's number, the column, a part of the line,
-/// and `^` below the place. For any other fault, it has the line's number and the line. For a fault
+/// and `^` below the place. For a line of a script with a word that doesn't fit, it has the same of
+/// this word. For any other fault of a line, it has the line's number and the line. For a fault
 /// without a place, such as too many bytes, it has the sentence alone.
 ///
 /// `bytes` are the whole job. The line's number counts from 1 in the file of `origin`, and is 0 for

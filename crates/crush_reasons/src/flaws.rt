@@ -8,10 +8,10 @@ ghost use Rattle.crush_reasons.specs.Place.{origin_data};
 ghost use Rattle.crush_reasons.specs.Shown.{told};
 
 use crate::around::{Around, around_at, defined_at};
-use crate::forms::form_of;
 use crate::place::{Origin, behind_feed, last_line};
 use crate::shown::push_told;
 use crate::words::{from_place, next_placed, push_all, push_bytes, up_to};
+use crush_script::Form;
 use crush_text::{Expected, Optional, TextFault, TextFaultKind};
 use crush_units::{Reader, is_name_byte};
 use itoa::Buffer;
@@ -316,7 +316,7 @@ fn is_command(bytes: &[u8], place: usize) -> bool
     requires { length bytes.now < 2 ^ 32 }
     ensures { result ≡ is_command bytes.now place }
 {
-    begins_line(up_to(place, bytes)) && form_of(word_at(bytes, place)).is_some()
+    begins_line(up_to(place, bytes)) && Form::read(word_at(bytes, place)).is_some()
 }
 
 /// Whether a device without a class comes just before.

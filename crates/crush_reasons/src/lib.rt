@@ -8,12 +8,11 @@
 
 mod around;
 mod ceph;
-mod edit_lines;
+mod commands;
 mod edits_left;
 mod explained;
 mod fault;
 mod flaws;
-mod forms;
 mod locates;
 mod misfit;
 mod named;
@@ -30,7 +29,7 @@ mod written;
 pub use ceph::ceph_text;
 pub use explained::{explained_job, explained_text};
 pub use fault::{fault_line, fault_text, flaw_place_text};
-pub use locates::{JobText, Locates};
+pub use locates::{JobLines, Locates};
 pub use place::Origin;
 pub use replay::edits_lead_to_the_map_after;
 pub use shown::shown_byte;

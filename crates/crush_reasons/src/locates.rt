@@ -14,11 +14,12 @@ pub trait Locates {
         ensures { origin_data result ≡ origin self.now line };
 }
 
-/// The text of a job, and the origins of its lines.
+/// The lines of a job that say edits, and the origins of all its lines.
 #[derive(Clone, Copy)]
-pub struct JobText<'a, O> {
-    /// The bytes of the whole job.
-    pub bytes: &'a [u8],
+pub struct JobLines<'a, O> {
+    /// For each script of the job, the numbers of the lines that say its edits, from 1 in the whole
+    /// job: the `lines` of a parsed job.
+    pub edits: &'a [Vec<u32>],
     /// Says from which file each line comes.
     pub origins: &'a O,
 }

@@ -1,16 +1,15 @@
-//! The form of a line that isn't right, and the first word that doesn't fit.
+//! Says why a line can't be at its place: the first word that doesn't fit, or another reason.
 
-ghost use Rattle.std.specs.Prelude.{◌≡◌, ◌++◌, ◌&&◌, ◌||◌, ◌==◌, ◌≤◌, OnOk, decimal, length};
-ghost use Rattle.std.specs.List.{list_all, position_or_len};
-ghost use Rattle.std.specs.Char.{is_ascii_digit};
-ghost use Rattle.crush_units.specs.Weight.{are_digits};
-ghost use Rattle.crush_reasons.specs.Misfit.{bare, device_meant, digits_of, is_large, is_mistyped, is_quote, is_quoted, is_separator, left_text, line_reason, misfit_text, mistyped, front_of, name_meant, no_count, no_device, no_name, no_pair, no_weight, pair_said, parts_of, point_at, too_many, weight_meant, weight_said, whole_of, with_point, without_unit, wrong_text};
+ghost use Rattle.std.specs.Prelude.{◌≡◌, ◌++◌, ◌≤◌, OnOk, length};
+ghost use Rattle.std.specs.List.{list_all};
+ghost use Rattle.std.specs.Char.{is_ascii_alphabetic, is_ascii_digit};
+ghost use Rattle.crush_units.specs.Weight.{are_digits, weight_of_text};
+ghost use Rattle.crush_reasons.specs.Misfit.{bare, device_meant, digits_of, form_head, form_in_line, has_unit, index_in_line, is_fault_large, is_large, is_mistyped, is_of_number, is_quote, is_quoted, is_separator, is_weight, line_reason, misfit_index, misfit_text, mistyped, front_of, name_meant, no_device, no_name, no_weight, parts_of, point_at, unit_at, weight_meant, weight_said, whole_of, with_point, word_reason, wrong_text};
 
-use crate::forms::{Due, after, first_due, form_of, form_text, is_weight};
 use crate::shown::push_told;
-use crate::words::{push_all, push_bytes};
-use crush_script::LineWords;
-use crush_units::limits::{LAST_DEVICE_ID, MOST_PAIRS};
+use crate::words::push_all;
+use crush_script::{BadLine, Due, Form, Misfit, placed_word};
+use crush_units::limits::LAST_DEVICE_ID;
 use crush_units::number::number_up_to;
 use crush_units::{Weight, WeightFault, is_name};
 use itoa::Buffer;
@@ -31,7 +30,7 @@ fn is_quoted(word: &[u8]) -> bool
     is_quote(word[0]) && is_quote(word[word.len() - 1])
 }
 
-/// Without the quotation marks at both ends.
+/// Returns a word without the quotation marks at both ends.
 fn bare(word: &[u8]) -> &[u8]
     ensures { result.now ≡ bare word.now }
 {
@@ -46,9 +45,18 @@ fn push_name_meant(meant: &[u8], text: &mut Vec<u8>) -> Result<(), AllocError>
     ensures { OnOk result (text.new.items ≡ text.old.items ++ name_meant meant.now) }
 {
     if is_name(meant) {
-        push_all(&[b" is no name; write ".as_slice(), meant], text)
+        push_all(
+            &[
+                b" is not a name: did you mean ".as_slice(),
+                meant,
+                b"?".as_slice(),
+            ],
+            text,
+        )
     } else {
-        text.extend_from_slice(b" is no name: letters, digits, - _ and . alone, at most 255")
+        text.extend_from_slice(
+            b" is not a name: use letters, digits, `-`, `_` and `.`, at most 255",
+        )
     }
 }
 
@@ -59,7 +67,7 @@ fn push_no_name(word: &[u8], text: &mut Vec<u8>) -> Result<(), AllocError>
     push_name_meant(bare(word), text)
 }
 
-/// What stands behind `osd.`, or a whole other word.
+/// Returns what follows after `osd.`, or the whole word if it doesn't begin so.
 fn digits_of(word: &[u8]) -> &[u8]
     ensures { result.now ≡ digits_of word.now }
 {
@@ -80,9 +88,13 @@ fn push_device_meant(digits: &[u8], text: &mut Vec<u8>) -> Result<(), AllocError
     match number_up_to(LAST_DEVICE_ID, digits) {
         Some(number) => {
             let mut buffer = Buffer::new();
-            text.extend_from_slice(buffer.format(number).as_bytes())
+            let number = buffer.format(number).as_bytes();
+            push_all(
+                &[b"did you mean osd.".as_slice(), number, b"?".as_slice()],
+                text,
+            )
         }
-        None => text.extend_from_slice(b"N, N from 0 to 2147483647"),
+        None => text.extend_from_slice(b"write osd.N with N from 0 to 2147483647"),
     }
 }
 
@@ -90,7 +102,7 @@ fn push_no_device(word: &[u8], text: &mut Vec<u8>) -> Result<(), AllocError>
     ensures { OnOk result (text.new.items ≡ text.old.items ++ no_device word.now) }
 {
     push_told(word, text)?;
-    text.extend_from_slice(b" is no device; write osd.")?;
+    text.extend_from_slice(b" is not a device: ")?;
     push_device_meant(digits_of(bare(word)), text)
 }
 
@@ -100,7 +112,7 @@ fn is_separator(byte: u8) -> bool
     byte == b',' || byte == b'.'
 }
 
-/// Of the first comma or point, else the length.
+/// Returns the place of the first comma or point, or the length if there is none.
 fn point_at(word: &[u8]) -> usize
     ensures place { result ≡ point_at word.now }
     ensures within { result ≤ length word.now }
@@ -141,7 +153,7 @@ fn are_digits(most: usize, text: &[u8]) -> bool
     !text.is_empty() && text.len() <= most && all_digits(text)
 }
 
-/// Whether a comma stands for the point of a weight, or no digit before the point.
+/// Whether a comma is in the place of the point of a weight, or no digit is before the point.
 fn is_mistyped(word: &[u8]) -> bool
     ensures { result ≡ is_mistyped word.now }
 {
@@ -161,34 +173,84 @@ fn push_with_point(word: &[u8], text: &mut Vec<u8>) -> Result<(), AllocError>
 {
     let whole = front_of(whole_of(word));
     let parts = parts_of(word);
-    push_all(&[whole, b".".as_slice(), parts], text)
+    push_all(
+        &[
+            b"did you mean ".as_slice(),
+            whole,
+            b".".as_slice(),
+            parts,
+            b"?".as_slice(),
+        ],
+        text,
+    )
 }
 
-/// Without a T at its end.
-fn without_unit(word: &[u8]) -> &[u8]
-    ensures { result.now ≡ without_unit word.now }
+fn is_weight(word: &[u8]) -> bool
+    ensures { result ≡ is_weight word.now }
 {
-    match word {
-        [front @ .., b'T'] => front,
-        _ => word,
+    match Weight::read_bytes(word) {
+        Ok(_) => true,
+        Err(_) => false,
     }
+}
+
+fn is_of_number(byte: u8) -> bool
+    ensures { result ≡ is_of_number byte }
+{
+    byte.is_ascii_digit() || byte == b'.'
+}
+
+/// Returns the place of the first byte that is neither a digit nor a point, or the length if there
+/// is none.
+fn unit_at(word: &[u8]) -> usize
+    ensures place { result ≡ unit_at word.now }
+    ensures within { result ≤ length word.now }
+{
+    for (place, byte) in word.iter().enumerate() {
+        if !is_of_number(*byte) {
+            return place;
+        }
+    }
+    word.len()
+}
+
+fn all_letters(text: &[u8]) -> bool
+    ensures { result ≡ list_all is_ascii_alphabetic text.now }
+{
+    text.iter().all(|byte| byte.is_ascii_alphabetic())
+}
+
+/// Whether letters follow a weight, as in `4T` or `3.6TiB`.
+fn has_unit(word: &[u8]) -> bool
+    ensures { result ≡ has_unit word.now }
+{
+    let place = unit_at(word);
+    if place >= word.len() {
+        return false;
+    }
+    let (number, unit) = word.split_at(place);
+    is_weight(number) && all_letters(unit)
 }
 
 fn push_weight_meant(word: &[u8], text: &mut Vec<u8>) -> Result<(), AllocError>
     ensures { OnOk result (text.new.items ≡ text.old.items ++ weight_meant word.now) }
 {
-    let plain = without_unit(word);
-    if is_weight(plain) {
-        text.extend_from_slice(plain)
-    } else if is_mistyped(word) {
-        push_with_point(word, text)
-    } else {
-        text.extend_from_slice(b"a number as 1.5")
+    if is_weight(word) {
+        return push_all(&[b"did you mean ".as_slice(), word, b"?".as_slice()], text);
     }
+    if is_mistyped(word) {
+        return push_with_point(word, text);
+    }
+    if has_unit(word) {
+        return text.extend_from_slice(
+            b"weights are in TiB, without a unit: a disk sold as 4 TB weighs 3.63869",
+        );
+    }
+    text.extend_from_slice(b"write a number such as 1.5")
 }
 
-fn is_large(word: &[u8]) -> bool
-    ensures { result ≡ is_large word.now }
+fn is_too_large(word: &[u8]) -> bool
+    ensures { result ≡ is_fault_large (weight_of_text word.now) }
 {
     match Weight::read_bytes(word) {
         Ok(_) => false,
@@ -197,10 +259,16 @@ fn is_large(word: &[u8]) -> bool
     }
 }
 
+fn is_large(word: &[u8]) -> bool
+    ensures { result ≡ is_large word.now }
+{
+    is_too_large(word) || (word.len() > 10 && all_digits(word))
+}
+
 fn push_mistyped(word: &[u8], text: &mut Vec<u8>) -> Result<(), AllocError>
     ensures { OnOk result (text.new.items ≡ text.old.items ++ mistyped word.now) }
 {
-    text.extend_from_slice(b" is no weight; write ")?;
+    text.extend_from_slice(b" is not a weight: ")?;
     push_weight_meant(bare(word), text)
 }
 
@@ -208,7 +276,7 @@ fn push_weight_said(word: &[u8], text: &mut Vec<u8>) -> Result<(), AllocError>
     ensures { OnOk result (text.new.items ≡ text.old.items ++ weight_said word.now) }
 {
     if is_large(word) {
-        text.extend_from_slice(b" is no weight: 0 to 65535.99998")
+        text.extend_from_slice(b" is too large: weights are in TiB, at most 65535.99998")
     } else {
         push_mistyped(word, text)
     }
@@ -221,35 +289,33 @@ fn push_no_weight(word: &[u8], text: &mut Vec<u8>) -> Result<(), AllocError>
     push_weight_said(word, text)
 }
 
-fn pair_said(count: usize) -> &'static str
-    ensures { result.now ≡ pair_said count }
-{
-    if count < MOST_PAIRS {
-        " is no pair; write TYPE=NAME without blanks"
-    } else {
-        " is a pair too many: a location has at most 16"
-    }
-}
-
-fn push_no_pair(count: usize, word: &[u8], text: &mut Vec<u8>) -> Result<(), AllocError>
-    ensures { OnOk result (text.new.items ≡ text.old.items ++ no_pair count word.now) }
+fn push_no_pair(word: &[u8], text: &mut Vec<u8>) -> Result<(), AllocError>
+    ensures { OnOk result (text.new.items ≡ text.old.items ++ wrong_text Due.Pair word.now) }
 {
     push_told(word, text)?;
-    text.extend_from_slice(pair_said(count).as_bytes())
-}
-
-fn push_too_many(word: &[u8], text: &mut Vec<u8>) -> Result<(), AllocError>
-    ensures { OnOk result (text.new.items ≡ text.old.items ++ too_many word.now) }
-{
-    push_told(word, text)?;
-    text.extend_from_slice(b" is a word too many")
+    text.extend_from_slice(b" is not a pair: write TYPE=NAME without spaces")
 }
 
 fn push_no_count(word: &[u8], text: &mut Vec<u8>) -> Result<(), AllocError>
-    ensures { OnOk result (text.new.items ≡ text.old.items ++ no_count word.now) }
+    ensures { OnOk result (text.new.items ≡ text.old.items ++ wrong_text Due.Changes word.now) }
 {
     push_told(word, text)?;
-    text.extend_from_slice(b" is no number of changes, 0 to 65536")
+    text.extend_from_slice(b" is not a number of changes: expected 0 to 65536")
+}
+
+fn push_no_at(word: &[u8], text: &mut Vec<u8>) -> Result<(), AllocError>
+    ensures { OnOk result (text.new.items ≡ text.old.items ++ wrong_text Due.At word.now) }
+{
+    text.extend_from_slice(b"unexpected word ")?;
+    push_told(word, text)?;
+    text.extend_from_slice(b": expected `at N` or the end of the line")
+}
+
+fn push_extra(word: &[u8], text: &mut Vec<u8>) -> Result<(), AllocError>
+    ensures { OnOk result (text.new.items ≡ text.old.items ++ wrong_text Due.End word.now) }
+{
+    text.extend_from_slice(b"unexpected extra word ")?;
+    push_told(word, text)
 }
 
 fn push_wrong(due: Due, word: &[u8], text: &mut Vec<u8>) -> Result<(), AllocError>
@@ -257,60 +323,96 @@ fn push_wrong(due: Due, word: &[u8], text: &mut Vec<u8>) -> Result<(), AllocErro
 {
     match due {
         Due::Device => push_no_device(word, text),
-        Due::DeviceWeight | Due::LastWeight => push_no_weight(word, text),
-        Due::Located | Due::FirstName | Due::Weighed | Due::LastName => push_no_name(word, text),
-        Due::Pairs(count) => push_no_pair(count, word, text),
-        Due::Count => push_no_count(word, text),
-        Due::At | Due::EditEnd | Due::BeginEnd | Due::CommitEnd => push_too_many(word, text),
+        Due::Weight => push_no_weight(word, text),
+        Due::Name => push_no_name(word, text),
+        Due::Pair => push_no_pair(word, text),
+        Due::NoMorePairs => text.extend_from_slice(b"too many pairs: at most 16"),
+        Due::At => push_no_at(word, text),
+        Due::Changes => push_no_count(word, text),
+        Due::End => push_extra(word, text),
     }
 }
 
-/// No word is left: one is missing, or the line may not stand here.
-fn left_text(due: Due) -> &'static str
-    ensures { result.now ≡ left_text due }
+fn push_misfit(
+    misfit: Misfit,
+    form: &str,
+    word: &[u8],
+    text: &mut Vec<u8>,
+) -> Result<(), AllocError>
+    ensures { OnOk result (text.new.items
+        ≡ text.old.items ++ misfit_text misfit form.now word.now) }
 {
-    match due {
-        Due::Device => "a device is missing, as osd.0",
-        Due::DeviceWeight => "a weight is missing, as 1.5",
-        Due::Located => "a name is missing",
-        Due::Pairs(_) => "a batch has at most 65536 edits",
-        Due::FirstName => "a name is missing",
-        Due::Weighed => "a name is missing",
-        Due::LastName => "a name is missing",
-        Due::LastWeight => "a weight is missing, as 1.5",
-        Due::At => "a batch is open here: commit ends it",
-        Due::Count => "a number of changes is missing",
-        Due::EditEnd => "a batch has at most 65536 edits",
-        Due::BeginEnd => "a batch is open here: commit ends it",
-        Due::CommitEnd => "no batch is open here: begin begins one",
+    if word.is_empty() {
+        let missing = placed_word(form.as_bytes(), misfit.word).text;
+        return push_all(&[missing, b" is missing".as_slice()], text);
+    }
+    push_wrong(misfit.due, word, text)
+}
+
+fn form_in_line(line: &[u8]) -> &'static str
+    ensures { result.now ≡ form_in_line line.now }
+{
+    match Form::read(placed_word(line, 0).text) {
+        Some(form) => form.text(),
+        None => "",
     }
 }
 
-#[tactic(auto, unfolding(crate::specs::Misfit::misfit_text))]
-fn push_misfit(due: Due, words: LineWords<'_>, text: &mut Vec<u8>) -> Result<(), AllocError>
-    ensures { OnOk result (text.new.items ≡ text.old.items ++ misfit_text due words.entry) }
+fn push_form_head(form: &str, text: &mut Vec<u8>) -> Result<(), AllocError>
+    ensures { OnOk result (text.new.items ≡ text.old.items ++ form_head form.now) }
 {
-    let mut words = words;
-    let mut due = due;
-    while let Some(word) = words.next() {
-        match after(due, word) {
-            Some(next) => due = next,
-            None => return push_wrong(due, word, text),
-        }
-    }
-    push_bytes(left_text(due).as_bytes(), text)
-}
-
-pub(crate) fn push_line_reason(words: LineWords<'_>, text: &mut Vec<u8>) -> Result<(), AllocError>
-    ensures { OnOk result (text.new.items ≡ text.old.items ++ line_reason words.entry) }
-{
-    let mut words = words;
-    let Some(first) = words.next() else {
+    if form.is_empty() {
         return Ok(());
-    };
-    let Some(form) = form_of(first) else {
-        return text.extend_from_slice(b"a line that begins with % is %operator NAME");
-    };
-    push_all(&[form_text(form).as_bytes(), b": ".as_slice()], text)?;
-    push_misfit(first_due(form), words, text)
+    }
+    push_all(&[form.as_bytes(), b": ".as_slice()], text)
+}
+
+fn push_word_reason(misfit: Misfit, line: &[u8], text: &mut Vec<u8>) -> Result<(), AllocError>
+    ensures { OnOk result (text.new.items ≡ text.old.items ++ word_reason misfit line.now) }
+{
+    let form = form_in_line(line);
+    push_form_head(form, text)?;
+    push_misfit(misfit, form, placed_word(line, misfit.word).text, text)
+}
+
+/// Appends why a line can't be at its place.
+pub(crate) fn push_line_reason(
+    why: BadLine,
+    line: &[u8],
+    text: &mut Vec<u8>,
+) -> Result<(), AllocError>
+    ensures { OnOk result (text.new.items ≡ text.old.items ++ line_reason why line.now) }
+{
+    match why {
+        BadLine::Word(misfit) => push_word_reason(misfit, line, text),
+        BadLine::NoOperator => {
+            text.extend_from_slice(b"a line that begins with % must be `%operator NAME`")
+        }
+        BadLine::BatchOpen => {
+            text.extend_from_slice(b"a batch is already open: end it with `commit`")
+        }
+        BadLine::NoBatch => text.extend_from_slice(b"no batch is open: start one with `begin`"),
+        BadLine::BatchFull => text.extend_from_slice(b"a batch has at most 65536 edits"),
+    }
+}
+
+fn index_in_line(index: usize, line: &[u8]) -> Option<usize>
+    ensures { result ≡ index_in_line index line.now }
+{
+    if placed_word(line, index).text.is_empty() {
+        None
+    } else {
+        Some(index)
+    }
+}
+
+/// Returns the index of the word that doesn't fit. Returns `None` if the line doesn't have this
+/// word, or if the reason is another one.
+pub(crate) fn misfit_index(why: BadLine, line: &[u8]) -> Option<usize>
+    ensures { result ≡ misfit_index why line.now }
+{
+    match why {
+        BadLine::Word(misfit) => index_in_line(misfit.word, line),
+        _ => None,
+    }
 }

@@ -25,7 +25,7 @@ fn same_at(a: &[u8], b: &[u8], place: usize) -> bool
 }
 
 /// Returns how many bytes the two names have in common before the first byte that differs.
-fn shared(a: &[u8], b: &[u8]) -> usize
+pub(crate) fn shared(a: &[u8], b: &[u8]) -> usize
     ensures value { result ≡ shared a.now b.now }
     ensures within { result ≤ length a.now }
 {
@@ -37,7 +37,7 @@ fn shared(a: &[u8], b: &[u8]) -> usize
 }
 
 /// Whether at most one byte differs, or one name has one byte more than the other.
-fn is_one_off(a: &[u8], b: &[u8]) -> bool
+pub(crate) fn is_one_off(a: &[u8], b: &[u8]) -> bool
     ensures { result ≡ is_one_off a.now b.now }
 {
     let same = shared(a, b);

@@ -17,15 +17,13 @@ pub fn job_sentence(fault: JobFault) -> &'static str
     ensures { result.now ≡ job_sentence fault }
 {
     match fault {
-        JobFault::BadLine(_) => "the line is not of the form that its first word asks for",
-        JobFault::NoSuchCommand(_) => {
-            "the first word of a line is to be a command: --help has all of them"
-        }
+        JobFault::BadLine { .. } => "the line doesn't have the form that its first word requires",
+        JobFault::NoSuchCommand(_) => { "the first word of a line must be a command: see --help" }
         JobFault::OpenBatch(_) => {
-            "the batch that begins here is to end by commit, before the next operator"
+            "this batch is not ended: add `commit` before the next %operator line"
         }
         JobFault::TooManyOperators(_) => "a job has at most 16 operators",
-        JobFault::DuplicateOperator(_) => "an operator above has this name",
+        JobFault::DuplicateOperator(_) => "another operator above has this name",
         JobFault::Text(_) => "",
         JobFault::OutOfMemory => "there is no memory for the job",
         JobFault::TooLong => "a job has at most 16777216 bytes",

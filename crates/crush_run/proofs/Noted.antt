@@ -55,7 +55,7 @@ none_refused names n (e ∷ h) none = at (is_refused e.reply) (none_refused name
 -- so a run without `explain` that reaches its output has no notes of refused calls
 quiet_refused : (mode : Mode) (text : TextData) (s : SettingData) (t : List Row) (names : List (List ℕ)) (h : List EntryData) → (mode.strict ≡ true → refusals h ≡ 0) → mode.explain ≡ false → refused_notes mode text s t names h ≡ []
 quiet_refused mode text s t names h none quiet =
-    subst (λ (e : Bool). cond e (explained_job text.origin text.bytes s t names h) (cond mode.strict (refused_text names 1 h) []) ≡ []) (sym quiet) (by_strict mode.strict refl)
+    subst (λ (e : Bool). cond e (explained_job text.origin text.lines s t names h) (cond mode.strict (refused_text names 1 h) []) ≡ []) (sym quiet) (by_strict mode.strict refl)
   where
     by_strict : (b : Bool) → mode.strict ≡ b → cond b (refused_text names 1 h) [] ≡ []
     by_strict true strict = none_refused names 1 h (none strict)

@@ -127,6 +127,7 @@ pub(crate) fn run_parsed_job<H: AllocGlobal + Threads + Wait + Sync, G: Gate + S
         map,
         adjusted,
         scripts,
+        ..
     } = job;
     let Ok(named) = scripts_without_calls(alloc, scripts.as_slice()) else {
         return Ending::without_notes(alloc, RunFault::Memory);

@@ -33,6 +33,6 @@ count_of-printed n few =
     counted (length (decimal n) == 0) (list_all is_ascii_digit (decimal n)) (nat_le (digits_value 10 (decimal n)) MOST_ENTRIES) (digits_value 10 (decimal n)) n
     some (digits_are (decimal n) is.0.1) (ap (λ (v : ℕ). nat_le v MOST_ENTRIES) is.1 ∙ small) is.1
 
-pub count_read : (n : ℕ) → n ≤ MOST_ENTRIES → count_at (decimal n ∷ []) ≡ Ok (record { value = n; rest = [] })
+pub count_read : (n : ℕ) → n ≤ MOST_ENTRIES → count_at 2 (decimal n ∷ []) ≡ Ok (record { value = n; rest = [] })
 unfolding count_at
-count_read n few = ap (λ (o : Option ℕ). read_count o []) (count_of-printed n few)
+count_read n few = ap (λ (o : Option ℕ). read_count 2 o []) (count_of-printed n few)

@@ -2,7 +2,7 @@
 use Rattle.std.proofs.Common.{◌≡◌, ℕ, suc, ◌+◌, ◌-◌, ◌<◌, ◌==◌, Bool, true, false, not, ◌&&◌, cond, List, [], ◌∷◌, length, take, drop, filter, refl, ap, sym, ◌∙◌, subst, arith, rules, tests, ltb, length-drop}
 use Rattle.std.proofs.lemmas.List.{drop-drop, take_all, nil_from_length}
 use Rattle.std.specs.List.{position_or_len, slice_split, onto_first}
-use Rattle.crush_script.specs.Lines.{lines, words_between_blanks, is_space_or_tab, length_to_section, section_part, begins_section}
+use Rattle.crush_script.specs.Lines.{lines, words_between_blanks, is_space_or_tab, length_to_section, section_part, begins_section, behind_word, behind_words}
 use Rattle.std.proofs.lemmas.Bool.{false≢true}
 
 -- the place of the line feed
@@ -135,3 +135,12 @@ begins-at_cut starts (b ∷ bs) = cut_or_go_on b bs (length_to_section (b == 10)
 
 pub section_part-begins : (job : List ℕ) → 0 < length (section_part job) → begins_section (section_part job) ≡ true
 section_part-begins job = begins-at_cut true job
+
+-- the text behind no words, and behind one word more
+pub behind_none : (text : List ℕ) → text ≡ behind_words 0 text
+unfolding behind_words
+behind_none text = refl
+
+pub behind_next : (n : ℕ) (text : List ℕ) → behind_word (behind_words n text) ≡ behind_words (n + 1) text
+unfolding behind_words
+behind_next n text = ap (λ m. behind_words m text) (let e : suc n ≡ n + 1 = omega arith in e)

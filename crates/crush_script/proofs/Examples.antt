@@ -9,7 +9,10 @@ use Rattle.crush_script.specs.declared.command.LineFault.TheVariants as line
 use Rattle.crush_script.specs.declared.fault.JobFault.TheVariants as job
 use Rattle.crush_script.specs.Lines.{lines, words_between_blanks, line_words, map_part}
 use Rattle.crush_history.specs.Said.{device_named}
-use Rattle.crush_script.specs.Command.{name_at, weight_at, end_at, with_pair, with_pairs, location_at, placing_at, located_at, one_name_at, two_names_at, name_and_weight_at, keyword_of, edit_at, count_at, begin_at, command, operator}
+use Rattle.crush_script.specs.Command.{name_at, weight_at, end_at, with_pair, with_pairs, location_at, placing_at, located_at, one_name_at, two_names_at, name_and_weight_at, edit_at, count_at, begin_at, command, misfit, operator}
+use Rattle.crush_script.specs.Keyword.{keyword_of}
+use Rattle.crush_script.specs.declared.fault.Due.TheVariants as due
+use Rattle.crush_script.specs.declared.fault.BadLine.TheVariants as bad
 use Rattle.crush_script.specs.Sections.{with_line, with_lines, sections_of}
 
 -- a comment inside a word, blanks of both kinds, a carriage return
@@ -108,36 +111,61 @@ unfolding name_at weight_at end_at with_pair with_pairs location_at placing_at l
 a_commit = refl
 
 -- lines that aren't of their form
-begin_with_more : command (codes "begin" ∷ (codes "x" ∷ [])) ≡ Err line.BadLine
+begin_with_more : command (codes "begin" ∷ (codes "x" ∷ [])) ≡ Err (misfit 1 due.At)
 unfolding name_at weight_at end_at with_pair with_pairs location_at placing_at located_at one_name_at two_names_at name_and_weight_at keyword_of edit_at count_at begin_at command
 begin_with_more = refl
 
-no_device : command (codes "add" ∷ (codes "h1" ∷ (codes "1" ∷ (codes "host=h1" ∷ [])))) ≡ Err line.BadLine
+no_device : command (codes "add" ∷ (codes "h1" ∷ (codes "1" ∷ (codes "host=h1" ∷ [])))) ≡ Err (misfit 1 due.Device)
 unfolding name_at weight_at end_at with_pair with_pairs location_at placing_at located_at one_name_at two_names_at name_and_weight_at keyword_of edit_at count_at begin_at command
 no_device = refl
 
-two_equals : command (codes "move" ∷ (codes "h1" ∷ (codes "a=b=c" ∷ []))) ≡ Err line.BadLine
+two_equals : command (codes "move" ∷ (codes "h1" ∷ (codes "a=b=c" ∷ []))) ≡ Err (misfit 2 due.Pair)
 unfolding name_at weight_at end_at with_pair with_pairs location_at placing_at located_at one_name_at two_names_at name_and_weight_at keyword_of edit_at count_at begin_at command
 two_equals = refl
 
-no_type : command (codes "move" ∷ (codes "h1" ∷ (codes "=b" ∷ []))) ≡ Err line.BadLine
+no_type : command (codes "move" ∷ (codes "h1" ∷ (codes "=b" ∷ []))) ≡ Err (misfit 2 due.Pair)
 unfolding name_at weight_at end_at with_pair with_pairs location_at placing_at located_at one_name_at two_names_at name_and_weight_at keyword_of edit_at count_at begin_at command
 no_type = refl
 
-no_bucket : command (codes "move" ∷ (codes "h1" ∷ (codes "a=" ∷ []))) ≡ Err line.BadLine
+no_bucket : command (codes "move" ∷ (codes "h1" ∷ (codes "a=" ∷ []))) ≡ Err (misfit 2 due.Pair)
 unfolding name_at weight_at end_at with_pair with_pairs location_at placing_at located_at one_name_at two_names_at name_and_weight_at keyword_of edit_at count_at begin_at command
 no_bucket = refl
 
-no_pair : command (codes "move" ∷ (codes "h1" ∷ (codes "host" ∷ []))) ≡ Err line.BadLine
+no_pair : command (codes "move" ∷ (codes "h1" ∷ (codes "host" ∷ []))) ≡ Err (misfit 2 due.Pair)
 unfolding name_at weight_at end_at with_pair with_pairs location_at placing_at located_at one_name_at two_names_at name_and_weight_at keyword_of edit_at count_at begin_at command
 no_pair = refl
 
-third_name : command (codes "swap-bucket" ∷ (codes "a" ∷ (codes "b" ∷ (codes "c" ∷ [])))) ≡ Err line.BadLine
+third_name : command (codes "swap-bucket" ∷ (codes "a" ∷ (codes "b" ∷ (codes "c" ∷ [])))) ≡ Err (misfit 3 due.End)
 unfolding name_at weight_at end_at with_pair with_pairs location_at placing_at located_at one_name_at two_names_at name_and_weight_at keyword_of edit_at count_at begin_at command
 third_name = refl
 
+-- the first word that doesn't fit, or that is missing
+no_second_name : command (codes "add-bucket" ∷ (codes "h1" ∷ [])) ≡ Err (misfit 2 due.Name)
+unfolding name_at weight_at end_at with_pair with_pairs location_at placing_at located_at one_name_at two_names_at name_and_weight_at keyword_of edit_at count_at begin_at command
+no_second_name = refl
+
+comma_in_a_weight : command (codes "add" ∷ (codes "osd.1" ∷ (codes "1,5" ∷ (codes "host" ∷ [])))) ≡ Err (misfit 2 due.Weight)
+unfolding name_at weight_at end_at with_pair with_pairs location_at placing_at located_at one_name_at two_names_at name_and_weight_at keyword_of edit_at count_at begin_at command
+comma_in_a_weight = refl
+
+second_pair : command (codes "add" ∷ (codes "osd.1" ∷ (codes "1" ∷ (codes "host=h1" ∷ (codes "rack" ∷ []))))) ≡ Err (misfit 4 due.Pair)
+unfolding name_at weight_at end_at with_pair with_pairs location_at placing_at located_at one_name_at two_names_at name_and_weight_at keyword_of edit_at count_at begin_at command
+second_pair = refl
+
+late_commit : command (codes "commit" ∷ (codes "x" ∷ [])) ≡ Err (misfit 1 due.End)
+unfolding name_at weight_at end_at with_pair with_pairs location_at placing_at located_at one_name_at two_names_at name_and_weight_at keyword_of edit_at count_at begin_at command
+late_commit = refl
+
+other_section : operator (codes "%operato" ∷ (codes "x" ∷ [])) ≡ Err line.NoOperator
+unfolding name_at end_at one_name_at operator
+other_section = refl
+
+two_operators : operator (codes "%operator" ∷ (codes "a" ∷ (codes "b" ∷ []))) ≡ Err (misfit 2 due.End)
+unfolding name_at end_at one_name_at operator
+two_operators = refl
+
 -- 19 digits behind the point are no weight
-nineteen_digits : command (codes "reweight" ∷ (codes "osd.0" ∷ (codes "0.0000000000000000001" ∷ []))) ≡ Err line.BadLine
+nineteen_digits : command (codes "reweight" ∷ (codes "osd.0" ∷ (codes "0.0000000000000000001" ∷ []))) ≡ Err (misfit 2 due.Weight)
 unfolding name_at weight_at end_at with_pair with_pairs location_at placing_at located_at one_name_at two_names_at name_and_weight_at keyword_of edit_at count_at begin_at command
 nineteen_digits = refl
 
@@ -154,7 +182,7 @@ sixteen_pairs : located_at (codes "h" ∷ (codes "t0=b" ∷ (codes "t1=b" ∷ (c
 unfolding name_at with_pair with_pairs location_at located_at
 sixteen_pairs = refl
 
-seventeen_pairs : located_at (codes "h" ∷ (codes "t0=b" ∷ (codes "t1=b" ∷ (codes "t2=b" ∷ (codes "t3=b" ∷ (codes "t4=b" ∷ (codes "t5=b" ∷ (codes "t6=b" ∷ (codes "t7=b" ∷ (codes "t8=b" ∷ (codes "t9=b" ∷ (codes "t10=b" ∷ (codes "t11=b" ∷ (codes "t12=b" ∷ (codes "t13=b" ∷ (codes "t14=b" ∷ (codes "t15=b" ∷ (codes "t16=b" ∷ [])))))))))))))))))) ≡ Err line.BadLine
+seventeen_pairs : located_at (codes "h" ∷ (codes "t0=b" ∷ (codes "t1=b" ∷ (codes "t2=b" ∷ (codes "t3=b" ∷ (codes "t4=b" ∷ (codes "t5=b" ∷ (codes "t6=b" ∷ (codes "t7=b" ∷ (codes "t8=b" ∷ (codes "t9=b" ∷ (codes "t10=b" ∷ (codes "t11=b" ∷ (codes "t12=b" ∷ (codes "t13=b" ∷ (codes "t14=b" ∷ (codes "t15=b" ∷ (codes "t16=b" ∷ [])))))))))))))))))) ≡ Err (misfit 17 due.NoMorePairs)
 unfolding name_at with_pair with_pairs location_at located_at
 seventeen_pairs = refl
 
@@ -182,25 +210,25 @@ open_at_end : sections_of (codes "%operator a\nrm x\nbegin") ≡ Err (job.OpenBa
 unfolding lines words_between_blanks name_at weight_at end_at with_pair with_pairs location_at placing_at located_at one_name_at two_names_at name_and_weight_at keyword_of edit_at count_at begin_at command operator with_line with_lines
 open_at_end = refl
 
-fault_in_batch : sections_of (codes "%operator a\nbegin\nrm\n") ≡ Err (job.BadLine 3)
+fault_in_batch : sections_of (codes "%operator a\nbegin\nrm\n") ≡ Err (job.BadLine 3 (bad.Word (record { word = 1; due = due.Name })))
 unfolding lines words_between_blanks name_at weight_at end_at with_pair with_pairs location_at placing_at located_at one_name_at two_names_at name_and_weight_at keyword_of edit_at count_at begin_at command operator with_line with_lines
 fault_in_batch = refl
 
-begin_in_batch : sections_of (codes "%operator a\nbegin\nbegin\n") ≡ Err (job.BadLine 3)
+begin_in_batch : sections_of (codes "%operator a\nbegin\nbegin\n") ≡ Err (job.BadLine 3 bad.BatchOpen)
 unfolding lines words_between_blanks name_at weight_at end_at with_pair with_pairs location_at placing_at located_at one_name_at two_names_at name_and_weight_at keyword_of edit_at count_at begin_at command operator with_line with_lines
 begin_in_batch = refl
 
-commit_outside : sections_of (codes "%operator a\ncommit\n") ≡ Err (job.BadLine 2)
+commit_outside : sections_of (codes "%operator a\ncommit\n") ≡ Err (job.BadLine 2 bad.NoBatch)
 unfolding lines words_between_blanks name_at weight_at end_at with_pair with_pairs location_at placing_at located_at one_name_at two_names_at name_and_weight_at keyword_of edit_at count_at begin_at command operator with_line with_lines
 commit_outside = refl
 
-one_call : sections_of (codes "%operator a # x\r\nreweight osd.0 0.015625") ≡ Ok (record { scripts = (record { name = codes "a"; calls = One (Reweight (codes "osd.0") 1024) ∷ [] }) ∷ []; calls = 1; begun = None })
+one_call : sections_of (codes "%operator a # x\r\nreweight osd.0 0.015625") ≡ Ok (record { scripts = (record { name = codes "a"; calls = One (Reweight (codes "osd.0") 1024) ∷ [] }) ∷ []; lines = (2 ∷ []) ∷ []; calls = 1; begun = None })
 unfolding lines words_between_blanks name_at weight_at end_at with_pair with_pairs location_at placing_at located_at one_name_at two_names_at name_and_weight_at keyword_of edit_at count_at begin_at command operator with_line with_lines
 one_call = refl
 
 -- two operators, a batch and a call
 two_scripts : sections_of (codes "%operator a\nbegin\nrm x\n\nrm y\ncommit\nrm z\n%operator b\nbegin\ncommit")
-    ≡ Ok (record { scripts = (record { name = codes "a"; calls = Batch (Remove (codes "x") ∷ (Remove (codes "y") ∷ [])) ∷ (One (Remove (codes "z")) ∷ []) }) ∷ ((record { name = codes "b"; calls = Batch [] ∷ [] }) ∷ []); calls = 3; begun = None })
+    ≡ Ok (record { scripts = (record { name = codes "a"; calls = Batch (Remove (codes "x") ∷ (Remove (codes "y") ∷ [])) ∷ (One (Remove (codes "z")) ∷ []) }) ∷ ((record { name = codes "b"; calls = Batch [] ∷ [] }) ∷ []); lines = (3 ∷ (5 ∷ (7 ∷ []))) ∷ ([] ∷ []); calls = 3; begun = None })
 unfolding lines words_between_blanks name_at weight_at end_at with_pair with_pairs location_at placing_at located_at one_name_at two_names_at name_and_weight_at keyword_of edit_at count_at begin_at command operator with_line with_lines
 two_scripts = refl
 
@@ -213,27 +241,27 @@ long_guard : command (codes "begin" ∷ (codes "at" ∷ (codes "000000000065536"
 unfolding end_at count_at begin_at command
 long_guard = refl
 
-late_guard : command (codes "begin" ∷ (codes "at" ∷ (codes "65537" ∷ []))) ≡ Err line.BadLine
+late_guard : command (codes "begin" ∷ (codes "at" ∷ (codes "65537" ∷ []))) ≡ Err (misfit 2 due.Changes)
 unfolding end_at count_at begin_at command
 late_guard = refl
 
-signed_guard : command (codes "begin" ∷ (codes "at" ∷ (codes "+3" ∷ []))) ≡ Err line.BadLine
+signed_guard : command (codes "begin" ∷ (codes "at" ∷ (codes "+3" ∷ []))) ≡ Err (misfit 2 due.Changes)
 unfolding end_at count_at begin_at command
 signed_guard = refl
 
-short_guard : command (codes "begin" ∷ (codes "at" ∷ [])) ≡ Err line.BadLine
+short_guard : command (codes "begin" ∷ (codes "at" ∷ [])) ≡ Err (misfit 2 due.Changes)
 unfolding end_at count_at begin_at command
 short_guard = refl
 
-other_guard : command (codes "begin" ∷ (codes "3" ∷ [])) ≡ Err line.BadLine
+other_guard : command (codes "begin" ∷ (codes "3" ∷ [])) ≡ Err (misfit 1 due.At)
 unfolding end_at count_at begin_at command
 other_guard = refl
 
-more_guard : command (codes "begin" ∷ (codes "at" ∷ (codes "3" ∷ (codes "x" ∷ [])))) ≡ Err line.BadLine
+more_guard : command (codes "begin" ∷ (codes "at" ∷ (codes "3" ∷ (codes "x" ∷ [])))) ≡ Err (misfit 3 due.End)
 unfolding end_at count_at begin_at command
 more_guard = refl
 
 guarded_script : sections_of (codes "%operator a\nbegin at 0\nrm x\ncommit\n")
-    ≡ Ok (record { scripts = (record { name = codes "a"; calls = Guarded 0 (Remove (codes "x") ∷ []) ∷ [] }) ∷ []; calls = 1; begun = None })
+    ≡ Ok (record { scripts = (record { name = codes "a"; calls = Guarded 0 (Remove (codes "x") ∷ []) ∷ [] }) ∷ []; lines = (3 ∷ []) ∷ []; calls = 1; begun = None })
 unfolding lines words_between_blanks name_at weight_at end_at with_pair with_pairs location_at placing_at located_at one_name_at two_names_at name_and_weight_at keyword_of edit_at count_at begin_at command operator with_line with_lines
 guarded_script = refl

@@ -14,7 +14,7 @@ use Rattle.crush_text.specs.Flow.{◌>>=◌}
 use Rattle.crush_script.specs.Command.{command, operator}
 use Rattle.crush_script.specs.Lines.{line_words, begins_section}
 use Rattle.crush_history.specs.Script.{ScriptData, call_count}
-use Rattle.crush_script.specs.Sections.{SectionsData, no_sections, call_in_last, in_line, without_batch, closed, has_operator, with_section, counted, with_call, batch_call, with_edit, with_begin, with_commit, with_command, with_line, with_lines}
+use Rattle.crush_script.specs.Sections.{SectionsData, no_sections, call_in_last, in_line, without_batch, closed, has_operator, with_section, counted, with_call, with_number, batch_call, with_edit, with_begin, with_commit, with_command, with_line, with_lines}
 
 -- a batch that is open is one call
 abbrev open_calls : Option BegunBatch → ℕ
@@ -81,7 +81,7 @@ call_few : (s : SectionsData) (c : Call) → IsFewer s → IsFew (with_call c s)
 call_few s c fewer = record { counted = omega (arith, call_count-call_in_last c s.scripts, fewer.counted); few = fewer.few; scripts = omega (arith, fewer.scripts, length-call_in_last c s.scripts) }
 
 edit_few : (number : ℕ) (s : SectionsData) (o : Option BegunBatch) (e : Edit) → o ≡ s.begun → IsFew s → IfOk (with_edit number s o e) IsFew
-edit_few number s None e is few = bind-if_ok_at (counted number s) (λ more. Ok (with_call (One e) more)) IsFew IsFewer (counted_fewer number s few) (λ more fewer. call_few more (One e) fewer)
+edit_few number s None e is few = bind-if_ok_at (counted number s) (λ more. Ok (with_number number (with_call (One e) more))) IsFew IsFewer (counted_fewer number s few) (λ more fewer. let is = call_few more (One e) fewer in record { counted = is.counted; few = is.few; scripts = is.scripts })
 edit_few number s (Some b) e is few = if_ok-else _ _ (nat_le MOST_EDITS (length b.edits)) IsFew (record { counted = omega (arith, few.counted, ap open_calls is); few = few.few; scripts = few.scripts })
 
 begin_few : (number : ℕ) (s : SectionsData) (o : Option BegunBatch) (seen : Option ℕ) → IsFew s → IfOk (with_begin number s o seen) IsFew

@@ -22,7 +22,8 @@ use Rattle.crush_script.specs.declared.command.Command.TheVariants as says
 use Rattle.crush_script.specs.Lines.{line_words}
 use Rattle.crush_history.specs.Said.{device_named, IsSaid}
 use Rattle.crush_script.specs.Words.{equals_at, pair_of}
-use Rattle.crush_script.specs.Command.{name_at, weight_at, end_at, with_pair, with_pairs, location_at, placing_at, located_at, one_name_at, two_names_at, name_and_weight_at, keyword_of, edit_at, command}
+use Rattle.crush_script.specs.Command.{name_at, weight_at, end_at, with_pair, with_pairs, location_at, placing_at, located_at, one_name_at, two_names_at, name_and_weight_at, edit_at, command}
+use Rattle.crush_script.specs.Keyword.{keyword_of}
 use Rattle.crush_history.specs.HistoryText.{edit_text, pairs_text, one_name}
 use Rattle.crush_script.specs.Printed.{PrintedIsRead}
 use Rattle.crush_script.proofs.Pairs.{pair_added}
@@ -101,22 +102,22 @@ pair_of-word p kind =
 -- the pairs of a location, as words
 record ArePairs (l : List Pair) : Type 0 where
   words : AreWords (map pair_word l)
-  reads : (m : List Pair) → length m + length l ≤ MOST_PAIRS → with_pairs m (map pair_word l) ≡ Ok (m ++ l)
+  reads : (first : ℕ) (m : List Pair) → length m + length l ≤ MOST_PAIRS → with_pairs first m (map pair_word l) ≡ Ok (m ++ l)
 
-one_pair : (m : List Pair) (p : Pair) → length m < MOST_PAIRS → IsName p.kind → IsName p.name → with_pair m (pair_word p) ≡ Ok (m ++ p ∷ [])
-one_pair m p few kind name =
+one_pair : (first : ℕ) (m : List Pair) (p : Pair) → length m < MOST_PAIRS → IsName p.kind → IsName p.name → with_pair first m (pair_word p) ≡ Ok (m ++ p ∷ [])
+one_pair first m p few kind name =
     let e = pair_of-word p kind in
-    pair_added m (m ++ p ∷ []) (pair_word p) p.kind p.name (ap (λ (q : Pair). q.kind) (sym e)) (ap (λ (q : Pair). q.name) (sym e)) (record { room = few; kind_form = kind; name_form = name }) refl
+    pair_added first m (m ++ p ∷ []) (pair_word p) p.kind p.name (ap (λ (q : Pair). q.kind) (sym e)) (ap (λ (q : Pair). q.name) (sym e)) (record { room = few; kind_form = kind; name_form = name }) refl
 
 pairs : (l : List Pair) → ((k : ℕ) (d : Pair) → k < length l → IsName (get_or l k d).kind × IsName (get_or l k d).name) → ArePairs l
 unfolding with_pairs
-pairs [] names = record { words = tt; reads = λ m few. ap Ok (sym (append-nil m)) }
+pairs [] names = record { words = tt; reads = λ first m few. ap Ok (sym (append-nil m)) }
 pairs (p ∷ l) names =
     let first = names 0 p (omega arith) in
     let others = pairs l (λ k d h. names (suc k) d (omega arith)) in
     record {
       words = (pair_is_word p first.0 first.1, others.words);
-      reads = λ m few. rw (one_pair m p (omega arith) first.0 first.1) (others.reads (m ++ p ∷ []) (omega (arith, few, length-append m (p ∷ []))) ∙ ap Ok (append_assoc m (p ∷ []) l));
+      reads = λ at m few. rw (one_pair at m p (omega arith) first.0 first.1) (others.reads at (m ++ p ∷ []) (omega (arith, few, length-append m (p ∷ []))) ∙ ap Ok (append_assoc m (p ∷ []) l));
     }
 
 of_location : (l : List Pair) → IsLocation l → ArePairs l
@@ -155,11 +156,11 @@ placing-joined first n v l =
 placing_read : (d : ℕ) (n v : List ℕ) (w : ℕ) (l : List Pair) → IsName n → device_named n ≡ Some d → weight_of_text v ≡ Ok w → ArePairs l → length l ≤ MOST_PAIRS
     → placing_at (n ∷ (v ∷ map pair_word l)) ≡ Ok (record { device = d; name = n; weight = w; at = l })
 unfolding placing_at name_at weight_at location_at
-placing_read d n v w l name device weight are few = let a = is_name_true n name in rw (a, device, weight, are.reads [] (omega arith)) refl
+placing_read d n v w l name device weight are few = let a = is_name_true n name in rw (a, device, weight, are.reads 3 [] (omega arith)) refl
 
 located_read : (n : List ℕ) (l : List Pair) → IsName n → ArePairs l → length l ≤ MOST_PAIRS → located_at (n ∷ map pair_word l) ≡ Ok (n, l)
 unfolding located_at name_at location_at
-located_read n l name are few = let a = is_name_true n name in rw (a, are.reads [] (omega arith)) refl
+located_read n l name are few = let a = is_name_true n name in rw (a, are.reads 2 [] (omega arith)) refl
 
 one_name_read : (n : List ℕ) → IsName n → one_name_at (n ∷ []) ≡ Ok n
 unfolding one_name_at name_at end_at

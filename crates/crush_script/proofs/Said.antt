@@ -1,5 +1,5 @@
 -- The edits that lines say are of the forms that are printed and read.
-use Rattle.std.proofs.Common.{◌≡◌, ℕ, ◌<◌, ◌≤◌, ◌^◌, ◌&&◌, Bool, true, false, cond, List, [], ◌∷◌, ◌++◌, Option, Some, None, Result, Ok, Err, length, nat_lt, nat_le, refl, arith, length-append}
+use Rattle.std.proofs.Common.{◌≡◌, ℕ, ◌+◌, ◌<◌, ◌≤◌, ◌^◌, ◌&&◌, Bool, true, false, cond, List, [], ◌∷◌, ◌++◌, Option, Some, None, Result, Ok, Err, length, nat_lt, nat_le, refl, arith, length-append}
 use Rattle.std.proofs.lemmas.Bool.Decides.{nat_tests}
 use Rattle.std.proofs.lemmas.List.Elements.{All-nil, All-push}
 use Rattle.std.specs.Prelude.{IfOk, IfSome, not, ◌==◌, bytes_eq, codes}
@@ -15,22 +15,26 @@ use Rattle.crush_edits.specs.declared.location.Pair.{Pair}
 use Rattle.crush_edits.specs.Pushed.{IsLocation}
 use Rattle.crush_script.specs.declared.command.Command.{Command}
 use Rattle.crush_script.specs.declared.command.Command.TheVariants as says
-use Rattle.crush_script.specs.declared.command.Keyword.{Keyword}
-use Rattle.crush_script.specs.declared.command.Keyword.TheVariants as word
-use Rattle.crush_script.specs.declared.command.Placement.{Placement}
-use Rattle.crush_script.specs.declared.command.Placement.TheVariants as place
+use Rattle.crush_script.specs.declared.keyword.Keyword.{Keyword}
+use Rattle.crush_script.specs.declared.keyword.Keyword.TheVariants as word
+use Rattle.crush_script.specs.declared.keyword.Placement.{Placement}
+use Rattle.crush_script.specs.declared.keyword.Placement.TheVariants as place
+use Rattle.crush_script.specs.declared.fault.Due.{Due}
+use Rattle.crush_script.specs.declared.fault.Due.TheVariants as due
+use Rattle.crush_script.specs.declared.fault.Due.TheVariants.{Pair as a_pair, NoMorePairs}
+use Rattle.crush_script.specs.Keyword.{keyword_of}
 use Rattle.crush_script.specs.declared.command.Placing.{Placing}
 use Rattle.crush_history.specs.Said.{device_named, IsSaidPlacing, IsSaid}
-use Rattle.crush_script.specs.Words.{pair_of, can_add, is_count, count_of}
-use Rattle.crush_script.specs.Command.{name_at, read_weight, weight_at, end_at, with_pair, with_pairs, location_at, the_device, placing_at, located_at, one_name_at, two_names_at, name_and_weight_at, keyword_of, edit_to_place, edit_of, edit_by, edit_at, read_count, count_at, begin_at, command, operator}
+use Rattle.crush_script.specs.Words.{pair_of, is_pair, is_count, count_of}
+use Rattle.crush_script.specs.Command.{misfit, name_at, read_weight, weight_at, end_at, with_pair, with_pairs, location_at, the_device, placing_at, located_at, one_name_at, two_names_at, name_and_weight_at, edit_to_place, edit_of, edit_by, edit_at, read_count, count_at, begin_at, command, operator}
 use Rattle.crush_script.specs.Printed.{ReadIsSaid}
 use Rattle.crush_script.proofs.Oks.{bind-if_ok_at, if_ok-either, if_ok-then, if_ok-passed, if_ok-at}
 
 -- WORDS: a name
-name_said : (words : List (List ℕ)) → IfOk (name_at words) (λ r. IsName r.value)
+name_said : (index : ℕ) (d : Due) (words : List (List ℕ)) → IfOk (name_at index d words) (λ r. IsName r.value)
 unfolding name_at
-name_said [] = tt
-name_said (word ∷ rest) = if_ok-passed _ _ (is_name word) (λ r. IsName r.value) (is_name_holds word)
+name_said index d [] = tt
+name_said index d (word ∷ rest) = if_ok-passed _ _ (is_name word) (λ r. IsName r.value) (is_name_holds word)
 
 -- a weight
 units_said : (text : List ℕ) → IfOk (weight_of_text text) (λ units. units < 2 ^ 32)
@@ -38,12 +42,12 @@ units_said text =
     let units = units_of (number_in text) (length (fraction_of text)) in
     if_ok-then _ _ (is_weight_text text) (λ u. u < 2 ^ 32) (if_ok-passed units _ (nat_le units HEAVIEST_BUCKET) (λ u. u < 2 ^ 32) (λ few. grind (arith, nat_tests, few)))
 
-weight_said : (words : List (List ℕ)) → IfOk (weight_at words) (λ r. r.value < 2 ^ 32)
+weight_said : (index : ℕ) (words : List (List ℕ)) → IfOk (weight_at index words) (λ r. r.value < 2 ^ 32)
 unfolding weight_at
-weight_said [] = tt
-weight_said (word ∷ rest) = at (weight_of_text word) (units_said word)
+weight_said index [] = tt
+weight_said index (word ∷ rest) = at (weight_of_text word) (units_said word)
   where
-    at : (r : Result ℕ WeightFault) → IfOk r (λ units. units < 2 ^ 32) → IfOk (read_weight r rest) (λ r. r.value < 2 ^ 32)
+    at : (r : Result ℕ WeightFault) → IfOk r (λ units. units < 2 ^ 32) → IfOk (read_weight index r rest) (λ r. r.value < 2 ^ 32)
     at (Ok units) few = few
     at (Err fault) few = tt
 
@@ -53,70 +57,73 @@ device_said None = tt
 device_said (Some d) = refl
 
 -- a location
-pair_said : (l : List Pair) (word : List ℕ) → IsLocation l → IfOk (with_pair l word) IsLocation
+pair_said : (first : ℕ) (l : List Pair) (word : List ℕ) → IsLocation l → IfOk (with_pair first l word) IsLocation
 unfolding with_pair
-pair_said l word is = if_ok-passed _ _ (can_add l (pair_of word)) IsLocation one_more
+pair_said first l word is = at (nat_lt (length l) MOST_PAIRS) refl
   where
-    one_more : can_add l (pair_of word) ≡ true → IsLocation (l ++ pair_of word ∷ [])
-    one_more can =
+    one_more : nat_lt (length l) MOST_PAIRS ≡ true → is_pair word ≡ true → IsLocation (l ++ pair_of word ∷ [])
+    one_more few is_one =
         let p = pair_of word in
-        let outer = both_true (nat_lt (length l) MOST_PAIRS) (is_name p.kind && is_name p.name) can in
-        let inner = both_true (is_name p.kind) (is_name p.name) outer.1 in
-        let room : length l < MOST_PAIRS = grind (arith, nat_tests, outer.0) in
+        let inner = both_true (is_name p.kind) (is_name p.name) is_one in
+        let room : length l < MOST_PAIRS = grind (arith, nat_tests, few) in
         record {
           few = omega (arith, length-append l (p ∷ []), room);
           kinds = All-push (λ (q : Pair). IsName q.kind) l p is.kinds (is_name_holds p.kind inner.0);
           names = All-push (λ (q : Pair). IsName q.name) l p is.names (is_name_holds p.name inner.1);
         }
 
-pairs_said : (l : List Pair) (words : List (List ℕ)) → IsLocation l → IfOk (with_pairs l words) IsLocation
-unfolding with_pairs
-pairs_said l [] is = is
-pairs_said l (word ∷ rest) is = bind-if_ok_at (with_pair l word) (λ more. with_pairs more rest) IsLocation IsLocation (pair_said l word is) (λ more. pairs_said more rest)
+    at : (v : Bool) → nat_lt (length l) MOST_PAIRS ≡ v → IfOk (cond v (cond (is_pair word) (Ok (l ++ pair_of word ∷ [])) (Err (misfit (first + length l) a_pair))) (Err (misfit (first + length l) NoMorePairs))) IsLocation
+    at true few = if_ok-passed _ _ (is_pair word) IsLocation (one_more few)
+    at false few = tt
 
-location_said : (words : List (List ℕ)) → IfOk (location_at words) IsLocation
+pairs_said : (first : ℕ) (l : List Pair) (words : List (List ℕ)) → IsLocation l → IfOk (with_pairs first l words) IsLocation
+unfolding with_pairs
+pairs_said first l [] is = is
+pairs_said first l (word ∷ rest) is = bind-if_ok_at (with_pair first l word) (λ more. with_pairs first more rest) IsLocation IsLocation (pair_said first l word is) (λ more. pairs_said first more rest)
+
+location_said : (first : ℕ) (words : List (List ℕ)) → IfOk (location_at first words) IsLocation
 unfolding location_at
-location_said words = pairs_said [] words (record { few = omega arith; kinds = All-nil (λ (q : Pair). IsName q.kind); names = All-nil (λ (q : Pair). IsName q.name) })
+location_said first words = pairs_said first [] words (record { few = omega arith; kinds = All-nil (λ (q : Pair). IsName q.kind); names = All-nil (λ (q : Pair). IsName q.name) })
 
 -- no word is left
-end_said : {X : Type 0} (value : X) (words : List (List ℕ)) (P : X → Type 0) → P value → IfOk (end_at value words) P
+end_said : {X : Type 0} (index : ℕ) (value : X) (words : List (List ℕ)) (P : X → Type 0) → P value → IfOk (end_at index value words) P
 unfolding end_at
-end_said value [] P h = h
-end_said value (word ∷ rest) P h = tt
+end_said index value [] P h = h
+end_said index value (word ∷ rest) P h = tt
 
 -- FORMS of commands
 placing_said : (words : List (List ℕ)) → IfOk (placing_at words) (λ p. IsSaidPlacing p.device p.name p.weight p.at)
 unfolding placing_at
 placing_said words =
-    bind-if_ok_at (name_at words) _ _ (λ r. IsName r.value) (name_said words) (λ name is_name.
+    bind-if_ok_at (name_at 1 due.Device words) _ _ (λ r. IsName r.value) (name_said 1 due.Device words) (λ name is_name.
     bind-if_ok_at (the_device (device_named name.value)) _ _ (λ d. device_named name.value ≡ Some d) (device_said (device_named name.value)) (λ device is_device.
-    bind-if_ok_at (weight_at name.rest) _ _ (λ r. r.value < 2 ^ 32) (weight_said name.rest) (λ weight is_weight.
-    bind-if_ok_at (location_at weight.rest) _ _ IsLocation (location_said weight.rest) (λ at is_location.
+    bind-if_ok_at (weight_at 2 name.rest) _ _ (λ r. r.value < 2 ^ 32) (weight_said 2 name.rest) (λ weight is_weight.
+    bind-if_ok_at (location_at 3 weight.rest) _ _ IsLocation (location_said 3 weight.rest) (λ at is_location.
     record { name = is_name; device = is_device; weight = is_weight; at = is_location }))))
 
 located_said : (words : List (List ℕ)) → IfOk (located_at words) (λ p. IsName p.0 × IsLocation p.1)
 unfolding located_at
 located_said words =
-    bind-if_ok_at (name_at words) _ _ (λ r. IsName r.value) (name_said words) (λ name is_name.
-    bind-if_ok_at (location_at name.rest) _ _ IsLocation (location_said name.rest) (λ at is_location. (is_name, is_location)))
+    bind-if_ok_at (name_at 1 due.Name words) _ _ (λ r. IsName r.value) (name_said 1 due.Name words) (λ name is_name.
+    bind-if_ok_at (location_at 2 name.rest) _ _ IsLocation (location_said 2 name.rest) (λ at is_location. (is_name, is_location)))
 
 one_name_said : (words : List (List ℕ)) → IfOk (one_name_at words) IsName
 unfolding one_name_at
-one_name_said words = bind-if_ok_at (name_at words) _ _ (λ r. IsName r.value) (name_said words) (λ name is_name. end_said name.value name.rest IsName is_name)
+one_name_said words = bind-if_ok_at (name_at 1 due.Name words) _ _ (λ r. IsName r.value) (name_said 1 due.Name words) (λ name is_name. end_said 2 name.value name.rest IsName is_name)
 
 two_names_said : (words : List (List ℕ)) → IfOk (two_names_at words) (λ p. IsName p.0 × IsName p.1)
 unfolding two_names_at
 two_names_said words =
-    bind-if_ok_at (name_at words) _ _ (λ r. IsName r.value) (name_said words) (λ first is_first.
-    bind-if_ok_at (name_at first.rest) _ _ (λ r. IsName r.value) (name_said first.rest) (λ second is_second.
-    end_said (first.value, second.value) second.rest (λ p. IsName p.0 × IsName p.1) (is_first, is_second)))
+    bind-if_ok_at (name_at 1 due.Name words) _ _ (λ r. IsName r.value) (name_said 1 due.Name words) (λ first is_first.
+    bind-if_ok_at (name_at 2 due.Name first.rest) _ _ (λ r. IsName r.value) (name_said 2 due.Name first.rest) (λ second is_second.
+    end_said 3 (first.value, second.value) second.rest (λ p. IsName p.0 × IsName p.1) (is_first, is_second)))
 
 name_and_weight_said : (words : List (List ℕ)) → IfOk (name_and_weight_at words) (λ p. IsName p.0 × (p.1 < 2 ^ 32))
 unfolding name_and_weight_at
 name_and_weight_said words =
-    bind-if_ok_at (name_at words) _ _ (λ r. IsName r.value) (name_said words) (λ name is_name.
-    bind-if_ok_at (weight_at name.rest) _ _ (λ r. r.value < 2 ^ 32) (weight_said name.rest) (λ weight is_weight.
-    end_said (name.value, weight.value) weight.rest (λ p. IsName p.0 × (p.1 < 2 ^ 32)) (is_name, is_weight)))
+    bind-if_ok_at (name_at 1 due.Name words) _ _ (λ r. IsName r.value) (name_said 1 due.Name words) (λ name is_name.
+    bind-if_ok_at (weight_at 2 name.rest) _ _ (λ r. r.value < 2 ^ 32) (weight_said 2 name.rest) (λ weight is_weight.
+    end_said 3 (name.value, weight.value) weight.rest (λ p. IsName p.0 × (p.1 < 2 ^ 32)) (is_name, is_weight)))
 
 -- COMMANDS
 edit_to_place_said : (how : Placement) (p : Placing) → IsSaidPlacing p.device p.name p.weight p.at → IsSaid (edit_to_place how p)
@@ -161,11 +168,11 @@ count_said word = at (is_count word) refl
         grind (arith, nat_tests, few.1)
     at false is = tt
 
-read_count_said : (o : Option ℕ) (rest : List (List ℕ)) → IfSome o (λ n. n ≤ MOST_ENTRIES) → IfOk (read_count o rest) (λ r. r.value ≤ MOST_ENTRIES)
+read_count_said : (o : Option ℕ) (rest : List (List ℕ)) → IfSome o (λ n. n ≤ MOST_ENTRIES) → IfOk (read_count 2 o rest) (λ r. r.value ≤ MOST_ENTRIES)
 read_count_said (Some n) rest few = few
 read_count_said None rest few = tt
 
-count_at_said : (words : List (List ℕ)) → IfOk (count_at words) (λ r. r.value ≤ MOST_ENTRIES)
+count_at_said : (words : List (List ℕ)) → IfOk (count_at 2 words) (λ r. r.value ≤ MOST_ENTRIES)
 unfolding count_at
 count_at_said [] = tt
 count_at_said (word ∷ rest) = read_count_said (count_of word) rest (count_said word)
@@ -175,14 +182,14 @@ unfolding begin_at
 begin_said [] = tt
 begin_said (word ∷ rest) =
     if_ok-then _ _ (bytes_eq word (codes "at")) HasSaid
-    (bind-if_ok_at (count_at rest) (λ seen. end_at (says.Begin (Some seen.value)) seen.rest) HasSaid (λ r. r.value ≤ MOST_ENTRIES) (count_at_said rest) (λ seen few. end_said (says.Begin (Some seen.value)) seen.rest HasSaid few))
+    (bind-if_ok_at (count_at 2 rest) (λ seen. end_at 3 (says.Begin (Some seen.value)) seen.rest) HasSaid (λ r. r.value ≤ MOST_ENTRIES) (count_at_said rest) (λ seen few. end_said 3 (says.Begin (Some seen.value)) seen.rest HasSaid few))
 
 pub command_said : (words : List (List ℕ)) → IfOk (command words) HasSaid
 unfolding command
 command_said [] = tt
 command_said (first ∷ rest) =
     if_ok-either _ _ (bytes_eq first (codes "begin")) HasSaid (begin_said rest)
-    (if_ok-either _ _ (bytes_eq first (codes "commit")) HasSaid (end_said says.Commit rest HasSaid tt)
+    (if_ok-either _ _ (bytes_eq first (codes "commit")) HasSaid (end_said 1 says.Commit rest HasSaid tt)
     (bind-if_ok_at (edit_at first rest) (λ edit. Ok (says.Edit edit)) HasSaid IsSaid (edit_said first rest) (λ e is. is)))
 
 pub read_is_said : ReadIsSaid
@@ -193,4 +200,4 @@ pub operator_said : (words : List (List ℕ)) → IfOk (operator words) IsName
 unfolding operator
 operator_said [] = tt
 operator_said (first ∷ rest) =
-    if_ok-then _ _ (bytes_eq first (codes "%operator")) IsName (bind-if_ok_at (name_at rest) _ IsName (λ r. IsName r.value) (name_said rest) (λ name is. end_said name.value name.rest IsName is))
+    if_ok-then _ _ (bytes_eq first (codes "%operator")) IsName (one_name_said rest)

@@ -20,7 +20,7 @@ use Rattle.crush_script.specs.declared.sections.BegunBatch.{BegunBatch}
 use Rattle.crush_text.specs.Flow.{◌>>=◌}
 use Rattle.crush_script.specs.Command.{command, operator}
 use Rattle.crush_script.specs.Lines.{lines, section_part, section_line, line_words, begins_section}
-use Rattle.crush_script.specs.Sections.{SectionsData, no_sections, call_in_last, in_line, without_batch, closed, has_operator, with_section, counted, with_call, batch_call, with_edit, with_begin, with_commit, with_command, with_line, with_lines, sections_of}
+use Rattle.crush_script.specs.Sections.{SectionsData, no_sections, call_in_last, in_line, without_batch, closed, has_operator, with_section, counted, with_call, with_number, batch_call, with_edit, with_begin, with_commit, with_command, with_line, with_lines, sections_of}
 use Rattle.crush_script.specs.Job.{JobData, IsJob}
 use Rattle.crush_history.specs.Said.{IsSaid}
 use Rattle.crush_script.specs.ScriptsText.{IsSaidCall, IsSaidScript, AreScripts, ReadScriptsAreSuch}
@@ -99,7 +99,7 @@ batch_more (Some n) es e said is less = (All-push IsSaid es e said.0 is, omega (
 
 edit_said : (number : ℕ) (s : SectionsData) (o : Option BegunBatch) (e : Edit) → IfSome o (λ b. IsSaidCall (batch_call b.seen b.edits)) → AreSaid s → IsSaid e → IfOk (with_edit number s o e) AreSaid
 edit_said number s None e begun said is =
-    bind-if_ok_at (counted number s) (λ more. Ok (with_call (One e) more)) AreSaid AreSaid (counted_said number s said) (λ more h. record { scripts = in_last_said (One e) more.scripts is h.scripts; begun = h.begun; names = in_last_apart (One e) more.scripts h.names })
+    bind-if_ok_at (counted number s) (λ more. Ok (with_number number (with_call (One e) more))) AreSaid AreSaid (counted_said number s said) (λ more h. record { scripts = in_last_said (One e) more.scripts is h.scripts; begun = h.begun; names = in_last_apart (One e) more.scripts h.names })
 edit_said number s (Some b) e begun said is =
     if_ok-not _ _ (nat_le MOST_EDITS (length b.edits)) AreSaid (λ room. let less : length b.edits < MOST_EDITS = search (rules, tests) in
     record { scripts = said.scripts; begun = batch_more b.seen b.edits e begun is less; names = said.names })

@@ -19,9 +19,9 @@ use Rattle.crush_history.specs.declared.call.Call.TheVariants.{One, Batch, Guard
 use Rattle.crush_history.specs.Script.{ScriptData, call_count}
 use Rattle.crush_history.specs.HistoryText.{edit_text, names_of}
 use Rattle.crush_script.specs.declared.sections.BegunBatch.{BegunBatch}
-use Rattle.crush_script.specs.Command.{name_at, end_at, begin_at, command, operator}
+use Rattle.crush_script.specs.Command.{name_at, one_name_at, end_at, begin_at, command, operator}
 use Rattle.crush_script.specs.Lines.{lines, words_between_blanks, begins_section, length_to_section, map_part, section_part, section_line}
-use Rattle.crush_script.specs.Sections.{SectionsData, no_sections, call_in_last, has_operator, without_batch, batch_call, with_line, with_lines}
+use Rattle.crush_script.specs.Sections.{SectionsData, no_sections, call_in_last, number_in_last, has_operator, without_batch, batch_call, with_line, with_lines}
 use Rattle.crush_history.specs.Said.{IsSaid}
 use Rattle.crush_script.specs.ScriptsText.{call_lines, script_lines, scripts_text, IsSaidCall, IsSaidScript, ends_line, JobsAreReadBack}
 use Rattle.crush_script.proofs.PrintedLaws.{count_word, name_word, printed, printed_is_read}
@@ -113,27 +113,38 @@ scripts_are_lines (x ∷ xs) all =
     let is = All-head IsSaidScript x xs all in
     are_lines-append (script_lines x) (flat_map script_lines xs) (operator_line x.name is.name, calls_are_lines x.calls is.calls) (scripts_are_lines xs (All-tail IsSaidScript x xs all))
 
--- STEPS: some lines take what was said before them to what is said behind them, whatever follows
-abbrev state : List ScriptData → ℕ → Option BegunBatch → SectionsData
+-- STEPS: some lines take what was said before them to what is said behind them, whatever follows; only the numbers of the lines of edits are left open
+record Said : Type 0 where
+  scripts : List ScriptData
+  calls : ℕ
+  begun : Option BegunBatch
+
+abbrev state : List ScriptData → ℕ → Option BegunBatch → Said
 state scripts calls begun = record { scripts = scripts; calls = calls; begun = begun }
 
-record Goes (n : ℕ) (s : SectionsData) (ls : List (List ℕ)) (e : SectionsData) : Type 0 where
+-- with these numbers of lines
+abbrev lined : List (List ℕ) → Said → SectionsData
+lined numbers s = record { scripts = s.scripts; lines = numbers; calls = s.calls; begun = s.begun }
+
+record Goes (n : ℕ) (numbers : List (List ℕ)) (s : Said) (ls : List (List ℕ)) (e : Said) : Type 0 where
   to : ℕ
-  same : (rest : List (List ℕ)) → with_lines n s (ls ++ rest) ≡ with_lines to e rest
+  more : List (List ℕ)
+  same : (rest : List (List ℕ)) → with_lines n (lined numbers s) (ls ++ rest) ≡ with_lines to (lined more e) rest
 
-one_line : (n : ℕ) (s : SectionsData) (line : List ℕ) (e : SectionsData) → with_line n s line ≡ Ok e → Goes n s (line ∷ []) e
+one_line : (n : ℕ) (numbers more : List (List ℕ)) (s : Said) (line : List ℕ) (e : Said) → with_line n (lined numbers s) line ≡ Ok (lined more e) → Goes n numbers s (line ∷ []) e
 unfolding with_lines
-one_line n s line e is = record { to = n + 1; same = λ rest. rw is refl }
+one_line n numbers more s line e is = record { to = n + 1; more = more; same = λ rest. rw is refl }
 
-no_line : (n : ℕ) (s : SectionsData) → Goes n s [] s
-no_line n s = record { to = n; same = λ rest. refl }
+no_line : (n : ℕ) (numbers : List (List ℕ)) (s : Said) → Goes n numbers s [] s
+no_line n numbers s = record { to = n; more = numbers; same = λ rest. refl }
 
-goes_on : (n : ℕ) (s m e : SectionsData) (a b : List (List ℕ)) → Goes n s a m → ((k : ℕ) → Goes k m b e) → Goes n s (a ++ b) e
-goes_on n s m e a b first second =
-    record { to = (second first.to).to; same = λ rest. ap (with_lines n s) (append_assoc a b rest) ∙ first.same (b ++ rest) ∙ (second first.to).same rest }
+goes_on : (n : ℕ) (numbers : List (List ℕ)) (s m e : Said) (a b : List (List ℕ)) → Goes n numbers s a m → ((k : ℕ) (more : List (List ℕ)) → Goes k more m b e) → Goes n numbers s (a ++ b) e
+goes_on n numbers s m e a b first second =
+    let others = second first.to first.more in
+    record { to = others.to; more = others.more; same = λ rest. ap (with_lines n (lined numbers s)) (append_assoc a b rest) ∙ first.same (b ++ rest) ∙ others.same rest }
 
-goes_to : (n : ℕ) (s e f : SectionsData) (ls : List (List ℕ)) → e ≡ f → Goes n s ls e → Goes n s ls f
-goes_to n s e f ls is goes = subst (Goes n s ls) is goes
+goes_to : (n : ℕ) (numbers : List (List ℕ)) (s e f : Said) (ls : List (List ℕ)) → e ≡ f → Goes n numbers s ls e → Goes n numbers s ls f
+goes_to n numbers s e f ls is goes = subst (Goes n numbers s ls) is goes
 
 -- the line of an edit begins no section
 begins_none : (e : Edit) → begins_section (edit_text e) ≡ false
@@ -154,18 +165,18 @@ few : (k m : ℕ) → k < m → nat_le m k ≡ false
 few k m less = search (rules, tests)
 
 -- the edits of a batch
-batch_goes : (es : List Edit) (n : ℕ) (xs : List ScriptData) (k at : ℕ) (seen : Option ℕ) (done : List Edit) → All IsSaid es → length done + length es ≤ MOST_EDITS
-    → Goes n (state xs k (Some (record { line = at; seen = seen; edits = done }))) (map edit_text es) (state xs k (Some (record { line = at; seen = seen; edits = done ++ es })))
+batch_goes : (es : List Edit) (n : ℕ) (l : List (List ℕ)) (xs : List ScriptData) (k at : ℕ) (seen : Option ℕ) (done : List Edit) → All IsSaid es → length done + length es ≤ MOST_EDITS
+    → Goes n l (state xs k (Some (record { line = at; seen = seen; edits = done }))) (map edit_text es) (state xs k (Some (record { line = at; seen = seen; edits = done ++ es })))
 unfolding with_line
-batch_goes [] n xs k at seen done all room = goes_to n _ _ _ [] (ap (λ (es : List Edit). state xs k (Some (record { line = at; seen = seen; edits = es }))) (sym (append-nil done))) (no_line n _)
-batch_goes (e ∷ es) n xs k at seen done all room =
+batch_goes [] n l xs k at seen done all room = goes_to n l _ _ _ [] (ap (λ (es : List Edit). state xs k (Some (record { line = at; seen = seen; edits = es }))) (sym (append-nil done))) (no_line n l _)
+batch_goes (e ∷ es) n l xs k at seen done all room =
     let is = All-head IsSaid e es all in
     let starts = begins_none e in
     let reads = printed_is_read e is in
     let less = few (length done) MOST_EDITS (omega arith) in
-    let one = one_line n (state xs k (Some (record { line = at; seen = seen; edits = done }))) (edit_text e) (state xs k (Some (record { line = at; seen = seen; edits = done ++ e ∷ [] }))) (rw (starts, reads, less) refl) in
-    goes_to n _ _ _ _ (ap (λ (fs : List Edit). state xs k (Some (record { line = at; seen = seen; edits = fs }))) (append_assoc done (e ∷ []) es))
-    (goes_on n _ _ _ (edit_text e ∷ []) (map edit_text es) one (λ m. batch_goes es m xs k at seen (done ++ e ∷ []) (All-tail IsSaid e es all) (omega (arith, room, length-append done (e ∷ [])))))
+    let one = one_line n l (number_in_last n l) (state xs k (Some (record { line = at; seen = seen; edits = done }))) (edit_text e) (state xs k (Some (record { line = at; seen = seen; edits = done ++ e ∷ [] }))) (rw (starts, reads, less) refl) in
+    goes_to n l _ _ _ _ (ap (λ (fs : List Edit). state xs k (Some (record { line = at; seen = seen; edits = fs }))) (append_assoc done (e ∷ []) es))
+    (goes_on n l _ _ _ (edit_text e ∷ []) (map edit_text es) one (λ m o. batch_goes es m o xs k at seen (done ++ e ∷ []) (All-tail IsSaid e es all) (omega (arith, room, length-append done (e ∷ [])))))
 
 -- the last script of some
 last_call : (c : Call) (before : List ScriptData) (x : ScriptData) → call_in_last c (before ++ x ∷ []) ≡ before ++ (record { name = x.name; calls = x.calls ++ c ∷ [] }) ∷ []
@@ -177,63 +188,63 @@ last_call c (y ∷ z ∷ before) x = ap (λ (r : List ScriptData). y ∷ r) (las
 abbrev in_last : List ScriptData → ScriptData → List Call → List ScriptData
 in_last before x cs = before ++ (record { name = x.name; calls = x.calls ++ cs }) ∷ []
 
-begin_goes : (n : ℕ) (xs : List ScriptData) (k : ℕ) → k < MOST_CALLS → Goes n (state xs k None) (codes "begin" ∷ []) (state xs (k + 1) (Some (record { line = n; seen = None; edits = [] })))
+begin_goes : (n : ℕ) (l : List (List ℕ)) (xs : List ScriptData) (k : ℕ) → k < MOST_CALLS → Goes n l (state xs k None) (codes "begin" ∷ []) (state xs (k + 1) (Some (record { line = n; seen = None; edits = [] })))
 unfolding with_line command words_between_blanks begin_at
-begin_goes n xs k room = let less = few k MOST_CALLS room in one_line n (state xs k None) (codes "begin") _ (rw less refl)
+begin_goes n l xs k room = let less = few k MOST_CALLS room in one_line n l l (state xs k None) (codes "begin") _ (rw less refl)
 
 -- `begin at N`
-guard_goes : (n : ℕ) (xs : List ScriptData) (k seen : ℕ) → seen ≤ MOST_ENTRIES → k < MOST_CALLS
-    → Goes n (state xs k None) ((codes "begin at " ++ decimal seen) ∷ []) (state xs (k + 1) (Some (record { line = n; seen = Some seen; edits = [] })))
+guard_goes : (n : ℕ) (l : List (List ℕ)) (xs : List ScriptData) (k seen : ℕ) → seen ≤ MOST_ENTRIES → k < MOST_CALLS
+    → Goes n l (state xs k None) ((codes "begin at " ++ decimal seen) ∷ []) (state xs (k + 1) (Some (record { line = n; seen = Some seen; edits = [] })))
 unfolding with_line command begin_at end_at
-guard_goes n xs k seen small room =
+guard_goes n l xs k seen small room =
     let less = few k MOST_CALLS room in
     let words = line_words-joined (codes "begin") (codes "at" ∷ (decimal seen ∷ [])) begin_word (at_word, (count_word seen small, tt)) in
     let number = count_read seen small in
-    one_line n (state xs k None) (codes "begin at " ++ decimal seen) _ (rw (words, number, less) refl)
+    one_line n l l (state xs k None) (codes "begin at " ++ decimal seen) _ (rw (words, number, less) refl)
 
-commit_goes : (n : ℕ) (before : List ScriptData) (x : ScriptData) (k at : ℕ) (seen : Option ℕ) (es : List Edit)
-    → Goes n (state (before ++ x ∷ []) k (Some (record { line = at; seen = seen; edits = es }))) (codes "commit" ∷ []) (state (in_last before x (batch_call seen es ∷ [])) k None)
+commit_goes : (n : ℕ) (l : List (List ℕ)) (before : List ScriptData) (x : ScriptData) (k at : ℕ) (seen : Option ℕ) (es : List Edit)
+    → Goes n l (state (before ++ x ∷ []) k (Some (record { line = at; seen = seen; edits = es }))) (codes "commit" ∷ []) (state (in_last before x (batch_call seen es ∷ [])) k None)
 unfolding with_line command words_between_blanks end_at
-commit_goes n before x k at seen es = one_line n _ (codes "commit") _ (ap (λ (xs : List ScriptData). Ok (state xs k None)) (last_call (batch_call seen es) before x))
+commit_goes n l before x k at seen es = one_line n l l _ (codes "commit") _ (ap (λ (xs : List ScriptData). Ok (lined l (state xs k None))) (last_call (batch_call seen es) before x))
 
-call_goes : (c : Call) (n : ℕ) (before : List ScriptData) (x : ScriptData) (k : ℕ) → IsSaidCall c → k < MOST_CALLS
-    → Goes n (state (before ++ x ∷ []) k None) (call_lines c) (state (in_last before x (c ∷ [])) (k + 1) None)
+call_goes : (c : Call) (n : ℕ) (l : List (List ℕ)) (before : List ScriptData) (x : ScriptData) (k : ℕ) → IsSaidCall c → k < MOST_CALLS
+    → Goes n l (state (before ++ x ∷ []) k None) (call_lines c) (state (in_last before x (c ∷ [])) (k + 1) None)
 unfolding with_line
-call_goes (One e) n before x k is room =
+call_goes (One e) n l before x k is room =
     let starts = begins_none e in
     let reads = printed_is_read e is in
     let less = few k MOST_CALLS room in
-    one_line n (state (before ++ x ∷ []) k None) (edit_text e) _ (rw (starts, reads, less) (ap (λ (xs : List ScriptData). Ok (state xs (k + 1) None)) (last_call (One e) before x)))
-call_goes (Batch es) n before x k is room =
-    goes_on n _ _ _ (codes "begin" ∷ []) (map edit_text es ++ codes "commit" ∷ []) (begin_goes n (before ++ x ∷ []) k room)
-    (λ m. goes_on m _ _ _ (map edit_text es) (codes "commit" ∷ []) (batch_goes es m (before ++ x ∷ []) (k + 1) n None [] is.0 (omega (arith, is.1))) (λ o. commit_goes o before x (k + 1) n None es))
-call_goes (Guarded seen es) n before x k is room =
-    goes_on n _ _ _ ((codes "begin at " ++ decimal seen) ∷ []) (map edit_text es ++ codes "commit" ∷ []) (guard_goes n (before ++ x ∷ []) k seen is.2 room)
-    (λ m. goes_on m _ _ _ (map edit_text es) (codes "commit" ∷ []) (batch_goes es m (before ++ x ∷ []) (k + 1) n (Some seen) [] is.0 (omega (arith, is.1))) (λ o. commit_goes o before x (k + 1) n (Some seen) es))
+    one_line n l (number_in_last n l) (state (before ++ x ∷ []) k None) (edit_text e) _ (rw (starts, reads, less) (ap (λ (xs : List ScriptData). Ok (lined (number_in_last n l) (state xs (k + 1) None))) (last_call (One e) before x)))
+call_goes (Batch es) n l before x k is room =
+    goes_on n l _ _ _ (codes "begin" ∷ []) (map edit_text es ++ codes "commit" ∷ []) (begin_goes n l (before ++ x ∷ []) k room)
+    (λ m o. goes_on m o _ _ _ (map edit_text es) (codes "commit" ∷ []) (batch_goes es m o (before ++ x ∷ []) (k + 1) n None [] is.0 (omega (arith, is.1))) (λ p q. commit_goes p q before x (k + 1) n None es))
+call_goes (Guarded seen es) n l before x k is room =
+    goes_on n l _ _ _ ((codes "begin at " ++ decimal seen) ∷ []) (map edit_text es ++ codes "commit" ∷ []) (guard_goes n l (before ++ x ∷ []) k seen is.2 room)
+    (λ m o. goes_on m o _ _ _ (map edit_text es) (codes "commit" ∷ []) (batch_goes es m o (before ++ x ∷ []) (k + 1) n (Some seen) [] is.0 (omega (arith, is.1))) (λ p q. commit_goes p q before x (k + 1) n (Some seen) es))
 
-calls_go : (cs : List Call) (n : ℕ) (before : List ScriptData) (x : ScriptData) (k : ℕ) → All IsSaidCall cs → k + length cs ≤ MOST_CALLS
-    → Goes n (state (before ++ x ∷ []) k None) (flat_map call_lines cs) (state (in_last before x cs) (k + length cs) None)
-calls_go [] n before x k all room =
+calls_go : (cs : List Call) (n : ℕ) (l : List (List ℕ)) (before : List ScriptData) (x : ScriptData) (k : ℕ) → All IsSaidCall cs → k + length cs ≤ MOST_CALLS
+    → Goes n l (state (before ++ x ∷ []) k None) (flat_map call_lines cs) (state (in_last before x cs) (k + length cs) None)
+calls_go [] n l before x k all room =
     let none : k + 0 ≡ k = omega arith in
-    goes_to n _ _ _ [] (λ i. state (before ++ (record { name = x.name; calls = sym (append-nil x.calls) i }) ∷ []) (sym none i) None) (no_line n _)
-calls_go (c ∷ cs) n before x k all room =
+    goes_to n l _ _ _ [] (λ i. state (before ++ (record { name = x.name; calls = sym (append-nil x.calls) i }) ∷ []) (sym none i) None) (no_line n l _)
+calls_go (c ∷ cs) n l before x k all room =
     let y : ScriptData = record { name = x.name; calls = x.calls ++ c ∷ [] } in
     let more : k + 1 + length cs ≡ k + length (c ∷ cs) = omega arith in
-    goes_to n _ _ _ _ (λ i. state (before ++ (record { name = x.name; calls = append_assoc x.calls (c ∷ []) cs i }) ∷ []) (more i) None)
-    (goes_on n _ _ _ (call_lines c) (flat_map call_lines cs) (call_goes c n before x k (All-head IsSaidCall c cs all) (omega arith))
-    (λ m. calls_go cs m before y (k + 1) (All-tail IsSaidCall c cs all) (omega arith)))
+    goes_to n l _ _ _ _ (λ i. state (before ++ (record { name = x.name; calls = append_assoc x.calls (c ∷ []) cs i }) ∷ []) (more i) None)
+    (goes_on n l _ _ _ (call_lines c) (flat_map call_lines cs) (call_goes c n l before x k (All-head IsSaidCall c cs all) (omega arith))
+    (λ m o. calls_go cs m o before y (k + 1) (All-tail IsSaidCall c cs all) (omega arith)))
 
 -- the section of an operator
-script_goes : (x : ScriptData) (n : ℕ) (before : List ScriptData) (k : ℕ) → IsSaidScript x → length before < MOST_OPERATORS → has_operator before x.name ≡ false → k + length x.calls ≤ MOST_CALLS
-    → Goes n (state before k None) (script_lines x) (state (before ++ x ∷ []) (k + length x.calls) None)
-unfolding with_line operator name_at end_at
-script_goes x n before k is room own calls =
+script_goes : (x : ScriptData) (n : ℕ) (l : List (List ℕ)) (before : List ScriptData) (k : ℕ) → IsSaidScript x → length before < MOST_OPERATORS → has_operator before x.name ≡ false → k + length x.calls ≤ MOST_CALLS
+    → Goes n l (state before k None) (script_lines x) (state (before ++ x ∷ []) (k + length x.calls) None)
+unfolding with_line operator one_name_at name_at end_at
+script_goes x n l before k is room own calls =
     let less = few (length before) MOST_OPERATORS room in
     let words = line_words-joined (codes "%operator") (x.name ∷ []) operator_word (name_word x.name is.name, tt) in
     let name = is_name_true x.name is.name in
     let new : ScriptData = record { name = x.name; calls = [] } in
-    let head = one_line n (state before k None) (codes "%operator " ++ x.name) (state (before ++ new ∷ []) k None) (rw (words, name, less, own) refl) in
-    goes_on n _ _ _ ((codes "%operator " ++ x.name) ∷ []) (flat_map call_lines x.calls) head (λ m. calls_go x.calls m before new k is.calls calls)
+    let head = one_line n l (l ++ [] ∷ []) (state before k None) (codes "%operator " ++ x.name) (state (before ++ new ∷ []) k None) (rw (words, name, less, own) refl) in
+    goes_on n l _ _ _ ((codes "%operator " ++ x.name) ∷ []) (flat_map call_lines x.calls) head (λ m o. calls_go x.calls m o before new k is.calls calls)
 
 -- no script before has the name
 own_name : (before : List ScriptData) (x : ScriptData) (xs : List ScriptData) → AllPairs (λ (a b : List ℕ). bytes_eq a b ≡ false) (names_of (before ++ x ∷ xs)) → has_operator before x.name ≡ false
@@ -253,20 +264,20 @@ own_name before x xs names = list_any_none (λ (y : ScriptData). bytes_eq y.name
         let right = get_or-append_seam ls own (names_of xs) d.name in
         sym (λ k. bytes_eq (left k) (right k)) ∙ apart
 
-scripts_go : (xs : List ScriptData) (n : ℕ) (before : List ScriptData) (k : ℕ) → All IsSaidScript xs → length before + length xs ≤ MOST_OPERATORS
+scripts_go : (xs : List ScriptData) (n : ℕ) (l : List (List ℕ)) (before : List ScriptData) (k : ℕ) → All IsSaidScript xs → length before + length xs ≤ MOST_OPERATORS
     → AllPairs (λ (a b : List ℕ). bytes_eq a b ≡ false) (names_of (before ++ xs)) → k + call_count xs ≤ MOST_CALLS
-    → Goes n (state before k None) (flat_map script_lines xs) (state (before ++ xs) (k + call_count xs) None)
-scripts_go [] n before k all room names calls =
+    → Goes n l (state before k None) (flat_map script_lines xs) (state (before ++ xs) (k + call_count xs) None)
+scripts_go [] n l before k all room names calls =
     let none : k + 0 ≡ k = omega arith in
-    goes_to n _ _ _ [] (λ i. state (sym (append-nil before) i) (sym none i) None) (no_line n _)
-scripts_go (x ∷ xs) n before k all room names calls =
+    goes_to n l _ _ _ [] (λ i. state (sym (append-nil before) i) (sym none i) None) (no_line n l _)
+scripts_go (x ∷ xs) n l before k all room names calls =
     let sum : call_count (x ∷ xs) ≡ length x.calls + call_count xs = sum_by-cons (λ (y : ScriptData). length y.calls) x xs in
     let more : k + length x.calls + call_count xs ≡ k + call_count (x ∷ xs) = omega (arith, sum) in
     let behind = append_assoc before (x ∷ []) xs in
-    goes_to n _ _ _ _ (λ i. state (behind i) (more i) None)
-    (goes_on n _ _ _ (script_lines x) (flat_map script_lines xs)
-    (script_goes x n before k (All-head IsSaidScript x xs all) (omega arith) (own_name before x xs names) (omega (arith, calls, sum)))
-    (λ m. scripts_go xs m (before ++ x ∷ []) (k + length x.calls) (All-tail IsSaidScript x xs all) (omega (arith, room, length-append before (x ∷ [])))
+    goes_to n l _ _ _ _ (λ i. state (behind i) (more i) None)
+    (goes_on n l _ _ _ (script_lines x) (flat_map script_lines xs)
+    (script_goes x n l before k (All-head IsSaidScript x xs all) (omega arith) (own_name before x xs names) (omega (arith, calls, sum)))
+    (λ m o. scripts_go xs m o (before ++ x ∷ []) (k + length x.calls) (All-tail IsSaidScript x xs all) (omega (arith, room, length-append before (x ∷ [])))
     (subst (λ (ys : List ScriptData). AllPairs (λ (a b : List ℕ). bytes_eq a b ≡ false) (names_of ys)) (sym behind) names) (omega (arith, calls, sum))))
 
 -- THE MAP'S TEXT before the sections: none of its lines begins one
@@ -300,14 +311,14 @@ jobs_are_read_back text s t adjusted scripts is last are short =
     let number : ℕ = section_line (text ++ rest) in
     let all : List (List ℕ) = flat_map script_lines scripts in
     let none : 0 + call_count scripts ≡ call_count scripts = omega arith in
-    let goes = goes_to number _ _ (state scripts (call_count scripts) None) all (ap (λ (k : ℕ). state scripts k None) none) (scripts_go scripts number [] 0 are.said (omega (arith, are.few)) are.names (omega (arith, are.calls))) in
+    let goes = goes_to number [] _ _ (state scripts (call_count scripts) None) all (ap (λ (k : ℕ). state scripts k None) none) (scripts_go scripts number [] [] 0 are.said (omega (arith, are.few)) are.names (omega (arith, are.calls))) in
     let read : List (List ℕ) = lines (section_part (text ++ rest)) in
     let split : read ≡ all = ap lines back ∙ lines-of_text all (scripts_are_lines scripts are.said) in
-    let end = at_end goes.to (state scripts (call_count scripts) None) refl in
+    let end = at_end goes.to (lined goes.more (state scripts (call_count scripts) None)) refl in
     record {
       short = short;
       map = subst (λ (m : List ℕ). IsMapText m s t adjusted) (sym front) is;
-      said = state scripts (call_count scripts) None;
+      said = lined goes.more (state scripts (call_count scripts) None);
       sections = ap (with_lines number no_sections) (split ∙ sym (append-nil all)) ∙ goes.same [] ∙ end;
       scripts = refl;
     }

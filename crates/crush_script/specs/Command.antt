@@ -1,119 +1,112 @@
 -- How the words of a line of a section are parsed. Each definition gives its value, or why the line can't be parsed.
-use Rattle.std.specs.Prelude.{ℕ, List, [], ◌∷◌, ◌++◌, ◌||◌, Option, Some, None, codes, bytes_eq, Result, Ok, Err, if◌then◌else◌}
+use Rattle.std.specs.Prelude.{ℕ, ◌+◌, List, [], ◌∷◌, ◌++◌, length, nat_lt, Option, Some, None, codes, bytes_eq, Result, Ok, Err, if◌then◌else◌}
 use Rattle.crush_units.specs.Name.{is_name}
 use Rattle.crush_units.specs.Weight.{weight_of_text}
 use Rattle.crush_units.specs.declared.weight.WeightFault.{WeightFault}
+use Rattle.crush_units.specs.declared.limits.TheConstants.{MOST_PAIRS}
 use Rattle.crush_edits.specs.declared.location.Pair.{Pair}
 use Rattle.crush_edits.specs.declared.edit.Edit.{Edit}
 use Rattle.crush_edits.specs.declared.edit.Edit.TheVariants.{Insert, CreateOrMove, Update, Move, Swap, Reweight, ReweightSubtree, Remove, AddBucket, Rename, SetClass, RemoveClass}
 use Rattle.crush_script.specs.declared.command.Command.{Command}
 use Rattle.crush_script.specs.declared.command.Command.TheVariants as says
-use Rattle.crush_script.specs.declared.command.Keyword.{Keyword}
-use Rattle.crush_script.specs.declared.command.Keyword.TheVariants as word
-use Rattle.crush_script.specs.declared.command.Placement.{Placement}
-use Rattle.crush_script.specs.declared.command.Placement.TheVariants as place
+use Rattle.crush_script.specs.declared.keyword.Keyword.{Keyword}
+use Rattle.crush_script.specs.declared.keyword.Keyword.TheVariants as word
+use Rattle.crush_script.specs.declared.keyword.Placement.{Placement}
+use Rattle.crush_script.specs.declared.keyword.Placement.TheVariants as place
 use Rattle.crush_script.specs.declared.command.Placing.{Placing}
 use Rattle.crush_script.specs.declared.command.LineFault.{LineFault}
-use Rattle.crush_script.specs.declared.command.LineFault.TheVariants.{BadLine, NoSuchCommand}
+use Rattle.crush_script.specs.declared.command.LineFault.TheVariants.{Word, NoOperator, NoSuchCommand}
+use Rattle.crush_script.specs.declared.fault.Due.{Due}
+use Rattle.crush_script.specs.declared.fault.Due.TheVariants as due
+use Rattle.crush_script.specs.Keyword.{keyword_of}
 use Rattle.crush_text.specs.Flow.{◌>>=◌}
 use Rattle.crush_history.specs.Said.{device_named}
-use Rattle.crush_script.specs.Words.{pair_of, can_add, count_of}
+use Rattle.crush_script.specs.Words.{pair_of, is_pair, count_of}
 
 -- a value that was read from the first of some words, and the words after them
 pub record Read (X : Type 0) : Type 0 where
   pub value : X
   pub rest : List (List ℕ)
 
--- the next word as a name, or BadLine if there is no word or it isn't a name
-unfoldable pub name_at : List (List ℕ) → Result (Read (List ℕ)) LineFault
-name_at [] = Err BadLine
-name_at (word ∷ rest) = if is_name word then Ok (record { value = word; rest = rest }) else Err BadLine
+-- the fault of a line whose word at this index, counted from 0, isn't what is due, or is missing
+abbrev pub misfit : ℕ → Due → LineFault
+misfit index d = Word (record { word = index; due = d })
 
--- a weight that was read, with the words after it, or BadLine if the word is no weight of at most HEAVIEST_BUCKET units
-abbrev pub read_weight : Result ℕ WeightFault → List (List ℕ) → Result (Read ℕ) LineFault
-read_weight (Ok units) rest = Ok (record { value = units; rest = rest })
-read_weight (Err fault) rest = Err BadLine
+-- the next word, which has this index, as a name; a misfit if there is no word or it isn't a name. What is due is a name, or a device, whose name it is.
+unfoldable pub name_at : ℕ → Due → List (List ℕ) → Result (Read (List ℕ)) LineFault
+name_at index d [] = Err (misfit index d)
+name_at index d (word ∷ rest) = if is_name word then Ok (record { value = word; rest = rest }) else Err (misfit index d)
 
--- the next word as a weight, or BadLine if there is no word or it is no weight
-unfoldable pub weight_at : List (List ℕ) → Result (Read ℕ) LineFault
-weight_at [] = Err BadLine
-weight_at (word ∷ rest) = read_weight (weight_of_text word) rest
+-- a weight that was read, with the words after it, or a misfit if the word is no weight of at most HEAVIEST_BUCKET units
+abbrev pub read_weight : ℕ → Result ℕ WeightFault → List (List ℕ) → Result (Read ℕ) LineFault
+read_weight index (Ok units) rest = Ok (record { value = units; rest = rest })
+read_weight index (Err fault) rest = Err (misfit index due.Weight)
 
--- the value if no word is left, otherwise BadLine
-unfoldable pub end_at : {X : Type 0} → X → List (List ℕ) → Result X LineFault
-end_at value [] = Ok value
-end_at value (word ∷ rest) = Err BadLine
+-- the next word, which has this index, as a weight; a misfit if there is no word or it is no weight
+unfoldable pub weight_at : ℕ → List (List ℕ) → Result (Read ℕ) LineFault
+weight_at index [] = Err (misfit index due.Weight)
+weight_at index (word ∷ rest) = read_weight index (weight_of_text word) rest
 
--- the location l with the word `TYPE=NAME` as one more pair, or BadLine if the pair can't be added
-unfoldable pub with_pair : List Pair → List ℕ → Result (List Pair) LineFault
-with_pair l word = if can_add l (pair_of word) then Ok (l ++ pair_of word ∷ []) else Err BadLine
+-- the value if no word is left, otherwise a misfit of the next word, which has this index
+unfoldable pub end_at : {X : Type 0} → ℕ → X → List (List ℕ) → Result X LineFault
+end_at index value [] = Ok value
+end_at index value (word ∷ rest) = Err (misfit index due.End)
 
--- the location l with all these words as further pairs, in order, or BadLine at the first that can't be added
-unfoldable pub with_pairs : List Pair → List (List ℕ) → Result (List Pair) LineFault
-with_pairs l [] = Ok l
-with_pairs l (word ∷ rest) = with_pair l word >>= λ more. with_pairs more rest
+-- the location l with the word `TYPE=NAME` as one more pair, or a misfit if l is full or the word is no pair. The first pair of the line has the index `first`.
+unfoldable pub with_pair : ℕ → List Pair → List ℕ → Result (List Pair) LineFault
+with_pair first l word =
+    if nat_lt (length l) MOST_PAIRS then (if is_pair word then Ok (l ++ pair_of word ∷ []) else Err (misfit (first + length l) due.Pair))
+    else Err (misfit (first + length l) due.NoMorePairs)
+
+-- the location l with all these words as further pairs, in order, or a misfit of the first that can't be added
+unfoldable pub with_pairs : ℕ → List Pair → List (List ℕ) → Result (List Pair) LineFault
+with_pairs first l [] = Ok l
+with_pairs first l (word ∷ rest) = with_pair first l word >>= λ more. with_pairs first more rest
 
 -- `PAIR ..`: all words that are left, as a location of 0 to 16 pairs
-unfoldable pub location_at : List (List ℕ) → Result (List Pair) LineFault
-location_at words = with_pairs [] words
+unfoldable pub location_at : ℕ → List (List ℕ) → Result (List Pair) LineFault
+location_at first words = with_pairs first [] words
 
--- the id of a device if there is one, otherwise BadLine
+-- the id of a device if there is one, otherwise a misfit of the word after the command
 abbrev pub the_device : Option ℕ → Result ℕ LineFault
-the_device None = Err BadLine
+the_device None = Err (misfit 1 due.Device)
 the_device (Some id) = Ok id
 
 -- `osd.N W PAIR ..`: a device's name, a weight and a location
 unfoldable pub placing_at : List (List ℕ) → Result Placing LineFault
 placing_at words = do
-  name ← name_at words
+  name ← name_at 1 due.Device words
   device ← the_device (device_named name.value)
-  weight ← weight_at name.rest
-  at ← location_at weight.rest
+  weight ← weight_at 2 name.rest
+  at ← location_at 3 weight.rest
   Ok (record { device = device; name = name.value; weight = weight.value; at = at })
 
 -- `NAME PAIR ..`: a name and a location
 unfoldable pub located_at : List (List ℕ) → Result (List ℕ × List Pair) LineFault
 located_at words = do
-  name ← name_at words
-  at ← location_at name.rest
+  name ← name_at 1 due.Name words
+  at ← location_at 2 name.rest
   Ok (name.value, at)
 
 -- `NAME`: a name and no further word
 unfoldable pub one_name_at : List (List ℕ) → Result (List ℕ) LineFault
 one_name_at words = do
-  name ← name_at words
-  end_at name.value name.rest
+  name ← name_at 1 due.Name words
+  end_at 2 name.value name.rest
 
 -- two names and no further word: `NAME NAME`, `NAME TYPENAME`, `FROM TO` or `CLASS NAME`
 unfoldable pub two_names_at : List (List ℕ) → Result (List ℕ × List ℕ) LineFault
 two_names_at words = do
-  first ← name_at words
-  second ← name_at first.rest
-  end_at (first.value, second.value) second.rest
+  first ← name_at 1 due.Name words
+  second ← name_at 2 due.Name first.rest
+  end_at 3 (first.value, second.value) second.rest
 
 -- `NAME W`: the name of a device or a bucket, a weight, and no further word
 unfoldable pub name_and_weight_at : List (List ℕ) → Result (List ℕ × ℕ) LineFault
 name_and_weight_at words = do
-  name ← name_at words
-  weight ← weight_at name.rest
-  end_at (name.value, weight.value) weight.rest
-
--- the command that the first word of a line names, if it names one
-unfoldable pub keyword_of : List ℕ → Option Keyword
-keyword_of first =
-    if bytes_eq first (codes "add") then Some (word.Place place.Add)
-    else if bytes_eq first (codes "set") then Some (word.Place place.Set)
-    else if bytes_eq first (codes "create-or-move") then Some (word.Place place.CreateOrMove)
-    else if bytes_eq first (codes "move") then Some word.Move
-    else if bytes_eq first (codes "swap-bucket") then Some word.SwapBucket
-    else if bytes_eq first (codes "reweight") then Some word.Reweight
-    else if bytes_eq first (codes "reweight-subtree") then Some word.ReweightSubtree
-    else if bytes_eq first (codes "rm") || bytes_eq first (codes "remove") then Some word.Rm
-    else if bytes_eq first (codes "add-bucket") then Some word.AddBucket
-    else if bytes_eq first (codes "rename-bucket") then Some word.RenameBucket
-    else if bytes_eq first (codes "set-device-class") then Some word.SetDeviceClass
-    else if bytes_eq first (codes "rm-device-class") then Some word.RmDeviceClass
-    else None
+  name ← name_at 1 due.Name words
+  weight ← weight_at 2 name.rest
+  end_at 3 (name.value, weight.value) weight.rest
 
 -- the edit of `add`, `set` or `create-or-move` with this device, weight and location
 abbrev pub edit_to_place : Placement → Placing → Edit
@@ -143,30 +136,30 @@ edit_by (Some keyword) rest = edit_of keyword rest
 unfoldable pub edit_at : List ℕ → List (List ℕ) → Result Edit LineFault
 edit_at first rest = edit_by (keyword_of first) rest
 
--- a number of changes that was read, with the words after it, or BadLine if the word is no such number
-abbrev pub read_count : Option ℕ → List (List ℕ) → Result (Read ℕ) LineFault
-read_count (Some n) rest = Ok (record { value = n; rest = rest })
-read_count None rest = Err BadLine
+-- a number of changes that was read, with the words after it, or a misfit if the word is no such number
+abbrev pub read_count : ℕ → Option ℕ → List (List ℕ) → Result (Read ℕ) LineFault
+read_count index (Some n) rest = Ok (record { value = n; rest = rest })
+read_count index None rest = Err (misfit index due.Changes)
 
--- the next word as a number of changes, or BadLine if there is no word or it is no such number
-unfoldable pub count_at : List (List ℕ) → Result (Read ℕ) LineFault
-count_at [] = Err BadLine
-count_at (word ∷ rest) = read_count (count_of word) rest
+-- the next word, which has this index, as a number of changes; a misfit if there is no word or it is no such number
+unfoldable pub count_at : ℕ → List (List ℕ) → Result (Read ℕ) LineFault
+count_at index [] = Err (misfit index due.Changes)
+count_at index (word ∷ rest) = read_count index (count_of word) rest
 
 -- the words after `begin`: none, or `at N` and no further word
 unfoldable pub begin_at : List (List ℕ) → Result Command LineFault
 begin_at [] = Ok (says.Begin None)
-begin_at (word ∷ rest) = if bytes_eq word (codes "at") then (count_at rest >>= λ seen. end_at (says.Begin (Some seen.value)) seen.rest) else Err BadLine
+begin_at (word ∷ rest) = if bytes_eq word (codes "at") then (count_at 2 rest >>= λ seen. end_at 3 (says.Begin (Some seen.value)) seen.rest) else Err (misfit 1 due.At)
 
 -- a line of a section that doesn't begin it: no words, `begin`, `begin at N`, `commit`, or a command that makes an edit
 unfoldable pub command : List (List ℕ) → Result Command LineFault
 command [] = Ok says.Nothing
 command (first ∷ rest) =
     if bytes_eq first (codes "begin") then begin_at rest
-    else if bytes_eq first (codes "commit") then end_at says.Commit rest
+    else if bytes_eq first (codes "commit") then end_at 1 says.Commit rest
     else edit_at first rest >>= λ edit. Ok (says.Edit edit)
 
 -- `%operator NAME`, the line that begins a section: the name of its operator
 unfoldable pub operator : List (List ℕ) → Result (List ℕ) LineFault
-operator [] = Err BadLine
-operator (first ∷ rest) = if bytes_eq first (codes "%operator") then (name_at rest >>= λ name. end_at name.value name.rest) else Err BadLine
+operator [] = Err NoOperator
+operator (first ∷ rest) = if bytes_eq first (codes "%operator") then one_name_at rest else Err NoOperator

@@ -1,6 +1,7 @@
 pub mod Command
 pub mod Fault
 pub mod Job
+pub mod Keyword
 pub mod Lines
 pub mod MapPart
 pub mod Printed

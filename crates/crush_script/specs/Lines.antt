@@ -1,6 +1,6 @@
 -- The lines of a job, where its map's text ends, and the words of a line of a section.
-use Rattle.std.specs.Prelude.{ℕ, ◌+◌, ◌-◌, ◌==◌, Bool, true, false, ◌&&◌, ◌||◌, not, List, [], ◌∷◌, if◌then◌else◌, length, take, drop, filter, count_by, take_while, nat_lt, slice_index}
-use Rattle.std.specs.List.{slice_split, onto_first}
+use Rattle.std.specs.Prelude.{ℕ, zero, suc, ◌+◌, ◌-◌, ◌==◌, Bool, true, false, ◌&&◌, ◌||◌, not, List, [], ◌∷◌, if◌then◌else◌, length, take, drop, filter, count_by, take_while, nat_lt, slice_index}
+use Rattle.std.specs.List.{position_or_len, slice_split, onto_first}
 
 -- the lines of some bytes, without their line feeds; the last line may end with the bytes instead
 unfoldable pub lines : List ℕ → List (List ℕ)
@@ -47,6 +47,34 @@ words_between_blanks text = filter (λ (word : List ℕ). nat_lt 0 (length word)
 -- the words of a line, without its carriage return and its comment
 abbrev pub line_words : List ℕ → List (List ℕ)
 line_words line = words_between_blanks (without_comment (without_return line))
+
+-- a text from its first word on
+abbrev pub from_blanks : List ℕ → List ℕ
+from_blanks text = drop (position_or_len (λ b. not (is_space_or_tab b)) text) text
+
+-- a text from the end of its first word on
+abbrev pub behind_word : List ℕ → List ℕ
+behind_word text = drop (position_or_len is_space_or_tab (from_blanks text)) (from_blanks text)
+
+-- the text behind its first words, as many as this
+unfoldable pub behind_words : ℕ → List ℕ → List ℕ
+behind_words zero text = text
+behind_words (suc n) text = behind_word (behind_words n text)
+
+-- a text from the word with this index on; nothing if it has fewer words
+abbrev pub from_word : ℕ → List ℕ → List ℕ
+from_word index text = from_blanks (behind_words index text)
+
+-- the first word of a text that begins with one
+abbrev pub first_word : List ℕ → List ℕ
+first_word text = take (position_or_len is_space_or_tab text) text
+
+-- PLACED WORD: the word of a line with this index, which counts from 0, or nothing if the line has fewer words; and the number of bytes of the line before it
+abbrev pub word_in_line : ℕ → List ℕ → List ℕ
+word_in_line index line = first_word (from_word index (without_comment (without_return line)))
+
+abbrev pub place_in_line : ℕ → List ℕ → ℕ
+place_in_line index line = length (without_comment (without_return line)) - length (from_word index (without_comment (without_return line)))
 
 -- whether a line begins a section: its first byte is `%`
 abbrev pub begins_section : List ℕ → Bool

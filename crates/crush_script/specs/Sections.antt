@@ -1,5 +1,5 @@
 -- The scripts of a job: a fold over the lines of its sections.
-use Rattle.std.specs.Prelude.{ℕ, ◌+◌, List, [], ◌∷◌, ◌++◌, Bool, Option, Some, None, length, Result, Ok, Err, if◌then◌else◌, nat_le, bytes_eq}
+use Rattle.std.specs.Prelude.{ℕ, ◌+◌, List, [], ◌∷◌, ◌++◌, Bool, Option, Some, None, Vec, length, map, Result, Ok, Err, if◌then◌else◌, nat_le, bytes_eq}
 use Rattle.std.specs.List.{list_any}
 use Rattle.crush_edits.specs.declared.edit.Edit.{Edit}
 use Rattle.crush_history.specs.declared.call.Call.{Call}
@@ -8,6 +8,8 @@ use Rattle.crush_script.specs.declared.command.Command.{Command}
 use Rattle.crush_script.specs.declared.command.Command.TheVariants as says
 use Rattle.crush_script.specs.declared.command.LineFault.{LineFault}
 use Rattle.crush_script.specs.declared.command.LineFault.TheVariants as line
+use Rattle.crush_script.specs.declared.fault.BadLine.{BadLine}
+use Rattle.crush_script.specs.declared.fault.BadLine.TheVariants as bad
 use Rattle.crush_script.specs.declared.fault.JobFault.{JobFault}
 use Rattle.crush_script.specs.declared.fault.JobFault.TheVariants as job
 use Rattle.crush_script.specs.declared.sections.BegunBatch.{BegunBatch}
@@ -18,23 +20,33 @@ use Rattle.crush_script.specs.Command.{command, operator}
 use Rattle.crush_script.specs.Lines.{lines, section_part, section_line, line_words, begins_section}
 use Rattle.crush_units.specs.declared.limits.TheConstants.{MOST_CALLS, MOST_EDITS, MOST_OPERATORS}
 
--- what was read from the lines so far: the scripts, the number of calls that were begun in all of them, and the batch that is open, if there is one. A batch has the number of its `begin` line, the number of changes that this line names, and its edits.
+-- what was read from the lines so far: the scripts, for each of them the numbers of the lines that say its edits, the number of calls that were begun in all of them, and the batch that is open, if there is one. A batch has the number of its `begin` line, the number of changes that this line names, and its edits.
 pub record SectionsData : Type 0 where
   pub scripts : List ScriptData
+  pub lines : List (List ℕ)
   pub calls : ℕ
   pub begun : Option BegunBatch
 
+-- lists of numbers of lines, as data
+abbrev pub lines_data : {Z : Type 0} → List (Vec ℕ Z) → List (List ℕ)
+lines_data lines = map (λ numbers. numbers.items) lines
+
 -- what a value of the program says, as data
 abbrev pub sections_data : Sections → SectionsData
-sections_data s = record { scripts = scripts_data s.scripts.items; calls = s.calls; begun = s.begun }
+sections_data s = record { scripts = scripts_data s.scripts.items; lines = lines_data s.lines.items; calls = s.calls; begun = s.begun }
 
 -- before the first line: no scripts, no calls and no open batch
 abbrev pub no_sections : SectionsData
-no_sections = record { scripts = []; calls = 0; begun = None }
+no_sections = record { scripts = []; lines = []; calls = 0; begun = None }
+
+-- the fault of a job one of whose lines can't be at its place, for this reason
+abbrev pub bad_line : ℕ → BadLine → JobFault
+bad_line number why = job.BadLine number why
 
 -- the fault of a job for a fault of one of its lines, with the line's number unless memory ran out
 abbrev pub fault_at : ℕ → LineFault → JobFault
-fault_at number line.BadLine = job.BadLine number
+fault_at number (line.Word m) = job.BadLine number (bad.Word m)
+fault_at number line.NoOperator = job.BadLine number bad.NoOperator
 fault_at number line.NoSuchCommand = job.NoSuchCommand number
 fault_at number line.OutOfMemory = job.OutOfMemory
 
@@ -61,7 +73,7 @@ abbrev pub with_section : ℕ → SectionsData → List ℕ → Result SectionsD
 with_section number s name =
     if nat_le MOST_OPERATORS (length s.scripts) then Err (job.TooManyOperators number)
     else if has_operator s.scripts name then Err (job.DuplicateOperator number)
-    else Ok (record s { scripts = s.scripts ++ (record { name = name; calls = [] }) ∷ [] })
+    else Ok (record s { scripts = s.scripts ++ (record { name = name; calls = [] }) ∷ []; lines = s.lines ++ [] ∷ [] })
 
 -- the sections with one more call counted, which the line `number` begins; a fault if MOST_CALLS are counted already
 abbrev pub counted : ℕ → SectionsData → Result SectionsData JobFault
@@ -79,21 +91,31 @@ call_in_last c (s ∷ r ∷ rest) = s ∷ call_in_last c (r ∷ rest)
 abbrev pub with_call : Call → SectionsData → SectionsData
 with_call c s = record s { scripts = call_in_last c s.scripts }
 
--- the sections with the edit e appended to the open batch b, or BadLine if the batch has MOST_EDITS edits already
+-- the lists of numbers with one more number in the last of them
+abbrev pub number_in_last : ℕ → List (List ℕ) → List (List ℕ)
+number_in_last number [] = []
+number_in_last number (l ∷ []) = (l ++ number ∷ []) ∷ []
+number_in_last number (l ∷ m ∷ rest) = l ∷ number_in_last number (m ∷ rest)
+
+-- the sections whose last script has one more line that says an edit
+abbrev pub with_number : ℕ → SectionsData → SectionsData
+with_number number s = record s { lines = number_in_last number s.lines }
+
+-- the sections with the edit e, which this line says, appended to the open batch b, or BadLine if the batch has MOST_EDITS edits already
 abbrev pub in_batch : ℕ → SectionsData → BegunBatch → Edit → Result SectionsData JobFault
 in_batch number s b e =
-    if nat_le MOST_EDITS (length b.edits) then Err (job.BadLine number)
-    else Ok (record s { begun = Some (record { line = b.line; seen = b.seen; edits = b.edits ++ e ∷ [] }) })
+    if nat_le MOST_EDITS (length b.edits) then Err (bad_line number bad.BatchFull)
+    else Ok (with_number number (record s { begun = Some (record { line = b.line; seen = b.seen; edits = b.edits ++ e ∷ [] }) }))
 
 -- the sections with one more edit: in the open batch if there is one, otherwise as a call of its own
 abbrev pub with_edit : ℕ → SectionsData → Option BegunBatch → Edit → Result SectionsData JobFault
-with_edit number s None e = counted number s >>= λ more. Ok (with_call (One e) more)
+with_edit number s None e = counted number s >>= λ more. Ok (with_number number (with_call (One e) more))
 with_edit number s (Some b) e = in_batch number s b e
 
 -- the sections after a line `begin` or `begin at N`, which opens a batch and counts as one more call; BadLine if a batch is open already
 abbrev pub with_begin : ℕ → SectionsData → Option BegunBatch → Option ℕ → Result SectionsData JobFault
 with_begin number s None seen = counted number s >>= λ more. Ok (record more { begun = Some (record { line = number; seen = seen; edits = [] }) })
-with_begin number s (Some b) seen = Err (job.BadLine number)
+with_begin number s (Some b) seen = Err (bad_line number bad.BatchOpen)
 
 -- the call of a batch, which is guarded if its `begin` names a number of changes
 abbrev pub batch_call : Option ℕ → List Edit → Call
@@ -102,7 +124,7 @@ batch_call (Some seen) es = Guarded seen es
 
 -- the sections after a line `commit`, which appends the open batch to the last script as a call; BadLine if no batch is open
 abbrev pub with_commit : ℕ → SectionsData → Option BegunBatch → Result SectionsData JobFault
-with_commit number s None = Err (job.BadLine number)
+with_commit number s None = Err (bad_line number bad.NoBatch)
 with_commit number s (Some b) = Ok (with_call (batch_call b.seen b.edits) (record s { begun = None }))
 
 -- the sections after a line that was parsed as this command
@@ -126,3 +148,12 @@ with_lines number s (text ∷ rest) = with_line number s text >>= λ next. with_
 -- what the sections of a job say, or the fault of the first faulty line
 abbrev pub sections_of : List ℕ → Result SectionsData JobFault
 sections_of job = with_lines (section_line job) no_sections (lines (section_part job))
+
+-- the lists of lines of sections that were read
+abbrev pub lines_in : Result SectionsData JobFault → List (List ℕ)
+lines_in (Ok s) = s.lines
+lines_in (Err fault) = []
+
+-- EDIT LINES: for each script of a job, the numbers of the lines that say its edits, in the order of its section. A line's number counts all lines of the job, from 1.
+abbrev pub job_lines : List ℕ → List (List ℕ)
+job_lines job = lines_in (sections_of job)

@@ -1,10 +1,10 @@
 -- What one word of a command says: a pair, or a number of changes.
-use Rattle.std.specs.Prelude.{ℕ, ◌+◌, ◌==◌, Bool, not, ◌&&◌, List, length, take, drop, nat_le, nat_lt, Option, Some, None, if◌then◌else◌}
+use Rattle.std.specs.Prelude.{ℕ, ◌+◌, ◌==◌, Bool, not, ◌&&◌, List, length, take, drop, nat_le, Option, Some, None, if◌then◌else◌}
 use Rattle.std.specs.List.{list_all, position_or_len}
 use Rattle.std.specs.Char.{is_ascii_digit}
 use Rattle.std.specs.Str.Parse.{digits_value}
 use Rattle.crush_units.specs.Name.{is_name}
-use Rattle.crush_units.specs.declared.limits.TheConstants.{MOST_ENTRIES, MOST_PAIRS}
+use Rattle.crush_units.specs.declared.limits.TheConstants.{MOST_ENTRIES}
 use Rattle.crush_edits.specs.declared.location.Pair.{Pair}
 
 -- the index of the first `=` of a word, or the word's length if it has none
@@ -15,9 +15,9 @@ equals_at word = position_or_len (λ b. b == 61) word
 abbrev pub pair_of : List ℕ → Pair
 pair_of word = record { kind = take (equals_at word) word; name = drop (equals_at word + 1) word }
 
--- whether a pair can be added to the location l: l has fewer than MOST_PAIRS pairs, and both parts of the pair are names. A name has no `=`, so the word has exactly one.
-abbrev pub can_add : List Pair → Pair → Bool
-can_add l p = nat_lt (length l) MOST_PAIRS && (is_name p.kind && is_name p.name)
+-- whether a word is a pair: both parts of it are names. A name has no `=`, so the word has exactly one.
+abbrev pub is_pair : List ℕ → Bool
+is_pair word = is_name (pair_of word).kind && is_name (pair_of word).name
 
 -- whether a word is a number of changes: one or more digits whose value is at most MOST_ENTRIES, the most changes of a history
 abbrev pub is_count : List ℕ → Bool

@@ -1,11 +1,13 @@
 //! Parses the words of a line of a section: a command, `begin`, `commit` or `%operator NAME`.
 
-ghost use Rattle.std.specs.Prelude.{◌≡◌};
+ghost use Rattle.std.specs.Prelude.{◌≡◌, ◌≤◌};
 ghost use Rattle.crush_script.specs.ReadsAs.{ReadsAs, ReadsAndLeaves};
-ghost use Rattle.crush_script.specs.Command.{command, operator, name_at, weight_at, end_at, with_pair, location_at, placing_at, located_at, one_name_at, two_names_at, name_and_weight_at, keyword_of, edit_to_place, edit_of, edit_at, begin_at, count_at};
+ghost use Rattle.crush_script.specs.Command.{command, misfit, operator, name_at, weight_at, end_at, with_pair, location_at, placing_at, located_at, one_name_at, two_names_at, name_and_weight_at, edit_to_place, edit_of, edit_at, begin_at, count_at};
 
-use crate::line::{LineWords, place_of};
-use crate::word::count_of;
+use crate::fault::{Due, Misfit};
+use crate::keyword::{Keyword, Placement};
+use crate::line::LineWords;
+use crate::word::{count_of, cut_pair};
 use crush_edits::{Edit, Location, LocationFault};
 use crush_history::device_named;
 use crush_units::{DeviceId, Name, NameFault, Weight};
@@ -14,7 +16,10 @@ use std::alloc::Global;
 /// Why a line can't be parsed.
 #[derive(Clone, Copy)]
 pub(crate) enum LineFault {
-    BadLine,
+    /// A word doesn't fit, or is missing.
+    Word(Misfit),
+    /// The first word isn't `%operator`, which begins a section.
+    NoOperator,
     NoSuchCommand,
     OutOfMemory,
 }
@@ -30,27 +35,6 @@ pub(crate) enum Command {
     Commit,
 }
 
-#[derive(Clone, Copy)]
-pub(crate) enum Placement {
-    Add,
-    Set,
-    CreateOrMove,
-}
-
-#[derive(Clone, Copy)]
-pub(crate) enum Keyword {
-    Place(Placement),
-    Move,
-    SwapBucket,
-    Reweight,
-    ReweightSubtree,
-    Rm,
-    AddBucket,
-    RenameBucket,
-    SetDeviceClass,
-    RmDeviceClass,
-}
-
 #[derive(Drop)]
 pub(crate) struct Placing {
     pub(crate) device: DeviceId,
@@ -59,53 +43,26 @@ pub(crate) struct Placing {
     pub(crate) at: Location,
 }
 
-#[tactic(auto, unfolding(crate::specs::Command::with_pair))]
-fn with_pair(at: Location, word: &[u8]) -> Result<Location, LineFault>
-    ensures { ReadsAs result (with_pair at word.now) }
+fn misfit(word: usize, due: Due) -> LineFault
+    ensures { result ≡ misfit word due }
 {
-    let mut at = at;
-    let (kind, rest) = word.split_at(place_of(b'=', word));
-    let [_, name @ ..] = rest else {
-        return Err(LineFault::BadLine);
-    };
-    match at.push(kind, name) {
-        Ok(()) => Ok(at),
-        Err(LocationFault::TooMany) => Err(LineFault::BadLine),
-        Err(LocationFault::BadName) => Err(LineFault::BadLine),
-        Err(LocationFault::OutOfMemory) => Err(LineFault::OutOfMemory),
-    }
+    LineFault::Word(Misfit { word, due })
 }
 
-#[tactic(auto, unfolding(crate::specs::Command::keyword_of))]
-fn keyword_of(first: &[u8]) -> Option<Keyword>
-    ensures { result ≡ keyword_of first.now }
+/// Adds the pair that the word says. `first` is the index of the line's first pair.
+#[tactic(auto, unfolding(crate::specs::Command::with_pair))]
+fn with_pair(first: usize, at: Location, word: &[u8]) -> Result<Location, LineFault>
+    requires { first ≤ 3 }
+    ensures { ReadsAs result (with_pair first at word.now) }
 {
-    if first == b"add".as_slice() {
-        Some(Keyword::Place(Placement::Add))
-    } else if first == b"set".as_slice() {
-        Some(Keyword::Place(Placement::Set))
-    } else if first == b"create-or-move".as_slice() {
-        Some(Keyword::Place(Placement::CreateOrMove))
-    } else if first == b"move".as_slice() {
-        Some(Keyword::Move)
-    } else if first == b"swap-bucket".as_slice() {
-        Some(Keyword::SwapBucket)
-    } else if first == b"reweight".as_slice() {
-        Some(Keyword::Reweight)
-    } else if first == b"reweight-subtree".as_slice() {
-        Some(Keyword::ReweightSubtree)
-    } else if first == b"rm".as_slice() || first == b"remove".as_slice() {
-        Some(Keyword::Rm)
-    } else if first == b"add-bucket".as_slice() {
-        Some(Keyword::AddBucket)
-    } else if first == b"rename-bucket".as_slice() {
-        Some(Keyword::RenameBucket)
-    } else if first == b"set-device-class".as_slice() {
-        Some(Keyword::SetDeviceClass)
-    } else if first == b"rm-device-class".as_slice() {
-        Some(Keyword::RmDeviceClass)
-    } else {
-        None
+    let mut at = at;
+    let index = first + at.pairs().len();
+    let (kind, name) = cut_pair(word);
+    match at.push(kind, name) {
+        Ok(()) => Ok(at),
+        Err(LocationFault::TooMany) => Err(misfit(index, Due::NoMorePairs)),
+        Err(LocationFault::BadName) => Err(misfit(index, Due::Pair)),
+        Err(LocationFault::OutOfMemory) => Err(LineFault::OutOfMemory),
     }
 }
 
@@ -141,52 +98,57 @@ fn edit_to_place(how: Placement, placing: Placing) -> Edit
 }
 
 impl LineWords<'_> {
+    /// Reads the word at this index of the line as a name. In this and the following methods, `due`
+    /// is what the word must be according to the form of the line.
     #[tactic(auto, unfolding(crate::specs::Command::name_at))]
-    fn name(&mut self, alloc: Global) -> Result<Name<Global>, LineFault>
-        ensures { ReadsAndLeaves result self.new (name_at self.old) }
+    fn name(&mut self, alloc: Global, index: usize, due: Due) -> Result<Name<Global>, LineFault>
+        ensures { ReadsAndLeaves result self.new (name_at index due self.old) }
     {
         let Some(word) = self.next() else {
-            return Err(LineFault::BadLine);
+            return Err(misfit(index, due));
         };
         match Name::read(alloc, word) {
             Ok(name) => Ok(name),
             Err(NameFault::OutOfMemory) => Err(LineFault::OutOfMemory),
-            Err(_) => Err(LineFault::BadLine),
+            Err(_) => Err(misfit(index, due)),
         }
     }
 
     #[tactic(auto, unfolding(crate::specs::Command::weight_at))]
-    fn weight(&mut self) -> Result<Weight, LineFault>
-        ensures { ReadsAndLeaves result self.new (weight_at self.old) }
+    fn weight(&mut self, index: usize) -> Result<Weight, LineFault>
+        ensures { ReadsAndLeaves result self.new (weight_at index self.old) }
     {
         let Some(word) = self.next() else {
-            return Err(LineFault::BadLine);
+            return Err(misfit(index, Due::Weight));
         };
         match Weight::read_bytes(word) {
             Ok(weight) => Ok(weight),
-            Err(_) => Err(LineFault::BadLine),
+            Err(_) => Err(misfit(index, Due::Weight)),
         }
     }
 
-    /// Returns the value if no word is left; otherwise the line is a [`LineFault::BadLine`].
+    /// Returns the value if no word is left. `index` is the index of the next word if there is one,
+    /// which is then the word that doesn't fit.
     #[tactic(auto, unfolding(crate::specs::Command::end_at))]
-    fn end<T: Drop>(&mut self, value: T) -> Result<T, LineFault>
-        ensures { ReadsAs result (end_at value self.old) }
+    fn end<T: Drop>(&mut self, index: usize, value: T) -> Result<T, LineFault>
+        ensures { ReadsAs result (end_at index value self.old) }
     {
         match self.next() {
             None => Ok(value),
-            Some(_) => Err(LineFault::BadLine),
+            Some(_) => Err(misfit(index, Due::End)),
         }
     }
 
-    /// Reads all words that are left, each as a pair `TYPE=NAME`.
+    /// Reads all words that are left, each as a pair `TYPE=NAME`. `first` is the index of the first
+    /// of these words.
     #[tactic(auto, unfolding(crate::specs::Command::location_at, crate::specs::Command::with_pairs))]
-    fn location(&mut self, alloc: Global) -> Result<Location, LineFault>
-        ensures { ReadsAs result (location_at self.old) }
+    fn location(&mut self, alloc: Global, first: usize) -> Result<Location, LineFault>
+        requires { first ≤ 3 }
+        ensures { ReadsAs result (location_at first self.old) }
     {
         let mut at = Location::new(alloc);
         while let Some(word) = self.next() {
-            at = with_pair(at, word)?;
+            at = with_pair(first, at, word)?;
         }
         Ok(at)
     }
@@ -195,12 +157,12 @@ impl LineWords<'_> {
     fn placing(&mut self, alloc: Global) -> Result<Placing, LineFault>
         ensures { ReadsAs result (placing_at self.old) }
     {
-        let name = self.name(alloc)?;
+        let name = self.name(alloc, 1, Due::Device)?;
         let Some(device) = device_named(name.as_bytes()) else {
-            return Err(LineFault::BadLine);
+            return Err(misfit(1, Due::Device));
         };
-        let weight = self.weight()?;
-        let at = self.location(alloc)?;
+        let weight = self.weight(2)?;
+        let at = self.location(alloc, 3)?;
         Ok(Placing {
             device,
             name,
@@ -213,8 +175,8 @@ impl LineWords<'_> {
     fn located(&mut self, alloc: Global) -> Result<(Name<Global>, Location), LineFault>
         ensures { ReadsAs result (located_at self.old) }
     {
-        let name = self.name(alloc)?;
-        let at = self.location(alloc)?;
+        let name = self.name(alloc, 1, Due::Name)?;
+        let at = self.location(alloc, 2)?;
         Ok((name, at))
     }
 
@@ -222,26 +184,26 @@ impl LineWords<'_> {
     fn one_name(&mut self, alloc: Global) -> Result<Name<Global>, LineFault>
         ensures { ReadsAs result (one_name_at self.old) }
     {
-        let name = self.name(alloc)?;
-        self.end(name)
+        let name = self.name(alloc, 1, Due::Name)?;
+        self.end(2, name)
     }
 
     #[tactic(auto, unfolding(crate::specs::Command::two_names_at))]
     fn two_names(&mut self, alloc: Global) -> Result<(Name<Global>, Name<Global>), LineFault>
         ensures { ReadsAs result (two_names_at self.old) }
     {
-        let first = self.name(alloc)?;
-        let second = self.name(alloc)?;
-        self.end((first, second))
+        let first = self.name(alloc, 1, Due::Name)?;
+        let second = self.name(alloc, 2, Due::Name)?;
+        self.end(3, (first, second))
     }
 
     #[tactic(auto, unfolding(crate::specs::Command::name_and_weight_at))]
     fn name_and_weight(&mut self, alloc: Global) -> Result<(Name<Global>, Weight), LineFault>
         ensures { ReadsAs result (name_and_weight_at self.old) }
     {
-        let name = self.name(alloc)?;
-        let weight = self.weight()?;
-        self.end((name, weight))
+        let name = self.name(alloc, 1, Due::Name)?;
+        let weight = self.weight(2)?;
+        self.end(3, (name, weight))
     }
 
     fn edit_of(&mut self, alloc: Global, keyword: Keyword) -> Result<Edit, LineFault>
@@ -295,22 +257,22 @@ impl LineWords<'_> {
     fn edit(&mut self, alloc: Global, first: &[u8]) -> Result<Edit, LineFault>
         ensures { ReadsAs result (edit_at first.now self.old) }
     {
-        match keyword_of(first) {
+        match Keyword::read(first) {
             Some(keyword) => self.edit_of(alloc, keyword),
             None => Err(LineFault::NoSuchCommand),
         }
     }
 
     #[tactic(auto, unfolding(crate::specs::Command::count_at))]
-    fn count(&mut self) -> Result<u32, LineFault>
-        ensures { ReadsAndLeaves result self.new (count_at self.old) }
+    fn count(&mut self, index: usize) -> Result<u32, LineFault>
+        ensures { ReadsAndLeaves result self.new (count_at index self.old) }
     {
         let Some(word) = self.next() else {
-            return Err(LineFault::BadLine);
+            return Err(misfit(index, Due::Changes));
         };
         match count_of(word) {
             Some(count) => Ok(count),
-            None => Err(LineFault::BadLine),
+            None => Err(misfit(index, Due::Changes)),
         }
     }
 
@@ -322,10 +284,10 @@ impl LineWords<'_> {
             return Ok(Command::Begin(None));
         };
         if word != b"at".as_slice() {
-            return Err(LineFault::BadLine);
+            return Err(misfit(1, Due::At));
         }
-        let seen = self.count()?;
-        self.end(Command::Begin(Some(seen)))
+        let seen = self.count(2)?;
+        self.end(3, Command::Begin(Some(seen)))
     }
 
     #[tactic(auto, unfolding(crate::specs::Command::command))]
@@ -339,7 +301,7 @@ impl LineWords<'_> {
             return self.begin();
         }
         if first == b"commit".as_slice() {
-            return self.end(Command::Commit);
+            return self.end(1, Command::Commit);
         }
         let edit = self.edit(alloc, first)?;
         Ok(Command::Edit(edit))
@@ -350,10 +312,10 @@ impl LineWords<'_> {
         ensures { ReadsAs result (operator self.old) }
     {
         let Some(first) = self.next() else {
-            return Err(LineFault::BadLine);
+            return Err(LineFault::NoOperator);
         };
         if first != b"%operator".as_slice() {
-            return Err(LineFault::BadLine);
+            return Err(LineFault::NoOperator);
         }
         self.one_name(alloc)
     }

@@ -7,13 +7,63 @@ use crush_text::{TextFault, TextFaultKind};
 use std::alloc::AllocFailed;
 use thiserror::Error;
 
+/// What a word of a line must be.
+#[derive(Clone, Copy, Debug, PartialEq, Eq)]
+pub enum Due {
+    /// The name of a device, `osd.N`.
+    Device,
+    /// A weight.
+    Weight,
+    /// A name.
+    Name,
+    /// A pair `TYPE=NAME`, or no further word.
+    Pair,
+    /// No further word, because the line has 16 pairs, the most that a location can have.
+    NoMorePairs,
+    /// The word `at`, or no further word.
+    At,
+    /// A number of changes, from 0 to 65,536.
+    Changes,
+    /// No further word.
+    End,
+}
+
+/// The first word of a line that doesn't fit, or that is missing.
+#[derive(Clone, Copy, Debug, PartialEq, Eq)]
+pub struct Misfit {
+    /// The index of the word in its line. The word of the command has index 0.
+    pub word: usize,
+    /// What the word must be.
+    pub due: Due,
+}
+
+/// Why a line isn't one that can be at its place.
+#[derive(Clone, Copy, Debug, PartialEq, Eq)]
+pub enum BadLine {
+    /// A word doesn't fit the form of the line's command, or is missing.
+    Word(Misfit),
+    /// The line begins with `%`, and its first word isn't `%operator`.
+    NoOperator,
+    /// The line is a `begin` inside a batch.
+    BatchOpen,
+    /// The line is a `commit` outside a batch.
+    NoBatch,
+    /// The line is the 65,537th edit of a batch.
+    BatchFull,
+}
+
 /// Why bytes aren't a job. Lines are numbered from 1, and the lines of the map's text count too.
 #[derive(Clone, Copy, Debug, PartialEq, Eq, Error)]
 pub enum JobFault {
     /// The line doesn't have the form of its command, or of `%operator NAME`. Or it is a `begin`
     /// inside a batch, a `commit` outside a batch, or the 65,537th edit of a batch.
-    #[error("line {0}: BadLine")]
-    BadLine(usize),
+    #[error("line {line}: BadLine")]
+    BadLine {
+        /// The number of the line.
+        line: usize,
+        /// What is wrong with the line.
+        why: BadLine,
+    },
     /// The first word of the line isn't a command.
     #[error("line {0}: NoSuchCommand")]
     NoSuchCommand(usize),
@@ -86,7 +136,14 @@ impl LineFault {
         ensures { result ≡ fault_at number self }
     {
         match self {
-            LineFault::BadLine => JobFault::BadLine(number),
+            LineFault::Word(misfit) => JobFault::BadLine {
+                line: number,
+                why: BadLine::Word(misfit),
+            },
+            LineFault::NoOperator => JobFault::BadLine {
+                line: number,
+                why: BadLine::NoOperator,
+            },
             LineFault::NoSuchCommand => JobFault::NoSuchCommand(number),
             LineFault::OutOfMemory => JobFault::OutOfMemory,
         }

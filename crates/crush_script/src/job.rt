@@ -4,6 +4,7 @@ ghost use Rattle.std.specs.Prelude.{◌≡◌, ◌≤◌, true, IfOk, IfErr, len
 ghost use Rattle.crush_history.specs.Script.{scripts_data, call_count};
 ghost use Rattle.crush_script.specs.Fault.{lacks_memory};
 ghost use Rattle.crush_script.specs.Job.{IsJob, IsJobFault, JobData, JobStands};
+ghost use Rattle.crush_script.specs.Sections.{job_lines, lines_data};
 ghost use Rattle.crush_units.specs.declared.limits.TheConstants.{MOST_CALLS, MOST_OPERATORS};
 
 use crate::fault::JobFault;
@@ -25,6 +26,8 @@ pub struct Job {
     pub adjusted: u32,
     /// One script for each section, in the order of the sections.
     pub scripts: Vec<Script>,
+    /// For each script, the numbers of the lines that say its edits, from 1 in the whole job.
+    pub lines: Vec<Vec<u32>>,
 }
 
 /// Reads a job: the text of a map, followed by the sections with the operators' scripts.
@@ -44,6 +47,7 @@ pub fn read_job(alloc: Global, hashing: Hashing, bytes: &[u8]) -> Result<Job, Jo
         → IfErr result (λ fault. lacks_memory fault ≡ true) }
     ensures fault { IfErr result (IsJobFault bytes.now) }
     ensures operators { IfOk result (λ read. length read.scripts.items ≤ MOST_OPERATORS) }
+    ensures lines { IfOk result (λ read. lines_data read.lines.items ≡ job_lines bytes.now) }
     ensures few { IfOk result (λ read. call_count (scripts_data read.scripts.items) ≤ MOST_CALLS) }
 {
     if bytes.len() > LONGEST_JOB {
@@ -52,10 +56,11 @@ pub fn read_job(alloc: Global, hashing: Hashing, bytes: &[u8]) -> Result<Job, Jo
     let (text, rest) = cut_job(bytes);
     let (map, adjusted) = read_map_in(alloc, hashing, alloc, text)?;
     let sections = read_sections(alloc, line_feeds(text) + 1, rest)?;
-    let Sections { scripts, .. } = sections;
+    let Sections { scripts, lines, .. } = sections;
     Ok(Job {
         map,
         adjusted,
         scripts,
+        lines,
     })
 }

@@ -7,13 +7,14 @@
 mod command;
 mod fault;
 mod job;
+mod keyword;
 mod law;
 mod line;
 mod sections;
 mod word;
 
-pub use fault::JobFault;
+pub use fault::{BadLine, Due, JobFault, Misfit};
 pub use job::{Job, read_job};
+pub use keyword::{Form, Keyword, Placement};
 pub use law::{printed_is_read, scripts_are_read_back};
-pub use line::{LineWords, line_feeds, map_part};
-pub use word::{count_of, cut_pair};
+pub use line::{PlacedWord, line_feeds, map_part, placed_word};

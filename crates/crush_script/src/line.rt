@@ -2,7 +2,7 @@
 
 ghost use Rattle.std.specs.Prelude.{◌≡◌, ◌+◌, ◌≤◌, ◌<◌, ◌==◌, ◌∷◌, [], true, length, not, MatchOption};
 ghost use Rattle.std.specs.List.{position_or_len};
-ghost use Rattle.crush_script.specs.Lines.{lines, length_to_section, line_feeds, map_part, section_part, without_return, line_words, words_between_blanks, is_space_or_tab, begins_section};
+ghost use Rattle.crush_script.specs.Lines.{lines, length_to_section, line_feeds, map_part, section_part, without_return, line_words, words_between_blanks, is_space_or_tab, begins_section, without_comment, from_blanks, behind_word, from_word, place_in_line, word_in_line};
 
 use std::marker::Model;
 
@@ -78,7 +78,8 @@ pub(crate) fn begins_section(line: &[u8]) -> bool
 }
 
 fn without_return(line: &[u8]) -> &[u8]
-    ensures { result.now ≡ without_return line.now }
+    ensures value { result.now ≡ without_return line.now }
+    ensures within { length result.now ≤ length line.now }
 {
     match line {
         [front @ .., b'\r'] => front,
@@ -118,7 +119,7 @@ fn word_at(text: &[u8]) -> usize
 
 /// The words of a line of a section that are still to be read.
 #[derive(Drop)]
-pub struct LineWords<'a> {
+pub(crate) struct LineWords<'a> {
     text: &'a [u8],
 }
 
@@ -137,16 +138,16 @@ impl<'a> LineWords<'a> {
     ///
     /// `#` begins a comment anywhere in the line, and a carriage return at its end is ignored.
     /// A line feed would be part of a word, so `line` is given without it.
-    pub fn of_line(line: &'a [u8]) -> LineWords<'a>
+    pub(crate) fn of_line(line: &'a [u8]) -> LineWords<'a>
         ensures { result ≡ line_words line.now }
     {
-        let line = without_return(line);
-        let (text, _) = line.split_at(place_of(b'#', line));
-        LineWords { text }
+        LineWords {
+            text: without_comment(line),
+        }
     }
 
     /// Removes the next word and returns it; returns `None` if no word is left.
-    pub fn next(&mut self) -> Option<&'a [u8]>
+    pub(crate) fn next(&mut self) -> Option<&'a [u8]>
         ensures { MatchOption result (self.old ≡ [])
             (λ word. self.old ≡ word.now ∷ self.new) }
     {
@@ -157,5 +158,68 @@ impl<'a> LineWords<'a> {
         let (word, rest) = rest.split_at(blank_at(rest));
         self.text = rest;
         Some(word)
+    }
+}
+
+/// A word of a line.
+#[derive(Clone, Copy)]
+pub struct PlacedWord<'a> {
+    /// The number of bytes of the line before the word.
+    pub place: usize,
+    /// The bytes of the word.
+    pub text: &'a [u8],
+}
+
+fn without_comment(line: &[u8]) -> &[u8]
+    ensures value { result.now ≡ without_comment (without_return line.now) }
+    ensures within { length result.now ≤ length line.now }
+{
+    let whole = without_return(line);
+    whole.split_at(place_of(b'#', whole)).0
+}
+
+/// Returns a text from its first word on.
+fn from_blanks(text: &[u8]) -> &[u8]
+    ensures value { result.now ≡ from_blanks text.now }
+    ensures within { length result.now ≤ length text.now }
+{
+    text.split_at(word_at(text)).1
+}
+
+/// Returns a text from the end of its first word on.
+fn behind_word(text: &[u8]) -> &[u8]
+    ensures value { result.now ≡ behind_word text.now }
+    ensures within { length result.now ≤ length text.now }
+{
+    let rest = from_blanks(text);
+    rest.split_at(blank_at(rest)).1
+}
+
+/// Returns a text from the word with this index on, or no bytes if the text has fewer words.
+fn from_word(index: usize, text: &[u8]) -> &[u8]
+    ensures value { result.now ≡ from_word index text.now }
+    ensures within { length result.now ≤ length text.now }
+{
+    let mut rest = text;
+    for _done in 0..index {
+        rest = behind_word(rest);
+    }
+    from_blanks(rest)
+}
+
+/// Returns the word of a line with this index, which counts from 0, and its place.
+///
+/// Spaces and tabs separate words, and `#` begins a comment. If the line has fewer words, then the word has no bytes,
+/// and its place is the end of the line, or the place of the line's comment.
+pub fn placed_word(line: &[u8], index: usize) -> PlacedWord<'_>
+    ensures place { result.place ≡ place_in_line index line.now }
+    ensures text { result.text.now ≡ word_in_line index line.now }
+    ensures within { result.place ≤ length line.now }
+{
+    let front = without_comment(line);
+    let rest = from_word(index, front);
+    PlacedWord {
+        place: front.len() - rest.len(),
+        text: rest.split_at(blank_at(rest)).0,
     }
 }

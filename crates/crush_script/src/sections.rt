@@ -3,11 +3,11 @@
 ghost use Rattle.std.specs.Prelude.{◌≡◌, ◌+◌, ◌<◌, ◌^◌, false, true, length};
 ghost use Rattle.crush_script.specs.Lines.{lines, begins_section};
 ghost use Rattle.crush_history.specs.Script.{scripts_data};
-ghost use Rattle.crush_script.specs.Sections.{with_lines, no_sections, has_operator, batch_call};
+ghost use Rattle.crush_script.specs.Sections.{with_lines, no_sections, has_operator, bad_line, batch_call};
 ghost use Rattle.crush_script.specs.Steps.{GivesSections};
 
 use crate::command::Command;
-use crate::fault::JobFault;
+use crate::fault::{BadLine, JobFault};
 use crate::line::{LineWords, begins_section, cut_line};
 use crush_edits::Edit;
 use crush_history::{Call, Edits, Script};
@@ -30,6 +30,8 @@ pub(crate) struct BegunBatch {
 pub(crate) struct Sections {
     /// One script for each section so far; the next call belongs to the last of them.
     pub(crate) scripts: Vec<Script>,
+    /// For each section so far, the numbers of the lines that say its edits.
+    pub(crate) lines: Vec<Vec<u32>>,
     /// The number of calls of all scripts, including the open batch.
     pub(crate) calls: usize,
     pub(crate) begun: Option<BegunBatch>,
@@ -55,9 +57,15 @@ fn batch_call(seen: Option<u32>, edits: Edits) -> Call
     }
 }
 
+fn bad_line(line: usize, why: BadLine) -> JobFault
+    ensures { result ≡ bad_line line why }
+{
+    JobFault::BadLine { line, why }
+}
+
 impl Sections {
     ghost use Rattle.std.specs.Prelude.{◌≡◌, ◌<◌, None, length, OnOk};
-    ghost use Rattle.crush_script.specs.Sections.{sections_data, closed, counted, with_section, with_call, with_edit, with_begin, with_commit, with_command, with_line};
+    ghost use Rattle.crush_script.specs.Sections.{sections_data, closed, counted, with_section, with_call, with_number, with_edit, with_begin, with_commit, with_command, with_line};
     ghost use Rattle.crush_script.specs.Steps.{Steps};
 
     fn check_closed(&self) -> Result<(), JobFault>
@@ -83,6 +91,7 @@ impl Sections {
         }
         let calls = Vec::new(alloc);
         self.scripts.push(Script { name, calls })?;
+        self.lines.push(Vec::new(alloc))?;
         Ok(())
     }
 
@@ -109,7 +118,23 @@ impl Sections {
         Ok(())
     }
 
+    /// Notes that the line says an edit of the last section.
+    fn note_line(&mut self, number: usize) -> Result<(), JobFault>
+        requires numbered { number < 2 ^ 32 }
+        ensures steps { Steps result (sections_data self.new)
+            (Ok (with_number number (sections_data self.old))) }
+        ensures scripts { self.new.scripts ≡ self.old.scripts }
+    {
+        let count = self.lines.len();
+        if count == 0 {
+            return Ok(());
+        }
+        self.lines[count - 1].push(number as u32)?;
+        Ok(())
+    }
+
     fn add_edit(&mut self, number: usize, edit: Edit) -> Result<(), JobFault>
+        requires numbered { number < 2 ^ 32 }
         requires begun { 0 < length self.old.scripts.items }
         ensures steps { Steps result (sections_data self.new)
             (with_edit number (sections_data self.old) self.old.begun edit) }
@@ -117,22 +142,24 @@ impl Sections {
     {
         if let Some(batch) = &mut self.begun {
             if !batch.edits.has_room() {
-                return Err(JobFault::BadLine(number));
+                return Err(bad_line(number, BadLine::BatchFull));
             }
             batch.edits.push(edit)?;
-            return Ok(());
+            return self.note_line(number);
         }
         self.add_single(number, edit)
     }
 
     fn add_single(&mut self, number: usize, edit: Edit) -> Result<(), JobFault>
+        requires numbered { number < 2 ^ 32 }
         requires begun { 0 < length self.old.scripts.items }
         ensures steps { Steps result (sections_data self.new)
             (with_edit number (sections_data self.old) None edit) }
         ensures begun { OnOk result (0 < length self.new.scripts.items) }
     {
         self.count_call(number)?;
-        self.add_call(Call::One(edit))
+        self.add_call(Call::One(edit))?;
+        self.note_line(number)
     }
 
     fn begin_batch(
@@ -147,7 +174,7 @@ impl Sections {
         ensures begun { OnOk result (0 < length self.new.scripts.items) }
     {
         if self.begun.is_some() {
-            return Err(JobFault::BadLine(number));
+            return Err(bad_line(number, BadLine::BatchOpen));
         }
         self.count_call(number)?;
         self.begun = Some(BegunBatch {
@@ -165,12 +192,13 @@ impl Sections {
         ensures begun { OnOk result (0 < length self.new.scripts.items) }
     {
         let Some(batch) = self.begun.take() else {
-            return Err(JobFault::BadLine(number));
+            return Err(bad_line(number, BadLine::NoBatch));
         };
         self.add_call(batch_call(batch.seen, batch.edits))
     }
 
     fn execute(&mut self, alloc: Global, number: usize, command: Command) -> Result<(), JobFault>
+        requires numbered { number < 2 ^ 32 }
         requires begun { 0 < length self.old.scripts.items }
         ensures steps { Steps result (sections_data self.new)
             (with_command number (sections_data self.old) command) }
@@ -186,6 +214,7 @@ impl Sections {
 
     #[tactic(auto, unfolding(crate::specs::Sections::with_line))]
     fn read_line(&mut self, alloc: Global, number: usize, line: &[u8]) -> Result<(), JobFault>
+        requires numbered { number < 2 ^ 32 }
         requires begun { begins_section line.now ≡ false → 0 < length self.old.scripts.items }
         ensures steps { Steps result (sections_data self.new)
             (with_line number (sections_data self.old) line.now) }
@@ -206,11 +235,12 @@ impl Sections {
 #[tactic(auto, unfolding(crate::specs::Sections::with_lines))]
 pub(crate) fn read_sections(alloc: Global, first: usize, text: &[u8]) -> Result<Sections, JobFault>
     requires begins { 0 < length text.now → begins_section text.now ≡ true }
-    requires numbered { first + length text.now < 2 ^ 64 }
+    requires numbered { first + length text.now < 2 ^ 32 }
     ensures { GivesSections result (with_lines first no_sections (lines text.now)) }
 {
     let mut sections = Sections {
         scripts: Vec::new(alloc),
+        lines: Vec::new(alloc),
         calls: 0,
         begun: None,
     };

@@ -10,7 +10,7 @@ use crush_units::limits::MOST_ENTRIES;
 ///
 /// The word is one or more digits, and leading zeros are allowed. Returns `None` if it isn't, or if
 /// its value is above 65,536, the most changes that a history can have.
-pub fn count_of(digits: &[u8]) -> Option<u32>
+pub(crate) fn count_of(digits: &[u8]) -> Option<u32>
     ensures { result ≡ count_of digits.now }
 {
     if digits.is_empty() {
@@ -33,7 +33,7 @@ pub fn count_of(digits: &[u8]) -> Option<u32>
 /// Splits a word `TYPE=NAME` at its first `=`, and returns the bytes before it and after it.
 ///
 /// Without `=` the first part is the whole word, and the second is empty. Neither part is checked.
-pub fn cut_pair(word: &[u8]) -> (&[u8], &[u8])
+pub(crate) fn cut_pair(word: &[u8]) -> (&[u8], &[u8])
     ensures kind { result.0.now ≡ (pair_of word.now).kind }
     ensures name { result.1.now ≡ (pair_of word.now).name }
 {

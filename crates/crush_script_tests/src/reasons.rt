@@ -8,7 +8,7 @@ use crate::histories::entries_of;
 use crush_history::{Entry, Script};
 use crush_map::{CrushMap, Hashing};
 use crush_reasons::{
-    JobText, Locates, Origin, ceph_text, explained_job, explained_text, fault_line, fault_text,
+    JobLines, Locates, Origin, ceph_text, explained_job, explained_text, fault_line, fault_text,
     flaw_place_text, shown_byte, written_text,
 };
 use crush_script::{Job, JobFault, read_job};
@@ -63,7 +63,7 @@ fn a_fault_is_told_with_its_place(rt: HostRuntime) {
                 before: 0
             },
             b"# nothing\n%operator alice\nfly\tx\n",
-            b"  alice.txt line 3\n    fly x\n  the first word of a line is to be a command: --help has all of them\n"
+            b"  alice.txt line 3, column 1\n    fly x\n    ^\n  `fly` is not a command: see --help\n"
         )
     );
 }
@@ -115,7 +115,7 @@ fn what_does_not_fit_is_told(rt: HostRuntime) {
             &rt,
             origin,
             b"%operator a\nreweight osd.0 1,5\n",
-            b"  line 2\n    reweight osd.0 1,5\n  reweight NAME WEIGHT: `1,5` is no weight; write 1.5\n"
+            b"  line 2, column 16\n    reweight osd.0 1,5\n                   ^\n  reweight NAME WEIGHT: `1,5` is not a weight: did you mean 1.5?\n"
         ) && is_listed(
             &rt,
             origin,
@@ -206,6 +206,156 @@ fn numbers_and_words_that_are_expected_are_told(rt: HostRuntime) {
     );
 }
 
+fn joined(rt: &(impl Abort + AllocGlobal), parts: &[&[u8]]) -> Vec<u8> {
+    parts.concat(rt.alloc()).expect(rt, "no memory")
+}
+
+/// Lines of a script, each with its reason.
+const LINES: &[(&[u8], &[u8])] = &[
+    (b"add-bucket h1", b"add-bucket NAME TYPE: TYPE is missing"),
+    (
+        b"reweight osd.0",
+        b"reweight NAME WEIGHT: WEIGHT is missing",
+    ),
+    (b"begin at", b"begin at N: N is missing"),
+    (b"%operator", b"%operator NAME: NAME is missing"),
+    (
+        b"%operato b",
+        b"a line that begins with % must be `%operator NAME`",
+    ),
+    (b"commit", b"no batch is open: start one with `begin`"),
+];
+
+/// Lines of a script with the column of the word that doesn't fit, and the reason.
+const MARKED: &[(&[u8], u64, &[u8])] = &[
+    (
+        b"add 0 1 host=h1",
+        5,
+        b"add osd.N WEIGHT TYPE=NAME ..: `0` is not a device: did you mean osd.0?",
+    ),
+    (
+        b"add osd.x 1 host=h1",
+        5,
+        b"add osd.N WEIGHT TYPE=NAME ..: `osd.x` is not a device: write osd.N with N from 0 to 2147483647",
+    ),
+    (
+        b"reweight h1 70000",
+        13,
+        b"reweight NAME WEIGHT: `70000` is too large: weights are in TiB, at most 65535.99998",
+    ),
+    (
+        b"reweight h1 4000787030016",
+        13,
+        b"reweight NAME WEIGHT: `4000787030016` is too large: weights are in TiB, at most 65535.99998",
+    ),
+    (
+        b"reweight h1 4T",
+        13,
+        b"reweight NAME WEIGHT: `4T` is not a weight: weights are in TiB, without a unit: a disk sold as 4 TB weighs 3.63869",
+    ),
+    (
+        b"reweight h1 \"1.5\"",
+        13,
+        b"reweight NAME WEIGHT: `\"1.5\"` is not a weight: did you mean 1.5?",
+    ),
+    (
+        b"reweight h1 .5",
+        13,
+        b"reweight NAME WEIGHT: `.5` is not a weight: did you mean 0.5?",
+    ),
+    (
+        b"reweight h1 1e3",
+        13,
+        b"reweight NAME WEIGHT: `1e3` is not a weight: write a number such as 1.5",
+    ),
+    (
+        b"rm 'h1'",
+        4,
+        b"rm NAME: `'h1'` is not a name: did you mean h1?",
+    ),
+    (
+        b"rm a:b",
+        4,
+        b"rm NAME: `a:b` is not a name: use letters, digits, `-`, `_` and `.`, at most 255",
+    ),
+    (
+        b"move h1 host",
+        9,
+        b"move NAME TYPE=NAME ..: `host` is not a pair: write TYPE=NAME without spaces",
+    ),
+    (
+        b"begin now",
+        7,
+        b"begin at N: unexpected word `now`: expected `at N` or the end of the line",
+    ),
+    (
+        b"begin at x",
+        10,
+        b"begin at N: `x` is not a number of changes: expected 0 to 65536",
+    ),
+    (b"rm a b", 6, b"rm NAME: unexpected extra word `b`"),
+    (
+        b"rewieght h1 1",
+        1,
+        b"`rewieght` is not a command: did you mean reweight?",
+    ),
+    (
+        b"reweigt h1 1",
+        1,
+        b"`reweigt` is not a command: did you mean reweight?",
+    ),
+    (b"ceph osd crush rm h1", 1, b"leave out `ceph osd crush`"),
+];
+
+/// What is told of a line 2 of a job: its column if it has one, the line, the sign, and the reason.
+fn told_of(
+    rt: &(impl Abort + AllocGlobal),
+    line: &[u8],
+    column: Option<u64>,
+    reason: &[u8],
+) -> Vec<u8> {
+    let head = match column {
+        Some(column) => format!(in rt.alloc(); "  line 2, column {column}\n").expect(
+            rt,
+            "no memory",
+        ),
+        None => format!(in rt.alloc(); "  line 2\n").expect(rt, "no memory"),
+    };
+    let mut told = joined(rt, &[head.as_bytes(), b"    ", line, b"\n"]);
+    if let Some(column) = column {
+        for _done in 0..column.saturating_add(3) {
+            told.push(b' ').expect(rt, "no memory");
+        }
+        told.extend_from_slice(b"^\n").expect(rt, "no memory");
+    }
+    joined(rt, &[told.as_slice(), b"  ", reason, b"\n"])
+}
+
+fn is_line_told(
+    rt: &(impl Abort + AllocGlobal),
+    line: &[u8],
+    column: Option<u64>,
+    reason: &[u8],
+) -> bool {
+    let origin = Origin {
+        name: b"",
+        before: 0,
+    };
+    let job = joined(rt, &[b"%operator a\n", line, b"\n"]);
+    let told = told_of(rt, line, column, reason);
+    job.len() <= 10_000 && is_listed(rt, origin, job.as_slice(), told.as_slice())
+}
+
+#[test]
+fn a_word_that_does_not_fit_is_told(rt: HostRuntime) {
+    for (line, reason) in LINES {
+        assert!(&rt; is_line_told(&rt, line, None, reason));
+    }
+    for (line, column, reason) in MARKED {
+        assert!(&rt; is_line_told(&rt, line, Some(*column), reason));
+    }
+}
+
 const NEGATIVE: &[u8] =
     b"type 1 host\ntype 2 rack\nhost h1 {\nid -1\nalg straw2\n}\nrack r1 {\nid -2\nalg straw2\nitem h1 weight -32767.00000\n}\n";
 
@@ -249,7 +399,7 @@ fn a_name_with_an_escape_is_told_without_it(rt: HostRuntime) {
             &rt,
             origin,
             b"%operator a\nfly x\n",
-            b"  a?[31m .txt line 2\n    fly x\n  the first word of a line is to be a command: --help has all of them\n"
+            b"  a?[31m .txt line 2, column 1\n    fly x\n    ^\n  `fly` is not a command: see --help\n"
         )
     );
 }
@@ -271,12 +421,12 @@ fn a_line_is_told_as_that_of_its_own_file(rt: HostRuntime) {
             &rt,
             second,
             JOINED,
-            b"  bob.txt line 2\n    fly z\n  the first word of a line is to be a command: --help has all of them\n"
+            b"  bob.txt line 2, column 1\n    fly z\n    ^\n  `fly` is not a command: see --help\n"
         ) && is_listed(
             &rt,
             second,
             DUPLICATE,
-            b"  bob.txt line 0\n    %operator alice\n  an operator above has this name\n"
+            b"  bob.txt line 0\n    %operator alice\n  another operator above has this name: give one of the two files a line %operator NAME\n"
         )
     );
 }
@@ -403,6 +553,7 @@ fn are_explained(
     told: &[u8],
 ) -> bool {
     let scripts = job.scripts.as_slice();
+    let lines = job.lines.as_slice();
     if operator >= scripts.len() {
         return false;
     }
@@ -410,7 +561,7 @@ fn are_explained(
     let entries = entries_of(rt, &mut map, scripts, operator);
     let opening = job.map.try_copy().expect(rt, "no memory");
     let explained = entries.len() < 100
-        && are_told(rt, opening, file, scripts, entries.as_slice(), told);
+        && are_told(rt, opening, file, lines, scripts, entries.as_slice(), told);
     drop(entries);
     drop(map);
     explained
@@ -420,6 +571,7 @@ fn are_told(
     rt: &(impl Abort + AllocGlobal),
     opening: CrushMap<Global>,
     file: &Whole<'_>,
+    edits: &[Vec<u32>],
     scripts: &[Script],
     entries: &[Entry],
     told: &[u8],
@@ -427,11 +579,11 @@ fn are_told(
     requires few { length entries.now < 100 }
     requires operators { AreOf (length scripts.now) entries.now }
 {
-    let text = JobText {
-        bytes: BATCHES,
+    let lines = JobLines {
+        edits,
         origins: file,
     };
-    let reasons = explained_job(rt.alloc(), text, opening, scripts, entries).expect(
+    let reasons = explained_job(rt.alloc(), lines, opening, scripts, entries).expect(
         rt,
         "no memory",
     );

@@ -90,11 +90,7 @@ fn job(rt: &(impl Abort + AllocGlobal), scripts: &[u8]) -> Job {
 
 #[test]
 fn three_operators_by_turns(rt: HostRuntime) {
-    let Job {
-        map,
-        adjusted: _,
-        scripts,
-    } = job(&rt, THREE);
+    let Job { map, scripts, .. } = job(&rt, THREE);
     let started = started_with(&rt, map, 3);
     let closed = close_after::<Brand>(&rt, started, scripts.as_slice());
     assert!(&rt; is_written(&rt, &closed, CLOSED));

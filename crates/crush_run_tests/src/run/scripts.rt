@@ -5,7 +5,7 @@ use super::{joined, summary};
 use crate::maps::PLAIN;
 use crush_options::options;
 use crush_run::{Opens, RunFault, Summary, run_options};
-use crush_script::JobFault;
+use crush_script::{BadLine, Due, JobFault, Misfit};
 use std::io::{self, ErrorKind, Read};
 use std::process::Abort;
 use std::random::RandomSource;
@@ -72,7 +72,11 @@ const NAMELESS: [&str; 2] = [
 /// The script's line is the 42nd, below the map.
 #[test]
 fn a_file_whose_name_is_no_operators_is_a_bad_line(rt: HostRuntime) {
-    let refused = Err(RunFault::Job(JobFault::BadLine(42)));
+    let why = BadLine::Word(Misfit {
+        word: 1,
+        due: Due::Name,
+    });
+    let refused = Err(RunFault::Job(JobFault::BadLine { line: 42, why }));
     for name in NAMELESS {
         let output = joined(&rt, PLAIN, BOB_LINE);
         assert!(&rt;

@@ -4,7 +4,10 @@ use crate::script::{PLAIN_EXAMPLE_MAP, is_no_job, job_of, joined};
 use crush_edits::Edit;
 use crush_history::{Call, Script, make_call, write_entry};
 use crush_map::CrushMap;
-use crush_script::{Job, JobFault, line_feeds, map_part};
+use crush_script::{
+    BadLine, Due, Form, Job, JobFault, Keyword, Misfit, Placement, line_feeds, map_part,
+    placed_word,
+};
 use std::alloc::Global;
 use std::process::Abort;
 
@@ -109,16 +112,129 @@ fn is_no_job_with(
     is_no_job(rt, text.as_slice(), fault)
 }
 
+fn misfit_in(line: usize, word: usize, due: Due) -> JobFault {
+    JobFault::BadLine {
+        line,
+        why: BadLine::Word(Misfit { word, due }),
+    }
+}
+
+/// Words of a line that don't fit: the line, the index of the word, and what is due.
+const MISFITS: &[(&[u8], usize, Due)] = &[
+    (b"add h1 1 host=h1", 1, Due::Device),
+    (b"add \"osd.0\" 1 host=h1", 1, Due::Device),
+    (b"add osd.0", 2, Due::Weight),
+    (b"set osd.0 1,5 host", 2, Due::Weight),
+    (b"set osd.0 1 host=h1 rack", 4, Due::Pair),
+    (
+        b"move h1 a=b a=b a=b a=b a=b a=b a=b a=b a=b a=b a=b a=b a=b a=b a=b a=b a",
+        18,
+        Due::NoMorePairs,
+    ),
+    (b"move", 1, Due::Name),
+    (b"swap-bucket a b c", 3, Due::End),
+    (b"reweight-subtree h1 x", 2, Due::Weight),
+    (b"remove", 1, Due::Name),
+    (b"add-bucket h1", 2, Due::Name),
+    (b"set-device-class ssd osd,0", 2, Due::Name),
+    (b"begin now", 1, Due::At),
+    (b"begin at", 2, Due::Changes),
+    (b"begin at 65537", 2, Due::Changes),
+    (b"begin at 1 2", 3, Due::End),
+    (b"commit now", 1, Due::End),
+];
+
+#[test]
+fn a_fault_tells_the_word_that_does_not_fit(rt: HostRuntime) {
+    for (line, word, due) in MISFITS {
+        assert!(&rt; is_no_job_with(&rt, b"%operator b\n", line, &misfit_in(2, *word, *due)));
+    }
+}
+
+#[test]
+fn a_fault_tells_why_a_line_is_misplaced(rt: HostRuntime) {
+    let no_operator = JobFault::BadLine {
+        line: 1,
+        why: BadLine::NoOperator,
+    };
+    let open = JobFault::BadLine {
+        line: 3,
+        why: BadLine::BatchOpen,
+    };
+    let none = JobFault::BadLine {
+        line: 2,
+        why: BadLine::NoBatch,
+    };
+    assert!(rt;
+        is_no_job(&rt, b"%operato a", &no_operator)
+            && is_no_job(&rt, b"%operator a\nbegin\nbegin", &open)
+            && is_no_job(&rt, b"%operator a\ncommit", &none)
+            && is_no_job(&rt, b"%operator a b", &misfit_in(1, 2, Due::End))
+            && is_no_job(&rt, b"%operator", &misfit_in(1, 1, Due::Name))
+    );
+}
+
+const TWO_SCRIPTS: &[u8] =
+    b"type 1 host\n%operator a\n# none\nrm x\nbegin\nrm y\n\nrm z\ncommit\n%operator b\n%operator c\nrm x";
+
+#[test]
+fn a_job_has_the_lines_of_its_edits(rt: HostRuntime) {
+    let job = job_of(&rt, TWO_SCRIPTS);
+    let are_lines = match job.lines.as_slice() {
+        [a, b, c] => {
+            a.as_slice() == [4u32, 6, 8].as_slice()
+                && b.is_empty()
+                && c.as_slice() == [12u32].as_slice()
+        }
+        _ => false,
+    };
+    drop(job);
+    assert!(rt; are_lines);
+}
+
+#[test]
+fn a_word_of_a_line_has_its_place(rt: HostRuntime) {
+    let line: &[u8] = b" rm\tosd.0 x#y\r";
+    let last = placed_word(line, 2);
+    let none = placed_word(line, 3);
+    assert!(rt;
+        placed_word(line, 0).place == 1
+            && last.place == 10
+            && last.text == b"x".as_slice()
+            && none.place == 11
+            && none.text.is_empty()
+    );
+}
+
+#[test]
+fn a_line_has_the_form_of_its_first_word(rt: HostRuntime) {
+    let add = Keyword::Place(Placement::Add);
+    assert!(rt;
+        Keyword::read(b"remove") == Some(Keyword::Rm)
+            && Keyword::read(b"begin") == None
+            && Keyword::Rm.word() == "rm"
+            && Form::read(b"add") == Some(Form::Edit(add))
+            && Form::Edit(add).text() == "add osd.N WEIGHT TYPE=NAME .."
+            && Form::read(b"fly") == None
+            && Form::Begin.text() == "begin at N"
+    );
+}
+
 #[test]
 fn a_job_has_at_most_65536_calls(rt: HostRuntime) {
     let text = with_lines(&rt, b"%operator a\n", b"reweight x 1\n");
     let text = text.as_slice();
     assert!(rt;
         call_count(&rt, text) == Some(65536)
-            && is_no_job_with(&rt, text, b"\nreweight x\n", &JobFault::BadLine(65539))
+            && is_no_job_with(
+                &rt,
+                text,
+                b"\nreweight x\n",
+                &misfit_in(65539, 2, Due::Weight)
+            )
             && is_no_job_with(&rt, text, b"\nreweight x 1", &JobFault::TooManyCalls(65539))
             && is_no_job_with(&rt, text, b"\nbegin\nfly", &JobFault::TooManyCalls(65539))
-            && is_no_job_with(&rt, text, b"\nbegin x", &JobFault::BadLine(65539))
+            && is_no_job_with(&rt, text, b"\nbegin x", &misfit_in(65539, 1, Due::At))
     );
 }
 
@@ -129,7 +245,15 @@ fn a_batch_has_at_most_65536_edits(rt: HostRuntime) {
     let text = joined(&rt, &[open, b"\ncommit"]);
     assert!(rt;
         call_count(&rt, text.as_slice()) == Some(1)
-            && is_no_job_with(&rt, open, b"\nrm x", &JobFault::BadLine(65540))
+            && is_no_job_with(
+                &rt,
+                open,
+                b"\nrm x",
+                &JobFault::BadLine {
+                    line: 65540,
+                    why: BadLine::BatchFull,
+                }
+            )
             && is_no_job_with(&rt, open, b"\nfly", &JobFault::NoSuchCommand(65540))
     );
 }

@@ -1,6 +1,6 @@
-use Rattle.std.proofs.Common.{ℕ, ◌≤◌, List, length, subst, sym}
-use Rattle.crush_script.specs.Job.{IsJob, JobStands}
-use Rattle.crush_script.specs.declared.job.Job.{Job}
+use Rattle.std.proofs.Common.{◌≡◌, ℕ, ◌≤◌, List, length, subst, sym, ap, ◌∙◌}
+use Rattle.crush_script.specs.Job.{IsJob}
+use Rattle.crush_script.specs.Sections.{job_lines, lines_data}
 use Rattle.crush_input.specs.Origins.{origin_of}
 use Rattle.crush_input.proofs.Told.{kept_short}
 use Rattle.crush_units.specs.declared.limits.TheConstants.{LONGEST_JOB}
@@ -11,10 +11,12 @@ pub returns-in-Ok-parsed_job-clause-only : goal.returns-in-Ok-parsed_job-clause-
 returns-in-Ok-parsed_job-clause-only g c = λ job is.
     let same = c.as_slice-text.ensures.value in
     let kept = c.in-Ok-parsed_job.ensures in
+    let lines : lines_data c.in-Ok-parsed_job.field-0.text.lines.items ≡ job_lines c.args.bytes.items =
+    ap (λ l. lines_data l.items) kept.lines ∙ c.in-Ok.ensures.lines ∙ ap job_lines same in
     let stands = c.in-Ok.ensures.only job (subst (λ (z : List ℕ). IsJob z job) (sym same) is) in
     record {
-      stands = subst (λ (j : Job). JobStands j job) (sym kept.job) stands;
-      text = λ i. record { origin = origin_of (kept.origins i); bytes = kept.bytes i; weights = kept.weights job.table stands.map.forest i };
+      stands = kept.job job stands;
+      text = λ i. record { origin = origin_of (kept.origins i); lines = lines i; bytes = kept.bytes i; weights = kept.weights job.table stands.map.forest i };
     }
 
 -- the bytes of a job are no more than it may have

@@ -7,4 +7,4 @@ use Rattle.crush_reasons.proofs.misfit.push_mistyped.Goals as goal
 pub returns : goal.returns
 returns c =
     let word = c.args.word.now in
-    on_ok_weaker c.push_weight_meant.result (λ e. then_pushed c.args.text.now.items (codes " is no weight; write ") _ (weight_meant (bare word)) _ _ c.in_ok-extend_from_slice.ensures.items e (ap weight_meant c.bare.ensures)) c.push_weight_meant.ensures
+    on_ok_weaker c.push_weight_meant.result (λ e. then_pushed c.args.text.now.items (codes " is not a weight: ") _ (weight_meant (bare word)) _ _ c.in_ok-extend_from_slice.ensures.items e (ap weight_meant c.bare.ensures)) c.push_weight_meant.ensures

@@ -11,7 +11,7 @@ use Rattle.crush_script.specs.Fault.{is_out_of_memory, lacks_memory}
 use Rattle.crush_script.specs.MapPart.{IsTextFault}
 use Rattle.crush_script.specs.Lines.{lines, line_feeds, map_part, section_part, section_line}
 use Rattle.crush_history.specs.Script.{ScriptData, script_data, scripts_data}
-use Rattle.crush_script.specs.Sections.{SectionsData, no_sections, sections_data, sections_of, with_lines}
+use Rattle.crush_script.specs.Sections.{SectionsData, no_sections, lines_in, sections_data, sections_of, with_lines}
 use Rattle.crush_script.specs.Job.{JobData, IsJobFault}
 use Rattle.crush_script.specs.Steps.{FailsAs}
 use Rattle.crush_model.specs.Table.{Row}
@@ -35,7 +35,7 @@ ok_is_no_err said fault given ok err = true≢false (sym (ap is_ok ok) ∙ ap is
 
 -- they are refused out of memory alone
 memory_alone : (fault : JobFault) (said : SectionsData) (given : Result SectionsData JobFault) → given ≡ Ok said → FailsAs fault given → fault ≡ OutOfMemory
-memory_alone (BadLine number) said given ok err = absurd (ok_is_no_err said (BadLine number) given ok err)
+memory_alone (BadLine number why) said given ok err = absurd (ok_is_no_err said (BadLine number why) given ok err)
 memory_alone (NoSuchCommand number) said given ok err = absurd (ok_is_no_err said (NoSuchCommand number) given ok err)
 memory_alone (OpenBatch number) said given ok err = absurd (ok_is_no_err said (OpenBatch number) given ok err)
 memory_alone (TooManyOperators number) said given ok err = absurd (ok_is_no_err said (TooManyOperators number) given ok err)
@@ -47,7 +47,7 @@ memory_alone TooLong said given ok err = absurd err
 
 -- other sections behind a map's text have the fault that is told
 fault_of_lines : (fault : JobFault) (bytes : List ℕ) (s : SettingData) (t : List Row) (n : ℕ) → length bytes ≤ LONGEST_JOB → IsMapText (map_part bytes) s t n → FailsAs fault (sections_of bytes) → IsJobFault bytes fault
-fault_of_lines (BadLine number) bytes s t n short map err = record { short = short; setting = s; table = t; adjusted = n; map = map; sections = err }
+fault_of_lines (BadLine number why) bytes s t n short map err = record { short = short; setting = s; table = t; adjusted = n; map = map; sections = err }
 fault_of_lines (NoSuchCommand number) bytes s t n short map err = record { short = short; setting = s; table = t; adjusted = n; map = map; sections = err }
 fault_of_lines (OpenBatch number) bytes s t n short map err = record { short = short; setting = s; table = t; adjusted = n; map = map; sections = err }
 fault_of_lines (TooManyOperators number) bytes s t n short map err = record { short = short; setting = s; table = t; adjusted = n; map = map; sections = err }
@@ -90,6 +90,11 @@ returns-clause-only c = λ job is.
       adjusted = m.1;
       scripts = same_scripts (sections_data c.in_ok-sections.sections) is.said (sym own ∙ is.sections) ∙ is.scripts;
     }
+
+pub returns-clause-lines : goal.returns-clause-lines
+returns-clause-lines c =
+    let own = sections_of-cut c.args.bytes.now _ _ _ _ c.cut_job.ensures.map c.cut_job.ensures.sections c.line_feeds.ensures.count c.in_ok-sections.ensures in
+    sym (ap lines_in own)
 
 pub returns-clause-few : goal.returns-clause-few
 returns-clause-few c = calls_few (c.line_feeds.result + 1) (lines c.cut_job.result.1.now) (sections_data c.in_ok-sections.sections) c.in_ok-sections.ensures

@@ -4,7 +4,7 @@ use Rattle.crush_script.proofs.line.LineWords.location.Given as goal
 
 -- the pairs so far, and those that are left
 abbrev pub invariant-loop-word : goal.invariant-loop-word
-invariant-loop-word l = with_pairs [] l.fn.self ≡ with_pairs l.at l.self
+invariant-loop-word l = with_pairs l.fn.first [] l.fn.self ≡ with_pairs l.fn.first l.at l.self
 
 abbrev pub decreases-loop-word : goal.decreases-loop-word
 decreases-loop-word l = length l.self

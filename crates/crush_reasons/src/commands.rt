@@ -1,0 +1,115 @@
+//! Says what may be meant by a line whose first word isn't a command.
+
+ghost use Rattle.std.specs.Prelude.{◌≡◌, ◌++◌, OnOk, map as each};
+ghost use Rattle.std.specs.Option.{option_map};
+ghost use Rattle.crush_reasons.specs.Commands.{first_command, is_near_command, is_of_ceph, is_swapped, meant_text, near_command, no_command};
+ghost use Rattle.crush_reasons.specs.Near.{same_heads};
+
+use crate::near::{is_one_off, shared};
+use crate::shown::push_told;
+use crate::words::{from_place, push_all};
+use crush_script::{Keyword, Placement, placed_word};
+use std::alloc::AllocError;
+
+fn same_heads(a: &[u8], b: &[u8]) -> bool
+    ensures { result ≡ same_heads a.now b.now }
+{
+    match a {
+        [] => false,
+        [first, ..] => match b {
+            [] => false,
+            [other, ..] => *first == *other,
+        },
+    }
+}
+
+/// Whether the words are the same, except that two neighbouring bytes are exchanged.
+fn is_swapped(a: &[u8], b: &[u8]) -> bool
+    ensures { result ≡ is_swapped a.now b.now }
+{
+    let same = shared(a, b);
+    same_heads(from_place(same, a), from_place(same + 1, b))
+        && same_heads(from_place(same + 1, a), from_place(same, b))
+        && from_place(same + 2, a) == from_place(same + 2, b)
+}
+
+fn is_near_command(a: &[u8], b: &[u8]) -> bool
+    ensures { result ≡ is_near_command a.now b.now }
+{
+    is_one_off(a, b) || is_swapped(a, b)
+}
+
+fn first_command(word: &[u8], commands: &[&'static str]) -> Option<&'static str>
+    ensures { option_map (λ near. near.now) result
+        ≡ first_command word.now (each (λ command. command.now) commands.now) }
+{
+    for command in commands {
+        if is_near_command(word, command.as_bytes()) {
+            return Some(*command);
+        }
+    }
+    None
+}
+
+/// Returns the first command that is similar to a word.
+fn near_command(word: &[u8]) -> Option<&'static str>
+    ensures { option_map (λ near. near.now) result ≡ near_command word.now }
+{
+    first_command(
+        word,
+        &[
+            Keyword::Place(Placement::Add).word(),
+            Keyword::Place(Placement::Set).word(),
+            Keyword::Place(Placement::CreateOrMove).word(),
+            Keyword::Move.word(),
+            Keyword::SwapBucket.word(),
+            Keyword::Reweight.word(),
+            Keyword::ReweightSubtree.word(),
+            Keyword::Rm.word(),
+            Keyword::AddBucket.word(),
+            Keyword::RenameBucket.word(),
+            Keyword::SetDeviceClass.word(),
+            Keyword::RmDeviceClass.word(),
+            "begin",
+            "commit",
+        ],
+    )
+}
+
+fn push_meant(command: Option<&str>, text: &mut Vec<u8>) -> Result<(), AllocError>
+    ensures { OnOk result (text.new.items
+        ≡ text.old.items ++ meant_text (option_map (λ near. near.now) command.entry)) }
+{
+    match command {
+        None => text.extend_from_slice(b"see --help"),
+        Some(command) => push_all(
+            &[
+                b"did you mean ".as_slice(),
+                command.as_bytes(),
+                b"?".as_slice(),
+            ],
+            text,
+        ),
+    }
+}
+
+fn is_of_ceph(line: &[u8]) -> bool
+    ensures { result ≡ is_of_ceph line.now }
+{
+    placed_word(line, 0).text == b"ceph".as_slice()
+        && placed_word(line, 1).text == b"osd".as_slice()
+        && placed_word(line, 2).text == b"crush".as_slice()
+}
+
+/// Appends the reason for a line whose first word isn't a command.
+pub(crate) fn push_no_command(line: &[u8], text: &mut Vec<u8>) -> Result<(), AllocError>
+    ensures { OnOk result (text.new.items ≡ text.old.items ++ no_command line.now) }
+{
+    if is_of_ceph(line) {
+        return text.extend_from_slice(b"leave out `ceph osd crush`");
+    }
+    let word = placed_word(line, 0).text;
+    push_told(word, text)?;
+    text.extend_from_slice(b" is not a command: ")?;
+    push_meant(near_command(word), text)
+}
