@@ -21,14 +21,15 @@ pair_added first l m word kind name k n can more =
     rw (room, kind_is, name_is) (ap (λ (p : Pair). Ok (l ++ p ∷ [])) same ∙ ap Ok (sym more))
 
 -- there is room, and one part is no name
-pub pair_refused : (first : ℕ) (l : List Pair) (word kind name : List ℕ) → kind ≡ (pair_of word).kind → name ≡ (pair_of word).name → length l < MOST_PAIRS → (is_name kind && is_name name) ≡ false
-    → with_pair first l word ≡ Err (misfit (first + length l) a_pair)
+pub pair_refused : (first : ℕ) (l : List Pair) (index : ℕ) (word kind name : List ℕ) → index ≡ first + length l → kind ≡ (pair_of word).kind → name ≡ (pair_of word).name → length l < MOST_PAIRS → (is_name kind && is_name name) ≡ false
+    → with_pair first l word ≡ Err (misfit index a_pair)
 unfolding with_pair
-pair_refused first l word kind name k n less bad =
+pair_refused first l index word kind name place k n less bad =
     let none : (is_name (pair_of word).kind && is_name (pair_of word).name) ≡ false = (λ i. is_name (sym k i) && is_name (sym n i)) ∙ bad in
     let room : nat_lt (length l) MOST_PAIRS ≡ true = search (rules, tests) in
-    rw (room, none) refl
+    rw (room, none, place) refl
 
-pub pair_too_many : (first : ℕ) (l : List Pair) (word : List ℕ) → MOST_PAIRS ≤ length l → with_pair first l word ≡ Err (misfit (first + length l) NoMorePairs)
+-- there is no room
+pub pair_too_many : (first : ℕ) (l : List Pair) (index : ℕ) (word : List ℕ) → index ≡ first + length l → MOST_PAIRS ≤ length l → with_pair first l word ≡ Err (misfit index NoMorePairs)
 unfolding with_pair
-pair_too_many first l word full = let room : nat_lt (length l) MOST_PAIRS ≡ false = search (rules, tests) in rw room refl
+pair_too_many first l index word place full = let room : nat_lt (length l) MOST_PAIRS ≡ false = search (rules, tests) in rw (room, place) refl

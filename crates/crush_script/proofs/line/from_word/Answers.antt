@@ -8,8 +8,8 @@ loop-done-init c = record { behind = behind_none c.args.text.now; within = omega
 
 pub loop-done-preserved : goal.loop-done-preserved
 loop-done-preserved c = record {
-  behind = c.behind_word.ensures.value ∙ ap behind_word c.loop-done.invariant.behind ∙ behind_next c.loop-done._done c.args.text.now;
-  within = omega (arith, c.behind_word.ensures.within, c.loop-done.invariant.within);
+  behind = c.behind_word-rest.ensures.value ∙ ap behind_word c.loop-done.invariant.behind ∙ behind_next c.loop-done._done c.args.text.now;
+  within = omega (arith, c.behind_word-rest.ensures.within, c.loop-done.invariant.within);
 }
 
 pub returns-clause-value : goal.returns-clause-value
