@@ -3,6 +3,7 @@ pub mod Counts
 pub mod Cuts
 pub mod Examples
 pub mod Few
+pub mod FirstMisfits
 pub mod MapTexts
 pub mod Oks
 pub mod Pairs

@@ -1,5 +1,6 @@
 pub mod Command
 pub mod Fault
+pub mod FirstMisfit
 pub mod Job
 pub mod Keyword
 pub mod Lines

@@ -1,6 +1,8 @@
-//! Laws: commands and scripts that are printed are read back as the same. These functions do
-//! nothing when they are called: the contract of each is a law, which is proved.
+//! Laws: commands and scripts that are printed are read back as the same, and a fault names the
+//! first word of its line that doesn't fit. These functions do nothing when they are called: the
+//! contract of each is a law, which is proved.
 
+ghost use Rattle.crush_script.specs.FirstMisfit.{MisfitsOfCommands, MisfitsOfOperators};
 ghost use Rattle.crush_script.specs.Printed.{PrintedIsRead, ReadIsSaid};
 ghost use Rattle.crush_script.specs.ScriptsText.{JobsAreReadBack, MapTextsHaveNoSection, ReadScriptsAreSuch};
 
@@ -20,4 +22,13 @@ pub fn scripts_are_read_back()
     ensures map { MapTextsHaveNoSection }
     ensures read { JobsAreReadBack }
     ensures such { ReadScriptsAreSuch }
+{}
+
+/// States that the word which a fault names is the first word of its line that doesn't fit.
+///
+/// The words before it, followed by any word that is due there, begin a line that can be read. With
+/// any other word at this place, no line can be read, whatever follows.
+pub fn misfits_are_first()
+    ensures commands { MisfitsOfCommands }
+    ensures operators { MisfitsOfOperators }
 {}

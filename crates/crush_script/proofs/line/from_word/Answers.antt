@@ -1,4 +1,4 @@
-use Rattle.std.proofs.Common.{◌≡◌, ℕ, ◌+◌, suc, List, refl, ap, ◌∙◌, arith}
+use Rattle.std.proofs.Common.{ap, ◌∙◌, arith}
 use Rattle.crush_script.specs.Lines.{behind_word, behind_words, from_blanks}
 use Rattle.crush_script.proofs.Cuts.{behind_none, behind_next}
 use Rattle.crush_script.proofs.line.from_word.Goals as goal

@@ -1,0 +1,52 @@
+-- Laws of misfits: the word of a line that a fault names is the first word that doesn't fit, and what is due there is all that fits.
+use Rattle.std.specs.Prelude.{◌≡◌, ℕ, suc, ◌≤◌, ◌<◌, Bool, true, false, List, ◌∷◌, ◌++◌, Result, Err, IsOk, IsSome, codes, length, take}
+use Rattle.crush_units.specs.Name.{is_name}
+use Rattle.crush_units.specs.Weight.{weight_of_text}
+use Rattle.crush_history.specs.Said.{device_named}
+use Rattle.crush_script.specs.declared.command.LineFault.{LineFault}
+use Rattle.crush_script.specs.declared.command.LineFault.TheVariants.{Word}
+use Rattle.crush_script.specs.declared.fault.Due.{Due}
+use Rattle.crush_script.specs.declared.fault.Due.TheVariants as due
+use Rattle.crush_script.specs.declared.fault.Misfit.{Misfit}
+use Rattle.crush_script.specs.Words.{is_pair, is_count}
+use Rattle.crush_script.specs.Command.{command, operator}
+
+-- whether a word is what is due
+abbrev pub IsDue : Due → List ℕ → Type 0
+IsDue due.Device word = (is_name word ≡ true) × IsSome (device_named word)
+IsDue due.Weight word = IsOk (weight_of_text word)
+IsDue due.Name word = is_name word ≡ true
+IsDue due.Pair word = is_pair word ≡ true
+IsDue due.NoMorePairs word = ⊥
+IsDue due.At word = word ≡ codes "at"
+IsDue due.Changes word = is_count word ≡ true
+IsDue due.End word = ⊥
+
+-- whether the line may also end before the word
+abbrev pub may_end : Due → Bool
+may_end due.Device = false
+may_end due.Weight = false
+may_end due.Name = false
+may_end due.Pair = true
+may_end due.NoMorePairs = true
+may_end due.At = true
+may_end due.Changes = false
+may_end due.End = true
+
+-- FIRST MISFIT: of the words of a line that `parse` reads, the word with this index is the first that doesn't fit. The words before it, with any word that is due there, begin a line that can be read, and no other word does. If the line may end there, then the words before it are such a line. And no line begins with the words up to the one that doesn't fit.
+pub record FirstMisfit {X : Type 0} (parse : List (List ℕ) → Result X LineFault) (words : List (List ℕ)) (index : ℕ) (d : Due) : Type 0 where
+  pub within : index ≤ length words
+  pub fits : (word : List ℕ) → IsDue d word → (more : List (List ℕ)) × IsOk (parse (take index words ++ word ∷ more))
+  pub only : (word : List ℕ) (more : List (List ℕ)) → IsOk (parse (take index words ++ word ∷ more)) → IsDue d word
+  pub ends : may_end d ≡ true → IsOk (parse (take index words))
+  pub wrong : index < length words → (more : List (List ℕ)) → IsOk (parse (take (suc index) words ++ more)) → ⊥
+
+-- the misfits of lines with commands are such, and those of lines that begin a section
+abbrev pub MisfitsAreFirst : {X : Type 0} → (List (List ℕ) → Result X LineFault) → Type 0
+MisfitsAreFirst parse = (words : List (List ℕ)) (m : Misfit) → parse words ≡ Err (Word m) → FirstMisfit parse words m.word m.due
+
+abbrev pub MisfitsOfCommands : Type 0
+MisfitsOfCommands = MisfitsAreFirst command
+
+abbrev pub MisfitsOfOperators : Type 0
+MisfitsOfOperators = MisfitsAreFirst operator
