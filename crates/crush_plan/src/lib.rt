@@ -7,6 +7,7 @@
 #![tactic(auto)]
 
 mod buckets;
+mod classes;
 mod devices;
 mod draft;
 mod expressible;
