@@ -7,7 +7,7 @@ turn. Which items have changed, and how many, is what the model's text of `--sin
 those that `--to` prints without `--json`, made by the model. Each document is one with the history and one without, and
 each other one is of a part (`--under NAME`, `--down-to TYPE`; `parts.py` says which items that is). It has to be one
 line of ASCII that Python's json reads, and byte for byte what json writes of the model's value, with the members by
-their names; so weights of plans, which are decimals, have their five places. A run at once, whose history may be
+their names; so weights of plans, which are decimals, have their six places. A run at once, whose history may be
 another, is compared with the model's document of its own history.
 
 Jobs are those of chance.py, with tunables, classes, ids of classes, and rules of all steps. Behind them each stored
@@ -29,7 +29,7 @@ from at_once import made_by
 from chance import Dice, random_job
 from explained import by_id, tree_rows
 from looking import class_weights, classes_taken, run_in_turn, since_text, total, type_name
-from model import is_change, run_call
+from model import exact_text_of, is_change, run_call, units_of
 from parts import cut, part_ids
 from planned import aside_counts, commands_of, made_by as made_by_plan, stays
 from plans import TUNABLES, after_script, any_map, expect
@@ -161,7 +161,7 @@ def command_value(words):
     if "id" in names:
         value["id"] = int(members["id"].removeprefix("osd."))
     if "weight" in names:
-        value["weight"] = f"={members['weight']}"
+        value["weight"] = f"={exact_text_of(units_of(members['weight']))}"
     if "ids" in names:
         value["ids"] = [members["ids"]]
     if "id" in names or first == "move":
@@ -184,7 +184,7 @@ def entry_value(line):
 
 def bare(text):
     """A document in which each decimal is a text behind a sign that no other text begins with."""
-    return re.sub(r'(?<=[{,]"weight":)(\d+\.\d{5})(?=[,}])', r'"=\1"', text)
+    return re.sub(r'(?<=[{,]"weight":)(\d+\.\d{6})(?=[,}])', r'"=\1"', text)
 
 
 def expect_document(what, text, due):

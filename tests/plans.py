@@ -26,7 +26,7 @@ import sys
 import tempfile
 
 from chance import Dice, random_command, random_map
-from model import run_one
+from model import run_one, with_exact_weight
 from planned import commands_of, made_by, plan_text, remade, stays
 from reading import read_map
 
@@ -72,7 +72,7 @@ def run(program, folder, words):
 
 def as_ceph(words):
     end = "-- " if any(word.startswith("-") for word in words[1:]) else ""
-    return f"ceph osd crush {end}{' '.join(words)}{' --yes-i-really-mean-it' if words[0] == 'swap-bucket' else ''}"
+    return f"ceph osd crush {end}{' '.join(with_exact_weight(words))}{' --yes-i-really-mean-it' if words[0] == 'swap-bucket' else ''}"
 
 
 def expect(what, got, due):

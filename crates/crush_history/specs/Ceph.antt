@@ -4,7 +4,8 @@ use Rattle.std.specs.List.{list_any}
 use Rattle.crush_edits.specs.declared.location.Pair.{Pair}
 use Rattle.crush_edits.specs.declared.edit.Edit.{Edit}
 use Rattle.crush_edits.specs.declared.edit.Edit.TheVariants.{Insert, CreateOrMove, Update, Move, Swap, Reweight, ReweightSubtree, Remove, AddBucket, Rename, SetClass, RemoveClass}
-use Rattle.crush_history.specs.HistoryText.{edit_text}
+use Rattle.crush_units.specs.ExactWeight.{exact_text}
+use Rattle.crush_history.specs.HistoryText.{edit_text, pairs_text}
 
 -- the word that Ceph asks for before it swaps buckets that stand apart
 abbrev pub assent : Edit → List ℕ
@@ -49,9 +50,28 @@ has_dash (RemoveClass name) = is_dashed name
 abbrev pub ceph_head : Edit → List ℕ
 ceph_head e = if has_dash e then codes "ceph osd crush -- " else codes "ceph osd crush "
 
+-- a command's first word, a name, and a weight in exact form, each after a space
+abbrev pub name_and_exact : List ℕ → List ℕ → ℕ → List ℕ
+name_and_exact first name weight = first ++ codes " " ++ name ++ codes " " ++ exact_text weight
+
+-- the words of a command: those of a script, but with weights in exact form, because Ceph rounds a weight down
+abbrev pub ceph_words : Edit → List ℕ
+ceph_words (Insert device name weight at) = name_and_exact (codes "add") name weight ++ pairs_text at
+ceph_words (CreateOrMove device name weight at) = name_and_exact (codes "create-or-move") name weight ++ pairs_text at
+ceph_words (Update device name weight at) = name_and_exact (codes "set") name weight ++ pairs_text at
+ceph_words (Move name at) = edit_text (Move name at)
+ceph_words (Swap a b) = edit_text (Swap a b)
+ceph_words (Reweight name weight) = name_and_exact (codes "reweight") name weight
+ceph_words (ReweightSubtree name weight) = name_and_exact (codes "reweight-subtree") name weight
+ceph_words (Remove name) = edit_text (Remove name)
+ceph_words (AddBucket name kind) = edit_text (AddBucket name kind)
+ceph_words (Rename from to) = edit_text (Rename from to)
+ceph_words (SetClass name class) = edit_text (SetClass name class)
+ceph_words (RemoveClass name) = edit_text (RemoveClass name)
+
 -- an edit as a line for a shell
 abbrev pub ceph_line : Edit → List ℕ
-ceph_line e = ceph_head e ++ edit_text e ++ (assent e ++ codes "\n")
+ceph_line e = ceph_head e ++ ceph_words e ++ (assent e ++ codes "\n")
 
 -- how many lines there are
 unfoldable pub ceph_heading : ℕ → List ℕ

@@ -1,12 +1,12 @@
 //! An edit as Ceph's command.
 
 ghost use Rattle.std.specs.Prelude.{◌≡◌, ◌++◌, OnOk, codes, flat_map};
-ghost use Rattle.crush_history.specs.Ceph.{assent, ceph_head, ceph_heading, ceph_line, has_dash, has_dashed_type, is_dashed};
-ghost use Rattle.crush_history.specs.HistoryText.{edit_text};
+ghost use Rattle.crush_history.specs.Ceph.{assent, ceph_head, ceph_heading, ceph_line, ceph_words, has_dash, has_dashed_type, is_dashed, name_and_exact};
+ghost use Rattle.crush_history.specs.HistoryText.{edit_text, pairs_text};
 
-use crate::printed::write_edit;
-use crush_edits::{Edit, Pair};
-use crush_units::{Name, put_all};
+use crate::printed::{write_edit, write_pairs};
+use crush_edits::{Edit, Location, Pair};
+use crush_units::{Name, Weight, put_all};
 use itoa::Buffer;
 use std::alloc::{AllocError, Global};
 
@@ -63,10 +63,94 @@ fn ceph_head(edit: &Edit) -> &'static [u8]
     }
 }
 
+/// Appends the words of the command of an edit. They are those of a script, but weights are in exact
+/// form: Ceph rounds a weight down to units, and so reads the same weight.
+fn push_words(edit: &Edit, text: &mut Vec<u8>) -> Result<(), AllocError>
+    ensures { OnOk result (text.new.items ≡ text.old.items ++ ceph_words edit.now) }
+{
+    match edit {
+        Edit::Insert {
+            name,
+            weight,
+            at,
+            ..
+        } => push_placing(b"add", name, *weight, at, text),
+        Edit::CreateOrMove {
+            name,
+            weight,
+            at,
+            ..
+        } => push_placing(b"create-or-move", name, *weight, at, text),
+        Edit::Update {
+            name,
+            weight,
+            at,
+            ..
+        } => push_placing(b"set", name, *weight, at, text),
+        Edit::Reweight { name, weight } => push_weighing(b"reweight", name, *weight, text),
+        Edit::ReweightSubtree { name, weight } => {
+            push_weighing(b"reweight-subtree", name, *weight, text)
+        }
+        Edit::Move { .. } => push_edit(edit, text),
+        Edit::Swap { .. } => push_edit(edit, text),
+        Edit::Remove { .. } => push_edit(edit, text),
+        Edit::AddBucket { .. } => push_edit(edit, text),
+        Edit::Rename { .. } => push_edit(edit, text),
+        Edit::SetClass { .. } => push_edit(edit, text),
+        Edit::RemoveClass { .. } => push_edit(edit, text),
+    }
+}
+
 fn push_edit(edit: &Edit, text: &mut Vec<u8>) -> Result<(), AllocError>
     ensures { OnOk result (text.new.items ≡ text.old.items ++ edit_text edit.now) }
 {
     write_edit(edit, text).map_err(|_| AllocError)
+}
+
+/// Appends a command that puts a device with a weight at a location.
+fn push_placing(
+    first: &[u8],
+    name: &Name<Global>,
+    weight: Weight,
+    at: &Location,
+    text: &mut Vec<u8>,
+) -> Result<(), AllocError>
+    ensures { OnOk result (text.new.items ≡ text.old.items
+        ++ (name_and_exact first.now name.now weight ++ pairs_text at.now)) }
+{
+    push_weighing(first, name, weight, text)?;
+    push_pairs(at.pairs(), text)
+}
+
+/// Appends a command's first word, a name, and a weight in exact form.
+fn push_weighing(
+    first: &[u8],
+    name: &Name<Global>,
+    weight: Weight,
+    text: &mut Vec<u8>,
+) -> Result<(), AllocError>
+    ensures { OnOk result (text.new.items
+        ≡ text.old.items ++ name_and_exact first.now name.now weight) }
+{
+    let mut digits = [0u8; 16];
+    let len = weight.exact_text(&mut digits);
+    let (weight, _) = digits.split_at(len);
+    push_all(
+        &[
+            first,
+            b" ".as_slice(),
+            name.as_bytes(),
+            b" ".as_slice(),
+            weight,
+        ],
+        text,
+    )
+}
+
+fn push_pairs(pairs: &[Pair], text: &mut Vec<u8>) -> Result<(), AllocError>
+    ensures { OnOk result (text.new.items ≡ text.old.items ++ pairs_text pairs.now) }
+{
+    write_pairs(pairs, text).map_err(|_| AllocError)
 }
 
 fn push_end(edit: &Edit, text: &mut Vec<u8>) -> Result<(), AllocError>
@@ -77,7 +161,7 @@ fn push_end(edit: &Edit, text: &mut Vec<u8>) -> Result<(), AllocError>
 }
 
 /// Appends an edit as a line for a shell: `ceph osd crush`, its command, and for a swap
-/// `--yes-i-really-mean-it`.
+/// `--yes-i-really-mean-it`. Weights are in exact form, with six decimals.
 ///
 /// If a word of the command begins with `-`, `--` comes before the command, so that Ceph doesn't
 /// read this word as an option. Ceph refuses a word that begins with two dashes.
@@ -85,7 +169,7 @@ pub fn push_ceph_line(edit: &Edit, text: &mut Vec<u8>) -> Result<(), AllocError>
     ensures { OnOk result (text.new.items ≡ text.old.items ++ ceph_line edit.now) }
 {
     text.extend_from_slice(ceph_head(edit))?;
-    push_edit(edit, text)?;
+    push_words(edit, text)?;
     push_end(edit, text)
 }
 

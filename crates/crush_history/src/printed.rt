@@ -90,7 +90,7 @@ fn write_pair<W: Write>(pair: &Pair, out: &mut W) -> Result<(), WriteFault>
 }
 
 /// Writes the pairs of a location, each after a space.
-fn write_pairs<W: Write>(pairs: &[Pair], out: &mut W) -> Result<(), WriteFault>
+pub(crate) fn write_pairs<W: Write>(pairs: &[Pair], out: &mut W) -> Result<(), WriteFault>
     ensures writes { Writes result (W.contents out.old) (W.contents out.new)
         (pairs_text pairs.now) }
     ensures fault { IfErr result (λ fault. fault ≡ WriteFault.Write) }

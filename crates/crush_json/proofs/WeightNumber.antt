@@ -1,4 +1,4 @@
--- A weight's text is a number of JSON.
+-- A weight's exact text is a number of JSON.
 use Rattle.std.proofs.Common.{◌≡◌, ℕ, zero, suc, ◌/◌, ◌<◌, ◌^◌, true, false, [], ◌∷◌, ◌++◌, length, refl, ap, arith}
 use Rattle.std.proofs.lemmas.Fmt.{decimal_is_IsNumeral, decimal_digit, first_decimal}
 use Rattle.std.proofs.lemmas.Str.{digit_value_digit}
@@ -8,7 +8,8 @@ use Rattle.std.specs.Float.Numeral.{Parts}
 use Rattle.ryu.specs.Plain.{IsPlain}
 use Rattle.json.specs.Print.{IsNumber}
 use Rattle.json.proofs.Printed.Floats.{IsNumber-plain}
-use Rattle.crush_units.specs.Weight.{weight_text, parts_of, digit}
+use Rattle.crush_units.specs.Weight.{digit}
+use Rattle.crush_units.specs.ExactWeight.{exact_parts, exact_text}
 
 -- each byte behind the point is a digit
 digit_is : (n : ℕ) → digit_value (digit n) < 10
@@ -19,15 +20,15 @@ no_zero : (n : ℕ) → n < 2 ^ 64 → slice_index (decimal n) 0 ≡ 48 → leng
 no_zero zero small is = ap length (decimal_digit 0 (omega arith))
 no_zero (suc n) small is = absurd (omega (arith, first_decimal (suc n) (omega arith) small, is))
 
--- a whole part, a point and five digits
+-- a whole part, a point and six digits
 unfoldable parts : ℕ → ℕ → Parts
 parts whole h = record {
   whole = decimal whole;
   point = true;
-  fraction = digit (h / 10000) ∷ digit (h / 1000) ∷ digit (h / 100) ∷ digit (h / 10) ∷ digit h ∷ [];
+  fraction = digit (h / 100000) ∷ digit (h / 10000) ∷ digit (h / 1000) ∷ digit (h / 100) ∷ digit (h / 10) ∷ digit h ∷ [];
   exponent_negative = false;
   exponent = [];
-  len = length (decimal whole ++ 46 ∷ digit (h / 10000) ∷ digit (h / 1000) ∷ digit (h / 100) ∷ digit (h / 10) ∷ digit h ∷ []);
+  len = length (decimal whole ++ 46 ∷ digit (h / 100000) ∷ digit (h / 10000) ∷ digit (h / 1000) ∷ digit (h / 100) ∷ digit (h / 10) ∷ digit h ∷ []);
 }
 
 plain : (whole h : ℕ) → whole < 2 ^ 64 → IsPlain (parts whole h)
@@ -37,7 +38,7 @@ plain whole h small =
     record {
       well_formed = record {
         whole_digits = digits.0.1;
-        fraction_digits = (digit_is (h / 10000), (digit_is (h / 1000), (digit_is (h / 100), (digit_is (h / 10), (digit_is h, tt)))));
+        fraction_digits = (digit_is (h / 100000), (digit_is (h / 10000), (digit_is (h / 1000), (digit_is (h / 100), (digit_is (h / 10), (digit_is h, tt))))));
         exponent_digits = tt;
         no_point = λ e. absurd cc;
         no_exponent = λ e. refl;
@@ -49,8 +50,8 @@ plain whole h small =
       marked = λ e. absurd cc;
     }
 
-pub weight_is_number : (w : ℕ) → w < 2 ^ 32 → IsNumber (weight_text w)
+pub weight_is_number : (w : ℕ) → w < 2 ^ 32 → IsNumber (exact_text w)
 unfolding parts
 weight_is_number w small =
-    let h = parts_of w in
-    IsNumber-plain (weight_text w) (false, parts (h / 100000) h, refl, plain (h / 100000) h (omega arith))
+    let h = exact_parts w in
+    IsNumber-plain (exact_text w) (false, parts (h / 1000000) h, refl, plain (h / 1000000) h (omega arith))

@@ -1,7 +1,7 @@
 -- A plan as a value: its edits as the commands that a monitor takes, with the members of each object by name.
 use Rattle.std.specs.Prelude.{ℕ, ◌==◌, true, List, [], ◌∷◌, ◌++◌, Option, Some, None, if◌then◌else◌, codes, map}
 use Rattle.std.specs.Str.Lossy.{utf8_lossy}
-use Rattle.crush_units.specs.Weight.{weight_text}
+use Rattle.crush_units.specs.ExactWeight.{exact_text}
 use Rattle.crush_edits.specs.declared.location.Pair.{Pair}
 use Rattle.crush_edits.specs.declared.edit.Edit.{Edit}
 use Rattle.crush_edits.specs.declared.edit.Edit.TheVariants.{Insert, CreateOrMove, Update, Move, Swap, Reweight, ReweightSubtree, Remove, AddBucket, Rename, SetClass, RemoveClass}
@@ -12,7 +12,7 @@ use Rattle.serde_json.specs.Data.{Data, boolean, string, object, member, no_memb
 use Rattle.serde_json.specs.Written.{outline}
 use Rattle.crush_json.specs.Values.{natural, list}
 
--- members: of a value, of a text, and of a weight as a decimal
+-- members: of a value, of a text, and of a weight as a decimal in exact form
 abbrev pub told : List ℕ → Data → json.Members → json.Members
 told name d ms = json.member name (outline d) ms
 
@@ -20,7 +20,7 @@ abbrev pub text : List ℕ → List ℕ → json.Members → json.Members
 text name s ms = told name (string s) ms
 
 abbrev pub weight : ℕ → json.Members
-weight w = json.member (codes "weight") (json.number (weight_text w)) json.no_members
+weight w = json.member (codes "weight") (json.number (exact_text w)) json.no_members
 
 -- the pairs of a location, `TYPE=NAME` each
 abbrev pub pair_word : Pair → List ℕ

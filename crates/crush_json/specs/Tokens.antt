@@ -2,7 +2,7 @@
 use Rattle.std.specs.Prelude.{ℕ, ℤ, List, [], ◌∷◌, ◌++◌, Option, Some, None, codes, flat_map}
 use Rattle.crush_units.specs.declared.id.ItemId.{ItemId}
 use Rattle.crush_units.specs.declared.id.ItemId.TheVariants.{Device, Bucket}
-use Rattle.crush_units.specs.Weight.{weight_text}
+use Rattle.crush_units.specs.ExactWeight.{exact_text}
 use Rattle.crush_units.specs.Id.{item_number}
 use Rattle.crush_model.specs.Table.{Row, kids}
 use Rattle.crush_nodes.specs.Views.{ViewData}
@@ -46,9 +46,9 @@ item_tokens s v =
     member_tokens (codes "id") (whole (item_number v.id)) ++ member_tokens (codes "name") (string v.name) ++ member_tokens (codes "type") (string (type_word s v.id v.kind))
     ++ member_tokens (codes "type_id") (natural v.kind) ++ member_tokens (codes "weight") (natural v.weight)
 
--- of a weight as a decimal
+-- of a weight as a decimal in exact form
 abbrev pub weight_tokens : ℕ → List Token
-weight_tokens w = key (codes "weight") ∷ Token.number (weight_text w) ∷ []
+weight_tokens w = key (codes "weight") ∷ Token.number (exact_text w) ∷ []
 
 -- of the last members of an entry of a history
 abbrev pub last_tokens : ℕ → List ℕ → Option (List ℕ) → List ℕ → List Token

@@ -38,10 +38,10 @@ pub(crate) fn push_command(alloc: Global, edit: &Edit, out: &mut Document) -> Re
         Edit::Move { name, at } => push_moving(alloc, name, at, out),
         Edit::Swap { a, b } => push_swapping(a, b, out),
         Edit::Reweight { name, weight } => {
-            push_weighing(alloc, "osd crush reweight", name, *weight, out)
+            push_weighing("osd crush reweight", name, *weight, out)
         }
         Edit::ReweightSubtree { name, weight } => {
-            push_weighing(alloc, "osd crush reweight-subtree", name, *weight, out)
+            push_weighing("osd crush reweight-subtree", name, *weight, out)
         }
         Edit::Remove { name } => push_removing(name, out),
         Edit::AddBucket { name, kind } => push_adding(name, kind, out),
@@ -67,7 +67,7 @@ fn push_placing(
     push_pairs(alloc, at.pairs(), out)?;
     out.natural("id", device.number() as u64)?;
     out.text("prefix", prefix)?;
-    out.weight(alloc, weight)?;
+    out.weight(weight)?;
     out.end_object()
 }
 
@@ -100,7 +100,6 @@ fn push_swapping(a: &Name<Global>, b: &Name<Global>, out: &mut Document) -> Resu
 }
 
 fn push_weighing(
-    alloc: Global,
     prefix: &str,
     name: &Name<Global>,
     weight: Weight,
@@ -112,7 +111,7 @@ fn push_weighing(
     out.begin_object()?;
     out.text("name", name.as_str())?;
     out.text("prefix", prefix)?;
-    out.weight(alloc, weight)?;
+    out.weight(weight)?;
     out.end_object()
 }
 

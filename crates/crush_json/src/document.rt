@@ -159,14 +159,19 @@ impl Document {
         self.writer.boolean(holds)
     }
 
-    /// A decimal of five places: 1.0 is 65536 units.
-    pub(crate) fn weight(&mut self, alloc: Global, weight: Weight) -> Result<(), AllocError>
+    /// A decimal of six places in exact form: 1.0 is 65536 units. The text of a weight is ASCII, so it
+    /// is always a `str`.
+    pub(crate) fn weight(&mut self, weight: Weight) -> Result<(), AllocError>
         ensures { OnOk result (self.new ≡ self.old ++ weight_tokens weight) }
     {
         let _units = weight.units();
-        let text = format!(in alloc; "{weight}")?;
+        let mut digits = [0u8; 16];
+        let len = weight.exact_text(&mut digits);
+        let Ok(text) = str::from_utf8(&digits[..len]) else {
+            return Err(AllocError);
+        };
         self.writer.key("weight")?;
-        self.writer.number(text.as_str())
+        self.writer.number(text)
     }
 
     pub(crate) fn id(&mut self, name: &str, id: ItemId) -> Result<(), AllocError>

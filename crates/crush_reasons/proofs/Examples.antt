@@ -62,7 +62,7 @@ two_commands : (s : SettingData) (t : List Row) → ceph_text s t (
     ∷ entry (One (Remove (codes "x"))) (Refused NoSuchItem)
     ∷ entry (One (Move (codes "h2") (pair (codes "rack") (codes "r1") ∷ pair (codes "root") (codes "default") ∷ []))) (changed true 1)
     ∷ [])
-    ≡ codes "# 2 commands\nceph osd crush reweight osd.0 2.00000\nceph osd crush move h2 rack=r1 root=default\n"
+    ≡ codes "# 2 commands\nceph osd crush reweight osd.0 2.000000\nceph osd crush move h2 rack=r1 root=default\n"
 unfolding ceph_text ceph_heading edits_for_ceph digits
 two_commands s t = refl
 
@@ -71,7 +71,7 @@ set_twice : ceph_text setting example (
     entry (One (Update 3 (codes "osd.3") 65536 (pair (codes "host") (codes "h1") ∷ []))) (changed true 0)
     ∷ entry (One (Update 3 (codes "osd.3") 131072 (pair (codes "host") (codes "h2") ∷ []))) (changed true 0)
     ∷ [])
-    ≡ codes "# 2 commands\nceph osd crush add osd.3 1.00000 host=h1\nceph osd crush set osd.3 2.00000 host=h2\n"
+    ≡ codes "# 2 commands\nceph osd crush add osd.3 1.000000 host=h1\nceph osd crush set osd.3 2.000000 host=h2\n"
 unfolding ceph_text ceph_heading edits_for_ceph digits
 set_twice = refl
 
@@ -87,7 +87,7 @@ batches : (s : SettingData) (t : List Row) → ceph_text s t (
     entry (Batch (Reweight (codes "osd.0") 131072 ∷ Remove (codes "osd.1") ∷ [])) (Dones (record { edits = 2; changed = 1; made = 0 }))
     ∷ entry (Batch (Remove (codes "osd.2") ∷ Remove (codes "default") ∷ [])) (BatchRefused 1 NotEmpty)
     ∷ [])
-    ≡ codes "# 2 commands\nceph osd crush reweight osd.0 2.00000\nceph osd crush rm osd.1\n"
+    ≡ codes "# 2 commands\nceph osd crush reweight osd.0 2.000000\nceph osd crush rm osd.1\n"
 unfolding ceph_text ceph_heading edits_for_ceph digits
 batches s t = refl
 

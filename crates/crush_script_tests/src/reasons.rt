@@ -479,7 +479,7 @@ fn commands_and_reasons_are_told(rt: HostRuntime) {
         is_answered(
             &rt,
             &job,
-            b"# 2 commands\nceph osd crush reweight osd.0 2.00000\nceph osd crush move h2 rack=r1 root=default\n",
+            b"# 2 commands\nceph osd crush reweight osd.0 2.000000\nceph osd crush move h2 rack=r1 root=default\n",
             b"# 3 a rm default = refused NotEmpty 39\n  default holds 2 items: move or remove them first\n"
         )
     );
@@ -490,7 +490,7 @@ const RULED: &[u8] =
     b"device 0 osd.0\ndevice 1 osd.1\ntype 1 host\ntype 2 rack\ntype 3 root\nhost h1 {\nid -2\nalg straw2\nitem osd.0 weight 1.00000\n}\nhost h2 {\nid -3\nalg straw2\n}\nroot default {\nid -1\nalg straw2\nitem h1 weight 1.00000\n}\nroot spare {\nid -4\nalg straw2\n}\nrule fast {\nid 0\ntype replicated\nstep take spare\nstep emit\n}\n%operator a\nset osd.1 1 host=h1\nset osd.1 2 host=h2\nrm h3\nrm h1\nmove h2 root=default\nrm default\nrm spare\nmove default host=h2\nmove h1 rack=spare\nadd osd.0 1 host=h2\nbegin\nrename-bucket h1 h4\nrm h1\ncommit\n";
 
 const RULED_MADE: &[u8] =
-    b"# 3 commands\nceph osd crush add osd.1 1.00000 host=h1\nceph osd crush set osd.1 2.00000 host=h2\nceph osd crush move h2 root=default\n";
+    b"# 3 commands\nceph osd crush add osd.1 1.000000 host=h1\nceph osd crush set osd.1 2.000000 host=h2\nceph osd crush move h2 root=default\n";
 
 const RULED_TOLD: &[u8] =
     b"# 3 a rm h3 = refused NoSuchItem 2\n  h3 isn't there: is it h1?\n# 4 a rm h1 = refused NotEmpty 39\n  h1 holds 1 item: move or remove it first\n# 6 a rm default = refused NotEmpty 39\n  default holds 2 items: move or remove them first\n# 7 a rm spare = refused InUse 16\n  the rule fast takes spare\n# 8 a move default host=h2 = refused Loop 40\n  h2 stands below default: a bucket cannot come below itself\n# 9 a move h1 rack=spare = refused WrongType 22\n  spare is of type root, not rack\n# 10 a add osd.0 1.00000 host=h2 = refused AlreadyPlaced 17\n  osd.0 stands in h1: set and create-or-move put it into another\n# 11 a begin ; rename-bucket h1 h4 ; rm h1 ; commit = refused at 1 NoSuchItem 2\n  rm h1: h1 isn't there: is it h4?\n";

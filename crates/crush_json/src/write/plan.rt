@@ -26,7 +26,7 @@ const USUAL_COMMAND: usize = 96;
 /// Writes `{"aside":A,"history":H,"plan":[..],"stays":[..]}` and a line feed, or without a history
 /// the same without that member: each edit of a plan as the command that a monitor takes, with the
 /// keys of Ceph's own table of commands, and each line of what stays, the rest of the plan, as a
-/// text. A weight is a decimal of five places, as `ceph` itself takes it. `ids` and `class_ids` are
+/// text. A weight is a decimal of six places, as `ceph` itself takes it. `ids` and `class_ids` are
 /// the numbers of buckets whose ids and whose class ids differ; A has both.
 pub fn write_plan_document<W: Write>(
     alloc: Global,

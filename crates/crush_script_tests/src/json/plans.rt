@@ -29,13 +29,13 @@ const REST: &[u8] = b"osd.1: class hdd, wanted (none)\ntunables differ\n";
 /// The expected document. Its keys are those of Ceph's own table of commands.
 const PLAN: &[u8] = b"\
     {\"aside\":{\"class_ids\":1,\"ids\":2},\"plan\":[\
-    {\"args\":[\"host=h3\",\"root=default\"],\"id\":3,\"prefix\":\"osd crush add\",\"weight\":0.33299},\
-    {\"args\":[\"host=h3\"],\"id\":3,\"prefix\":\"osd crush set\",\"weight\":1.50000},\
-    {\"args\":[\"root=default\"],\"id\":12,\"prefix\":\"osd crush create-or-move\",\"weight\":2.00000},\
+    {\"args\":[\"host=h3\",\"root=default\"],\"id\":3,\"prefix\":\"osd crush add\",\"weight\":0.332993},\
+    {\"args\":[\"host=h3\"],\"id\":3,\"prefix\":\"osd crush set\",\"weight\":1.500000},\
+    {\"args\":[\"root=default\"],\"id\":12,\"prefix\":\"osd crush create-or-move\",\"weight\":2.000000},\
     {\"args\":[\"rack=r1\"],\"name\":\"h2\",\"prefix\":\"osd crush move\"},\
     {\"dest\":\"h2\",\"prefix\":\"osd crush swap-bucket\",\"source\":\"h1\",\"yes_i_really_mean_it\":true},\
-    {\"name\":\"osd.0\",\"prefix\":\"osd crush reweight\",\"weight\":0.00000},\
-    {\"name\":\"default\",\"prefix\":\"osd crush reweight-subtree\",\"weight\":3.00000},\
+    {\"name\":\"osd.0\",\"prefix\":\"osd crush reweight\",\"weight\":0.000000},\
+    {\"name\":\"default\",\"prefix\":\"osd crush reweight-subtree\",\"weight\":3.000000},\
     {\"name\":\"osd.3\",\"prefix\":\"osd crush rm\"},\
     {\"name\":\"r1\",\"prefix\":\"osd crush add-bucket\",\"type\":\"rack\"},\
     {\"dstname\":\"r2\",\"prefix\":\"osd crush rename-bucket\",\"srcname\":\"r1\"},\
