@@ -1,8 +1,8 @@
 #!/usr/bin/env python3
 """Writes the manual page man/crushedit.1 from the help in crates/crush_options/src/command_line.rt and verbs.rt.
 
-The help's paragraphs, lists of two columns and samples become those of the page. The help of each verb is a section of its
-own. END follows them. With --check nothing is written, and the status is 1 if the page has other bytes.
+BEGIN comes first. The help's paragraphs, lists of two columns and samples become those of the page. The help of each verb
+is a section of its own. END follows them. With --check nothing is written, and the status is 1 if the page has other bytes.
 """
 import pathlib
 import re
@@ -14,6 +14,27 @@ VERBS = TOP / "crates/crush_options/src/verbs.rt"
 PAGE = TOP / "man/crushedit.1"
 # The one option that may be given several times.
 SCRIPT = "-s, --script SCRIPT"
+# How an operator begins. The help goes on with the command line without a verb.
+BEGIN = r""".PP
+.B crushedit
+edits the text of a CRUSH map, and never contacts a cluster.
+Use one of the verbs, which have safe defaults:
+.PP
+.RS
+.nf
+# prints what the commands in the file add.txt change
+crushedit apply \-\-dry\-run map.txt add.txt
+# writes the map after these commands to the file new.txt
+crushedit apply \-o new.txt map.txt add.txt
+# prints the commands that lead from one map to another
+crushedit plan map.txt wanted.txt
+.fi
+.RE
+.PP
+The section VERBS describes the verbs.
+A command line without a verb is for programs, and for tasks that no verb does.
+Its input is a job, which may be in one file.
+"""
 # What else an operator must know who doesn't have the other pages at hand.
 END = r""".SH "FROM A CLUSTER AND BACK"
 .nf
@@ -28,45 +49,66 @@ crushtool \-i raw.bin \-\-reweight \-o new.bin
 .PP
 The last step is
 .BR "ceph osd setcrushmap \-i new.bin " \fIVERSION\fR,
-with the number that
+where VERSION is the number that
 .B getcrushmap
 has printed.
-From then on data moves.
+Data moves only after this step.
 .BR crushedit\-recipe (1)
-does all steps but the last one, and checks each of them.
+does all steps except for the last one, and checks each of them.
 .SH WEIGHTS
 Weights are in TiB, as is usual with Ceph.
-They are rounded to 65536ths of 1.0, where Ceph cuts them off.
+.B crushedit
+rounds a weight to the nearest 65536th of 1.0, and Ceph rounds a weight down.
 .BR 4T ", " .5 " and " \-1
-are no weights.
+are not valid weights.
 .PP
-.B adjusted
-is printed for maps of Ceph 18 in which a bucket above 256 is in another bucket, because
+The line
+.B crushedit: adjusted \fIN\fR
+says that the text gave N buckets a weight that isn't the sum of the weights of their devices.
+.B crushedit
+uses the sum.
+The usual reason is that
 .BR crushtool (8)
-prints their weights by a float of 32 bits.
+of Ceph 18 prints the weight of a bucket as a float of 32 bits, which isn't exact above 256 TiB.
 .SH CAVEATS
 .B crushedit
 never contacts a cluster.
-Keep the map that you took from it: it is the way back.
+Keep
+.BR map.bin ,
+the map that you have taken from the cluster: with this map you can undo the change.
 .PP
-An empty text is a map.
-If a file is empty, or a step before has failed,
-.B crushedit
-prints the empty map and ends with status 0.
-The same happens with
-.BR "crushedit map.txt > map.txt" ,
-because the shell empties the file first.
+An empty text is a valid map, and a text whose end was cut off may be a valid smaller map.
+The verbs
+.BR apply ", " diff " and " plan
+refuse a map that doesn't end with the line
+.BR "# end crush map" .
+A run without a verb accepts such a map.
+For example, the command
+.B "crushedit map.txt > map.txt"
+prints an empty map and ends with status 0, because the shell empties the file first.
+With
+.B \-o map.txt
+in place of
+.BR "> map.txt" ,
+the file keeps its old bytes until the run has succeeded.
 .PP
-A text that was cut is a smaller map, and a job that was cut is a shorter job.
-Compare the last lines.
+A script whose end was cut off may still be valid.
+So look whether
+.B crushedit apply \-\-dry\-run
+prints a reply for the last command of the script.
 .PP
-A location creates buckets that aren't in the map, so a mistyped name creates a bucket.
-.B \-\-no\-make
-stops such a run.
+If a location names buckets that aren't in the map, the command creates these buckets.
+So a command with a mistyped name can create a bucket.
+The verb
+.BR apply ,
+and a run with
+.BR \-\-no\-make ,
+then print no map.
 .PP
-A new device has no class, and no rule for a class finds it, until
+A new device has no class.
+A rule that chooses only devices of one class doesn't find the device until
 .B set\-device\-class
-gives it one.
+gives the device this class.
 .SH "SEE ALSO"
 .BR crushedit\-recipe (1),
 .BR crushtool (8),
@@ -195,13 +237,13 @@ def page():
     for head, _ in options[:-2]:
         word = f"{head.split(',')[0]} {head.split()[-1]}" if "," in head else head
         synopsis += f'.RB [ "{marked(word)}" ]{".." if head == SCRIPT else ""}\n'
-    with_verbs = "".join(f".br\n{verb.synopsis()}" for verb in verbs())
+    with_verbs = "".join(f"{verb.synopsis()}.br\n" for verb in verbs())
     first, *rest = constant(source, "MORE").strip("\n").split("\n\nCommands")
     return (
         f'.TH CRUSHEDIT 1 "" "crushedit {version.split()[0]}" "User Commands"\n'
         f".SH NAME\ncrushedit \\- {plain(about[0].lower() + about[1:])}\n"
-        f".SH SYNOPSIS\n.B crushedit\n{synopsis}.RI [ {file.group(1)} ]\n{with_verbs}"
-        f".SH DESCRIPTION\n{''.join(block(text) for text in first.split(chr(10) * 2))}"
+        f".SH SYNOPSIS\n{with_verbs}.B crushedit\n{synopsis}.RI [ {file.group(1)} ]\n"
+        f".SH DESCRIPTION\n{BEGIN}{''.join(block(text) for text in first.split(chr(10) * 2))}"
         f"{''.join(verb.section() for verb in verbs())}"
         f".SH OPTIONS\n{item(file.group(1), file.group(2) + '.')}"
         f"{''.join(item(head, text + '.') for head, text in options)}"
