@@ -91,13 +91,13 @@ fn push_words(edit: &Edit, text: &mut Vec<u8>) -> Result<(), AllocError>
         Edit::ReweightSubtree { name, weight } => {
             push_weighing(b"reweight-subtree", name, *weight, text)
         }
-        Edit::Move { .. } => push_edit(edit, text),
-        Edit::Swap { .. } => push_edit(edit, text),
-        Edit::Remove { .. } => push_edit(edit, text),
-        Edit::AddBucket { .. } => push_edit(edit, text),
-        Edit::Rename { .. } => push_edit(edit, text),
-        Edit::SetClass { .. } => push_edit(edit, text),
-        Edit::RemoveClass { .. } => push_edit(edit, text),
+        Edit::Move { .. }
+        | Edit::Swap { .. }
+        | Edit::Remove { .. }
+        | Edit::AddBucket { .. }
+        | Edit::Rename { .. }
+        | Edit::SetClass { .. }
+        | Edit::RemoveClass { .. } => push_edit(edit, text),
     }
 }
 
