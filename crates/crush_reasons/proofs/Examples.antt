@@ -33,7 +33,7 @@ use Rattle.crush_reasons.specs.Near.{is_near}
 use Rattle.crush_reasons.specs.Replay.{table_after_edits}
 use Rattle.crush_reasons.specs.Way.{items_said}
 use Rattle.crush_reasons.specs.Place.{column_line, command_head, from_line, number_line}
-use Rattle.crush_reasons.specs.Flaws.{begins_at, open_text}
+use Rattle.crush_reasons.specs.Flaws.{begins_at, not_closed, open_text}
 use Rattle.crush_reasons.specs.Misfit.{with_point}
 use Rattle.crush_reasons.specs.Commands.{is_near_command}
 use Rattle.crush_reasons.specs.Shown.{told}
@@ -197,5 +197,5 @@ near_commands = (refl, refl, refl, refl)
 
 cut : fault_text (record { name = codes "map.txt"; before = 0 }) (codes "host h1 {\n\tid -2\n%operator a\n") (job.Text (record { kind = Ended; place = 17; expected = IdOrAlg }))
     ≡ codes "  map.txt line 2, column 5\n     id -2\n        ^\n  host h1, which begins at line 1, is not closed\n"
-unfolding begins_at column_line digits further open_text words_in split up_to_long
+unfolding begins_at column_line digits further not_closed open_text words_in split up_to_long
 cut = refl

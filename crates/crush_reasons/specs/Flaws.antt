@@ -216,9 +216,16 @@ unexpected origin bytes e a = codes "unexpected word: expected " ++ expected_tex
 abbrev pub no_word : OriginData → List ℕ → ℕ → Expected → List ℕ
 no_word origin bytes place e = if place == 0 then not_begun bytes else unexpected origin bytes e (around_at bytes place)
 
--- the sentence if the text ends inside a statement
+-- the sentence if the text ends inside a statement, in no bucket and no rule
+unfoldable pub too_early : Expected → List ℕ
+too_early e = codes "the text ends too early: expected " ++ expected_text e
+
+-- the sentence if the text ends inside a bucket or a rule
+unfoldable pub not_closed : OriginData → List ℕ → ℕ → List ℕ
+not_closed origin bytes head = open_text origin bytes head ++ codes ", is not closed"
+
 abbrev pub unclosed : OriginData → List ℕ → Expected → Around → List ℕ
-unclosed origin bytes e a = if a.is_open then open_text origin bytes a.head ++ codes ", is not closed" else codes "the text ends too early: expected " ++ expected_text e
+unclosed origin bytes e a = if a.is_open then not_closed origin bytes a.head else too_early e
 
 -- the sentence for a fault, if it depends on no more than what is expected and the word at the fault's place
 abbrev pub word_sentence : TextFaultKind → List ℕ → Expected → List ℕ

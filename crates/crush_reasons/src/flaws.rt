@@ -3,7 +3,7 @@
 ghost use Rattle.std.specs.Prelude.{◌≡◌, ◌++◌, ◌<◌, ◌^◌, OnOk, [], ◌∷◌, codes, drop, length, nat_eq};
 ghost use Rattle.std.specs.List.{list_all, starts_with};
 ghost use Rattle.crush_units.specs.Words.{is_blank, words};
-ghost use Rattle.crush_reasons.specs.Flaws.{bad_weight, bad_word, begins_at, begins_line, begins_word, can_be_class, defined_below, expected_text, expected_words, first_of, flaw_place, flaw_reason, inside, is_command, item_words, left_out, line_of, missing, most_statements, no_word, not_begun, number_text, open_text, range_text, range_words, same_id, same_name, statement_words, step_words, too_many, two_of, type_hint, unclosed, unexpected, unknown_type, up_to_most, weight_range, word_at, word_sentence};
+ghost use Rattle.crush_reasons.specs.Flaws.{bad_weight, bad_word, begins_at, begins_line, begins_word, can_be_class, defined_below, expected_text, expected_words, first_of, flaw_place, flaw_reason, inside, is_command, item_words, left_out, line_of, missing, most_statements, no_word, not_begun, not_closed, number_text, open_text, range_text, range_words, same_id, same_name, statement_words, step_words, too_early, too_many, two_of, type_hint, unclosed, unexpected, unknown_type, up_to_most, weight_range, word_at, word_sentence};
 ghost use Rattle.crush_reasons.specs.Place.{origin_data};
 ghost use Rattle.crush_reasons.specs.Shown.{told};
 
@@ -525,6 +525,27 @@ fn push_no_word(
     }
 }
 
+fn push_too_early(expected: Expected, text: &mut Vec<u8>) -> Result<(), AllocError>
+    ensures { OnOk result (text.new.items ≡ text.old.items ++ too_early expected) }
+{
+    text.extend_from_slice(b"the text ends too early: expected ")?;
+    push_expected(expected, text)
+}
+
+fn push_not_closed(
+    origin: Origin<'_>,
+    bytes: &[u8],
+    head: usize,
+    text: &mut Vec<u8>,
+) -> Result<(), AllocError>
+    requires { length bytes.now < 2 ^ 32 }
+    ensures { OnOk result (text.new.items
+        ≡ text.old.items ++ not_closed (origin_data origin.entry) bytes.now head) }
+{
+    push_open(origin, bytes, head, text)?;
+    text.extend_from_slice(b", is not closed")
+}
+
 fn push_unclosed(
     origin: Origin<'_>,
     bytes: &[u8],
@@ -536,12 +557,11 @@ fn push_unclosed(
     ensures { OnOk result (text.new.items
         ≡ text.old.items ++ unclosed (origin_data origin.entry) bytes.now expected around) }
 {
-    if !around.is_open {
-        text.extend_from_slice(b"the text ends too early: expected ")?;
-        return push_expected(expected, text);
+    if around.is_open {
+        push_not_closed(origin, bytes, around.head, text)
+    } else {
+        push_too_early(expected, text)
     }
-    push_open(origin, bytes, around.head, text)?;
-    text.extend_from_slice(b", is not closed")
 }
 
 fn word_sentence(kind: TextFaultKind, word: &[u8], expected: Expected) -> &'static str
