@@ -1,10 +1,12 @@
--- A weight's exact text is a number of JSON.
+-- A weight's exact text is a number of JSON, and is UTF-8.
 use Rattle.std.proofs.Common.{◌≡◌, ℕ, zero, suc, ◌/◌, ◌<◌, ◌^◌, true, false, [], ◌∷◌, ◌++◌, length, refl, ap, arith}
-use Rattle.std.proofs.lemmas.Fmt.{decimal_is_IsNumeral, decimal_digit, first_decimal}
-use Rattle.std.proofs.lemmas.Str.{digit_value_digit}
+use Rattle.std.proofs.lemmas.Fmt.{IsAscii-decimal, decimal_is_IsNumeral, decimal_digit, first_decimal}
+use Rattle.std.proofs.lemmas.Str.{IsAscii-append, IsUtf8-from_ascii, digit_value_digit}
+use Rattle.std.proofs.lemmas.Str.Ascii.{IsAscii-from_all}
 use Rattle.std.specs.Char.{digit_value}
 use Rattle.std.specs.Prelude.{decimal, slice_index}
 use Rattle.std.specs.Float.Numeral.{Parts}
+use Rattle.std.specs.Str.{IsAscii, IsUtf8}
 use Rattle.ryu.specs.Plain.{IsPlain}
 use Rattle.json.specs.Print.{IsNumber}
 use Rattle.json.proofs.Printed.Floats.{IsNumber-plain}
@@ -55,3 +57,16 @@ unfolding parts
 weight_is_number w small =
     let h = exact_parts w in
     IsNumber-plain (exact_text w) (false, parts (h / 1000000) h, refl, plain (h / 1000000) h (omega arith))
+
+-- a digit is ASCII
+digit_ascii : (n : ℕ) → digit n < 128
+digit_ascii n = omega arith
+
+-- a point and six digits are ASCII
+fraction_ascii : (h : ℕ) → IsAscii (46 ∷ digit (h / 100000) ∷ digit (h / 10000) ∷ digit (h / 1000) ∷ digit (h / 100) ∷ digit (h / 10) ∷ digit h ∷ [])
+fraction_ascii h = IsAscii-from_all _ (omega arith, (digit_ascii (h / 100000), (digit_ascii (h / 10000), (digit_ascii (h / 1000), (digit_ascii (h / 100), (digit_ascii (h / 10), (digit_ascii h, tt)))))))
+
+pub exact_text_utf8 : (w : ℕ) → w < 2 ^ 32 → IsUtf8 (exact_text w)
+exact_text_utf8 w small =
+    let h = exact_parts w in
+    IsUtf8-from_ascii (exact_text w) (IsAscii-append (decimal (h / 1000000)) _ (IsAscii-decimal (h / 1000000) (omega arith)) (fraction_ascii h))

@@ -159,8 +159,7 @@ impl Document {
         self.writer.boolean(holds)
     }
 
-    /// A decimal of six places in exact form: 1.0 is 65536 units. The text of a weight is ASCII, so it
-    /// is always a `str`.
+    /// A decimal of six places in exact form: 1.0 is 65536 units.
     pub(crate) fn weight(&mut self, weight: Weight) -> Result<(), AllocError>
         ensures { OnOk result (self.new ≡ self.old ++ weight_tokens weight) }
     {
@@ -168,7 +167,7 @@ impl Document {
         let mut digits = [0u8; 16];
         let len = weight.exact_text(&mut digits);
         let Ok(text) = str::from_utf8(&digits[..len]) else {
-            return Err(AllocError);
+            unreachable!()
         };
         self.writer.key("weight")?;
         self.writer.number(text)

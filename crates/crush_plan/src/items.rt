@@ -26,19 +26,13 @@ pub(crate) struct CurrentItems {
 pub(crate) struct TargetItems {
     /// All buckets. A bucket that already has its place is listed too, because an edit of another
     /// bucket may move it away.
-    pub buckets: Vec<TargetBucket>,
+    pub buckets: Vec<BucketId>,
+    /// The buckets that the map doesn't have.
+    pub new_buckets: Vec<BucketId>,
     /// The devices that are in a bucket.
     pub placed: Vec<Placed>,
     /// The devices that the map doesn't have, and the devices that have another class in the map.
     pub set: Vec<SetDevice>,
-}
-
-/// A bucket of the wanted map.
-#[derive(Clone, Copy)]
-pub(crate) struct TargetBucket {
-    pub id: BucketId,
-    /// Whether the map doesn't have the bucket.
-    pub is_new: bool,
 }
 
 /// A device, and the bucket that holds the device in the wanted map.
@@ -103,6 +97,7 @@ fn target_items<A: Allocator, B: Allocator>(
 ) -> Result<TargetItems, AllocError> {
     let mut items = TargetItems {
         buckets: Vec::new(alloc),
+        new_buckets: Vec::new(alloc),
         placed: Vec::new(alloc),
         set: Vec::new(alloc),
     };
@@ -177,9 +172,11 @@ impl TargetItems {
         }
     }
 
-    fn push_bucket(&mut self, pairs: &BucketPairs, id: BucketId) -> Result<(), AllocError> {
-        let is_new = pairs.current_of(id).is_none();
-        self.buckets.push(TargetBucket { id, is_new })?;
+    fn push_bucket(&mut self, pairs: &BucketPairs, bucket: BucketId) -> Result<(), AllocError> {
+        self.buckets.push(bucket)?;
+        if pairs.current_of(bucket).is_none() {
+            self.new_buckets.push(bucket)?;
+        }
         Ok(())
     }
 

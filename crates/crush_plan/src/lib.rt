@@ -7,7 +7,6 @@
 #![tactic(auto)]
 
 mod buckets;
-mod classes;
 mod devices;
 mod draft;
 mod expressible;

@@ -1,19 +1,18 @@
-//! Creates buckets, and moves items to the places that they have in the wanted map.
+//! Moves items to the places that they have in the wanted map.
 
 ghost use Rattle.std.specs.Prelude.{OnOk};
 ghost use Rattle.crush_plan.specs.Draft.{GoesOn};
 
-use crate::buckets::make_bucket;
 use crate::draft::Draft;
 use crate::goal::PlanGoal;
 use crate::item_table::bucket_named;
-use crate::items::{Placed, TargetBucket, TargetItems};
+use crate::items::{Placed, TargetItems};
 use crush_units::{BucketId, ItemId};
 use std::alloc::{AllocError, Allocator};
 
-/// Creates and moves buckets, from the roots of the wanted map downward, and then moves devices.
-/// When an item is moved, all buckets above its destination already have their places, so nothing
-/// is moved below itself.
+/// Moves buckets, from the roots of the wanted map downward, and then devices. When an item is
+/// moved, all buckets above its destination already have their places, so nothing is moved below
+/// itself.
 pub(crate) fn move_all<A: Allocator + Clone, B: Allocator>(
     draft: &mut Draft<A>,
     goal: &PlanGoal<'_, A, B>,
@@ -21,48 +20,21 @@ pub(crate) fn move_all<A: Allocator + Clone, B: Allocator>(
 ) -> Result<(), AllocError>
     ensures { OnOk result (GoesOn goal.now draft.old draft.new) }
 {
-    place_buckets(draft, goal, target.buckets.as_slice())?;
+    move_buckets(draft, goal, target.buckets.as_slice())?;
     move_devices(draft, goal, target.placed.as_slice())
 }
 
-fn place_buckets<A: Allocator + Clone, B: Allocator>(
+fn move_buckets<A: Allocator + Clone, B: Allocator>(
     draft: &mut Draft<A>,
     goal: &PlanGoal<'_, A, B>,
-    buckets: &[TargetBucket],
+    buckets: &[BucketId],
 ) -> Result<(), AllocError>
     ensures { OnOk result (GoesOn goal.now draft.old draft.new) }
 {
     for bucket in buckets {
-        place_bucket(draft, goal, bucket)?;
+        move_bucket(draft, goal, *bucket)?;
     }
     Ok(())
-}
-
-/// Creates the bucket if the map doesn't have it, and then moves it. Nothing comes between the two
-/// edits, so that Ceph can do both with one command.
-fn place_bucket<A: Allocator + Clone, B: Allocator>(
-    draft: &mut Draft<A>,
-    goal: &PlanGoal<'_, A, B>,
-    bucket: &TargetBucket,
-) -> Result<(), AllocError>
-    ensures { OnOk result (GoesOn goal.now draft.old draft.new) }
-{
-    make_if_new(draft, goal, bucket)?;
-    move_bucket(draft, goal, bucket.id)
-}
-
-fn make_if_new<A: Allocator + Clone, B: Allocator>(
-    draft: &mut Draft<A>,
-    goal: &PlanGoal<'_, A, B>,
-    bucket: &TargetBucket,
-) -> Result<(), AllocError>
-    ensures { OnOk result (GoesOn goal.now draft.old draft.new) }
-{
-    if bucket.is_new {
-        make_bucket(draft, goal, bucket.id)
-    } else {
-        Ok(())
-    }
 }
 
 /// Moves the bucket that has the name of this bucket of the wanted map, if the two have different

@@ -3,8 +3,8 @@
 ghost use Rattle.std.specs.Prelude.{◌≡◌, ◌⊎◌, IfOk, OnOk};
 ghost use Rattle.crush_plan.specs.Draft.{GoesOn, IsContinued};
 
-use crate::classes::set_classes;
-use crate::devices::add_devices;
+use crate::buckets::make_buckets;
+use crate::devices::set_devices;
 use crate::draft::Draft;
 use crate::goal::PlanGoal;
 use crate::identity::Identity;
@@ -14,10 +14,9 @@ use crate::removals::remove_all;
 use crate::renames::rename_all;
 use crate::swaps::swap_all;
 use crate::way::Way;
-use crate::weights::{Which, set_weights, weighed_together};
+use crate::weights::{Which, set_weights};
 use crush_since::stays_part;
-use crush_units::DeviceId;
-use std::alloc::{AllocError, Allocator, Global};
+use std::alloc::{AllocError, Allocator};
 
 /// The largest number of rounds in which edits are added to a plan. Nearly all plans are found in
 /// one round. The next round starts from the map to which the round before has led, so edits that
@@ -119,10 +118,7 @@ fn is_better<A: Allocator>(candidate: &Candidate<A>, other: &Candidate<A>) -> bo
             && candidate.draft.edits.len() < other.draft.edits.len())
 }
 
-/// Returns a copy of the draft's map with the edits that lead to the goal in this way. A weight
-/// isn't lowered if a later edit sets all weights below a bucket, and so this weight too. But if
-/// differences remain then, perhaps because an edit in between is refused, this also tries the edits
-/// that lower each such weight first.
+/// Returns a copy of the draft's map with the edits that lead to the goal in this way.
 fn try_way<A: Allocator + Clone, B: Allocator>(
     draft: &Draft<A>,
     goal: &PlanGoal<'_, A, B>,
@@ -130,41 +126,8 @@ fn try_way<A: Allocator + Clone, B: Allocator>(
 ) -> Result<Candidate<A>, AllocError>
     ensures { IfOk result (λ found. IsContinued goal.now draft.now found.draft) }
 {
-    let later = weighed_later(draft.alloc, goal, way)?;
-    let first = try_edits(draft, goal, way, later.as_slice())?;
-    if later.is_empty() || first.differences == 0 {
-        return Ok(first);
-    }
-    let second = try_edits(draft, goal, way, &[])?;
-    Ok(better_of(first, second))
-}
-
-/// Returns the devices, by ascending ids, that a later edit weighs together with others. Without
-/// weights to be lowered, it doesn't look for them.
-fn weighed_later<A: Allocator, B: Allocator>(
-    alloc: Global,
-    goal: &PlanGoal<'_, A, B>,
-    way: &Way<'_, A>,
-) -> Result<Vec<DeviceId>, AllocError> {
-    if way.items.current.lowered.is_empty() {
-        Ok(Vec::new(alloc))
-    } else {
-        weighed_together(alloc, goal, &way.start)
-    }
-}
-
-/// Returns a copy of the draft's map with the edits that lead to the goal in this way. The weights
-/// of the devices `later` aren't lowered first.
-fn try_edits<A: Allocator + Clone, B: Allocator>(
-    draft: &Draft<A>,
-    goal: &PlanGoal<'_, A, B>,
-    way: &Way<'_, A>,
-    later: &[DeviceId],
-) -> Result<Candidate<A>, AllocError>
-    ensures { IfOk result (λ found. IsContinued goal.now draft.now found.draft) }
-{
     let mut fork = draft.fork()?;
-    build_edits(&mut fork, goal, way, later)?;
+    build_edits(&mut fork, goal, way)?;
     let differences = count_differences(&fork, goal)?;
     Ok(Candidate {
         draft: fork,
@@ -173,24 +136,22 @@ fn try_edits<A: Allocator + Clone, B: Allocator>(
 }
 
 /// Gives the draft all edits that lead to the goal in this way. Removals come first, to make room.
-/// Weights are lowered before anything is added, so that no sum is too large in between, except for
-/// the weights of the devices `later`.
+/// Weights are lowered before anything is added, so that no sum is too large in between.
 fn build_edits<A: Allocator + Clone, B: Allocator>(
     draft: &mut Draft<A>,
     goal: &PlanGoal<'_, A, B>,
     way: &Way<'_, A>,
-    later: &[DeviceId],
 ) -> Result<(), AllocError>
     ensures { OnOk result (GoesOn goal.now draft.old draft.new) }
 {
     let (current, target) = (&way.items.current, &way.items.target);
     remove_all(draft, goal, way)?;
-    set_weights(draft, goal, current.lowered.as_slice(), Which::Less, later)?;
+    set_weights(draft, goal, current.lowered.as_slice(), Which::Less)?;
     swap_all(draft, goal, way)?;
     rename_all(draft, goal, way)?;
+    make_buckets(draft, goal, target.new_buckets.as_slice())?;
     move_all(draft, goal, target)?;
     remove_all(draft, goal, way)?;
-    set_weights(draft, goal, current.reweighed.as_slice(), Which::Other, &[])?;
-    add_devices(draft, goal, target.set.as_slice())?;
-    set_classes(draft, goal, target.set.as_slice())
+    set_weights(draft, goal, current.reweighed.as_slice(), Which::Other)?;
+    set_devices(draft, goal, target.set.as_slice())
 }

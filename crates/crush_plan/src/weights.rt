@@ -9,7 +9,6 @@ use crate::draft::Draft;
 use crate::goal::PlanGoal;
 use crate::item_table::ItemTable;
 use crate::items::same_item;
-pub(crate) use common::weighed_together;
 use common::{Subtree, subtrees};
 use crush_compare::are_near;
 use crush_map::CrushMap;
@@ -43,25 +42,23 @@ struct NewWeight {
     weight: Weight,
 }
 
-/// Sets the weights of these devices, except for the devices `later`, which a later edit weighs. If
-/// all devices below a bucket are to have the same weight, and at least two of them have another
-/// weight, then one edit sets the weights of all of them. Each other weight is set by an edit of its
-/// own.
+/// Sets the weights of these devices. If all devices below a bucket are to have the same weight,
+/// and at least two of them have another weight, then one edit sets the weights of all of them.
+/// Each other weight is set by an edit of its own.
 pub(crate) fn set_weights<A: Allocator + Clone, B: Allocator>(
     draft: &mut Draft<A>,
     goal: &PlanGoal<'_, A, B>,
     devices: &[DeviceId],
     which: Which,
-    later: &[DeviceId],
 ) -> Result<(), AllocError>
     ensures { OnOk result (GoesOn goal.now draft.old draft.new) }
 {
     if devices.is_empty() {
         return Ok(());
     }
-    let found = subtrees(draft.alloc, &draft.map, goal, which, later)?;
+    let found = subtrees(draft.alloc, &draft.map, goal, which)?;
     set_below(draft, goal, found.as_slice())?;
-    let changes = new_weights(draft.alloc, &draft.map, goal, devices, which, later)?;
+    let changes = new_weights(draft.alloc, &draft.map, goal, devices, which)?;
     set_one_by_one(draft, goal, changes.as_slice())
 }
 
@@ -106,46 +103,25 @@ fn set_weight<A: Allocator + Clone, B: Allocator>(
     }
 }
 
-/// Returns those of the devices whose weights have to be set, with their new weights. Leaves out the
-/// devices `later`.
+/// Returns those of the devices whose weights have to be set, with their new weights.
 fn new_weights<A: Allocator, B: Allocator>(
     alloc: Global,
     map: &CrushMap<A>,
     goal: &PlanGoal<'_, A, B>,
     devices: &[DeviceId],
     which: Which,
-    later: &[DeviceId],
 ) -> Result<Vec<NewWeight>, AllocError> {
     let now = ItemTable::new(alloc, map)?;
     let mut changes = Vec::new(alloc);
     for device in devices {
-        if !is_one_of(later, *device) {
-            push_new_weight(&now, &goal.there, *device, which, &mut changes)?;
+        if let Some(weight) = new_weight(&now, &goal.there, *device, which) {
+            changes.push(NewWeight {
+                device: *device,
+                weight,
+            })?;
         }
     }
     Ok(changes)
-}
-
-/// Appends the device with its new weight, if its weight is to be set.
-fn push_new_weight<A: Allocator, B: Allocator>(
-    map: &ItemTable<'_, A>,
-    wanted: &ItemTable<'_, B>,
-    device: DeviceId,
-    which: Which,
-    changes: &mut Vec<NewWeight>,
-) -> Result<(), AllocError> {
-    if let Some(weight) = new_weight(map, wanted, device, which) {
-        changes.push(NewWeight { device, weight })?;
-    }
-    Ok(())
-}
-
-/// Whether the device is one of these devices, which are in the order of their ids.
-fn is_one_of(devices: &[DeviceId], device: DeviceId) -> bool {
-    match devices.binary_search_by_key(&device.number(), |device| device.number()) {
-        Ok(_) => true,
-        Err(_) => false,
-    }
 }
 
 /// Returns the weight that the device is to get, or `None` if it is not to be set or a map doesn't

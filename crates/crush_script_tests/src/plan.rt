@@ -134,7 +134,7 @@ fn buckets_that_come_are_made_and_put(rt: HostRuntime) {
         is_planned(
             &rt,
             [EXAMPLE, GROWN],
-            b"# 5 commands\nadd-bucket r1 rack\nmove r1 root=default\nadd-bucket h3 host\nmove h3 rack=r1\nadd osd.3 0.33299 host=h3\n# ids of 2 buckets differ\n"
+            b"# 5 commands\nadd-bucket h3 host\nadd-bucket r1 rack\nmove r1 root=default\nmove h3 rack=r1\nadd osd.3 0.33299 host=h3\n"
         )
     );
 }
@@ -212,41 +212,6 @@ fn one_weight_below_a_bucket_is_one_command(rt: HostRuntime) {
             &rt,
             [EXAMPLE, WEIGHTLESS],
             b"# 1 commands\nreweight-subtree default 0.00000\n"
-        )
-    );
-}
-
-#[test]
-fn a_weight_that_a_later_command_sets_is_not_lowered_first(rt: HostRuntime) {
-    // osd.0 and osd.1 become lighter, and osd.2 becomes heavier.
-    assert!(rt;
-        is_planned(
-            &rt,
-            [EXAMPLE, EVEN],
-            b"# 1 commands\nreweight-subtree default 0.75000\n"
-        )
-    );
-}
-
-#[test]
-fn a_weight_that_no_later_command_sets_is_lowered_first(rt: HostRuntime) {
-    assert!(rt;
-        is_planned(
-            &rt,
-            [EXAMPLE, MOVED_AND_LIGHTER],
-            b"# 3 commands\nreweight osd.1 0.25000\nmove osd.0 host=h2\nreweight-subtree h2 0.75000\n"
-        )
-    );
-}
-
-#[test]
-fn classes_are_set_class_by_class(rt: HostRuntime) {
-    // The wanted map has ssd first, and then hdd.
-    assert!(rt;
-        is_planned(
-            &rt,
-            [CLASSES, OTHER_CLASSES],
-            b"# 5 commands\nrm-device-class osd.0\nset-device-class ssd osd.0\nrm-device-class osd.2\nset-device-class hdd osd.2\nrm-device-class osd.1\n"
         )
     );
 }

@@ -133,42 +133,6 @@ pub const WEIGHTLESS: &[&[u8]] = &[
     END,
 ];
 
-/// All devices have the weight 0.75.
-pub const EVEN: &[&[u8]] = &[
-    HEAD,
-    b"host h1 { id -2 alg straw2 hash 0 item osd.0 weight 0.75 item osd.1 weight 0.75 }\n",
-    b"host h2 { id -3 alg straw2 hash 0 item osd.2 weight 0.75 }\n",
-    END,
-];
-
-/// The device osd.0 is in h2, where both devices have the weight 0.75, and osd.1 has the weight 0.25.
-pub const MOVED_AND_LIGHTER: &[&[u8]] = &[
-    HEAD,
-    b"host h1 { id -2 alg straw2 hash 0 item osd.1 weight 0.25 }\n",
-    b"host h2 { id -3 alg straw2 hash 0 item osd.2 weight 0.75 item osd.0 weight 0.75 }\n",
-    END,
-];
-
-/// The devices osd.0 and osd.1 have the class hdd, and osd.2 has the class ssd.
-pub const CLASSES: &[&[u8]] = &[
-    TUNABLE,
-    b"device 0 osd.0 class hdd\ndevice 1 osd.1 class hdd\ndevice 2 osd.2 class ssd\n",
-    TYPES,
-    H1,
-    H2,
-    END,
-];
-
-/// The device osd.0 has the class ssd, and osd.2 has the class hdd.
-pub const OTHER_CLASSES: &[&[u8]] = &[
-    TUNABLE,
-    b"device 0 osd.0 class ssd\ndevice 1 osd.1\ndevice 2 osd.2 class hdd\n",
-    TYPES,
-    H1,
-    H2,
-    END,
-];
-
 /// An empty host has the name osd.3.
 pub const HOST_AS_DEVICE: &[&[u8]] = &[
     HEAD,
