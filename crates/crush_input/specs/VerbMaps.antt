@@ -88,16 +88,16 @@ IsToldFlaw maps bytes fault = (length bytes ≤ LONGEST_JOB) × (IsMapFlaw bytes
 
 -- why these bytes are no such map. It is never a failed read, and nothing is said of out of memory.
 abbrev pub IsVerbTextFault : MapForm → List ℕ → VerbMapFault → Type 0
-IsVerbTextFault maps bytes (verb.Text fault) = IsToldFlaw maps bytes fault
-IsVerbTextFault maps bytes verb.Cut = IsCutMap maps bytes
-IsVerbTextFault maps bytes verb.TooLong = LONGEST_JOB < length bytes
-IsVerbTextFault maps bytes verb.Read = ⊥
-IsVerbTextFault maps bytes verb.Memory = Unit {0}
+IsVerbTextFault needs bytes (verb.Text fault) = IsToldFlaw needs bytes fault
+IsVerbTextFault needs bytes verb.Cut = IsCutMap needs bytes
+IsVerbTextFault needs bytes verb.TooLong = LONGEST_JOB < length bytes
+IsVerbTextFault needs bytes verb.Read = ⊥
+IsVerbTextFault needs bytes verb.Memory = Unit {0}
 
 -- A FAULT OF A FILE: why a file is no such map. If its bytes are known, they have the fault, unless the file wasn't read.
 abbrev pub IsVerbMapFault : MapForm → Option (List ℕ) → VerbMapFault → Type 0
-IsVerbMapFault maps all verb.Read = Unit {0}
-IsVerbMapFault maps all fault = IfSome all (λ bytes. IsVerbTextFault maps bytes fault)
+IsVerbMapFault needs all verb.Read = Unit {0}
+IsVerbMapFault needs all fault = IfSome all (λ bytes. IsVerbTextFault needs bytes fault)
 
 -- whether a kind of flaw is that of a word that no text of a map may have
 abbrev pub is_bad_word : TextFaultKind → Bool
