@@ -180,8 +180,11 @@ unknown_type bytes place e =
     else codes "no type named " ++ told (word_at bytes place) ++ codes " is declared above" ++ type_hint bytes place e
 
 -- AN UNKNOWN ITEM OR BUCKET, which may be defined below
+unfoldable pub below_at : ℕ → List ℕ
+below_at line = codes " is defined below, at line " ++ decimal line ++ codes ": move that bucket up"
+
 unfoldable pub defined_below : OriginData → List ℕ → List ℕ → ℕ → List ℕ
-defined_below origin bytes name at = told name ++ codes " is defined below, at line " ++ decimal (line_of origin bytes at) ++ codes ": move that bucket up"
+defined_below origin bytes name at = told name ++ below_at (line_of origin bytes at)
 
 abbrev pub missing : OriginData → List ℕ → ℕ → List ℕ → List ℕ
 missing origin bytes place sentence =

@@ -3,7 +3,7 @@
 ghost use Rattle.std.specs.Prelude.{◌≡◌, ◌++◌, ◌<◌, ◌^◌, OnOk, [], ◌∷◌, codes, drop, length, nat_eq};
 ghost use Rattle.std.specs.List.{list_all, starts_with};
 ghost use Rattle.crush_units.specs.Words.{is_blank, words};
-ghost use Rattle.crush_reasons.specs.Flaws.{bad_weight, bad_word, begins_at, begins_line, begins_word, can_be_class, defined_below, expected_text, expected_words, first_of, flaw_place, flaw_reason, inside, is_command, item_words, left_out, line_of, missing, most_statements, no_word, not_begun, not_closed, number_text, open_text, range_text, range_words, same_id, same_name, statement_words, step_words, too_early, too_many, two_of, type_hint, unclosed, unexpected, unknown_type, up_to_most, weight_range, word_at, word_sentence};
+ghost use Rattle.crush_reasons.specs.Flaws.{bad_weight, bad_word, begins_at, begins_line, begins_word, below_at, can_be_class, defined_below, expected_text, expected_words, first_of, flaw_place, flaw_reason, inside, is_command, item_words, left_out, line_of, missing, most_statements, no_word, not_begun, not_closed, number_text, open_text, range_text, range_words, same_id, same_name, statement_words, step_words, too_early, too_many, two_of, type_hint, unclosed, unexpected, unknown_type, up_to_most, weight_range, word_at, word_sentence};
 ghost use Rattle.crush_reasons.specs.Place.{origin_data};
 ghost use Rattle.crush_reasons.specs.Shown.{told};
 
@@ -349,7 +349,8 @@ fn push_no_type(word: &[u8], hint: &str, text: &mut Vec<u8>) -> Result<(), Alloc
 {
     text.extend_from_slice(b"no type named ")?;
     push_told(word, text)?;
-    push_all(&[b" is declared above".as_slice(), hint.as_bytes()], text)
+    text.extend_from_slice(b" is declared above")?;
+    push_bytes(hint.as_bytes(), text)
 }
 
 fn push_unknown_type(
@@ -372,7 +373,21 @@ fn push_unknown_type(
     push_no_type(word, type_hint(bytes, place, expected), text)
 }
 
-#[tactic(auto, unfolding(crate::specs::Flaws::defined_below))]
+#[tactic(auto, unfolding(crate::specs::Flaws::below_at))]
+fn push_below_at(line: usize, text: &mut Vec<u8>) -> Result<(), AllocError>
+    ensures { OnOk result (text.new.items ≡ text.old.items ++ below_at line) }
+{
+    let mut buffer = Buffer::new();
+    push_all(
+        &[
+            b" is defined below, at line ".as_slice(),
+            buffer.format(line).as_bytes(),
+            b": move that bucket up".as_slice(),
+        ],
+        text,
+    )
+}
+
 fn push_defined_below(
     origin: Origin<'_>,
     bytes: &[u8],
@@ -385,16 +400,8 @@ fn push_defined_below(
         ≡ text.old.items ++ defined_below (origin_data origin.entry) bytes.now name.now at) }
 {
     let line = line_of(origin, bytes, at);
-    let mut buffer = Buffer::new();
     push_told(name, text)?;
-    push_all(
-        &[
-            b" is defined below, at line ".as_slice(),
-            buffer.format(line).as_bytes(),
-            b": move that bucket up".as_slice(),
-        ],
-        text,
-    )
+    push_below_at(line, text)
 }
 
 /// Appends where the bucket that the word at the place names is defined, if that is below. Otherwise
@@ -543,7 +550,7 @@ fn push_not_closed(
         ≡ text.old.items ++ not_closed (origin_data origin.entry) bytes.now head) }
 {
     push_open(origin, bytes, head, text)?;
-    text.extend_from_slice(b", is not closed")
+    push_bytes(b", is not closed", text)
 }
 
 fn push_unclosed(

@@ -7,4 +7,4 @@ use Rattle.crush_reasons.proofs.flaws.push_not_closed.Goals as goal
 
 pub returns : goal.returns
 unfolding not_closed
-returns c = on_ok_weaker c.extend_from_slice.result (λ e. two_pushed c.args.text.now.items (open_text (origin_data c.args.origin) c.args.bytes.now c.args.head) (codes ", is not closed") _ _ c.in_ok-push_open.ensures e) c.extend_from_slice.ensures.items
+returns c = on_ok_weaker c.push_bytes.result (λ e. two_pushed c.args.text.now.items (open_text (origin_data c.args.origin) c.args.bytes.now c.args.head) (codes ", is not closed") _ _ c.in_ok-push_open.ensures e) c.push_bytes.ensures
