@@ -1,5 +1,5 @@
 -- Which bucket or rule of a map's text is around a place, and where a bucket is defined.
-use Rattle.std.specs.Prelude.{ℕ, Bool, true, false, ◌&&◌, ◌||◌, not, List, [], ◌∷◌, bytes_eq, codes, if◌then◌else◌, take}
+use Rattle.std.specs.Prelude.{ℕ, false, ◌&&◌, ◌||◌, not, List, [], ◌∷◌, bytes_eq, codes, if◌then◌else◌, take}
 use Rattle.crush_units.specs.Words.{Word, words}
 use Rattle.crush_reasons.specs.declared.around.Around.{Around}
 use Rattle.crush_reasons.specs.declared.around.Search.{Search}
