@@ -138,7 +138,6 @@ fn run_record(
             explain: false,
             json: false,
             exact: false,
-            conflicts: false,
         },
         output: Output::Map,
     };

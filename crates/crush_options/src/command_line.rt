@@ -578,7 +578,7 @@ fn output_of(alloc: Global, matches: &ArgMatches<'_>) -> Result<Option<String>, 
     copy_of(alloc, matches.get_str("output"))
 }
 
-/// Returns how the job is run. The plain command line never looks for conflicts.
+/// Returns how the job is run.
 fn mode_of(matches: &ArgMatches<'_>, json: bool, exact: bool) -> Mode
     requires json { IsFlag (one_of (codes "json") (rows_of (found_of matches.now))) json }
     requires exact { IsFlag (one_of (codes "exact") (rows_of (found_of matches.now))) exact }
@@ -595,7 +595,6 @@ fn mode_of(matches: &ArgMatches<'_>, json: bool, exact: bool) -> Mode
         explain: is_set(matches, "explain"),
         json,
         exact,
-        conflicts: false,
     }
 }
 

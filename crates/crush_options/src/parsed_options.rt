@@ -27,9 +27,6 @@ pub struct Mode {
     /// Whether the weights of the map's text are printed in exact form, with six digits after the
     /// point (`--exact`). Only the text of the map can be printed so.
     pub exact: bool,
-    /// Whether a run prints nothing if a change that the script of one operator makes alone is lost
-    /// by the script of another. The plain command line never asks for this.
-    pub conflicts: bool,
 }
 
 /// What the file that a run begins with has to be, and with it the file of another map.
