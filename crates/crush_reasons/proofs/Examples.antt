@@ -24,7 +24,7 @@ use Rattle.crush_text.specs.declared.fault.TextFaultKind.TheVariants.{Ended, Unk
 use Rattle.crush_history.specs.Ceph.{ceph_heading, ceph_line}
 use Rattle.crush_reasons.specs.Ceph.{ceph_text, edits_for_ceph}
 use Rattle.crush_reasons.specs.Explained.{explained_behind, explained_text}
-use Rattle.crush_reasons.specs.Fault.{fault_line, fault_text}
+use Rattle.crush_reasons.specs.Fault.{fault_line, fault_text, line_fault_index, line_fault_reason, line_shown, word_place}
 use Rattle.crush_script.specs.Keyword.{form_of, keyword_of}
 use Rattle.crush_script.specs.declared.fault.BadLine.TheVariants as bad
 use Rattle.crush_script.specs.declared.fault.Due.TheVariants as due
@@ -34,8 +34,8 @@ use Rattle.crush_reasons.specs.Replay.{table_after_edits}
 use Rattle.crush_reasons.specs.Way.{items_said}
 use Rattle.crush_reasons.specs.Place.{column_line, command_head, from_line, number_line}
 use Rattle.crush_reasons.specs.Flaws.{begins_at, not_closed, open_text}
-use Rattle.crush_reasons.specs.Misfit.{with_point}
-use Rattle.crush_reasons.specs.Commands.{is_near_command}
+use Rattle.crush_reasons.specs.Misfit.{form_head, form_in_line, is_mistyped, is_weight, misfit_text, with_point}
+use Rattle.crush_reasons.specs.Commands.{first_command, is_near_command, meant_text, near_command, no_word}
 use Rattle.crush_reasons.specs.Shown.{told}
 use Rattle.crush_reasons.specs.Around.{further}
 use Rattle.crush_script.specs.Lines.{behind_words}
@@ -152,24 +152,24 @@ unknown_type = refl
 -- a line of a file that isn't a command
 no_command : fault_text (record { name = codes "alice.txt"; before = 0 }) (codes "%operator a\nfly x\nrm y\n") (job.NoSuchCommand 2)
     ≡ codes "  alice.txt line 2, column 1\n    fly x\n    ^\n  `fly` is not a command: see --help\n"
-unfolding column_line from_line digits behind_words told
+unfolding column_line from_line digits behind_words line_shown line_fault_index line_fault_reason word_place no_word near_command first_command meant_text told
 no_command = refl
 
 -- a line of the second file of a job, and one that was put before that file's first
 second_file : fault_text (record { name = codes "b.txt"; before = 2 }) (codes "%operator a\n%operator b\nrm x\nfly y\n") (job.NoSuchCommand 4)
     ≡ codes "  b.txt line 2, column 1\n    fly y\n    ^\n  `fly` is not a command: see --help\n"
-unfolding column_line from_line digits behind_words told
+unfolding column_line from_line digits behind_words line_shown line_fault_index line_fault_reason word_place no_word near_command first_command meant_text told
 second_file = refl
 
 line_before : fault_text (record { name = codes "b.txt"; before = 2 }) (codes "%operator a\n%operator a\nrm x\n") (job.DuplicateOperator 2)
     ≡ codes "  b.txt line 0\n    %operator a\n  another operator above has this name: give one of the two files a line %operator NAME\n"
-unfolding number_line from_line digits
+unfolding number_line from_line digits line_shown line_fault_index line_fault_reason
 line_before = refl
 
 -- a file whose name has an escape sequence and a tab: a control character is shown as `?`, and a tab as a space
 escaped : fault_text (record { name = 27 ∷ codes "[31m" ++ 9 ∷ codes "b.txt"; before = 0 }) (codes "%operator a\nfly y\n") (job.NoSuchCommand 2)
     ≡ codes "  ?[31m b.txt line 2, column 1\n    fly y\n    ^\n  `fly` is not a command: see --help\n"
-unfolding column_line from_line digits behind_words told
+unfolding column_line from_line digits behind_words line_shown line_fault_index line_fault_reason word_place no_word near_command first_command meant_text told
 escaped = refl
 
 escaped_head : command_head (record { name = 27 ∷ codes "[31mb.txt"; before = 2 }) 5 ≡ codes "?[31mb.txt:3: "
@@ -183,12 +183,12 @@ third_line = refl
 -- a word of a command that doesn't fit, and a map that is cut
 comma : fault_text (record { name = []; before = 0 }) (codes "%operator a\nreweight osd.0 1,5\n") (job.BadLine 2 (bad.Word (record { word = 2; due = due.Weight })))
     ≡ codes "  line 2, column 16\n    reweight osd.0 1,5\n                   ^\n  reweight NAME WEIGHT: `1,5` is not a weight: did you mean 1.5?\n"
-unfolding column_line from_line digits form_of keyword_of behind_words told with_point
+unfolding column_line from_line digits form_of keyword_of behind_words line_shown line_fault_index line_fault_reason word_place misfit_text form_head form_in_line told is_weight is_mistyped with_point
 comma = refl
 
 missing : fault_text (record { name = []; before = 0 }) (codes "%operator a\nadd-bucket h1\n") (job.BadLine 2 (bad.Word (record { word = 2; due = due.Name })))
     ≡ codes "  line 2\n    add-bucket h1\n  add-bucket NAME TYPE: TYPE is missing\n"
-unfolding number_line from_line digits form_of keyword_of behind_words
+unfolding number_line from_line digits form_of keyword_of behind_words line_shown line_fault_index line_fault_reason misfit_text form_head form_in_line
 missing = refl
 
 -- commands that are near to a word

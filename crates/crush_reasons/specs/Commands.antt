@@ -24,13 +24,13 @@ commands =
     ∷ (keyword_word SetDeviceClass ∷ (keyword_word RmDeviceClass ∷ (codes "begin" ∷ (codes "commit" ∷ [])))))))))))))
 
 -- the first of some words that is near
-abbrev pub first_command : List ℕ → List (List ℕ) → Option (List ℕ)
+unfoldable pub first_command : List ℕ → List (List ℕ) → Option (List ℕ)
 first_command word words = find (λ (w : List ℕ). is_near_command word w) words
 
-abbrev pub near_command : List ℕ → Option (List ℕ)
+unfoldable pub near_command : List ℕ → Option (List ℕ)
 near_command word = first_command word commands
 
-abbrev pub meant_text : Option (List ℕ) → List ℕ
+unfoldable pub meant_text : Option (List ℕ) → List ℕ
 meant_text None = codes "see --help"
 meant_text (Some command) = codes "did you mean " ++ command ++ codes "?"
 
@@ -39,8 +39,12 @@ abbrev pub is_of_ceph : List ℕ → Bool
 is_of_ceph line =
     bytes_eq (word_in_line 0 line) (codes "ceph") && (bytes_eq (word_in_line 1 line) (codes "osd") && bytes_eq (word_in_line 2 line) (codes "crush"))
 
+-- what is told of a word that is no command
+unfoldable pub no_word : List ℕ → List ℕ
+no_word word = told word ++ codes " is not a command: " ++ meant_text (near_command word)
+
 -- NO COMMAND: the reason for a line whose first word is no command
 abbrev pub no_command : List ℕ → List ℕ
 no_command line =
     if is_of_ceph line then codes "leave out `ceph osd crush`"
-    else told (word_in_line 0 line) ++ codes " is not a command: " ++ meant_text (near_command (word_in_line 0 line))
+    else no_word (word_in_line 0 line)

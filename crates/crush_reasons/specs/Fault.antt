@@ -36,7 +36,7 @@ put_reason (DuplicateOperator line) = codes "another operator above has this nam
 put_reason fault = job_sentence fault
 
 -- the one or the other, by the number of the line in its file, which is 0 for a line that was put
-abbrev pub line_fault_reason : ℕ → JobFault → List ℕ → List ℕ
+unfoldable pub line_fault_reason : ℕ → JobFault → List ℕ → List ℕ
 line_fault_reason own fault text = if own == 0 then put_reason fault else own_reason fault text
 
 -- the index of the word of a line that doesn't fit, if there is such a word and the line wasn't put before a script
@@ -45,13 +45,17 @@ own_index (BadLine line why) text = misfit_index why text
 own_index (NoSuchCommand line) text = Some 0
 own_index fault text = None
 
-abbrev pub line_fault_index : ℕ → JobFault → List ℕ → Option ℕ
+unfoldable pub line_fault_index : ℕ → JobFault → List ℕ → Option ℕ
 line_fault_index own fault text = if own == 0 then None else own_index fault text
 
+-- the place of the word of a line with this index: a byte of the job
+unfoldable pub word_place : List ℕ → ℕ → ℕ → ℕ
+word_place bytes line index = length bytes - length (line_at bytes line) + place_in_line index (first_line (line_at bytes line))
+
 -- A LINE with its number, and with the column of the word with this index and a sign below it if there is one
-abbrev pub line_shown : OriginData → List ℕ → ℕ → Option ℕ → List ℕ
+unfoldable pub line_shown : OriginData → List ℕ → ℕ → Option ℕ → List ℕ
 line_shown origin bytes line None = number_line origin line ++ shown_line (line_at bytes line)
-line_shown origin bytes line (Some index) = place_text origin bytes (length bytes - length (line_at bytes line) + place_in_line index (first_line (line_at bytes line)))
+line_shown origin bytes line (Some index) = place_text origin bytes (word_place bytes line index)
 
 abbrev pub line_text : OriginData → List ℕ → ℕ → JobFault → List ℕ
 line_text origin bytes line fault =

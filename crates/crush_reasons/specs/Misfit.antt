@@ -41,8 +41,12 @@ no_name word = told word ++ name_meant (bare word)
 abbrev pub digits_of : List ℕ → List ℕ
 digits_of word = if nat_le 4 (length word) && bytes_eq (take 4 word) (codes "osd.") then drop 4 word else word
 
+abbrev pub number_meant : Option ℕ → List ℕ
+number_meant None = codes "write osd.N with N from 0 to 2147483647"
+number_meant (Some number) = codes "did you mean osd." ++ decimal number ++ codes "?"
+
 abbrev pub device_meant : List ℕ → List ℕ
-device_meant digits = if is_number LAST_DEVICE_ID digits then codes "did you mean osd." ++ decimal (digits_value 10 digits) ++ codes "?" else codes "write osd.N with N from 0 to 2147483647"
+device_meant digits = number_meant (if is_number LAST_DEVICE_ID digits then Some (digits_value 10 digits) else None)
 
 abbrev pub no_device : List ℕ → List ℕ
 no_device word = told word ++ codes " is not a device: " ++ device_meant (digits_of (bare word))
@@ -52,7 +56,7 @@ abbrev pub is_read : Result ℕ WeightFault → Bool
 is_read (Ok units) = true
 is_read (Err fault) = false
 
-abbrev pub is_weight : List ℕ → Bool
+unfoldable pub is_weight : List ℕ → Bool
 is_weight word = is_read (weight_of_text word)
 
 -- whether a comma is in the place of the point of a weight, or no digit is before the point; and this weight with its point
@@ -68,14 +72,14 @@ whole_of word = take (point_at word) word
 abbrev pub parts_of : List ℕ → List ℕ
 parts_of word = drop 1 (drop (point_at word) word)
 
-abbrev pub is_mistyped : List ℕ → Bool
+unfoldable pub is_mistyped : List ℕ → Bool
 is_mistyped word = (length (whole_of word) == 0 || are_digits 10 (whole_of word)) && are_digits 18 (parts_of word)
 
 abbrev pub front_of : List ℕ → List ℕ
 front_of whole = if length whole == 0 then codes "0" else whole
 
 unfoldable pub with_point : List ℕ → List ℕ
-with_point word = codes "did you mean " ++ front_of (whole_of word) ++ codes "." ++ parts_of word ++ codes "?"
+with_point word = codes "did you mean " ++ (front_of (whole_of word) ++ (codes "." ++ (parts_of word ++ codes "?")))
 
 -- whether letters follow a weight, as in `4T` or `3.6TiB`
 abbrev pub is_of_number : ℕ → Bool
@@ -84,7 +88,7 @@ is_of_number b = is_ascii_digit b || b == 46
 abbrev pub unit_at : List ℕ → ℕ
 unit_at word = position_or_len (λ b. not (is_of_number b)) word
 
-abbrev pub has_unit : List ℕ → Bool
+unfoldable pub has_unit : List ℕ → Bool
 has_unit word = nat_lt (unit_at word) (length word) && (is_weight (take (unit_at word) word) && list_all is_ascii_alphabetic (drop (unit_at word) word))
 
 -- what may be meant by a word that is neither a weight nor too large a number; the word has no quotation marks at both ends
@@ -125,14 +129,14 @@ wrong_text due.Changes word = told word ++ codes " is not a number of changes: e
 wrong_text due.End word = codes "unexpected extra word " ++ told word
 
 -- THE MISFIT of a line with this form: the word that is there isn't what is due, or the form's word is missing
-abbrev pub misfit_text : Misfit → List ℕ → List ℕ → List ℕ
+unfoldable pub misfit_text : Misfit → List ℕ → List ℕ → List ℕ
 misfit_text m form word = if length word == 0 then word_in_line m.word form ++ codes " is missing" else wrong_text m.due word
 
 -- the form of a line, if its first word has one, before such a text
-abbrev pub form_head : List ℕ → List ℕ
+unfoldable pub form_head : List ℕ → List ℕ
 form_head form = if length form == 0 then form else form ++ codes ": "
 
-abbrev pub form_in_line : List ℕ → List ℕ
+unfoldable pub form_in_line : List ℕ → List ℕ
 form_in_line line = option_map_or form_text (form_of (word_in_line 0 line)) (codes "")
 
 abbrev pub word_reason : Misfit → List ℕ → List ℕ

@@ -2,7 +2,7 @@
 
 ghost use Rattle.std.specs.Prelude.{◌≡◌, ◌++◌, OnOk, map as each};
 ghost use Rattle.std.specs.Option.{option_map};
-ghost use Rattle.crush_reasons.specs.Commands.{first_command, is_near_command, is_of_ceph, is_swapped, meant_text, near_command, no_command};
+ghost use Rattle.crush_reasons.specs.Commands.{first_command, is_near_command, is_of_ceph, is_swapped, meant_text, near_command, no_command, no_word};
 ghost use Rattle.crush_reasons.specs.Near.{same_heads};
 
 use crate::near::{is_one_off, shared};
@@ -39,6 +39,7 @@ fn is_near_command(a: &[u8], b: &[u8]) -> bool
     is_one_off(a, b) || is_swapped(a, b)
 }
 
+#[tactic(auto, unfolding(crate::specs::Commands::first_command))]
 fn first_command(word: &[u8], commands: &[&'static str]) -> Option<&'static str>
     ensures { option_map (λ near. near.now) result
         ≡ first_command word.now (each (λ command. command.now) commands.now) }
@@ -76,6 +77,7 @@ fn near_command(word: &[u8]) -> Option<&'static str>
     )
 }
 
+#[tactic(auto, unfolding(crate::specs::Commands::meant_text))]
 fn push_meant(command: Option<&str>, text: &mut Vec<u8>) -> Result<(), AllocError>
     ensures { OnOk result (text.new.items
         ≡ text.old.items ++ meant_text (option_map (λ near. near.now) command.entry)) }
@@ -101,6 +103,15 @@ fn is_of_ceph(line: &[u8]) -> bool
         && placed_word(line, 2).text == b"crush".as_slice()
 }
 
+#[tactic(auto, unfolding(crate::specs::Commands::no_word))]
+fn push_no_word(word: &[u8], text: &mut Vec<u8>) -> Result<(), AllocError>
+    ensures { OnOk result (text.new.items ≡ text.old.items ++ no_word word.now) }
+{
+    push_told(word, text)?;
+    text.extend_from_slice(b" is not a command: ")?;
+    push_meant(near_command(word), text)
+}
+
 /// Appends the reason for a line whose first word isn't a command.
 pub(crate) fn push_no_command(line: &[u8], text: &mut Vec<u8>) -> Result<(), AllocError>
     ensures { OnOk result (text.new.items ≡ text.old.items ++ no_command line.now) }
@@ -108,8 +119,5 @@ pub(crate) fn push_no_command(line: &[u8], text: &mut Vec<u8>) -> Result<(), All
     if is_of_ceph(line) {
         return text.extend_from_slice(b"leave out `ceph osd crush`");
     }
-    let word = placed_word(line, 0).text;
-    push_told(word, text)?;
-    text.extend_from_slice(b" is not a command: ")?;
-    push_meant(near_command(word), text)
+    push_no_word(placed_word(line, 0).text, text)
 }

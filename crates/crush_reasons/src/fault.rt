@@ -2,7 +2,7 @@
 
 ghost use Rattle.std.specs.Prelude.{◌≡◌, ◌<◌, ◌^◌, ◌++◌, IfOk, OnOk, length};
 ghost use Rattle.crush_text.specs.declared.fault.TextFault.{TextFault};
-ghost use Rattle.crush_reasons.specs.Fault.{fault_line, fault_text, flaw_place_text, flaw_text, line_fault_index, line_fault_reason, line_shown, line_text, own_index, own_reason, put_reason};
+ghost use Rattle.crush_reasons.specs.Fault.{fault_line, fault_text, flaw_place_text, flaw_text, line_fault_index, line_fault_reason, line_shown, line_text, own_index, own_reason, put_reason, word_place};
 ghost use Rattle.crush_reasons.specs.Place.{origin_data};
 
 use crate::commands::push_no_command;
@@ -44,6 +44,7 @@ fn put_reason(fault: JobFault) -> &'static str
 }
 
 /// Appends the reason for a fault of a line. `own` is the number of the line in its file.
+#[tactic(auto, unfolding(crate::specs::Fault::line_fault_reason))]
 fn push_line_fault_reason(
     own: usize,
     fault: JobFault,
@@ -70,6 +71,7 @@ fn own_index(fault: JobFault, line: &[u8]) -> Option<usize>
     }
 }
 
+#[tactic(auto, unfolding(crate::specs::Fault::line_fault_index))]
 fn line_fault_index(own: usize, fault: JobFault, line: &[u8]) -> Option<usize>
     ensures { result ≡ line_fault_index own fault line.now }
 {
@@ -80,7 +82,18 @@ fn line_fault_index(own: usize, fault: JobFault, line: &[u8]) -> Option<usize>
     }
 }
 
+/// Returns the place of the word of a line with this index. The place is a byte of the job.
+#[tactic(auto, unfolding(crate::specs::Fault::word_place))]
+fn word_place(bytes: &[u8], line: usize, index: usize) -> usize
+    requires { length bytes.now < 2 ^ 32 }
+    ensures { result ≡ word_place bytes.now line index }
+{
+    let rest = line_at(bytes, line);
+    bytes.len().saturating_sub(rest.len()) + placed_word(first_line(rest), index).place
+}
+
 /// Appends a line of the job, with a sign below the word with this index if there is one.
+#[tactic(auto, unfolding(crate::specs::Fault::line_shown))]
 fn push_line_shown(
     origin: Origin<'_>,
     bytes: &[u8],
@@ -94,16 +107,7 @@ fn push_line_shown(
 {
     match index {
         None => push_at_line(origin, bytes, line, text),
-        Some(index) => {
-            let rest = line_at(bytes, line);
-            let place = placed_word(first_line(rest), index).place;
-            push_place(
-                origin,
-                bytes,
-                bytes.len().saturating_sub(rest.len()) + place,
-                text,
-            )
-        }
+        Some(index) => push_place(origin, bytes, word_place(bytes, line, index), text),
     }
 }
 

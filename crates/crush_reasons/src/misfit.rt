@@ -4,10 +4,10 @@ ghost use Rattle.std.specs.Prelude.{◌≡◌, ◌++◌, ◌≤◌, OnOk, length
 ghost use Rattle.std.specs.List.{list_all};
 ghost use Rattle.std.specs.Char.{is_ascii_alphabetic, is_ascii_digit};
 ghost use Rattle.crush_units.specs.Weight.{are_digits, weight_of_text};
-ghost use Rattle.crush_reasons.specs.Misfit.{bare, device_meant, digits_of, form_head, form_in_line, has_unit, index_in_line, is_fault_large, is_large, is_mistyped, is_of_number, is_quote, is_quoted, is_separator, is_weight, line_reason, misfit_index, misfit_text, mistyped, front_of, name_meant, no_device, no_name, no_weight, parts_of, point_at, unit_at, weight_meant, weight_said, whole_of, with_point, word_reason, wrong_text};
+ghost use Rattle.crush_reasons.specs.Misfit.{bare, device_meant, digits_of, form_head, form_in_line, has_unit, index_in_line, is_fault_large, is_large, is_mistyped, is_of_number, is_quote, is_quoted, is_separator, is_weight, line_reason, misfit_index, misfit_text, mistyped, front_of, name_meant, no_device, no_name, number_meant, no_weight, parts_of, point_at, unit_at, weight_meant, weight_said, whole_of, with_point, word_reason, wrong_text};
 
 use crate::shown::push_told;
-use crate::words::push_all;
+use crate::words::{push_all, push_bytes};
 use crush_script::{BadLine, Due, Form, Misfit, placed_word};
 use crush_units::limits::LAST_DEVICE_ID;
 use crush_units::number::number_up_to;
@@ -82,10 +82,10 @@ fn digits_of(word: &[u8]) -> &[u8]
     }
 }
 
-fn push_device_meant(digits: &[u8], text: &mut Vec<u8>) -> Result<(), AllocError>
-    ensures { OnOk result (text.new.items ≡ text.old.items ++ device_meant digits.now) }
+fn push_number_meant(number: Option<u32>, text: &mut Vec<u8>) -> Result<(), AllocError>
+    ensures { OnOk result (text.new.items ≡ text.old.items ++ number_meant number) }
 {
-    match number_up_to(LAST_DEVICE_ID, digits) {
+    match number {
         Some(number) => {
             let mut buffer = Buffer::new();
             let number = buffer.format(number).as_bytes();
@@ -94,8 +94,14 @@ fn push_device_meant(digits: &[u8], text: &mut Vec<u8>) -> Result<(), AllocError
                 text,
             )
         }
-        None => text.extend_from_slice(b"write osd.N with N from 0 to 2147483647"),
+        None => push_bytes(b"write osd.N with N from 0 to 2147483647", text),
     }
+}
+
+fn push_device_meant(digits: &[u8], text: &mut Vec<u8>) -> Result<(), AllocError>
+    ensures { OnOk result (text.new.items ≡ text.old.items ++ device_meant digits.now) }
+{
+    push_number_meant(number_up_to(LAST_DEVICE_ID, digits), text)
 }
 
 fn push_no_device(word: &[u8], text: &mut Vec<u8>) -> Result<(), AllocError>
@@ -154,6 +160,7 @@ fn are_digits(most: usize, text: &[u8]) -> bool
 }
 
 /// Whether a comma is in the place of the point of a weight, or no digit is before the point.
+#[tactic(auto, unfolding(crate::specs::Misfit::is_mistyped))]
 fn is_mistyped(word: &[u8]) -> bool
     ensures { result ≡ is_mistyped word.now }
 {
@@ -185,6 +192,7 @@ fn push_with_point(word: &[u8], text: &mut Vec<u8>) -> Result<(), AllocError>
     )
 }
 
+#[tactic(auto, unfolding(crate::specs::Misfit::is_weight))]
 fn is_weight(word: &[u8]) -> bool
     ensures { result ≡ is_weight word.now }
 {
@@ -221,6 +229,7 @@ fn all_letters(text: &[u8]) -> bool
 }
 
 /// Whether letters follow a weight, as in `4T` or `3.6TiB`.
+#[tactic(auto, unfolding(crate::specs::Misfit::has_unit))]
 fn has_unit(word: &[u8]) -> bool
     ensures { result ≡ has_unit word.now }
 {
@@ -242,11 +251,12 @@ fn push_weight_meant(word: &[u8], text: &mut Vec<u8>) -> Result<(), AllocError>
         return push_with_point(word, text);
     }
     if has_unit(word) {
-        return text.extend_from_slice(
+        return push_bytes(
             b"weights are in TiB, without a unit: a disk sold as 4 TB weighs 3.63869",
+            text,
         );
     }
-    text.extend_from_slice(b"write a number such as 1.5")
+    push_bytes(b"write a number such as 1.5", text)
 }
 
 fn is_too_large(word: &[u8]) -> bool
@@ -308,7 +318,7 @@ fn push_no_at(word: &[u8], text: &mut Vec<u8>) -> Result<(), AllocError>
 {
     text.extend_from_slice(b"unexpected word ")?;
     push_told(word, text)?;
-    text.extend_from_slice(b": expected `at N` or the end of the line")
+    push_bytes(b": expected `at N` or the end of the line", text)
 }
 
 fn push_extra(word: &[u8], text: &mut Vec<u8>) -> Result<(), AllocError>
@@ -333,6 +343,7 @@ fn push_wrong(due: Due, word: &[u8], text: &mut Vec<u8>) -> Result<(), AllocErro
     }
 }
 
+#[tactic(auto, unfolding(crate::specs::Misfit::misfit_text))]
 fn push_misfit(
     misfit: Misfit,
     form: &str,
@@ -349,6 +360,7 @@ fn push_misfit(
     push_wrong(misfit.due, word, text)
 }
 
+#[tactic(auto, unfolding(crate::specs::Misfit::form_in_line))]
 fn form_in_line(line: &[u8]) -> &'static str
     ensures { result.now ≡ form_in_line line.now }
 {
@@ -358,6 +370,7 @@ fn form_in_line(line: &[u8]) -> &'static str
     }
 }
 
+#[tactic(auto, unfolding(crate::specs::Misfit::form_head))]
 fn push_form_head(form: &str, text: &mut Vec<u8>) -> Result<(), AllocError>
     ensures { OnOk result (text.new.items ≡ text.old.items ++ form_head form.now) }
 {
