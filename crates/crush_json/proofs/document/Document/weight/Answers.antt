@@ -8,4 +8,4 @@ pub unreachable-requires : goal.unreachable-requires
 unreachable-requires c = c.in_default.ensures.cases.0 (subst IsUtf8 (sym c.exact_text-len.ensures.text) (exact_text_utf8 c.args.weight (search rules)))
 
 pub number-requires : goal.number-requires
-number-requires c = subst IsNumber (sym (c.from_utf8.ensures.cases ∙ c.exact_text-len.ensures.text)) (weight_is_number c.args.weight (search rules))
+number-requires c = subst IsNumber (sym (c.in-Ok.ensures.cases.0 ∙ c.exact_text-len.ensures.text)) (weight_is_number c.args.weight (search rules))
