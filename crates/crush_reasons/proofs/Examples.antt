@@ -146,7 +146,7 @@ twice = refl
 -- a type that isn't declared, behind a tab in a second line
 unknown_type : fault_text (record { name = []; before = 0 }) (codes "type 0 osd\n\thots h2 {\n}\n") (job.Text (record { kind = UnknownType; place = 12; expected = Statement false Nothing }))
     ≡ codes "  line 2, column 2\n     hots h2 {\n     ^\n  no type named `hots` is declared above\n"
-unfolding column_line digits form_of told words_in split up_to_long
+unfolding column_line digits form_of keyword_of told words_in split up_to_long
 unknown_type = refl
 
 -- a line of a file that isn't a command
