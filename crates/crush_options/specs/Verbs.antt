@@ -44,9 +44,9 @@ apply = with_rule (with_rule (with_rule apply_shown output) (needed (codes "MAP"
 abbrev pub diff_shown : App
 diff_shown = with_rule (with_rule (with_rule (with_rule (verb_of (codes "crushedit diff")) (flag (codes "tree"))) (flag (codes "json"))) (flag (codes "by-name"))) (option (codes "under"))
 
--- DIFF: `[--tree] [--json] [--by-name] [--under NAME] [--down-to TYPE] [--class CLASS] [--exit-code] [-o FILE] OLD NEW`
+-- DIFF: `[--tree] [--json] [--by-name] [--under NAME] [--down-to TYPE] [--exit-code] [-o FILE] OLD NEW`
 abbrev pub diff : App
-diff = with_rule (with_rule (with_rule (with_rule (with_rule (with_rule diff_shown (option (codes "down-to"))) (option (codes "class"))) (flag (codes "exit-code"))) output) (needed (codes "OLD"))) (needed (codes "NEW"))
+diff = with_rule (with_rule (with_rule (with_rule (with_rule diff_shown (option (codes "down-to"))) (flag (codes "exit-code"))) output) (needed (codes "OLD"))) (needed (codes "NEW"))
 
 -- `plan` with the words that say what is printed
 abbrev pub plan_shown : App

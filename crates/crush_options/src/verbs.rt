@@ -40,8 +40,8 @@ point, unless the script begins with a line `%operator NAME`. The scripts run
 one after the other.
 
 `apply` prints the new map, with exact weights. It prints nothing, and says why,
-if a command is refused, if a command would create a bucket that it doesn't
-name, or if MAP doesn't end with `# end crush map`.
+if a command is refused, if a command other than `add-bucket` would create a
+bucket, or if MAP doesn't end with `# end crush map`.
 
 With `--dry-run`, it prints what the scripts would change, and their history.
 
@@ -177,7 +177,6 @@ fn diff<'a>(alloc: Global) -> Result<Command<'a>, AllocError>
 {
     diff_shown(alloc)?
         .arg(option(alloc, "down-to", "TYPE", DOWN_TO_HELP))?
-        .arg(option(alloc, "class", "CLASS", CLASS_HELP))?
         .arg(flag(alloc, "exit-code", EXIT_CODE_HELP))?
         .arg(output(alloc))?
         .arg(needed(alloc, "OLD", "The old map's text; - is standard input"))?
