@@ -240,11 +240,10 @@ module _ (name : List ℕ) (plan : PlanData) (is : IsName name) (said : All IsSa
   section_read n room =
       let first = operator_read n name is in
       let second = comment_read (n + 1) (state [] name [] 0) (count_line (length plan.edits)) (codes " " ++ decimal (length plan.edits) ++ codes " commands", refl) in
-      let edits = edits_read plan.edits (n + 1 + 1) [] name [] 0 (lines tail) said (omega (arith, room)) in
-      (
+      let edits = edits_read plan.edits (n + 1 + 1) [] name [] 0 (lines tail) said (omega (arith, room)) in (
         edits.1,
         ap (with_lines n no_sections) section_lines
-        ∙ rw (first, second) (edits.2 ∙ comments_read (lines tail) edits.0 (state edits.1 name (map One plan.edits) (0 + length plan.edits)) refl (lines_are false tail (tail_is plan.rest (aside_text plan.aside)))),
+            ∙ rw (first, second) (edits.2 ∙ comments_read (lines tail) edits.0 (state edits.1 name (map One plan.edits) (0 + length plan.edits)) refl (lines_are false tail (tail_is plan.rest (aside_text plan.aside)))),
       )
 
 -- THE MAP'S TEXT before it
