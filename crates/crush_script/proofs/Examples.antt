@@ -182,7 +182,7 @@ sixteen_pairs : located_at (codes "h" ∷ (codes "t0=b" ∷ (codes "t1=b" ∷ (c
 unfolding name_at with_pair with_pairs location_at located_at
 sixteen_pairs = refl
 
-seventeen_pairs : located_at (codes "h" ∷ (codes "t0=b" ∷ (codes "t1=b" ∷ (codes "t2=b" ∷ (codes "t3=b" ∷ (codes "t4=b" ∷ (codes "t5=b" ∷ (codes "t6=b" ∷ (codes "t7=b" ∷ (codes "t8=b" ∷ (codes "t9=b" ∷ (codes "t10=b" ∷ (codes "t11=b" ∷ (codes "t12=b" ∷ (codes "t13=b" ∷ (codes "t14=b" ∷ (codes "t15=b" ∷ (codes "t16=b" ∷ [])))))))))))))))))) ≡ Err (misfit 17 due.NoMorePairs)
+seventeen_pairs : located_at (codes "h" ∷ (codes "t0=b" ∷ (codes "t1=b" ∷ (codes "t2=b" ∷ (codes "t3=b" ∷ (codes "t4=b" ∷ (codes "t5=b" ∷ (codes "t6=b" ∷ (codes "t7=b" ∷ (codes "t8=b" ∷ (codes "t9=b" ∷ (codes "t10=b" ∷ (codes "t11=b" ∷ (codes "t12=b" ∷ (codes "t13=b" ∷ (codes "t14=b" ∷ (codes "t15=b" ∷ (codes "t16=b" ∷ [])))))))))))))))))) ≡ Err (misfit 18 due.NoMorePairs)
 unfolding name_at with_pair with_pairs location_at located_at
 seventeen_pairs = refl
 
