@@ -13,6 +13,9 @@ const CUT_OLD: &[u8] =
 const CUT: &[u8] =
     b"crushedit: cut\n  the text doesn't end with `# end crush map`: was it cut? If it is whole, add that line\n";
 
+/// The text of a map that was cut within the line of its second device.
+const BEGUN: &[u8] = b"# begin crush map\n\n# devices\ndevice 0 osd.0\ndevice 1 osd.";
+
 fn read(
     rt: &(impl AllocGlobal + RandomSource),
     maps: MapForm,
@@ -52,7 +55,7 @@ fn whole_maps_are_read(rt: HostRuntime) {
         is_read(&rt, MapForm::WholeMap, PLAIN)
             && is_read(&rt, MapForm::WholeMap, b"# end crush map")
             && is_read(&rt, MapForm::WholeMap, b"# end crush map \t\r\n\n  \n")
-            && is_read(&rt, MapForm::Map, &PLAIN[..57])
+            && is_read(&rt, MapForm::Map, BEGUN)
             && is_read(&rt, MapForm::Map, b"")
     );
 }
@@ -61,7 +64,7 @@ fn whole_maps_are_read(rt: HostRuntime) {
 fn maps_that_may_be_cut_are_told(rt: HostRuntime) {
     assert!(rt;
         is_told(&rt, VerbMap::First, b"", CUT, 1)
-            && is_told(&rt, VerbMap::Old, &PLAIN[..57], CUT_OLD, 1)
+            && is_told(&rt, VerbMap::Old, BEGUN, CUT_OLD, 1)
             && is_told(&rt, VerbMap::First, b"# end crush map\n# more\n", CUT, 1)
             && is_told(
                 &rt,
