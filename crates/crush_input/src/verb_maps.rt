@@ -149,7 +149,10 @@ fn check_text<H: AllocGlobal + RandomSource>(
         return Err(VerbMapFault::TooLong);
     }
     match read_map_in(rt.alloc(), drawn_hashing(rt), rt.alloc(), bytes) {
-        Ok(_) => check_end(maps, bytes),
+        Ok(read) => {
+            drop(read);
+            check_end(maps, bytes)
+        }
         Err(fault) => Err(fault_of_flaw(maps, bytes, fault)),
     }
 }

@@ -11,7 +11,7 @@ pub returns-in-Ok-parsed_job-clause-only : goal.returns-in-Ok-parsed_job-clause-
 returns-in-Ok-parsed_job-clause-only g c = λ job is.
     let same = c.as_slice-text.ensures.value in
     let kept = c.in-Ok-parsed_job.ensures in
-    let lines : lines_data c.in-Ok-parsed_job.field-0.text.lines.items ≡ job_lines c.args.bytes.items =
+    let lines : lines_data c.in-Ok-parsed_job.read.text.lines.items ≡ job_lines c.args.bytes.items =
     ap (λ l. lines_data l.items) kept.lines ∙ c.in-Ok.ensures.lines ∙ ap job_lines same in
     let stands = c.in-Ok.ensures.only job (subst (λ (z : List ℕ). IsJob z job) (sym same) is) in
     record {
