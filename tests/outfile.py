@@ -3,8 +3,7 @@
     python3 tests/outfile.py PROGRAM [SEED]
 
 Root runs the trials in a mount namespace of their own, where a small disk and a device are mounted, and the program as a
-user without rights. Nobody else can mount these two, so their trials are left out then. No trial names a device of the
-machine. The runs that are killed end after random times, which SEED fixes, as far as times can be.
+user without rights. Where nobody may mount these two, their trials are left out. No trial names a device of the machine. The runs that are killed end after random times, which SEED fixes, as far as times can be.
 Prints a line for each trial that ends otherwise, then how many trials there were; ends with status 1 if any did.
 """
 
@@ -33,8 +32,9 @@ OLD = b"the old bytes\n"
 class Trials:
     """The trials, in a folder with the maps `small` and `large` that the user of the program can read."""
 
-    def __init__(self, program, folder, chance):
+    def __init__(self, program, folder, chance, mounts):
         self.is_root = os.geteuid() == 0
+        self.mounts = mounts
         self.folder, self.chance = folder, chance
         self.program = folder / "crushedit"
         shutil.copy(program, self.program)
@@ -207,24 +207,34 @@ class Trials:
     def all(self):
         for trial in (self.replaced, self.read_by_the_run, self.ended_runs, self.without_leave, self.links, self.taken_names, self.pipe, self.killed):
             trial()
-        if self.is_root:
+        if self.mounts:
             self.device()
             self.full_disk()
 
 
+def can_mount():
+    """Whether this user may mount something in a mount namespace of its own."""
+    if os.geteuid() != 0:
+        return False
+    with tempfile.TemporaryDirectory() as folder:
+        words = ["unshare", "-m", "--propagation", "private", "mount", "-t", "tmpfs", "none", folder]
+        return subprocess.run(words, capture_output=True).returncode == 0
+
+
 def main():
     words = sys.argv[1:]
-    if os.geteuid() == 0 and INSIDE not in words:
+    if INSIDE not in words and can_mount():
         os.execvp("unshare", ["unshare", "-m", "--propagation", "private", sys.executable, "-B", __file__, INSIDE, *words])
+    mounts = INSIDE in words
     words = [word for word in words if word != INSIDE]
     chance = random.Random(int(words[1]) if len(words) > 1 else None)
     with tempfile.TemporaryDirectory() as folder:
-        trials = Trials(words[0], pathlib.Path(folder), chance)
+        trials = Trials(words[0], pathlib.Path(folder), chance, mounts)
         trials.all()
-        if trials.is_root:
+        if mounts:
             for name in ("devices", "disk"):
                 subprocess.run(["umount", pathlib.Path(folder, name)], check=False)
-    left = "" if trials.is_root else "; without root, those of a device and of a full disk are left out"
+    left = "" if mounts else "; those of a device and of a full disk are left out, since they can't be mounted here"
     print(f"{trials.count} comparisons, {trials.failed} otherwise{left}")
     return 1 if trials.failed else 0
 

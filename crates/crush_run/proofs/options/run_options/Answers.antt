@@ -1,6 +1,6 @@
 use Rattle.crush_input.specs.Input.{job_bytes}
 use Rattle.crush_input.specs.Origins.{job_origin}
-use Rattle.crush_run.proofs.Outputs.{ended_as_wanted, ended_before_output, ending_as_wanted, job_where_done, options_fault_of_outcome, options_fault_of_read}
+use Rattle.crush_run.proofs.Outputs.{early_of_output, ended_as_wanted, ended_before_output, ending_as_wanted, job_where_done, options_fault_of_outcome, options_fault_of_read}
 use Rattle.crush_run.proofs.Early.{early_of_read}
 use Rattle.crush_run.proofs.options.run_options.Goals as goal
 
@@ -8,6 +8,11 @@ use Rattle.crush_run.proofs.options.run_options.Goals as goal
 pub returns-in-Err-clause-output : goal.returns-in-Err-clause-output
 returns-in-Err-clause-output g c = λ bytes job all is.
     ended_before_output _ _ _ bytes job _ _ _ _ _ c.of_aborted.ensures.outcome (early_of_read (job_bytes (g.F.Opens.content c.args.files.now) c.args.options.now (g.R.Read.remaining c.args.input.now)) _ c.in-Err.ensures.fault)
+
+-- so does a fault of the selected output
+pub returns-in-Err-output_of-clause-output : goal.returns-in-Err-output_of-clause-output
+returns-in-Err-output_of-clause-output g c = λ bytes job all is.
+    ended_before_output _ _ _ bytes job _ _ _ _ _ c.of_aborted.ensures.outcome (early_of_output (g.F.Opens.content c.args.files.now) _ _ c.in-Err-output_of.ensures.fault)
 
 pub returns-in-Err-clause-noted : goal.returns-in-Err-clause-noted
 returns-in-Err-clause-noted g c = rw (c.of_aborted.ensures.outcome, c.of_aborted.ensures.notes) c.in-Err.ensures.noted
