@@ -12,7 +12,7 @@ returns-in-Err-clause-output g c = λ bytes job all is.
 -- so does a fault of the selected output
 pub returns-in-Err-output_of-clause-output : goal.returns-in-Err-output_of-clause-output
 returns-in-Err-output_of-clause-output g c = λ bytes job all is.
-    ended_before_output _ _ _ bytes job _ _ _ _ _ c.of_aborted.ensures.outcome (early_of_output (g.F.Opens.content c.args.files.now) _ _ c.in-Err-output_of.ensures.fault)
+    ended_before_output _ _ _ bytes job _ _ _ _ _ c.of_aborted-in-Err-output_of.ensures.outcome (early_of_output (g.F.Opens.content c.args.files.now) _ _ c.in-Err-output_of.ensures.fault)
 
 pub returns-in-Err-clause-noted : goal.returns-in-Err-clause-noted
 returns-in-Err-clause-noted g c = rw (c.of_aborted.ensures.outcome, c.of_aborted.ensures.notes) c.in-Err.ensures.noted
