@@ -33,6 +33,7 @@ complete -c crushedit -n '__crushedit_begins diff' -l json -d 'Print one JSON do
 complete -c crushedit -n '__crushedit_begins diff' -l by-name -d 'Compare items by name alone'
 complete -c crushedit -n '__crushedit_begins diff' -l under -x -d 'Print only this item and what is below it'
 complete -c crushedit -n '__crushedit_begins diff' -l down-to -x -d 'In a tree, print nothing below buckets of this type'
+complete -c crushedit -n '__crushedit_begins diff' -l class -x -d 'In a tree, count only the devices of this class'
 complete -c crushedit -n '__crushedit_begins diff' -l exit-code -d 'Exit with status 6 if something changed or differs'
 complete -c crushedit -n '__crushedit_begins diff' -s o -l output -r -F -d 'Replace this file by the output, if all goes well'
 complete -c crushedit -n '__crushedit_begins diff' -s h -l help -d 'Print help, and run nothing'

@@ -39,6 +39,7 @@ _crushedit() {
             '--by-name[Compare items by name alone]' \
             '--under=[Print only this item and what is below it]:NAME: ' \
             '--down-to=[In a tree, print nothing below buckets of this type]:TYPE: ' \
+            '--class=[In a tree, count only the devices of this class]:CLASS: ' \
             '--exit-code[Exit with status 6 if something changed or differs]' \
             '(-o --output)'{-o+,--output=}'[Replace this file by the output, if all goes well]:FILE:_files' \
             '(-h --help)'{-h,--help}'[Print help, and run nothing]' \

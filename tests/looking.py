@@ -4,7 +4,8 @@ and how a strict run ends."""
 import re
 
 from explained import by_id, in_order, refused_text, tree_rows, written_text
-from model import is_change, run_call, run_one, shown, text_of, with_exact_weight
+from for_ceph import ceph_lines
+from model import is_change, run_call, run_one, text_of
 
 
 def type_name(map, name):
@@ -152,22 +153,11 @@ def since_text(old, new):
     return "".join(line + "\n" for line in lines)
 
 
-def is_placed(map, name):
-    return name in map.items and map.parent(name) is not None
-
-
 def ceph_text(map, made):
-    """Of calls that were made, the first on this map, each with its history line: the commands of those that changed
-    it. A device that no bucket holds is added where it was set. Weights have six decimals."""
-    commands = [command for (_, edits), line in made if is_change(line) for command in edits]
-    lines = [f"# {len(commands)} commands"]
-    for words in commands:
-        added = words[0] == "set" and not is_placed(map, words[1])
-        sure = " --yes-i-really-mean-it" if words[0] == "swap-bucket" else ""
-        end = "-- " if any(word.startswith("-") for word in words[1:]) else ""
-        lines.append(f"ceph osd crush {end}{' '.join(with_exact_weight(shown(['add', *words[1:]] if added else words).split()))}{sure}")
-        map = run_one(map, words)[0]
-    return "".join(line + "\n" for line in lines)
+    """Of calls that were made, the first on this map, each with its history line: Ceph's commands for the edits of those
+    that changed it."""
+    edits = [words for (_, edits), line in made if is_change(line) for words in edits]
+    return "".join(line + "\n" for line in ceph_lines(map, edits))
 
 
 def body(words, since, read, map, made):

@@ -86,6 +86,65 @@ def remade(map, wanted, made, commands):
             yield name
 
 
+def moved_late(commands):
+    """The buckets that a plan creates, and that it moves later than with the next command."""
+    for at, words in enumerate(commands):
+        if words[0] == "add-bucket":
+            moves = [later for later, other in enumerate(commands) if later > at and other[:2] == ["move", words[1]]]
+            if moves and moves[0] != at + 1:
+                yield words[1]
+
+
+def class_after(commands, at, device):
+    """The class that the device gets first by one of the commands from this position on, or None."""
+    return next((words[1] for words in commands[at:] if words[0] == "set-device-class" and words[2] == device), None)
+
+
+def class_of_command(commands, at):
+    """The class that a command gives, or that the device gets later whose class the command removes. None for any other
+    command."""
+    words = commands[at]
+    if words[0] == "set-device-class":
+        return words[1]
+    return class_after(commands, at, words[1]) if words[0] == "rm-device-class" else None
+
+
+def out_of_class(commands):
+    """The devices that are without a class while a command comes that is not for the class that they get."""
+    waiting = {}
+    for at, words in enumerate(commands):
+        if words[0] == "set-device-class":
+            waiting.pop(words[2], None)
+        its = class_of_command(commands, at)
+        yield from (device for device, due in waiting.items() if due != its)
+        if words[0] == "rm-device-class" and its:
+            waiting[words[1]] = its
+
+
+def is_applied(map, commands):
+    """Whether each of the commands is done and changes the map."""
+    for words in commands:
+        map, line = run_one(map, words)
+        if not is_change(line):
+            return False
+    return True
+
+
+def weighed_twice(map, commands):
+    """The devices that a `reweight` weighs although a later `reweight-subtree` weighs them too, and no command in between
+    is refused without the `reweight`."""
+    weighed = {}
+    for at, words in enumerate(commands):
+        if words[0] == "reweight-subtree":
+            for name in [name for name in weighed if name in map.below(words[1])]:
+                before, first = weighed.pop(name)
+                if is_applied(before, commands[first + 1:at + 1]):
+                    yield name
+        if words[0] == "reweight":
+            weighed[words[1]] = map, at
+        map, _ = run_one(map, words)
+
+
 def plan_text(commands, map, wanted):
     """The text of a plan of these commands, which lead to the map."""
     rest = stays(map, wanted)

@@ -26,8 +26,9 @@ import sys
 import tempfile
 
 from chance import Dice, random_command, random_map
-from model import run_one, with_exact_weight
-from planned import commands_of, made_by, plan_text, remade, stays
+from for_ceph import ceph_lines
+from model import run_one
+from planned import commands_of, made_by, moved_late, out_of_class, plan_text, remade, stays, weighed_twice
 from reading import read_map
 
 # Of how many hundred pairs made by scripts so many may leave a difference.
@@ -39,8 +40,8 @@ def with_settings(dice, map):
     """The map with tunables, and with a rule that takes a bucket of it."""
     map.tunables = dice.choice(TUNABLES)
     buckets = [name for name in map.items if not map.is_device(name)]
-    steps = [("\tstep take {}", map.items[dice.choice(buckets)]["id"]), ("\tstep chooseleaf firstn 0 type host", None),
-             ("\tstep emit", None)]
+    take = "\tstep take {}" + dice.choice(["", " class ssd"])
+    steps = [(take, map.items[dice.choice(buckets)]["id"]), ("\tstep chooseleaf firstn 0 type host", None), ("\tstep emit", None)]
     lines = [(line, None) for line in ("rule r {", "\tid 0", "\ttype replicated")]
     map.rules = [{"name": "r", "id": 0, "lines": lines + steps + [("}", None)]}]
     return map
@@ -70,11 +71,6 @@ def run(program, folder, words):
     return ran.returncode, ran.stdout.decode("latin-1"), ran.stderr.decode("latin-1")
 
 
-def as_ceph(words):
-    end = "-- " if any(word.startswith("-") for word in words[1:]) else ""
-    return f"ceph osd crush {end}{' '.join(with_exact_weight(words))}{' --yes-i-really-mean-it' if words[0] == 'swap-bucket' else ''}"
-
-
 def expect(what, got, due):
     if got != due:
         raise ValueError(f"{what}: {got!r} in the place of {due!r}")
@@ -100,10 +96,13 @@ def check(program, folder, map, wanted, identity):
     if commands and len(rest) >= len(before):
         raise ValueError("the commands help nothing")
     expect("buckets removed and created again", list(remade(map, wanted, made, commands)), [])
+    expect("new buckets that are moved too late", list(moved_late(commands)), [])
+    expect("devices that are without a class while another class is set", list(out_of_class(commands)), [])
+    expect("devices that are weighed twice", list(weighed_twice(map, commands)), [])
     expect("a second plan, after the first", plan_after(program, folder, words, made), [])
     ceph = run(program, folder, [*words, "--as-ceph", "map"])[1]
-    lines = [line if line.startswith("#") else as_ceph(line.split()) for line in text.splitlines()]
-    expect("Ceph's words", ceph, "".join(line + "\n" for line in lines))
+    lines = ceph_lines(map, commands) + [line for line in text.splitlines()[1:] if line.startswith("#")]
+    expect("Ceph's commands", ceph, "".join(line + "\n" for line in lines))
     strict = run(program, folder, [*words, "--strict", "map"])
     due = (5, "", "".join(line + "\n" for line in [f"crushedit: differs {len(rest)}", *rest])) if rest else (0, text, "")
     expect("with --strict", strict, due)

@@ -5,7 +5,7 @@
 Each case is a command of bash, with `$C` for the program and `$L` for a library that is preloaded, with which a
 file that is synced answers that the disk is full (it needs a C compiler, `cc`, `gcc` or what CC names), in a
 folder with `job` (a map with an edit), `large` (one
-of 2,000 devices, more than a pipe holds) and `adjusted` (a weight that is no sum). Of a file that can't be opened or
+of 2,000 devices, more than a pipe holds), `adjusted` (a weight that is no sum) and `map` (a map). Of a file that can't be opened or
 read `--explain` tells the reason, of standard input no more than the sentence. Of each it tells the status, of
 what a signal ended 128 and its number, what standard error got, and how much of its output was written. With --table
 what comes is printed as a table and not judged; else a line for each case that ends otherwise, and status 1 where
@@ -27,6 +27,11 @@ READ, WRITE = "crushedit: read fault", "crushedit: write fault"
 FILE_SIZE = 128 + 25
 MISSING, FORBIDDEN = "No such file or directory (os error 2)", "Permission denied (os error 13)"
 FOLDER, BROKEN = "Is a directory (os error 21)", "Input/output error (os error 5)"
+FULL = "No space left on device (os error 28)"
+UNWRITTEN = (
+    f"{WRITE}\n  standard output took less than the whole, or did not store it: what stands there isn't to be used\n"
+    f"  standard output: {FULL}"
+)
 ADJUSTED = "type 1 host\nhost a { id -1 alg straw2 }\nhost b { id -2 alg straw2 item a weight 1 }\n"
 # Makes 4 the end for writing of a pipe whose only reader has closed its end.
 NO_READER = "mkfifo pipe; exec 3<> pipe 4> pipe 3<&-"
@@ -39,7 +44,7 @@ int fsync(int fd) {
     return -1;
 }
 """
-JOBS = {"job": map_text(3) + script(3, 1), "large": map_text(2000) + script(2000, 1), "adjusted": ADJUSTED}
+JOBS = {"job": map_text(3) + script(3, 1), "large": map_text(2000) + script(2000, 1), "adjusted": ADJUSTED, "map": map_text(3) + "# end crush map\n"}
 # What it is, the command, the status, standard error, and what of the output is written: all, none, or the
 # start of it; of the empty job all are 75 bytes. None where the command sends the output elsewhere.
 CASES = [
@@ -62,9 +67,9 @@ CASES = [
      "mkfifo f; (head -c 100 job; rm f; tail -c +101 job) > f & $C f", 0, "", "all"),
     ("standard output is closed", "$C job >&-", 3, WRITE, None),
     ("standard output is a full disk", "$C job > /dev/full", 3, WRITE, None),
-    ("the reader of standard output goes away", "$C large | true; exit ${PIPESTATUS[0]}", 3, WRITE, None),
-    ("the same behind `head`", "$C large | head -n 1 > line; exit ${PIPESTATUS[0]}", 3, WRITE, None),
-    ("the reader of standard output is gone before the first byte", f"{NO_READER}; $C job >&4", 3, WRITE, None),
+    ("the reader of standard output goes away", "$C large | true; exit ${PIPESTATUS[0]}", 3, "", None),
+    ("the same behind `head`", "$C large | head -n 1 > line; exit ${PIPESTATUS[0]}", 3, "", None),
+    ("the reader of standard output is gone before the first byte", f"{NO_READER}; $C job >&4", 3, "", None),
     ("standard output and standard error are one, whose reader is gone", f"{NO_READER}; $C job >&4 2>&4", 3, "", None),
     ("a limit on the size of files", "ulimit -f 1; $C large", FILE_SIZE, "", "start"),
     ("the same where SIGXFSZ is ignored", "trap '' XFSZ; ulimit -f 1; $C large", 3, WRITE, "start"),
@@ -78,10 +83,14 @@ CASES = [
     ("all three are closed", "$C job <&- >&- 2>&-", 3, "", None),
     ("--help to a full disk", "$C --help > /dev/full", 3, WRITE, None),
     ("--version to a full disk", "$C --version > /dev/full", 3, WRITE, None),
-    ("--help to a pipe whose reader is gone", f"{NO_READER}; $C --help >&4", 3, WRITE, None),
+    ("--help to a pipe whose reader is gone", f"{NO_READER}; $C --help >&4", 3, "", None),
     ("--help to a closed output", "$C --help >&-", 3, WRITE, None),
     ("standard output tells its error when it is synced", "LD_PRELOAD=$L $C job", 3, WRITE, "all"),
     ("the same, and it is a pipe", "LD_PRELOAD=$L $C job | cat", 0, "", "all"),
+    ("--explain, and standard output is a full disk", "$C --explain job > /dev/full", 3, UNWRITTEN, None),
+    ("a verb, and the same", "$C apply --dry-run map > /dev/full", 3, UNWRITTEN, None),
+    ("--explain, and the reader is gone before the first byte", f"{NO_READER}; $C --explain job >&4", 3, "", None),
+    ("--explain, and standard output tells its error when it is synced", "LD_PRELOAD=$L $C --explain job", 3, UNWRITTEN, "all"),
     ("--help, and the same", "LD_PRELOAD=$L $C --help > help", 3, WRITE, None),
     ("the same, and nothing was written", "LD_PRELOAD=$L $C missing", 3, READ, "none"),
     ("--explain, and FILE isn't there", "$C --explain missing", 3,

@@ -26,7 +26,8 @@ TICKS = os.sysconf("SC_CLK_TCK")
 
 
 def processes():
-    """Each process there is: its parent, its processor seconds, and of a prover its words."""
+    """Each process there is: its parent, its processor seconds with those of the processes that it started and
+    that have ended, and the words of its command line if it is a prover."""
     for folder in os.scandir("/proc"):
         if folder.name.isdigit():
             try:
@@ -35,7 +36,7 @@ def processes():
                 words = pathlib.Path(folder.path, "cmdline").read_bytes().decode(errors="replace") if name == PROVER else ""
             except OSError:
                 continue
-            yield int(folder.name), int(stat[1]), (int(stat[11]) + int(stat[12])) / TICKS, words.split("\0")
+            yield int(folder.name), int(stat[1]), sum(map(int, stat[11:15])) / TICKS, words.split("\0")
 
 
 def what_of(words):

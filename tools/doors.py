@@ -35,8 +35,8 @@ OFFERED = {
     "crush_compare": {"Comparison::after", "Comparison::before", "Comparison::by_ids", "Comparison::by_names", "Comparison::by_names_part", "Comparison::difference"},
     "crush_print": {"buckets", "devices", "TreePart::whole", "WalkStep::view", "walk", "walk_below", "walk_part", "class_weights", "write_tree"},
     "crush_since": {
-        "count_changes", "is_changed", "is_changed_by_name", "is_part_changed", "same_kinds", "same_rules", "same_tunables", "since_part_text", "stays", "write_since_by_name",
-        "write_since_by_name_part",
+        "count_changes", "is_changed", "is_changed_by_name", "is_part_changed", "same_kinds", "same_rules", "same_tunables", "since_part_text", "stays",
+        "write_changes_of_class", "write_since_by_name", "write_since_by_name_part",
     },
     "crush_json": {"write_map_document", "write_plan_document", "write_since_document", "write_tree_document"},
     "crush_reasons": {"explained_text"},

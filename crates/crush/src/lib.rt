@@ -1,23 +1,24 @@
-//! All that a program needs to read, edit, compare and print CRUSH maps, under one name.
+//! Has all types and functions that a program needs to read, edit, compare and print CRUSH maps.
 //!
-//! This crate has no functions of its own. It hands out the types and functions of the crates below
-//! it, so that a program names one crate:
+//! This crate has no functions of its own. It re-exports the types and functions of the crates
+//! below it, so that a program can import all of them from one crate:
 //!
 //! ```rust
 //! use crush::{Edit, Name, Weight, read_map, write_map};
 //! ```
 //!
-//! - **A map**: [`read_map`] reads a [`CrushMap`] from a text, and [`write_map`] prints it.
-//!   [`MapBuilder`] makes a map without a text.
-//! - **Edits**: `CrushMap::apply` makes one [`Edit`], `CrushMap::apply_batch` makes several or none.
-//!   [`make_call`] makes one [`Call`], and gives its [`Reply`].
-//! - **Several operators**: [`Editor`] owns a map, and gives a [`Seat`] to each operator.
-//! - **Two maps**: [`Comparison`] pairs their items, [`write_since`] says what has changed, and
-//!   [`find_plan`] looks for edits that lead from one map to the other.
-//! - **A whole job**: [`read_job`] reads a map with the scripts of its operators.
+//! - **A map**: [`read_map`] reads a [`CrushMap`] from a text, and [`write_map`] writes the map's
+//! text. [`MapBuilder`] builds a map without a text.
+//! - **Edits**: `CrushMap::apply` applies one [`Edit`]. `CrushMap::apply_batch` applies all edits
+//! of a batch or none of them. [`make_call`] makes one [`Call`], and returns its [`Reply`].
+//! - **Several operators**: [`Editor`] owns a map, and gives each operator a [`Seat`], with which
+//! the operator makes its calls.
+//! - **Two maps**: [`Comparison`] pairs their items, [`write_since`] writes what has changed, and
+//! [`find_plan`] finds edits that lead from one map toward the other.
+//! - **A whole job**: [`read_job`] reads a map together with the scripts of its operators.
 //!
-//! A contract cites definitions of the crate that the type or the function comes from. So a program
-//! with contracts names these crates in `crates.txt` too.
+//! The contract of a type or a function refers to definitions in the crate that it comes from. So a
+//! program with contracts of its own must also name these crates in `crates.txt`.
 #![tactic(auto)]
 
 pub use crush_builder::{BuildFault, MapBuilder, RuleFault, RulePart};
@@ -35,7 +36,7 @@ pub use crush_map::{
     BatchFault, Counts, CrushMap, Done, Dones, Edit, EditFault, Hashing, Location, LocationFault,
     Pair, Refusal, Rule, Setting, Step,
 };
-pub use crush_plan::{Plan, PlanWords, find_plan, plan_text};
+pub use crush_plan::{Plan, ceph_plan_text, find_plan, plan_text};
 pub use crush_print::{
     TreePart, WeightForm, write_map, write_tree, write_tree_of_class, write_tree_part,
 };

@@ -1,4 +1,4 @@
--- That the result of a call is right (AnswersAs), for each way in which a call can end.
+-- The result of a call is right, as AnswersAs defines it, for each way in which a call can end.
 use Rattle.std.proofs.Common.{◌≡◌, ℕ, Bool, true, false, List, ap, sym, subst, ◌∙◌, refl}
 use Rattle.std.specs.Prelude.{not, length, Result, Ok, Err, IsErrAnd}
 use Rattle.crush_model.specs.Table.{Row}
@@ -66,7 +66,7 @@ pub makes_passed : (a : List Row → Answer) (f g : ForestData) (e : EditFault) 
 makes_passed a f g e (Ok d) h told = elim h [ ]
 makes_passed a f g e (Err z) h told = subst (λ y. Makes a f g (Err y)) (sym h) told
 
--- equal results are right alike
+-- if two results are equal and one of them is right, the other is right too
 pub when_is : (a : List Row → Answer) (f g : ForestData) (x y : Result Done EditFault) → y ≡ x → AnswersAs a f g x → AnswersAs a f g y
 when_is a f g x y is told = subst (AnswersAs a f g) (sym is) told
 

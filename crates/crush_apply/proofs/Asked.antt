@@ -1,4 +1,4 @@
--- The tests of an edit that puts a device, made group by group.
+-- The tests of an edit that puts a device. The code makes them in groups, one group after the other.
 use Rattle.std.proofs.Common.{◌≡◌, ℕ, Bool, true, false, List, [], ◌∷◌, ◌++◌, ap, ◌∙◌}
 use Rattle.std.specs.Prelude.{if◌then◌else◌, Some, None, bytes_eq}
 use Rattle.std.specs.List.{count_by}

@@ -1,4 +1,4 @@
--- A batch that is applied edit by edit.
+-- Applying a batch edit by edit.
 use Rattle.std.proofs.Common.{◌≡◌, ℕ, Bool, List, ◌∷◌, ap, sym, subst, ◌∙◌}
 use Rattle.std.specs.Prelude.{Result, Ok, Err, OnErr}
 use Rattle.crush_model.specs.Table.{Row}

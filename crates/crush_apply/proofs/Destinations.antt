@@ -1,4 +1,4 @@
--- New buckets that are added to a forest, and the item that is put into the lowest of them.
+-- New buckets are added to a forest, and an item is put into the bucket of the first stop.
 use Rattle.std.proofs.Common.{◌≡◌, ℕ, zero, suc, ◌+◌, ◌<◌, ◌≤◌, true, List, [], ◌∷◌, ◌++◌, length, take, get_or, ap, sym, subst, ◌∙◌, refl, arith, false, eq-eqb, append-nil, ⊎_elim}
 use Rattle.std.specs.Prelude.{Option, Some, None, IfSome, All, Result, Ok, Err, IfOk, OnOk, ◌==◌, if◌then◌else◌}
 use Rattle.std.specs.List.{prefix_len}
@@ -45,7 +45,7 @@ stops-take l zero xs = refl
 stops-take l (suc k) [] = refl
 stops-take l (suc k) (x ∷ xs) = ap (λ z. stop_data l x ∷ z) (stops-take l k xs)
 
--- items that are all buckets, put into new buckets, are again all buckets at the top level
+-- if items that are all buckets are put into new buckets, the resulting items are again all buckets
 buckets-boxes : (m : ℕ) (n : Items) (ns : List NewData) → OnlyBuckets n → OnlyBuckets (boxes m n ns)
 buckets-boxes m n [] o = o
 buckets-boxes m n (x ∷ ns) o = buckets-boxes m (bucket (new_header x) (weight_sum n) m n none) ns tt
@@ -73,7 +73,7 @@ lowest_room (i ∷ ids) (p ∷ ps) d h g =
     let own : ◌≡◌ {A = ℕ} (if i == i then 1 else 0) 1 = ap (λ b. if b then 1 else 0) (eq-eqb i i refl) in
     omega (arith, own, room-boxes i 1 (bucket (new_header n) 0 1 none none) (with_ids ids ps))
 
--- a new bucket is none of the places that the table has
+-- the place of a new bucket isn't one of the places that the table has
 pub new_place : (t : List Row) (o : Option ℕ) (b : ℕ) → member b (used_ids t) ≡ false → is_place t (place_at o) ≡ true → same_place (AtBucket b) (place_at o) ≡ false
 new_place t None b unused there = refl
 new_place t (Some c) b unused there = ⊎_elim (λ p. absurd (let no : false ≡ true = sym (unused_fresh t b unused) ∙ ap (λ k. is_there t (Bucket k)) p.1 ∙ there in cc)) (λ p. p.0) (eqb_tells b c)

@@ -1,4 +1,4 @@
--- A device that is put, whether the table has it or not.
+-- Putting a device at a destination, both if the table has the device and if the table doesn't have it.
 use Rattle.std.proofs.Common.{◌≡◌, ℕ, ◌<◌, Bool, true, false, List, ap, sym, subst, ◌∙◌, refl}
 use Rattle.std.proofs.lemmas.Bool.{not-false}
 use Rattle.std.specs.Prelude.{not, Option, Some, None, IfSome, is_some, option_and_then, bytes_eq}

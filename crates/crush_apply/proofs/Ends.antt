@@ -1,4 +1,4 @@
--- The loop over the stops that looks for the end of the route: the next stop ends it, or doesn't, or no stop is left.
+-- The loop that looks for the stop that ends the route. There are three cases: the next stop ends the route, the next stop doesn't end it, or no stop is left.
 use Rattle.std.proofs.Common.{◌≡◌, ℕ, suc, ◌+◌, ◌<◌, ◌≤◌, Bool, true, false, List, [], ◌∷◌, Option, length, take, drop, get_or, ap, sym, ◌∙◌, refl, arith}
 use Rattle.std.proofs.Math.Seq.{drop-cons}
 use Rattle.std.proofs.lemmas.List.{drop_all}
@@ -42,7 +42,7 @@ fresh_later t l xs k x h e named = ap (λ ps. length (fresh_stops t ps)) (stops_
 pub fresh_end : (t : List Row) (l : List Pair) (xs : List Stop) (k : ℕ) → length xs ≤ k → length (fresh_stops t (stops_data l (drop k xs))) ≡ 0
 fresh_end t l xs k le = ap (λ zs. length (fresh_stops t (stops_data l zs))) (drop_all k xs le)
 
--- THE INVARIANT of the loop: the stop that ends the route is among those that are left, and the new stops are those passed and those new among the stops that are left
+-- THE INVARIANT of the loop: the stop that ends the route is among the stops that are left, and the stops that need a new bucket are the stops so far and the stops that need one among those that are left
 pub record Left (t : List Row) (l : List Pair) (xs : List Stop) (k : ℕ) : Type 0 where
   pub fresh : length (fresh_stops t (stops_data l xs)) ≡ k + length (fresh_stops t (stops_data l (drop k xs)))
   pub end : end_stop t (stops_data l xs) ≡ end_stop t (stops_data l (drop k xs))

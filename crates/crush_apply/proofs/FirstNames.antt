@@ -1,4 +1,4 @@
--- The first name for which a test holds, as a loop finds it.
+-- How a loop finds the first name for which a test holds.
 use Rattle.std.proofs.Common.{◌≡◌, ℕ, suc, ◌+◌, ◌<◌, ◌≤◌, Bool, true, false, List, ◌∷◌, length, drop, get_or, ap, sym, ◌∙◌, refl, arith}
 use Rattle.std.specs.Prelude.{Option, Some, None, not, if◌then◌else◌, is_some, is_none}
 use Rattle.std.proofs.Math.Seq.{drop-cons}

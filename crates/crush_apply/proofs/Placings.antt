@@ -1,4 +1,4 @@
--- What the three edits that put a device give for the table, as one edit with a parameter.
+-- What the three edits that put a device give for the table. They are treated as one edit with the parameter `how`.
 use Rattle.std.proofs.Common.{◌≡◌, ℕ, ◌≤◌, true, false, List, sym, ◌∙◌, refl}
 use Rattle.std.specs.Prelude.{Some, None}
 use Rattle.crush_units.specs.declared.id.ItemId.TheVariants.{Device}
@@ -32,19 +32,19 @@ left_alone s t KeepWeight n w other = refl
 left_alone s t SetWeight n w other = absurd (other refl)
 
 module _ (s : SettingData) (t : List Row) (d : ℕ) (n : List ℕ) (w : ℕ) (l : List Pair) where
-  -- refused for the device, or for the location
+  -- the edit is refused because of the device or because of the location
   pub device_refused : (how : IfPlaced) (r : Refusal) → first_refusal (located_device_tests s t d n w l) ≡ Some r → edit s t (placing how d n w l) ≡ refused r
   device_refused Refuse r e = refused_edit s t (Insert d n w l) r (insert_device s t d n w l r (after_insert s t d n w l) e)
   device_refused KeepWeight r e = refused_edit s t (CreateOrMove d n w l) r (put_device s t d n w l r (after_create_or_move s t d n w l) e)
   device_refused SetWeight r e = refused_edit s t (Update d n w l) r (put_device s t d n w l r (after_update s t d n w l) e)
 
-  -- refused because the device is in a bucket already
+  -- the edit is refused because the device is already in a bucket
   pub barred : (how : IfPlaced) → first_refusal (located_device_tests s t d n w l) ≡ None → is_barred how t d ≡ true → edit s t (placing how d n w l) ≡ refused AlreadyPlaced
   barred Refuse e there = refused_edit s t (Insert d n w l) AlreadyPlaced (insert_placed s t d n w l (after_insert s t d n w l) e there)
   barred KeepWeight e there = absurd cc
   barred SetWeight e there = absurd cc
 
-  -- refused for the end of its route
+  -- the edit is refused because of the item that ends the route
   pub end_refused : (how : IfPlaced) (r : Refusal) → first_refusal (located_device_tests s t d n w l) ≡ None → is_barred how t d ≡ false → first_refusal (end_tests t (stops s l)) ≡ Some r → edit s t (placing how d n w l) ≡ refused r
   end_refused Refuse r e free f = refused_edit s t (Insert d n w l) r (insert_end s t d n w l r (after_insert s t d n w l) e free f)
   end_refused KeepWeight r e free f = refused_edit s t (CreateOrMove d n w l) r (put_end s t d n w l r (after_create_or_move s t d n w l) e f)

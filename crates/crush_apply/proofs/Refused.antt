@@ -1,4 +1,4 @@
--- Faults that `?` passes on.
+-- Facts about an error that the operator `?` returns to the caller.
 use Rattle.std.proofs.Common.{◌≡◌, sym, subst, ◌∙◌}
 use Rattle.std.specs.Prelude.{Result, Ok, Err, IfErr, IsErrAnd}
 use Rattle.crush_edits.specs.declared.refusal.Refusal.{Refusal}

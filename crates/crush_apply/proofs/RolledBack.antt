@@ -1,4 +1,4 @@
--- Undoing edits.
+-- Undoing an edit gives the forest before the edit, for each kind of entry in the undo log.
 use Rattle.std.proofs.Common.{◌≡◌, ℕ, Bool, true, false, not, List, [], ◌∷◌, ◌++◌, ap, sym, subst, ◌∙◌, refl, arith, ⊎_elim, nat_eq, append-nil, true≢false}
 use Rattle.std.specs.Prelude.{◌&&◌, if◌then◌else◌, Option, Some, None, is_some, Result, Ok, Err, IsErrAnd}
 use Rattle.std.specs.Option.{option_map}
@@ -142,7 +142,7 @@ when_unmoved a f h = record { answers = when_still a f 0 h; logged = refl }
 pub when_alike : {A : Type 0} (a b : List Row → Answer) (f g : ForestData) (x : Result (Done × Option (Undo A)) EditFault) → ((t : List Row) → Stands f t → a t ≡ b t) → AnswersLogged b f g x → AnswersLogged a f g x
 when_alike a b f g x same told = record { answers = when_same a b f g (done_alone x) same told.answers; logged = told.logged }
 
--- LOGGED ONLY IF WANTED: a call that always logs
+-- LOGGED ONLY IF WANTED: a call that returns an entry for the undo log even if `logged` is false
 pub noted_anyway : {A : Type 0} (logged takes : Bool) (a : List Row → Answer) (f g : ForestData) (x : Result (Done × Option (Undo A)) EditFault) → AnswersLogged a f g x → (x ≡ Err OutOfMemory → takes ≡ true) → AnswersLoggedIf logged takes a f g x
 noted_anyway logged takes a f g x told memory = record { makes = makes_so a f g (done_alone x) told.answers; exact = λ _. told.answers; back = λ _. told.logged; memory = λ _. memory }
 

@@ -1,4 +1,4 @@
--- The steps of a put: the new buckets are added and the item is put into the lowest; a new device is added together with them.
+-- The steps of putting an item at a destination: the new buckets are added, and the item is moved into the bucket of the first stop. A new device is instead added together with its new buckets.
 use Rattle.std.proofs.Common.{◌≡◌, ℕ, ◌≤◌, true, false, List, ◌++◌, ap, sym, subst, refl, ◌∙◌, append_assoc}
 use Rattle.std.specs.Prelude.{Bool, if◌then◌else◌, Some, None, IfSome, is_some}
 use Rattle.crush_units.specs.declared.id.ItemId.{ItemId}

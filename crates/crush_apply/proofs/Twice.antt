@@ -1,4 +1,4 @@
--- Names that occur twice in a location, as a loop over the pairs finds them.
+-- How a loop over the pairs of a location finds a name that occurs twice.
 use Rattle.std.proofs.Common.{◌≡◌, ℕ, suc, ◌+◌, ◌-◌, ◌<◌, Bool, true, false, List, [], ◌∷◌, length, take, drop, get_or, ap, sym, ◌∙◌, refl, arith}
 use Rattle.std.specs.Prelude.{not, ◌&&◌, ◌||◌, map, bytes_eq}
 use Rattle.std.specs.List.{list_any}

@@ -1,4 +1,4 @@
--- When the edits that have no location and set no weights aren't refused: Rename, Swap, SetClass, RemoveClass, Remove and AddBucket.
+-- When an edit isn't refused, for the edits that have no location and set no weights: Rename, Swap, SetClass, RemoveClass, Remove and AddBucket.
 use Rattle.std.specs.Prelude.{◌≡◌, ℕ, ◌<◌, List, Option, Some, None, false, ◌==◌}
 use Rattle.crush_units.specs.declared.id.ItemId.{ItemId}
 use Rattle.crush_units.specs.declared.id.ItemId.TheVariants.{Device, Bucket}
@@ -11,7 +11,7 @@ use Rattle.crush_edits.specs.Stops.{number_of}
 use Rattle.crush_edits.specs.Answer.{meets}
 use Rattle.crush_edits.specs.Making.{holds_items, is_taken_by_rule}
 
--- the bucket b has the name from, and no item has the name to
+-- the bucket b has the name `from`, and no item has the name `to`
 pub record CanRename (t : List Row) (from to : List ℕ) (b : ℕ) : Type 0 where
   pub named : id_named t from ≡ Some (Bucket b)
   pub free : is_named t to ≡ false
@@ -28,7 +28,7 @@ pub record HasClass (t : List Row) (n : List ℕ) (k : Option (List ℕ)) (d : �
   pub named : id_named t n ≡ Some (Device d)
   pub class : class_of t (Device d) ≡ k
 
--- if a device d is given, it has the name n and no class; if none is given, the device of name n has the class c already
+-- if a device is given, it has the name n and no class; if no device is given, a device has the name n and already has the class c
 abbrev pub GetsClass : List Row → List ℕ → List ℕ → Option ℕ → Type 0
 GetsClass t n c None = (d : ℕ) × HasClass t n (Some c) d
 GetsClass t n c (Some d) = HasClass t n None d

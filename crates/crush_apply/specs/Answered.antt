@@ -1,4 +1,4 @@
--- How the result of a call that applies an edit is related to what the edit gives for the table.
+-- Which results of a call that applies an edit are right, given what the edit does to the table.
 use Rattle.std.specs.Prelude.{◌≡◌, false, List, [], ◌∷◌, Option, Result, Err, IfOk, OnErr}
 use Rattle.crush_model.specs.Table.{Row}
 use Rattle.crush_model.specs.Forest.{ForestData}
@@ -12,7 +12,7 @@ use Rattle.crush_edits.specs.declared.refusal.EditFault.TheVariants.{Refused, Ou
 use Rattle.crush_edits.specs.Answer.{After, Answer, refused, answer, first_refusal, room_test, sum_test}
 use Rattle.crush_edits.specs.Outcome.{IsDone, IsChange}
 
--- the call changed the hierarchy f into g and returned x, where a t is what the edit gives for the table t. For every table that f represents: after Ok, the edit isn't refused, and g represents the table after it; after a refusal, the edit gives that refusal; after OutOfMemory, the edit would change the table. After an Err, or if nothing has changed, g is f itself, with the same room
+-- The call changed the hierarchy f to g and returned x; `a t` is what the edit gives for the table t. Take any table t that f represents. If x is Ok, then the edit isn't refused for t, and g represents the table after the edit. If x is a refusal, then the edit gives this refusal for t. If x is OutOfMemory, then the edit would change t. If x is an Err, or if x says that nothing has changed, then g equals f
 pub record AnswersAs (a : List Row → Answer) (f g : ForestData) (x : Result Done EditFault) : Type 0 where
   pub done : IfOk x (λ d. (t : List Row) → Stands f t → IsDone (Stands g) (a t) d)
   pub refused : (r : Refusal) → x ≡ Err (Refused r) → (t : List Row) → Stands f t → a t ≡ refused r
@@ -20,7 +20,7 @@ pub record AnswersAs (a : List Row → Answer) (f g : ForestData) (x : Result Do
   pub unchanged : OnErr x (g ≡ f)
   pub still : IfOk x (λ d. d.changed ≡ false → g ≡ f)
 
--- the same for a call that may run out of memory whatever the edit gives; nor is it said that g is f if nothing has changed
+-- A weaker form of AnswersAs, for a call that may run out of memory whatever the edit gives for the table. If the edit has changed nothing, g need not equal f
 pub record Makes (a : List Row → Answer) (f g : ForestData) (x : Result Done EditFault) : Type 0 where
   pub done : IfOk x (λ d. (t : List Row) → Stands f t → IsDone (Stands g) (a t) d)
   pub refused : (r : Refusal) → x ≡ Err (Refused r) → (t : List Row) → Stands f t → a t ≡ refused r
@@ -30,10 +30,10 @@ pub record Makes (a : List Row → Answer) (f g : ForestData) (x : Result Done E
 abbrev pub KeepsRooms : ForestData → ForestData → Type 0
 KeepsRooms f g = (p : Place) → room g p ≡ room f p
 
--- NoRoom or SumTooLarge if the table after the edit isn't allowed, or none
+-- NoRoom if the table after the edit has too many items, otherwise SumTooLarge if a sum in it is too large, otherwise None
 abbrev pub last_refusal : After → Option Refusal
 last_refusal a = first_refusal (room_test a ∷ (sum_test a ∷ []))
 
--- what an edit gives if only these two refusals are still possible
+-- what an edit gives if NoRoom and SumTooLarge are the only refusals that are still possible
 abbrev pub last_answer : List Row → After → Answer
 last_answer t a = answer (last_refusal a) t a

@@ -1,4 +1,4 @@
--- A hierarchy after everything that was done to it has been undone.
+-- What is true of a hierarchy after all edits to it have been undone.
 use Rattle.std.specs.Prelude.{◌≡◌, List}
 use Rattle.crush_model.specs.Table.{Row}
 use Rattle.crush_model.specs.Forest.{ForestData}

@@ -1,4 +1,4 @@
--- How the result of a call that applies a batch is related to what the batch gives for the table.
+-- Which results of a call that applies a batch are right, given what the batch does to the table.
 use Rattle.std.specs.Prelude.{◌≡◌, ℕ, ◌*◌, ◌≤◌, List}
 use Rattle.crush_model.specs.Table.{Row}
 use Rattle.crush_model.specs.Forest.{ForestData}
@@ -8,11 +8,11 @@ use Rattle.crush_edits.specs.declared.edit.Edit.{Edit}
 use Rattle.crush_edits.specs.Setting.{SettingData}
 use Rattle.crush_edits.specs.Batch.{BatchAnswer, batch_done, batch, batch_from}
 
--- the batch isn't refused, the counts d are those of what it did, and what was edited represents the table after it
+-- the batch isn't refused, d has the counts of what the batch did, and `stands` is true of the table after the batch
 abbrev pub IsBatchDone : (List Row → Type 0) → BatchAnswer → Dones → Type 0
 IsBatchDone stands a d = (u : List Row) × (a ≡ batch_done d u) × stands u
 
--- some of the edits es have been applied to the hierarchy f, which gave g and the counts d, and the edits in left remain: for every table that f represents, applying the rest to a table that g represents gives what the whole batch gives
+-- some of the edits es have been applied to the hierarchy f, which resulted in the hierarchy g and the counts d; the edits in `left` have not been applied yet. For every table t that f represents, g represents a table for which the edits in `left` give what all edits es give for t
 abbrev pub IsBegun : SettingData → List Edit → ForestData → List Edit → Dones → ForestData → Type 0
 IsBegun s es f left d g = (t : List Row) → Stands f t → (u : List Row) × (batch s t es ≡ batch_from s left d u) × Stands g u
 

@@ -10,7 +10,7 @@ use Rattle.crush_edits.specs.Located.{is_taken}
 use Rattle.crush_edits.specs.Stops.{StopData}
 use Rattle.crush_apply.specs.Destination.{DestinationData, Leads}
 
--- the table has the item i, the destination is the end of a route, and the bucket that receives is neither the item itself nor below it
+-- the table has the item i, the destination is right for the table, and the bucket that ends the route is neither the item i nor below it
 pub record CanMove (t : List Row) (i : ItemId) (to : DestinationData) : Type 0 where
   pub leads : Leads t to
   pub there : is_there t i ≡ true

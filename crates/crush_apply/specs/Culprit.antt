@@ -1,4 +1,4 @@
--- Which name in an edit a refusal of the edit is about.
+-- Which of the names in an edit a refusal of the edit is about.
 use Rattle.std.specs.Prelude.{ℕ, List, [], ◌∷◌, Option, Some, None, Bool, ◌||◌, if◌then◌else◌, is_none, unwrap_or, bytes_eq}
 use Rattle.std.specs.List.{list_any}
 use Rattle.std.specs.Option.{option_map, option_or}
@@ -22,7 +22,7 @@ first_name test name (p ∷ l) = if test p l then Some (name p) else first_name 
 abbrev pub is_wrong_type : SettingData → Pair → List Pair → Bool
 is_wrong_type s p l = is_type_zero s p || list_any (λ (q : Pair). bytes_eq q.kind p.kind) l
 
--- the name that makes a location bad: the first type name that is type 0's or that a later pair has too, otherwise the first bucket name that a later pair has too
+-- the name that makes a location bad: the first type name that is the name of type 0 or that occurs again in a later pair; if there is no such type name, the first bucket name that occurs again in a later pair
 abbrev pub bad_name : SettingData → List Pair → Option (List ℕ)
 bad_name s l = option_or (first_name (is_wrong_type s) (λ (p : Pair). p.kind) l) (first_name (λ (p : Pair) l. names_it l p.name) (λ (p : Pair). p.name) l)
 
@@ -34,7 +34,7 @@ unknown_type s l = first_name (λ (p : Pair) l. is_none (kind_number s p.kind)) 
 abbrev pub end_name : List Row → List StopData → Option (List ℕ)
 end_name t ps = option_map (λ (p : StopData). p.name) (end_stop t ps)
 
--- FOR AN EDIT WITH A LOCATION: the name in the location that is at fault, otherwise the item's name
+-- FOR AN EDIT WITH A LOCATION: the name in the location that is at fault, or the item's name if no name in the location is at fault
 abbrev pub put_culprit : SettingData → List Row → List ℕ → List Pair → Refusal → List ℕ
 put_culprit s t n l BadLocation = unwrap_or (bad_name s l) n
 put_culprit s t n l NoSuchType = unwrap_or (unknown_type s l) n
@@ -43,13 +43,13 @@ put_culprit s t n l WrongType = unwrap_or (end_name t (stops s l)) n
 put_culprit s t n l Loop = unwrap_or (end_name t (stops s l)) n
 put_culprit s t n l r = n
 
--- FOR A SWAP: for NoSuchItem the second name if the first is an item's; for NotABucket the second name if the first isn't a device's; otherwise the first name
+-- FOR A SWAP: the second name if only the second name is at fault, otherwise the first name. If the refusal is NoSuchItem, only the second name is at fault if an item has the first name. If the refusal is NotABucket, only the second name is at fault if the first name isn't the name of a device
 abbrev pub swap_culprit : List Row → List ℕ → List ℕ → Refusal → List ℕ
 swap_culprit t a b NoSuchItem = if is_named t a then b else a
 swap_culprit t a b NotABucket = if is_a_device (id_named t a) then a else b
 swap_culprit t a b r = a
 
--- FOR A NEW BUCKET: its type if the refusal is NoSuchType or WrongType, otherwise its name
+-- FOR A NEW BUCKET: the name of the bucket's type if the refusal is NoSuchType or WrongType, otherwise the name of the bucket
 abbrev pub bucket_culprit : List ℕ → List ℕ → Refusal → List ℕ
 bucket_culprit n kind NoSuchType = kind
 bucket_culprit n kind WrongType = kind
@@ -61,7 +61,7 @@ name_culprit from to NameTaken = to
 name_culprit from to AlreadyRenamed = to
 name_culprit from to r = from
 
--- THE NAME that a refusal of the edit is about; for an edit of a weight, a class or a removal it is the name of the item
+-- THE NAME that a refusal of the edit is about; for an edit that sets a weight, changes a class or removes an item, it is the name of the item
 abbrev pub culprit : SettingData → List Row → Edit → Refusal → List ℕ
 culprit s t (Insert d n w l) r = put_culprit s t n l r
 culprit s t (CreateOrMove d n w l) r = put_culprit s t n l r

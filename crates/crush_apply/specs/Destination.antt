@@ -10,23 +10,23 @@ use Rattle.crush_edits.specs.Located.{end_tests}
 use Rattle.crush_edits.specs.New.{IsRoute}
 use Rattle.crush_edits.specs.Stops.{StopData, fresh_stops, receiver}
 
--- the stops of a route, for how many of them a bucket is to be created, and the bucket that receives the new buckets, or the item if there are none; no receiver means the root
+-- the end of a route: the stops of the route (`stops`), how many of them need a new bucket (`fresh`), and the bucket that receives the uppermost new bucket (`receiver`). If no bucket is new, the receiver receives the item. If there is no receiver, the uppermost new bucket becomes a root
 pub record DestinationData : Type 0 where
   pub stops : List StopData
   pub fresh : ℕ
   pub receiver : Option ℕ
 
--- the tests of an item i that ends a route, at a pair whose type has the number k: the item is a device; its type has another number
+-- the tests of the item i, which ends a route at a stop whose type has the number k: whether the item is a device, and whether the number of its type isn't k
 abbrev pub end_item_tests : List Row → ℕ → ItemId → List (Refusal × Bool)
 end_item_tests t k i = (NotABucket, is_device_id i) ∷ ((WrongType, meets (λ n. not (n == k)) (kind_of t i)) ∷ [])
 
--- a bucket is to be created for k of the stops, b is the receiver, if there is one, and no test of the end of the route holds
+-- k of the stops need a new bucket, b is the receiver (None if there is no receiver), and no test of the end of the route gives a refusal
 pub record EndsAt (t : List Row) (ps : List StopData) (k : ℕ) (b : Option ℕ) : Type 0 where
   pub fresh : k ≡ length (fresh_stops t ps)
   pub receiver : b ≡ receiver t ps
   pub passes : first_refusal (end_tests t ps) ≡ None
 
--- the stops of the destination are a route, and its other parts are right for this table
+-- the destination is right for the table: its stops are a route, and `fresh` and `receiver` are right for these stops
 pub record Leads (t : List Row) (to : DestinationData) : Type 0 where
   pub route : IsRoute t to.stops
   pub fresh : to.fresh ≡ length (fresh_stops t to.stops)

@@ -1,4 +1,4 @@
--- New buckets, and when an item can be put at the end of a route.
+-- The new buckets of a route, and when an item can be put into the bucket of the route's first stop.
 use Rattle.std.specs.Prelude.{◌≡◌, ◌<◌, ◌++◌, ℕ, List, Option, Some, None, Result, IfOk, OnOk, OnErr, false, length, bytes_eq}
 use Rattle.std.specs.List.{count_by}
 use Rattle.crush_units.specs.declared.id.ItemId.TheVariants.{Device}
@@ -18,7 +18,7 @@ use Rattle.crush_edits.specs.Stops.{StopData}
 use Rattle.crush_apply.specs.declared.addition.Addition.{Addition}
 use Rattle.crush_apply.specs.UndoSteps.{UndoesAddition}
 
--- the place of the receiver: a bucket, or the root if there is none
+-- the place of the receiver: the receiver itself if there is one, and otherwise the list of roots
 abbrev pub place_at : Option ℕ → Place
 place_at None = Root
 place_at (Some b) = AtBucket b
@@ -27,17 +27,17 @@ place_at (Some b) = AtBucket b
 abbrev pub numbered : List Row → List StopData → List NewData
 numbered t ps = with_ids (free_ids t (length ps)) ps
 
--- these new buckets as one item, each in the next, with memory for one item each
+-- these new buckets as one item: each bucket is in the bucket of the next stop and has memory for one item, and the first bucket is empty
 abbrev pub new_boxes : List Row → List StopData → Items
 new_boxes t ps = boxes 1 none (numbered t ps)
 
--- the item of row r can be put at the end of a route with the weight w: the receiver is neither the item nor below it, and counts and sums are in range afterwards
+-- the item of the row r can be put into the bucket of the route's first stop, with the weight w: the bucket that ends the route is neither the item nor below it, and counts and sums are in range afterwards
 pub record CanPut (t : List Row) (r : Row) (w : ℕ) (ps : List StopData) : Type 0 where
   pub apart : IsApart t r.id ps
   pub room : has_too_many (put t (record r { weight = w }) ps) ≡ false
   pub light : is_too_heavy (put t (record r { weight = w }) ps) ≡ false
 
--- a device that the table doesn't have can be put at the end of a route: no row and no stop has its name, its row is valid, and counts and sums are in range afterwards
+-- a device that the table doesn't have can be put into the bucket of the route's first stop: no row and no stop has the name of the device, its row is valid, and counts and sums are in range afterwards
 pub record CanPutNew (t : List Row) (d : LeafData) (ps : List StopData) : Type 0 where
   pub gone : is_there t (Device d.id) ≡ false
   pub unnamed : is_named t d.name ≡ false
@@ -46,7 +46,7 @@ pub record CanPutNew (t : List Row) (d : LeafData) (ps : List StopData) : Type 0
   pub room : has_too_many (put t (device_row None d) ps) ≡ false
   pub light : is_too_heavy (put t (device_row None d) ps) ≡ false
 
--- the call has added rows to the forest and returned a bucket with room for an item. For every table t that the old forest represents: the bucket is which t, and the new forest represents t followed by the rows more t. The addition can be undone, and after an Err nothing has changed
+-- If the call succeeds, it has added rows to the forest and returned a bucket that has room for an item. For every table t that the old forest represents, this bucket is `which t`, and the new forest represents the table t followed by the rows `more t`. The returned addition can be undone. If the call fails, nothing has changed
 pub record MakesRoom {A E : Type 0} (more : List Row → List Row) (which : List Row → Option ℕ) (old new : ForestData) (answer : Result (ℕ × Addition A) E) : Type 0 where
   pub next : IfOk answer (λ z. (t : List Row) → Stands old t → which t ≡ Some z.0)
   pub stands : OnOk answer ((t : List Row) → Stands old t → Stands new (t ++ more t))

@@ -1,4 +1,4 @@
--- How contracts see the stops of a route in the code, which refer to the pairs of their location.
+-- How contracts see the stops of a route. In the code, a stop refers to a pair of the location by the pair's index.
 use Rattle.std.specs.Prelude.{ℕ, zero, suc, ◌<◌, List, [], ◌∷◌, map, insert, nat_le, length}
 use Rattle.std.specs.List.{position_or_len}
 use Rattle.crush_edits.specs.declared.location.Pair.{Pair}
@@ -15,14 +15,14 @@ pair_name (p ∷ l) (suc k) = pair_name l k
 abbrev pub stop_data : List Pair → Stop → StopData
 stop_data l x = record { kind = x.kind; name = pair_name l x.pair }
 
--- the same for each of several stops
+-- several stops, each with the name of its pair instead of the pair's index
 abbrev pub stops_data : List Pair → List Stop → List StopData
 stops_data l xs = map (stop_data l) xs
 
--- the index of the stop's pair is one of the location's
+-- the pair's index in the stop is the index of a pair of the location
 abbrev pub IsPairOf : List Pair → Stop → Type 0
 IsPairOf l x = x.pair < length l
 
--- the stops with one more, inserted before the first whose type number is not less
+-- the stops after one more stop was inserted, before the first stop whose type number is at least that of the inserted stop
 abbrev pub put_stop : Stop → List Stop → List Stop
 put_stop p xs = insert xs (position_or_len (λ (q : Stop). nat_le p.kind q.kind) xs) p

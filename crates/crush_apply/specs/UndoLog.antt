@@ -1,4 +1,4 @@
--- The undo log of a batch that is applied in place: what undoing one of its entries makes of a forest.
+-- The undo log of a batch. The definitions say which forest results when an entry of the log is used to undo an edit. In all of them, undoing an edit in the forest g results in the forest f.
 use Rattle.std.specs.Prelude.{◌≡◌, ℕ, ◌≤◌, List, [], ◌∷◌, Option, Some, None, Result, Ok, Err, IfOk, Bool, true, false}
 use Rattle.crush_units.specs.declared.id.ItemId.TheVariants.{Device, Bucket}
 use Rattle.crush_units.specs.declared.limits.TheConstants.{HEAVIEST_DEVICE}
@@ -22,39 +22,39 @@ use Rattle.crush_apply.specs.declared.undo_log.Undo.TheVariants.{Weight, Class, 
 use Rattle.crush_apply.specs.Answered.{AnswersAs, Makes}
 use Rattle.crush_apply.specs.UndoSteps.{UndoesAddition, Returns}
 
--- giving the device d of the forest g the weight w gives f; d is in a bucket, w is in range, and so are the sums afterwards
+-- if the device d of the forest g gets the weight w, the result is f; the device is in a bucket, and the weight w and the sums after the change are in range
 pub record GivesWeight (d w : ℕ) (g f : ForestData) : Type 0 where
   pub placed : is_placed (rows_of g) (Device d) ≡ true
   pub light : w ≤ HEAVIEST_DEVICE
   pub fits : is_too_heavy (set_weight (Device d) w (rows_of g)) ≡ false
   pub is : f ≡ forest_with_weight d w g
 
--- giving the device d of the forest g this class, or none, gives f
+-- if the device d of the forest g gets this class, or loses its class if None is given, the result is f
 pub record GivesClass (d : ℕ) (class : Option (List ℕ)) (g f : ForestData) : Type 0 where
   pub there : is_there (rows_of g) (Device d) ≡ true
   pub is : f ≡ forest_with_class d class g
 
--- giving the devices below the bucket b of the forest g the weights ws gives f
+-- if the devices below the bucket b of the forest g get the weights ws, the result is f
 pub record GivesWeights (b : ℕ) (ws : List ℕ) (g f : ForestData) : Type 0 where
   pub can : CanGiveWeights b ws g
   pub is : f ≡ forest_with_weights b ws g
 
--- swapping the buckets a and b of the forest g gives f
+-- if the buckets a and b of the forest g are swapped, the result is f
 pub record GivesSwap (a b : ℕ) (g f : ForestData) : Type 0 where
   pub can : CanSwap a b g
   pub is : f ≡ forest_swapped a b g
 
--- putting the removed item back into the forest g gives f
+-- if the removed item is put back into the forest g, the result is f
 pub record ComesBack {A : Type 0} (removed : RemovedItem A) (g f : ForestData) : Type 0 where
   pub can : CanRestore removed g
   pub is : f ≡ forest_restored removed g
 
--- giving the bucket b of the forest g its old name back gives f
+-- if the bucket b of the forest g gets back its old name, the result is f
 pub record GivesName {A : Type 0} (b : ℕ) (old : OldName A) (g f : ForestData) : Type 0 where
   pub can : CanRestoreName (Bucket b) old g
   pub is : f ≡ forest_with_name (Bucket b) old.name g
 
--- undoing the edit that made g gives exactly the forest f: the same items in the same order, with the same memory
+-- if the entry is used to undo an edit in the forest g, the result is exactly the forest f: the same items in the same order, with the same memory
 abbrev pub Undoes : {A : Type 0} → Undo A → ForestData → ForestData → Type 0
 Undoes (Weight d w) g f = GivesWeight d w g f
 Undoes (Class d class) g f = GivesClass d class g f
@@ -65,12 +65,12 @@ Undoes (Renamed b old) g f = GivesName b old g f
 Undoes (Arrived addition) g f = UndoesAddition addition g f
 Undoes (Moved old_stand addition) g f = Returns old_stand addition g f
 
--- the same if there may be nothing to undo: then g is f
+-- the same for an entry that may be missing: without an entry, g is f
 abbrev pub UndoesAny : {A : Type 0} → Option (Undo A) → ForestData → ForestData → Type 0
 UndoesAny None g f = g ≡ f
 UndoesAny (Some undo) g f = Undoes undo g f
 
--- undoing all entries of a log in the forest g gives f: the last entry of the list is undone first, the head of the list last
+-- if all entries of a log are undone in the forest g, beginning with the last entry, the result is f
 abbrev pub RollsBack : {A : Type 0} → List (Undo A) → ForestData → ForestData → Type 0
 RollsBack [] g f = g ≡ f
 RollsBack (undo ∷ log) g f = (e : ForestData) × RollsBack log g e × Undoes undo e f
@@ -83,22 +83,22 @@ CanUndo undo g = (f : ForestData) × Undoes undo g f
 abbrev pub CanRollBack : {A : Type 0} → List (Undo A) → ForestData → Type 0
 CanRollBack log g = (f : ForestData) × RollsBack log g f
 
--- an entry that may be missing, as a list of one or none
+-- the list that has only this entry, or the empty list if the entry is missing
 abbrev pub as_list : {A : Type 0} → Option (Undo A) → List (Undo A)
 as_list None = []
 as_list (Some undo) = undo ∷ []
 
--- the result of an edit, without what undoes it
+-- the result of an edit, without the entry for the undo log
 abbrev pub done_alone : {A : Type 0} → Result (Done × Option (Undo A)) EditFault → Result Done EditFault
 done_alone (Ok x) = Ok x.0
 done_alone (Err e) = Err e
 
--- the result x is right for what the edit gives (AnswersAs), and undoing the edit in g gives f
+-- the result x is right, as AnswersAs defines it, and undoing the edit in g with the returned entry results in f
 pub record AnswersLogged {A : Type 0} (a : List Row → Answer) (f g : ForestData) (x : Result (Done × Option (Undo A)) EditFault) : Type 0 where
   pub answers : AnswersAs a f g (done_alone x)
   pub logged : IfOk x (λ z. UndoesAny z.1 g f)
 
--- the same for a call that returns what undoes the edit only if logged is true. Then it may run out of memory whatever the edit gives. If logged is false, it runs out of memory only if takes is true
+-- the same for a call that returns the entry for the undo log only if `logged` is true. If `logged` is true, the call may run out of memory whatever the edit gives for the table. If `logged` is false, the call runs out of memory only if `takes` is true
 pub record AnswersLoggedIf {A : Type 0} (logged takes : Bool) (a : List Row → Answer) (f g : ForestData) (x : Result (Done × Option (Undo A)) EditFault) : Type 0 where
   pub makes : Makes a f g (done_alone x)
   pub exact : logged ≡ false → AnswersAs a f g (done_alone x)

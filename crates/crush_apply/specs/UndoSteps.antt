@@ -1,4 +1,4 @@
--- What undoing an addition or a move makes of a forest.
+-- Which forest results when an addition or a move is undone. In all definitions, the step is made in the forest g and results in the forest f.
 use Rattle.std.specs.Prelude.{◌≡◌, true, Option, Some, None, Vec, vec_capacity}
 use Rattle.crush_units.specs.declared.id.ItemId.{ItemId}
 use Rattle.crush_model.specs.Forest.{ForestData, rows_of}
@@ -11,38 +11,38 @@ use Rattle.crush_hierarchy.specs.Back.{item_moved_back, CanMoveBack}
 use Rattle.crush_apply.specs.declared.addition.Addition.{Addition}
 use Rattle.crush_apply.specs.declared.old_stand.OldStand.{OldStand}
 
--- giving the place p of the forest g another vector for its items gives f
+-- if the items of the place p of the forest g are moved to the vector `items`, the result is f
 pub record GetsMemory {A : Type 0} (p : Place) (items : Vec (Node A) A) (g f : ForestData) : Type 0 where
   pub can : CanReplaceBuffer p items g
   pub is : f ≡ forest_with_capacity p (vec_capacity items) g
 
--- removing the item i from the forest g gives f
+-- if the item i is removed from the forest g, the result is f
 pub record Leaves (i : ItemId) (g f : ForestData) : Type 0 where
   pub there : is_there (rows_of g) i ≡ true
   pub is : f ≡ forest_without i g
 
--- putting a moved item of the forest g back to its old position, with its old weight, gives f
+-- if an item of the forest g that was moved is put back to its old place and position, with its old weight, the result is f
 pub record GoesBack (s : OldStand) (g f : ForestData) : Type 0 where
   pub can : CanMoveBack s.item s.stand.place s.stand.position (Some s.weight) g
   pub is : f ≡ item_moved_back s.item s.stand.place s.stand.position (Some s.weight) g
 
--- GetsMemory if there is a vector; if there is none, g is f
+-- GetsMemory if there is a vector; if there is no vector, g equals f
 abbrev pub GetsAnyMemory : {A : Type 0} → Place → Option (Vec (Node A) A) → ForestData → ForestData → Type 0
 GetsAnyMemory p None g f = g ≡ f
 GetsAnyMemory p (Some items) g f = GetsMemory p items g f
 
--- Leaves if there is an item; if there is none, g is f
+-- Leaves if there is an item; if there is no item, g equals f
 abbrev pub LeavesAny : Option ItemId → ForestData → ForestData → Type 0
 LeavesAny None g f = g ≡ f
 LeavesAny (Some i) g f = Leaves i g f
 
--- undoing an addition in the forest g gives f: first the item is removed, then the place gets its old vector back
+-- if an addition is undone in the forest g, the result is f: first the item, if there is one, is removed, and then the place gets back its old vector, if the vector was replaced
 pub record UndoesAddition {A : Type 0} (c : Addition A) (g f : ForestData) : Type 0 where
   pub without : ForestData
   pub leaves : LeavesAny c.item g without
   pub memory : GetsAnyMemory c.place c.memory without f
 
--- undoing a move in the forest g gives f: first the item is put back, then what was added before the move is removed
+-- if a move is undone in the forest g, the result is f: first the item is put back, and then the addition that was made for the move is undone
 pub record Returns {A : Type 0} (s : OldStand) (c : Addition A) (g f : ForestData) : Type 0 where
   pub stood : ForestData
   pub back : GoesBack s g stood

@@ -1,4 +1,4 @@
-//! Applies `AddBucket`: creates an empty bucket at the root.
+//! Applies `AddBucket`: creates an empty bucket as a root.
 
 ghost use Rattle.std.specs.Prelude.{◌≡◌, List, Some, [], ◌∷◌, IfOk, IfErr};
 ghost use Rattle.crush_model.specs.Table.{Row, free_ids};
@@ -20,7 +20,7 @@ use crush_units::limits::MOST_BUCKETS;
 use crush_units::{BucketId, Name, TypeId};
 use std::alloc::{Allocator, Global};
 
-/// Returns the number of the new bucket's type, or the refusal of the edit.
+/// Returns the number of the new bucket's type. If the edit must be refused, returns the refusal.
 fn check_add<A: Allocator>(
     hierarchy: &Hierarchy<A>,
     setting: &Setting,

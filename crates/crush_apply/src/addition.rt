@@ -1,4 +1,4 @@
-//! Adds new items to a place of the hierarchy, and removes them again when a batch is undone.
+//! Adds a new item to a place of the hierarchy, and removes the item again when a batch is undone.
 
 ghost use Rattle.std.specs.Prelude.{◌≡◌, ◌∷◌, [], IfOk};
 ghost use Rattle.crush_model.specs.Forest.{ForestData};
@@ -11,18 +11,18 @@ use crush_tree::{Node, Place};
 use crush_units::ItemId;
 use std::alloc::{AllocError, Allocator};
 
-/// An item that was added at the end of a place's items, or only room that was made for one.
+/// What was added to a place: an item at the end, or only room for one more item.
 #[derive(Drop)]
 pub(crate) struct Addition<A: Allocator> {
     pub(crate) place: Place,
-    /// The item, or `None` if only room was made.
+    /// The item, or `None` if only room was added.
     pub(crate) item: Option<ItemId>,
-    /// The vector that held the items of the place before, if it was full and a larger one has
-    /// replaced it.
+    /// The old vector of the place, if it was full and a larger vector has replaced it. Otherwise
+    /// `None`.
     pub(crate) memory: Option<Vec<Node<A>, A>>,
 }
 
-/// Adds a new item at the end of a place's items. After an error the hierarchy is unchanged.
+/// Adds a new item at the end of a place. After an error the hierarchy is unchanged.
 pub(crate) fn add_logged<A: Allocator + Clone>(
     hierarchy: &mut Hierarchy<A>,
     place: Place,
@@ -46,7 +46,8 @@ pub(crate) fn add_logged<A: Allocator + Clone>(
     })
 }
 
-/// Undoes an addition: removes the item, and gives the place its old vector back.
+/// Undoes an addition: removes the item if one was added, and gives the place its old vector back
+/// if the vector was replaced.
 pub(crate) fn undo_addition<A: Allocator>(hierarchy: &mut Hierarchy<A>, addition: Addition<A>)
     requires { CanUndoAddition addition hierarchy.old }
     ensures { (f : ForestData) → UndoesAddition addition hierarchy.old f → hierarchy.new ≡ f }

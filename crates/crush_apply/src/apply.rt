@@ -1,4 +1,4 @@
-//! Applies one edit, of whichever kind, by the function for its kind.
+//! Applies one edit, by calling the function for the kind of the edit.
 
 ghost use Rattle.std.specs.Prelude.{◌≡◌, ℕ, List, IfOk, OnErr, true, false};
 ghost use Rattle.crush_model.specs.Table.{Row};
@@ -33,11 +33,11 @@ use std::alloc::Allocator;
 
 /// Applies an edit to a hierarchy, and returns what the edit has done.
 ///
-/// The setting must fit the hierarchy: it is valid and has the types of all buckets, and the
-/// hierarchy has all buckets that its rules take. It still fits afterwards.
+/// The setting must fit the hierarchy: the setting is valid and has the types of all buckets, and
+/// the hierarchy has all buckets that the setting's rules take. The setting still fits afterwards.
 ///
-/// Fails with `Refused` if there is a reason to refuse the edit; if there are several, the error
-/// has the one with the lowest number. Fails with `OutOfMemory` only if there is no reason to
+/// Fails with `Refused` if there is a reason to refuse the edit; if there are several reasons, the
+/// error has the one with the lowest number. Fails with `OutOfMemory` only if there is no reason to
 /// refuse the edit and the edit would change something, and never for `Reweight`,
 /// `ReweightSubtree`, `Swap`, `Remove` and `RemoveClass`. The hierarchy is unchanged after an
 /// error, and if the edit changes nothing.
@@ -65,9 +65,10 @@ pub fn apply_edit<A: Allocator + Clone>(
     done_alone(make(hierarchy, setting, requested, false))
 }
 
-/// Gives the proofs what the types of an edit's parts guarantee: ids in range and valid names.
+/// Gives a proof what the types of an edit's parts guarantee: the ids are in range, and the names
+/// are valid.
 ///
-/// It only reads each part once, and has no effect.
+/// The function reads each part once, and changes nothing.
 pub(crate) fn recall_forms(requested: &Edit)
     ensures { IsEdit requested.now }
 {
@@ -110,7 +111,7 @@ pub(crate) fn recall_forms(requested: &Edit)
     }
 }
 
-/// Returns how an edit that puts a device treats one that is in a bucket already.
+/// Returns what an edit that puts a device does with a device that is already in a bucket.
 fn if_placed(requested: &Edit) -> IfPlaced
     ensures insert { (d : ℕ) (n : List ℕ) (w : ℕ) (l : List Pair)
         → requested.now ≡ Insert d n w l → result ≡ Refuse }
@@ -126,10 +127,11 @@ fn if_placed(requested: &Edit) -> IfPlaced
     }
 }
 
-/// Applies an edit, and returns what undoes it.
+/// Applies an edit. Returns what the edit has done, and an entry for the undo log that can undo the
+/// edit.
 ///
-/// Without `logged` it may return nothing that undoes the edit. With `logged` it may also run out
-/// of memory for that, even if the edit would be refused.
+/// If `logged` is false, the entry may be missing. If `logged` is true, the call may fail because
+/// there is no memory for the entry, even if the edit would be refused.
 pub(crate) fn make<A: Allocator + Clone>(
     hierarchy: &mut Hierarchy<A>,
     setting: &Setting,

@@ -1,4 +1,4 @@
-//! Applies a batch: all of its edits, or none.
+//! Applies a batch of edits: either all of them, or none.
 
 ghost use Rattle.std.specs.Prelude.{◌≡◌, ℕ, ◌+◌, ◌*◌, ◌<◌, ◌≤◌, ◌++◌, List, [], length, IfOk, OnOk, OnErr, vec_len, vec_capacity};
 ghost use Rattle.crush_units.specs.declared.limits.TheConstants.{MOST_EDITS};
@@ -24,13 +24,15 @@ use std::alloc::{AllocError, Allocator};
 /// Applies all edits of a batch, or none of them, and returns what they have done.
 ///
 /// There must be at most 65,536 edits, and the setting must fit the hierarchy, as for `apply_edit`.
-/// Each edit is applied to what the edits before it have left.
+/// Each edit is applied to the hierarchy as the edits before it have changed it.
 ///
-/// Fails with `Refused` if an edit is refused, with the index of the first such edit, from 0. Fails
-/// with `OutOfMemory` if memory runs out first; then a refusal of that edit or of a later one goes
-/// unreported. The hierarchy is unchanged after an error.
+/// If an edit is refused, fails with `Refused`, which has the index of the first refused edit, from
+/// 0, and the refusal. If memory runs out before an edit is refused, fails with `OutOfMemory`. In
+/// this case no refusal is reported, even if the edit for which memory ran out, or a later edit,
+/// would be refused. The hierarchy is unchanged after an error.
 ///
-/// The edits are applied in place. If one fails, those before it are undone, last first.
+/// The edits change the hierarchy itself and not a copy. If an edit fails, the edits before it are
+/// undone, in the opposite order.
 pub fn apply_batch<A: Allocator + Clone>(
     hierarchy: &mut Hierarchy<A>,
     setting: &Setting,
@@ -73,9 +75,10 @@ fn new_log<A: Allocator + Clone>(
     Vec::with_capacity(hierarchy.allocator().clone()?, room)
 }
 
-/// Applies the edits in order until one fails, and logs what undoes each.
+/// Applies the edits in order until one fails. For each edit, appends an entry to the log that can
+/// undo the edit.
 ///
-/// The last edit isn't logged: no edit follows it that could fail, so it is never undone.
+/// The last edit isn't logged: no other edit can fail after it, so it never has to be undone.
 fn make_all<A: Allocator + Clone>(
     hierarchy: &mut Hierarchy<A>,
     setting: &Setting,
@@ -112,7 +115,7 @@ fn make_all<A: Allocator + Clone>(
     Ok(dones)
 }
 
-/// Applies one edit, and logs what undoes it if the log has room.
+/// Applies one edit. If the log has room, appends an entry to it that can undo the edit.
 fn apply_logged<A: Allocator + Clone>(
     hierarchy: &mut Hierarchy<A>,
     setting: &Setting,
@@ -141,7 +144,7 @@ fn apply_logged<A: Allocator + Clone>(
     Ok(done)
 }
 
-/// Appends an entry to the log, if there is one and the log has room. Never allocates.
+/// Appends an entry to the log, if there is an entry and the log has room for it. Never allocates.
 fn log_undo<A: Allocator>(log: &mut Vec<Undo<A>, A>, undo: Option<Undo<A>>)
     ensures items { vec_len log.old < vec_capacity log.old
         → log.new.items ≡ log.old.items ++ as_list undo }
@@ -156,7 +159,8 @@ fn log_undo<A: Allocator>(log: &mut Vec<Undo<A>, A>, undo: Option<Undo<A>>)
     }
 }
 
-/// Returns the counts of a batch after one more edit. The bounds keep the sums in range.
+/// Returns the counts of a batch after one more edit. The contract requires bounds on the counts,
+/// so that adding to them can't overflow.
 fn with_done(dones: Dones, done: Done) -> Dones
     requires edits { dones.edits < MOST_EDITS }
     requires changed { dones.changed ≤ dones.edits }

@@ -16,7 +16,8 @@ use crush_hierarchy::Hierarchy;
 use crush_units::{DeviceId, ItemId, Name};
 use std::alloc::{Allocator, Global};
 
-/// Returns the device whose class is to be removed, or the refusal of the edit.
+/// Returns the device whose class is to be removed. If the edit must be refused, returns the
+/// refusal.
 fn check_remove_class<A: Allocator>(
     hierarchy: &Hierarchy<A>,
     name: &Name<Global>,
@@ -35,8 +36,8 @@ fn check_remove_class<A: Allocator>(
     Ok(device)
 }
 
-/// Returns the device that is to get the class, or `None` if it has that class already, or the
-/// refusal of the edit.
+/// Returns the device that is to get the class, or `None` if the device already has this class. If
+/// the edit must be refused, returns the refusal.
 fn check_set_class<A: Allocator>(
     hierarchy: &Hierarchy<A>,
     name: &Name<Global>,

@@ -1,4 +1,5 @@
-//! Finds which name in an edit a refusal is about, so that a message can show it.
+//! Finds the *culprit* of a refusal: the name in the refused edit that the refusal is about. A
+//! message can show this name.
 
 ghost use Rattle.std.specs.Prelude.{◌≡◌, List};
 ghost use Rattle.crush_model.specs.Stands.{Stands};
@@ -12,10 +13,11 @@ use crush_hierarchy::Hierarchy;
 use crush_units::{ItemId, Name};
 use std::alloc::{Allocator, Global};
 
-/// Returns the name in an edit that a refusal of the edit is about.
+/// Returns the name that a refusal is about. The name is one of the names in the refused edit.
 ///
-/// It is the type, bucket or other name that is at fault. If there is none, it is the name of the
-/// item that the edit is for. `hierarchy` and `setting` are those for which the edit was refused.
+/// If the name of a type, of a bucket or of another item is at fault, the result is this name. If
+/// no name is at fault, the result is the name of the item that the edit is for. `hierarchy` and
+/// `setting` must be those to which the edit couldn't be applied.
 pub fn culprit<'a, A: Allocator>(
     hierarchy: &Hierarchy<A>,
     setting: &Setting,
@@ -41,7 +43,7 @@ pub fn culprit<'a, A: Allocator>(
     }
 }
 
-/// The culprit for an edit with a location.
+/// Returns the culprit of an edit that has a location.
 fn put_culprit<'a, A: Allocator>(
     hierarchy: &Hierarchy<A>,
     setting: &Setting,
@@ -66,7 +68,8 @@ fn put_culprit<'a, A: Allocator>(
     }
 }
 
-/// The culprit for a swap: the second name if only that is at fault, otherwise the first.
+/// Returns the culprit of a swap: the second name if only the second name is at fault, and
+/// otherwise the first name.
 fn swap_culprit<'a, A: Allocator>(
     hierarchy: &Hierarchy<A>,
     a: &'a Name<Global>,
@@ -99,7 +102,8 @@ fn is_device<A: Allocator>(hierarchy: &Hierarchy<A>, name: &Name<Global>) -> boo
     }
 }
 
-/// The culprit for a new bucket: its type if that is unknown or type 0, otherwise its name.
+/// Returns the culprit of an edit that adds a bucket: the name of the bucket's type if the type is
+/// unknown or is type 0, and otherwise the name of the bucket.
 fn bucket_culprit<'a>(
     name: &'a Name<Global>,
     kind: &'a Name<Global>,
@@ -113,7 +117,8 @@ fn bucket_culprit<'a>(
     }
 }
 
-/// The culprit for a rename: the new name if the map has it, otherwise the old one.
+/// Returns the culprit of a rename: the new name if the refusal is `NameTaken` or `AlreadyRenamed`,
+/// and otherwise the old name.
 fn name_culprit<'a>(
     from: &'a Name<Global>,
     to: &'a Name<Global>,

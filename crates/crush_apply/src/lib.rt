@@ -1,8 +1,10 @@
-//! Applies edits to the hierarchy of a map: [`apply_edit`] applies one, [`apply_batch`] several or
-//! none. [`culprit`] finds the name that is to blame for a refusal. `crush_map` calls all three.
+//! Applies edits to the hierarchy of a map. [`apply_edit`] applies one edit. [`apply_batch`]
+//! applies all edits of a batch, or none of them. [`culprit`] finds the name that a refusal is
+//! about. `crush_map` calls these three functions.
 //!
-//! What an edit does to the table of a map is defined in `crush_edits`; read its `specs/Edit.antt`
-//! first. `specs/Answered.antt` and `specs/Batched.antt` relate the results of calls to it.
+//! `crush_edits` defines what an edit does to the table of a map; read its `specs/Edit.antt` first.
+//! `specs/Answered.antt` and `specs/Batched.antt` then say how the result of a call follows from
+//! what the edit does to the table.
 #![tactic(auto)]
 
 mod add_bucket;

@@ -10,7 +10,7 @@ use crush_tree::Stand;
 use crush_units::{BucketId, ItemId, Weight};
 use std::alloc::Allocator;
 
-/// Where an item was before it moved, and its weight then.
+/// The place and position that an item had before it was moved, and the weight that it had.
 #[derive(Clone, Copy)]
 pub(crate) struct OldStand {
     item: ItemId,
@@ -18,10 +18,11 @@ pub(crate) struct OldStand {
     weight: Weight,
 }
 
-/// Moves an item to the end of a bucket's items, and returns where it was.
+/// Moves an item to the end of a bucket, and returns the place, the position and the weight that
+/// the item had before.
 ///
-/// The bucket must have room, so that nothing is allocated. A device also gets the weight, if one
-/// is given.
+/// The bucket must have room, so that nothing is allocated. If `weight` is `Some` and the item is a
+/// device, the device gets this weight.
 pub(crate) fn move_into<A: Allocator>(
     hierarchy: &mut Hierarchy<A>,
     id: ItemId,
@@ -42,7 +43,7 @@ pub(crate) fn move_into<A: Allocator>(
     }
 }
 
-/// Undoes [`move_into`]: puts the item back to its old position, with its old weight.
+/// Undoes [`move_into`]: puts the item back to its old place and position, with its old weight.
 pub(crate) fn move_back<A: Allocator>(hierarchy: &mut Hierarchy<A>, old_stand: OldStand)
     requires { CanGoBack old_stand hierarchy.old }
     ensures { (f : ForestData) → GoesBack old_stand hierarchy.old f → hierarchy.new ≡ f }

@@ -20,7 +20,7 @@ use crush_hierarchy::Hierarchy;
 use crush_units::{DeviceId, ItemId, Weight};
 use std::alloc::Allocator;
 
-/// How an edit treats a device that is in a bucket already.
+/// What an edit does with a device that is already in a bucket.
 #[derive(Clone, Copy)]
 pub(crate) enum IfPlaced {
     /// `Insert`: the edit is refused.
@@ -31,7 +31,7 @@ pub(crate) enum IfPlaced {
     SetWeight,
 }
 
-/// Applies one of the three edits, which `how` selects.
+/// Applies `Insert`, `CreateOrMove` or `Update`, as `how` says.
 pub(crate) fn place<A: Allocator + Clone>(
     hierarchy: &mut Hierarchy<A>,
     setting: &Setting,
@@ -57,7 +57,7 @@ pub(crate) fn place<A: Allocator + Clone>(
     place_device(hierarchy, &coming, &to)
 }
 
-/// Whether the edit is refused because the device is in a bucket already.
+/// Whether the edit is refused because the device is already in a bucket.
 fn is_barred<A: Allocator>(hierarchy: &Hierarchy<A>, how: IfPlaced, device: DeviceId) -> bool
     ensures { (t : List Row) → Stands hierarchy.now t → result ≡ is_barred how t device }
 {
@@ -68,8 +68,8 @@ fn is_barred<A: Allocator>(hierarchy: &Hierarchy<A>, how: IfPlaced, device: Devi
     }
 }
 
-/// Applies the edit to a device that the location's lowest bucket already holds: at most sets its
-/// weight.
+/// Applies the edit to a device that is already in the location's bucket of the lowest type. The
+/// device isn't moved; `Update` may change its weight.
 fn stay<A: Allocator>(
     hierarchy: &mut Hierarchy<A>,
     how: IfPlaced,
@@ -89,7 +89,7 @@ fn stay<A: Allocator>(
     Ok((done, None))
 }
 
-/// Returns the weight that the device gets at the location.
+/// Returns the weight that the device has after it is put at the location.
 fn coming_weight<A: Allocator>(
     hierarchy: &Hierarchy<A>,
     how: IfPlaced,
@@ -108,7 +108,7 @@ fn coming_weight<A: Allocator>(
     }
 }
 
-/// Returns the device's own weight if it is in a bucket, otherwise the given weight.
+/// Returns the weight that the device has if it is in a bucket, and the given weight otherwise.
 fn kept_weight<A: Allocator>(hierarchy: &Hierarchy<A>, device: DeviceId, weight: Weight) -> Weight
     requires { weight ≤ HEAVIEST_DEVICE }
     ensures kept { (t : List Row) → Stands hierarchy.now t → result ≡ kept_weight t device weight }

@@ -30,7 +30,7 @@ fn holds_items<A: Allocator>(hierarchy: &Hierarchy<A>, bucket: BucketId) -> bool
     !items.is_empty()
 }
 
-/// Returns the item that is to be removed, or the refusal of the edit.
+/// Returns the item that is to be removed. If the edit must be refused, returns the refusal.
 fn check_remove<A: Allocator>(
     hierarchy: &Hierarchy<A>,
     setting: &Setting,
@@ -58,7 +58,8 @@ fn check_remove<A: Allocator>(
     Ok(id)
 }
 
-/// Removes the item. With `logged` the item is kept, so that it can be put back.
+/// Removes the item. If `logged` is true, the item is kept in the entry for the undo log, so that
+/// it can be put back.
 pub(crate) fn remove<A: Allocator>(
     hierarchy: &mut Hierarchy<A>,
     setting: &Setting,

@@ -15,7 +15,7 @@ use crush_hierarchy::Hierarchy;
 use crush_units::{BucketId, ItemId, Name};
 use std::alloc::{Allocator, Global};
 
-/// Returns the bucket that is to be renamed, or the refusal of the edit.
+/// Returns the bucket that is to be renamed. If the edit must be refused, returns the refusal.
 fn check_rename<A: Allocator>(
     hierarchy: &Hierarchy<A>,
     from: &Name<Global>,

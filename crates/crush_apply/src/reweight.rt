@@ -17,7 +17,8 @@ use crush_hierarchy::Hierarchy;
 use crush_units::{DeviceId, ItemId, Name, Weight};
 use std::alloc::{Allocator, Global};
 
-/// Makes the tests that `Reweight` and `ReweightSubtree` have in common, and returns the item.
+/// Makes the tests that `Reweight` and `ReweightSubtree` have in common. Returns the item that has
+/// the name. If a test fails, returns the refusal.
 pub(crate) fn item_to_weigh<A: Allocator>(
     hierarchy: &Hierarchy<A>,
     name: &Name<Global>,
@@ -40,7 +41,8 @@ pub(crate) fn item_to_weigh<A: Allocator>(
     Ok(id)
 }
 
-/// Returns the device, or the refusal of the edit except for `SumTooLarge`.
+/// Returns the device that has the name. If the edit must be refused, returns the first refusal.
+/// The caller must still test for the refusal `SumTooLarge`.
 fn check_reweight<A: Allocator>(
     hierarchy: &Hierarchy<A>,
     name: &Name<Global>,

@@ -21,7 +21,8 @@ use crush_tree::weight_runs;
 use crush_units::{BucketId, ItemId, Name, Weight};
 use std::alloc::{AllocError, Allocator, Global};
 
-/// Returns the bucket, or the refusal of the edit except for `SumTooLarge`.
+/// Returns the bucket that has the name. If the edit must be refused, returns the first refusal.
+/// The caller must still test for the refusal `SumTooLarge`.
 fn check_subtree<A: Allocator>(
     hierarchy: &Hierarchy<A>,
     name: &Name<Global>,
@@ -39,7 +40,8 @@ fn check_subtree<A: Allocator>(
     Ok(bucket)
 }
 
-/// Sets the weights. With `logged` the old weights are kept, which needs memory.
+/// Sets the weights. If `logged` is true, the old weights are kept in the entry for the undo log,
+/// for which memory is allocated.
 pub(crate) fn reweight_subtree<A: Allocator + Clone>(
     hierarchy: &mut Hierarchy<A>,
     name: &Name<Global>,
@@ -63,7 +65,8 @@ pub(crate) fn reweight_subtree<A: Allocator + Clone>(
     Ok((done, undo))
 }
 
-/// Returns the weights of the devices below the bucket if `logged`, otherwise `None`.
+/// If `logged` is true, returns an undo entry with the weights that the devices below the bucket
+/// have now. Otherwise returns `None`.
 fn weights_below<A: Allocator + Clone>(
     hierarchy: &Hierarchy<A>,
     bucket: BucketId,

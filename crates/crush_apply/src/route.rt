@@ -1,10 +1,12 @@
-//! Follows a location to the bucket that it leads to, creates missing buckets, and puts an item
-//! there.
+//! Finds the bucket that a location names, creates missing buckets, and puts an item into the
+//! bucket of the location's lowest type.
 //!
-//! The pairs of a location, by ascending number of their types, are the *stops* of its *route*. The
-//! first stop whose name is in the map ends the route, and a bucket is created for each stop before
-//! it. `stops` and `destination` find the end of the route, `refusals` and `room` test whether the
-//! item can be put there, and `arrive`, `new_buckets` and `put` put it there.
+//! Each pair of a location has a type and the name of a bucket. The pairs, sorted by the numbers of
+//! their types, lowest first, are the *stops* of the *route*. The route ends at the first stop
+//! whose name is in the map. A bucket is created for each stop before this one, inside the bucket
+//! of the next stop, and the item is put into the bucket of the first stop. `stops` and
+//! `destination` find the stop that ends the route. `refusals` and `room` test whether the item can
+//! be put at the location. `arrive`, `new_buckets` and `put` then put the item there.
 
 mod arrive;
 mod culprit;
@@ -24,7 +26,8 @@ pub(crate) use new_buckets::empty_bucket;
 pub(crate) use refusals::{check_device, check_location};
 use std::alloc::Global;
 
-/// A device that an edit puts at a location, with what the edit says about it.
+/// A device that an edit puts at a location, with the name, the weight and the location that the
+/// edit gives.
 #[derive(Clone, Copy)]
 pub(crate) struct NewDevice<'a> {
     pub(crate) device: DeviceId,

@@ -15,7 +15,7 @@ use crush_hierarchy::Hierarchy;
 use crush_units::{BucketId, ItemId, Name};
 use std::alloc::{Allocator, Global};
 
-/// Returns the two buckets, or the refusal of the swap.
+/// Returns the two buckets. If the swap must be refused, returns the refusal.
 fn check_swap<A: Allocator>(
     hierarchy: &Hierarchy<A>,
     a: &Name<Global>,

@@ -1,4 +1,4 @@
-//! The undo log of a batch: an entry for each edit that was applied, which undoes it.
+//! The undo log of a batch. Its entries can undo the edits of the batch that were applied.
 
 ghost use Rattle.std.specs.Prelude.{◌≡◌};
 ghost use Rattle.crush_model.specs.Forest.{ForestData};
@@ -12,20 +12,21 @@ use crush_tree::WeightRun;
 use crush_units::{BucketId, DeviceId, ItemId, Name, Weight};
 use std::alloc::Allocator;
 
-/// What undoes an edit. Undoing allocates no memory, so it can't fail.
+/// An entry of the undo log, which says how one edit is undone. Undoing allocates no memory, so it
+/// can't fail.
 #[derive(Drop)]
 pub(crate) enum Undo<A: Allocator> {
-    /// The device gets its old weight back.
+    /// The device gets back its old weight.
     Weight {
         device: DeviceId,
         weight: Weight,
     },
-    /// The device gets its old class back, or none.
+    /// The device gets back its old class. If it had no class, its class is removed.
     Class {
         device: DeviceId,
         class: Option<Name<A>>,
     },
-    /// The devices below the bucket get their old weights back.
+    /// The devices below the bucket get back their old weights.
     Weights {
         bucket: BucketId,
         runs: Vec<WeightRun, A>,
@@ -39,23 +40,24 @@ pub(crate) enum Undo<A: Allocator> {
     Removed {
         removed: RemovedItem<A>,
     },
-    /// The bucket gets its old name back.
+    /// The bucket gets back its old name.
     Renamed {
         bucket: BucketId,
         old: OldName<A>,
     },
-    /// What was added is removed again.
+    /// The item that was added is removed again, together with the new buckets around it.
     Arrived {
         addition: Addition<A>,
     },
-    /// The moved item is put back, and then what was added before the move is removed.
+    /// The item that was moved is put back. Then the new buckets, or the room, that were added for
+    /// the move are removed.
     Moved {
         old_stand: OldStand,
         addition: Addition<A>,
     },
 }
 
-/// Returns the result of an edit without what undoes it.
+/// Returns the result of an edit without the entry for the undo log.
 pub(crate) fn done_alone<A: Allocator>(
     answer: Result<(Done, Option<Undo<A>>), EditFault>,
 ) -> Result<Done, EditFault>
@@ -94,7 +96,7 @@ fn undo_one<A: Allocator>(hierarchy: &mut Hierarchy<A>, undo: Undo<A>)
     }
 }
 
-/// Undoes all edits of the log, the last one first.
+/// Undoes all edits of the log, beginning with the last edit.
 pub(crate) fn roll_back<A: Allocator>(hierarchy: &mut Hierarchy<A>, mut log: Vec<Undo<A>, A>)
     requires { CanRollBack log.items hierarchy.old }
     ensures { (f : ForestData) → RollsBack log.items hierarchy.old f → hierarchy.new ≡ f }

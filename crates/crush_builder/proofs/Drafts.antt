@@ -1,4 +1,4 @@
--- A builder that is at one draft is at each with the same table.
+-- If a builder represents a draft, it also represents each draft that differs only in the order of the table's rows (`Same`).
 use Rattle.std.proofs.Common.{◌≡◌, ℕ, ◌<◌, ◌≤◌, false, List, [], refl, ap, sym, subst, ◌∙◌, arith}
 use Rattle.std.proofs.lemmas.List.Elements.{All-nil, All-weaker}
 use Rattle.crush_units.specs.declared.limits.TheConstants.{MOST_BUCKETS}
@@ -48,14 +48,14 @@ IsRoot-same t u b l e c = record {
   root = sym (parent_of-same t u e.rows l.ids (Bucket b)) ∙ c.root;
 }
 
--- the pending part goes with each table that is the same
+-- if the incomplete bucket is consistent with a table, it is also consistent with each table that is the same except for the order of its rows
 pub IsPending-same : (s : SettingData) (t u : List Row) (p : Pending) → Lawful t → Same t u → IsPending s t p → IsPending s u p
 IsPending-same s t u nothing l e c = tt
 IsPending-same s t u (begun k n) l e c = CanBegin-same s t u k n l e c
 IsPending-same s t u (numbered k n b cs) l e c = (CanBegin-same s t u k n l e c.0, CanNumber-same t u b cs e c.1)
 IsPending-same s t u (filling b) l e c = IsRoot-same t u b l e c
 
--- the builder is also at the draft with the same table in another order
+-- if the builder represents a draft, it also represents the draft whose table has the same rows in another order
 pub IsDraft-same : (b : BuilderData) (d : Draft) (u : List Row) → Same d.table u → IsDraft b d → IsDraft b (record d { table = u })
 IsDraft-same b d u e i = record {
   setting = i.setting;
@@ -67,7 +67,7 @@ IsDraft-same b d u e i = record {
   part = IsPending-same d.setting d.table u d.pending i.stands.lawful e i.part;
 }
 
--- what a builder at some draft keeps
+-- if a builder represents some draft, its invariant is true
 pub draft_fits : (b : BuilderData) (d : Draft) → IsDraft b d → BuilderFits b
 draft_fits b d i =
     let e : Same d.table (rows_of b.forest) = Same-sym (rows_of b.forest) d.table i.stands.same in
@@ -78,7 +78,7 @@ draft_fits b d i =
       few = subst (λ n. b.adjusted ≤ n) (held-same d.table (rows_of b.forest) e) (subst (λ n. n ≤ held_buckets d.table) (sym i.adjusted) i.few);
     }
 
--- a builder is at the draft of its own rows
+-- a builder represents the draft of its own rows
 pub own_is_draft : (b : BuilderData) → IsSound b.forest → BuilderFits b → IsDraft b (own_draft b)
 own_is_draft b sound keeps = record {
   setting = refl;
@@ -90,7 +90,7 @@ own_is_draft b sound keeps = record {
   part = keeps.part;
 }
 
--- what it keeps it keeps where its forest has other room
+-- the invariant is still true if another forest with the same items, but other capacities, replaces the builder's forest
 pub kept_fits : (b : BuilderData) (f : ForestData) → IsSound b.forest → IsSameForest f b.forest → BuilderFits b → BuilderFits (record b { forest = f })
 kept_fits b f sound same keeps =
     let is : rows_of b.forest ≡ rows_of f = sym (rows_of-copied b.forest f sound (ap (λ (x : ForestData). x.roots) same) (ap (λ (x : ForestData). x.unplaced) same)) in
@@ -100,7 +100,7 @@ kept_fits b f sound same keeps =
       few = subst (λ (t : List Row). b.adjusted ≤ held_buckets t) is keeps.few;
     }
 
--- a map without types and items is the empty draft
+-- a map without types and items represents the empty draft
 pub empty_is_draft : (s : SettingData) (f : ForestData) → s ≡ empty_draft.setting → IsSound f → rows_of f ≡ [] → IsDraft (record { setting = s; forest = f; pending = nothing; adjusted = 0 }) empty_draft
 empty_is_draft s f same sound rows = record {
   setting = same;

@@ -1,4 +1,4 @@
--- What a fault that a call returns says of the draft, and what follows if there is no fault.
+-- What a fault that a method returns says about the draft, and what follows if there is no fault.
 use Rattle.std.proofs.Common.{◌≡◌, Bool, true, false, List, [], ◌∷◌, refl, sym, subst, ◌∙◌}
 use Rattle.std.proofs.lemmas.Bool.{and_parts}
 use Rattle.std.specs.Prelude.{Option, Some, None, Result, Ok, Err, IfErr, IsErrAnd, is_some, not, ◌&&◌, if◌then◌else◌}
@@ -7,7 +7,7 @@ use Rattle.crush_builder.specs.declared.fault.BuildFault.{BuildFault}
 use Rattle.crush_builder.specs.declared.fault.BuildFault.TheVariants.{BadWeight, DuplicateId, DuplicateName, UnknownType, UnknownItem, SecondParent, UnknownBucketInRule, TooMany, SumTooLarge, OutOfMemory}
 use Rattle.crush_builder.specs.Faults.{fault_told, first_fault}
 
--- whether the fault is any other than out of memory; if a list has only such faults, the first one whose test holds is what `fault_told` says of it
+-- whether the fault is any fault except for OutOfMemory. If a list has only such faults, then `fault_told` of its first fault whose test is true is this fault itself
 abbrev is_told : BuildFault × Bool → Bool
 is_told p = is_some (fault_told p.0)
 
@@ -33,7 +33,7 @@ first_told (p ∷ ps) h f e = by_test p.1 e (first_told ps b.1 f) where
   by_test true e ih = let same : p.0 ≡ f = cc in sym (told_itself p.0 b.0) ∙ (λ i. fault_told (same i))
   by_test false e ih = ih e
 
--- if a list has no fault whose test holds, the first test fails, and the rest of the list has none either
+-- if no test of a list of faults holds, the first test fails, and no test of the rest of the list holds either
 pub passes : (f : BuildFault) (v : Bool) (ps : List (BuildFault × Bool)) → first_fault ((f, v) ∷ ps) ≡ None → (v ≡ false) × (first_fault ps ≡ None)
 passes f true ps h = absurd (let no : ◌≡◌ {A = Option BuildFault} (Some f) None = h in cc)
 passes f false ps h = (refl, h)
@@ -47,12 +47,12 @@ none_of_three f g h a b c e =
     let y = passes g b ((h, c) ∷ []) x.1 in
     (x.0, (y.0, (passes h c [] y.1).0))
 
--- out of memory that `?` passes on
+-- the error OutOfMemory, when `?` passes it on to the caller
 pub passed_on : {X : Type 0} (P : BuildFault → Type 0) (x : Result X BuildFault) → IsErrAnd x (λ e. e ≡ OutOfMemory) → P OutOfMemory → IfErr x P
 passed_on P (Err e) h p = subst P (sym h) p
 passed_on P (Ok d) h p = elim h [ ]
 
--- an item that is there and isn't open
+-- an item that is in the table and isn't the bucket that is being filled is in the table
 pub closed_there : (a b : Bool) → (a && not b) ≡ true → a ≡ true
 closed_there true b h = refl
 closed_there false b h = h

@@ -1,4 +1,4 @@
--- How many buckets another holds: no fewer after a step, and one more with each that is put into a bucket.
+-- How many buckets other buckets hold: no step makes this number smaller, and it grows by one when a bucket is put into a bucket.
 use Rattle.std.proofs.Common.{◌≡◌, ℕ, ◌+◌, ◌≤◌, Bool, true, false, List, [], ◌∷◌, ◌++◌, refl, ap, sym, ◌∙◌, arith, ⊎_elim}
 use Rattle.std.proofs.lemmas.List.Elements.{All-head, All-tail, All-weaker}
 use Rattle.std.proofs.lemmas.List.Sums.{sum_by_push, sum_by-cons}
@@ -40,7 +40,7 @@ held_few (r ∷ t) = omega (arith, one_held (is_bucket r) (is_some r.parent), he
 pub held_at_most : (t : List Row) → Lawful t → held_buckets t ≤ MOST_BUCKETS
 held_at_most t l = omega (arith, held_few t, l.buckets)
 
--- without a row that no bucket holds as many are left
+-- removing an item that no bucket holds doesn't reduce the number of held buckets
 left_held : (t : List Row) (i : ItemId) → All (λ (r : Row). same_id r.id i ≡ true → is_held r ≡ false) t → held_buckets t ≤ held_buckets (without_row i t)
 left_held [] i a = omega arith
 left_held (r ∷ t) i a = by_id (same_id r.id i) (All-head (λ (x : Row). same_id x.id i ≡ true → is_held x ≡ false) r t a) (left_held t i (All-tail (λ (x : Row). same_id x.id i ≡ true → is_held x ≡ false) r t a)) where
@@ -61,7 +61,7 @@ free_rows t i l root = All-weaker (λ (r : Row). row_of t r.id ≡ Some r) (λ (
       (λ p. absurd (let no : true ≡ false = sym same ∙ p.0 in cc))
       (same_id_tells r.id i)
 
--- an item that is put into a bucket is counted there, if it is a bucket, and its adjustment is no more
+-- the number grows by one for a bucket that is put into a bucket, and such a step adjusts at most one weight
 pub one_at_most : (b : Bool) → one_if b ≤ 1
 one_at_most true = omega arith
 one_at_most false = omega arith

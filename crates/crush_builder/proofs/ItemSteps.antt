@@ -41,7 +41,7 @@ use Rattle.crush_builder.specs.Building.{BuilderData, IsRoot, IsPending, IsDraft
 use Rattle.crush_edits.proofs.Edits.{some_row}
 use Rattle.crush_edits.proofs.FitLaws.{Fits-rows}
 
--- THE ROW of an item that is there: what holds of each row holds of it
+-- THE ROW of an item: what is true of each row of a table is true of the item's row
 holds_of_row : (P : Row → Type 0) (t : List Row) (i : ItemId) (r : Row) → All P t → row_of t i ≡ Some r → P r
 holds_of_row P [] i r a e = absurd (let no : ◌≡◌ {A = Option Row} None (Some r) = e in cc)
 holds_of_row P (x ∷ t) i r a e = by_id (same_id x.id i) e (holds_of_row P t i r (All-tail P x t a)) where
@@ -56,7 +56,7 @@ no_row (x ∷ t) i h = by_id (same_id x.id i) (sym (times-cons i x t) ∙ h) (no
   by_id true n ih = absurd (omega (arith, n))
   by_id false n ih = ih (omega (arith, n))
 
--- the rows of its id are that one
+-- the item's row is the only row with its id
 pub only_row : (t : List Row) (i : ItemId) (r : Row) → times i t ≤ 1 → row_of t i ≡ Some r → filter (λ (x : Row). same_id x.id i) t ≡ r ∷ []
 only_row [] i r h e = absurd (let no : ◌≡◌ {A = Option Row} None (Some r) = e in cc)
 only_row (x ∷ t) i r h e = by_id (same_id x.id i) (subst (λ n. n ≤ 1) (times-cons i x t) h) e (only_row t i r) where
@@ -65,11 +65,11 @@ only_row (x ∷ t) i r h e = by_id (same_id x.id i) (subst (λ n. n ≤ 1) (time
   by_id true n h ih = let same : x ≡ r = cc in λ k. same k ∷ no_row t i (omega (arith, n)) k
   by_id false n h ih = ih (omega (arith, n)) h
 
--- so the table after is the one that the laws of moves speak of
+-- so the table after the step is the one that the laws of moves describe: the row is moved to the end
 put_below-last : (k : ℕ) (i : ItemId) (w : ℕ) (t : List Row) (r : Row) → times i t ≤ 1 → row_of t i ≡ Some r → put_below k i w t ≡ without_row i t ++ placed_row k w r ∷ []
 put_below-last k i w t r h e = ap (λ xs. without_row i t ++ map (placed_row k w) xs) (only_row t i r h e)
 
--- A ROOT is below nothing, so it is no part of another item
+-- A ROOT is below nothing, so it isn't part of another item
 nothing_above : (t : List Row) → Lawful t → (k : ℕ) → parent_of t (Bucket k) ≡ None → above t (Bucket k) ≡ []
 nothing_above t l k h = above-parent t l (Bucket k) ∙ ap (λ o. then_up o (λ p. above t (Bucket p))) h
 
@@ -80,7 +80,7 @@ not_under t (Bucket b) k e = ap (member b) e
 pub is_no_part : (t : List Row) → Lawful t → (i : ItemId) (k : ℕ) → IsRoot t k → same_id (Bucket k) i ≡ false → is_part t i (Bucket k) ≡ false
 is_no_part t l i k root other = λ j. other j || not_under t i k (nothing_above t l k root.root) j
 
--- WHICH KIND of item: the rows of a device that was taken out are devices
+-- THE KIND of the item: if a device is taken out, the rows that are taken out are rows of devices
 part_id : (i : ItemId) (r : Row) → (as_root i r).id ≡ r.id
 part_id i r = by_id (same_id r.id i) where
   by_id : (b : Bool) → (if b then record r { parent = None } else r).id ≡ r.id
@@ -116,7 +116,7 @@ one_there : (b : Bool) (r : Row) → is_some (if b then Some r else None) ≡ tr
 one_there true r h = refl
 one_there false r h = h
 
--- THE MOVE: what attaching the item with its weight makes of the table is its row put last
+-- THE MOVE: attaching the item with its weight gives the table with its row at the end
 item_moved : (t : List Row) (i : ItemId) (k w : ℕ) (n : Items) (r : Row) → Lawful t → row_of t i ≡ Some r → is_part t i (Bucket k) ≡ false → IsOne n → Same (rows None n) (part i t)
     → Same (table_without i t ++ rows (Some k) (with_first_weight w n)) (without_row i t ++ placed_row k w r ∷ [])
 item_moved t i k w none r l e far one whole = absurd one
@@ -147,7 +147,7 @@ item_same t i k w n l there far one whole =
     let r = some_row t i there in
     subst (Same (table_without i t ++ rows (Some k) (with_first_weight w n))) (sym (put_below-last k i w t r.0 (l.ids i) r.1)) (item_moved t i k w n r.0 l r.1 far one whole)
 
--- what the item weighs then
+-- the weight that the item has in the bucket: w for a device, and its sum for a bucket
 pub weight_to_come : (t : List Row) (i : ItemId) (w : ℕ) (n : Items) → is_there t i ≡ true → IsOne n → Same (rows None n) (part i t) → weight_sum (with_first_weight w n) ≡ (if is_device_id i then w else weight_sum n)
 weight_to_come t i w none there one whole = absurd one
 weight_to_come t (Device x) w (device d none) there one whole = omega arith
@@ -161,13 +161,13 @@ weight_to_come t i w (device d (bucket h v m kids rest)) there one whole = absur
 weight_to_come t i w (bucket h v m kids (device f rest)) there one whole = absurd one
 weight_to_come t i w (bucket h v m kids (bucket g u o more rest)) there one whole = absurd one
 
--- the sums that the item stores are as they were
+-- giving a device its weight doesn't change which sums are stored, so they are still right
 pub weighted_sums : (w : ℕ) (n : Items) → StoresSums n → StoresSums (with_first_weight w n)
 weighted_sums w none s = s
 weighted_sums w (device d rest) s = s
 weighted_sums w (bucket h v m kids rest) s = s
 
--- LAWFUL where it isn't too heavy
+-- THE TABLE AFTER THE STEP IS LAWFUL if it isn't too heavy
 placed_form : (i : ItemId) (k w : ℕ) (r : Row) → (is_device_id i ≡ true → w ≤ HEAVIEST_DEVICE) → r.id ≡ i → IsRowOf i r → IsRowOf i (placed_row k w r)
 placed_form (Device d) k w r h e form = record {
   id = form.id;
@@ -198,7 +198,7 @@ item_lawful t i k w l there stands far h light =
     let row : IsRow r.0 = holds_of_row IsRow t i r.0 l.rows r.1 in
     subst Lawful (sym put) (Lawful-moved t i k (if is_device r.0 then w else r.0.weight) r.0 l r.1 stands far (record { name = row.name; form = placed_form r.0.id k w r.0 (λ d. h (sym (ap is_device_id (row_id i t r.0 r.1)) ∙ d)) refl row.form }) (ap is_too_heavy (sym put) ∙ light))
 
--- its ids are distinct also where it is
+-- the ids are still distinct if the item's row stays at its old position and gets the new parent and weight
 placed_id : (i : ItemId) (p : Option ℕ) (w : ℕ) (r : Row) → (place i p w r).id ≡ r.id
 placed_id i p w r = by_id (same_id r.id i) where
   by_id : (b : Bool) → (if b then at_parent p w r else r).id ≡ r.id
@@ -212,11 +212,11 @@ item_distinct t i k w l there =
     subst Distinct (sym (put_below-last k i w t r.0 (l.ids i) r.1))
     (Distinct-same (placed_last i (Some k) v t r.0 (l.ids i) r.1) (Distinct-map (place i (Some k) v) (placed_id i (Some k) v) t l.ids))
 
--- and the test for sums is that of the table after
+-- testing the weights of u is the same as testing those of the table after the step, because u is that table in another order
 pub item_heavy : (t u : List Row) (i : ItemId) (k w : ℕ) → Lawful t → is_there t i ≡ true → Same u (put_below k i w t) → is_too_heavy u ≡ is_too_heavy (put_below k i w t)
 item_heavy t u i k w l there same = sym (is_too_heavy-same (put_below k i w t) u (reordered-sym same.rows) (item_distinct t i k w l there))
 
--- THE BUCKET that is being filled is a root, also without the item and with it
+-- THE BUCKET that is being filled is a root. It is still a root when the item is taken out, and when the item is put into it
 pub open_root : (s : SettingData) (t : List Row) (p : Pending) (k : ℕ) → p ≡ filling k → IsPending s t p → IsRoot t k
 open_root s t p k e h = subst (IsPending s t) e h
 
@@ -233,7 +233,7 @@ root_put t i k w root other =
     let last : List Row = map (placed_row k w) (filter (λ (r : Row). same_id r.id i) t) in
     root_row t (put_below k i w t) k (row_of-append (without_row i t) last (Bucket k) ∙ (λ j. if there j then row_of (without_row i t) (Bucket k) else row_of last (Bucket k)) ∙ keeps) root
 
--- no bucket is gone
+-- each bucket of the table is still in the table after the step
 put_there : (t : List Row) (i : ItemId) (k w : ℕ) → Lawful t → is_there t i ≡ true → (b : ℕ) → IsThere t b → IsThere (put_below k i w t) b
 put_there t i k w l there b h =
     let r = some_row t i there in
@@ -254,7 +254,7 @@ has_no_parent : (o : Option ℕ) → is_some o ≡ false → o ≡ None
 has_no_parent None h = refl
 has_no_parent (Some p) h = absurd (let no : true ≡ false = h in cc)
 
--- as many buckets are held as weights were adjusted
+-- after the step too, the number of adjusted weights is at most the number of held buckets
 put_held : (t : List Row) (i : ItemId) (k n : ℕ) (w : Option ℕ) → Lawful t → is_there t i ≡ true → is_placed t i ≡ false → n ≤ held_buckets t → n + adjustment t i w ≤ held_buckets (put_below k i (weight_or_one w) t)
 put_held t i k n w l there free h =
     let r = some_row t i there in
@@ -272,11 +272,11 @@ step_at b h s t a i k w at there free other st more is = record {
   part = root_put t i k (weight_or_one w) at.part other;
 }
 
--- the table with the item, where a bucket is being filled
+-- the table of the draft after the step, if bucket k is being filled
 pub put_table : (d : Draft) (i : ItemId) (k w : ℕ) → d.pending ≡ filling k → table_with_item d.pending i w d.table ≡ put_below k i w d.table
 put_table d i k w e = ap (λ (p : Pending). table_with_item p i w d.table) e
 
--- THE STEP: the item stands last in the bucket
+-- THE STEP: the builder represents the draft with the item at the end of the bucket
 pub item_step : (b : BuilderData) (h : ForestData) (d : Draft) (i : ItemId) (k : ℕ) (w : Option ℕ) (n : Items) → IsDraft b d → b.pending ≡ filling k → is_there d.table i ≡ true → is_placed d.table i ≡ false → same_id (Bucket k) i ≡ false → IsOne n → Same (rows None n) (part i d.table)
     → Stands h (table_without i d.table ++ rows (Some k) (with_first_weight (weight_or_one w) n)) → (more : ℕ) → more ≡ adjustment d.table i w → IsDraft (record b { forest = h; adjusted = b.adjusted + more }) (with_next_item d i w)
 item_step b h d i k w n at e there free other one whole st more is =
@@ -288,7 +288,7 @@ item_step b h d i k w n at e there free other one whole st more is =
     subst (λ (x : Pending). IsDraft (record b { forest = h; adjusted = b.adjusted + more }) (with_next_item (record { setting = d.setting; table = d.table; pending = x; adjusted = d.adjusted }) i w)) (sym p)
     (step_at b h d.setting d.table d.adjusted i k w (subst (λ (x : Pending). IsDraft b (record { setting = d.setting; table = d.table; pending = x; adjusted = d.adjusted })) p at) there free other put more is)
 
--- the rows with the item, as it is put
+-- the table with the item in the bucket is lawful
 pub put_lawful : (t : List Row) (i : ItemId) (k w : ℕ) (n : Items) → Lawful t → is_there t i ≡ true → IsRoot t k → same_id (Bucket k) i ≡ false → IsOne n → Same (rows None n) (part i t)
     → (is_device_id i ≡ true → w ≤ HEAVIEST_DEVICE) → is_too_heavy (put_below k i w t) ≡ false → Lawful (table_without i t ++ rows (Some k) (with_first_weight w n))
 put_lawful t i k w n l there root other one whole h light =
@@ -296,7 +296,7 @@ put_lawful t i k w n l there root other one whole h light =
     let m : Items = with_first_weight w n in
     Lawful-same (put_below k i w t) (table_without i t ++ rows (Some k) m) (Same-sym (table_without i t ++ rows (Some k) m) (put_below k i w t) (item_same t i k w n l there far one whole)) (item_lawful t i k w l there root.there far h light)
 
--- WHAT WAS TAKEN OUT is lawful by itself, so its sums are in range
+-- THE ITEM THAT WAS TAKEN OUT is lawful by itself, so its sums are in range
 as_it_was : (t : List Row) (i : ItemId) → Lawful t → parent_of t i ≡ None → All (λ (r : Row). as_root i r ≡ r) t
 as_it_was t i l root = All-weaker (λ (r : Row). row_of t r.id ≡ Some r) (λ (r : Row). as_root i r ≡ r) each t (All-found t l.ids) where
   each : (r : Row) → row_of t r.id ≡ Some r → as_root i r ≡ r

@@ -1,4 +1,4 @@
--- An item on its way into the bucket that is being filled.
+-- An item that has been taken out of the forest and isn't yet in the bucket that is being filled.
 use Rattle.std.proofs.Common.{◌≡◌, ℕ, ◌+◌, ◌≤◌, Bool, true, false, not, ◌==◌, List, ◌++◌, ap, sym, subst, ◌∙◌, arith, [], ◌∷◌}
 use Rattle.std.proofs.lemmas.Bool.{not-false}
 use Rattle.std.specs.Prelude.{Option, Some, None, if◌then◌else◌, nat_lt}
@@ -42,7 +42,7 @@ flip false c h = ap not (sym h)
 light_weight : (w : ℕ) → nat_lt HEAVIEST_DEVICE w ≡ false → w ≤ HEAVIEST_DEVICE
 light_weight w h = grind (arith, nat_tests)
 
--- the builder b fills the bucket k, and n is the item i
+-- the builder b fills the bucket k, and n is the item i, taken out of b's forest
 pub record Coming (b : BuilderData) (i : ItemId) (k : ℕ) (n : Items) : Type 0 where
   pub own : IsDraft b (own_draft b)
   pub fills : b.pending ≡ filling k
@@ -67,14 +67,14 @@ item_comes b now i k n is sound keeps fills closed there node one free sums = re
   sums = sums;
 }
 
--- that is so of the part of the forest that is the item
+-- `Coming` is true of the part of the forest that consists of the item i and all items below it
 pub part_comes : (b now : BuilderData) (i : ItemId) (k : ℕ) → b ≡ now → IsSound b.forest → BuilderFits b → b.pending ≡ filling k → is_open now.pending i ≡ false
     → ((d : Draft) → IsDraft now d → is_there d.table i ≡ true) → ((d : Draft) → IsDraft now d → is_placed d.table i ≡ false) → Coming b i k (part_of i (all_items b.forest))
 part_comes b now i k is sound keeps fills closed there free =
     let here : is_there (rows_of b.forest) i ≡ true = there (own_draft b) (subst (λ (x : BuilderData). IsDraft x (own_draft b)) is (own_is_draft b sound keeps)) in
     item_comes b now i k (part_of i (all_items b.forest)) is sound keeps fills closed there (part_rows b.forest sound i here) (part_one b.forest sound i here) free (part_sums b.forest sound i here)
 
--- WHERE NO FAULT HOLDS of an item
+-- WHAT IS TRUE IF AN ITEM HAS NO FAULT
 pub record IsClear (d : Draft) (i : ItemId) (w : Option ℕ) : Type 0 where
   pub light : is_heavy_device i w ≡ false
   pub closed : is_closed d i ≡ true
@@ -106,19 +106,19 @@ adjustment_most t (Device x) w = omega arith
 adjustment_most t (Bucket b) None = omega arith
 adjustment_most t (Bucket b) (Some w) = one_at_most (not (w == sum_below t b))
 
--- what it weighs then
+-- the weight that the item has in the bucket
 pub part_weighs : (f : ForestData) (i : ItemId) (w : ℕ) → IsSound f → is_there (rows_of f) i ≡ true → weight_sum (with_first_weight w (part_of i (all_items f))) ≡ (if is_device_id i then w else weight_sum (part_of i (all_items f)))
 part_weighs f i w sound there = weight_to_come (rows_of f) i w (part_of i (all_items f)) there (part_one f sound i there) (part_rows f sound i there (rows_of f) (stands_for_rows f sound))
 
 module _ (b : BuilderData) (i : ItemId) (k : ℕ) (n : Items) (took : Coming b i k n) where
-  -- the facts of a draft
+  -- what is true of each draft d that the builder represents
   pub root_at : (d : Draft) → IsDraft b d → IsRoot d.table k
   root_at d at = open_root d.setting d.table d.pending k (sym at.pending ∙ took.fills) at.part
 
   pub apart_at : (d : Draft) → IsDraft b d → is_part d.table i (Bucket k) ≡ false
   apart_at d at = is_no_part d.table at.stands.lawful i k (root_at d at) took.other
 
-  -- the bucket is there without the item
+  -- when the item is taken out, the bucket that is being filled is still in the table
   pub left_there : (d : Draft) → IsDraft b d → is_there (table_without i d.table) (Bucket k) ≡ true
   left_there d at = (root_without d.table i k (root_at d at) (apart_at d at)).there
 
@@ -128,7 +128,7 @@ module _ (b : BuilderData) (i : ItemId) (k : ℕ) (n : Items) (took : Coming b i
   pub distinct_at : (w : ℕ) (d : Draft) → IsDraft b d → Distinct (table_without i d.table ++ rows (Some k) (with_first_weight w n))
   distinct_at w d at = Distinct-same (reordered-sym (same_at w d at).rows) (item_distinct d.table i k w at.stands.lawful (took.there d at))
 
-  -- the item may come into the bucket
+  -- the item may be put into the bucket
   pub can_come : (w : ℕ) (d : Draft) → IsDraft b d → CanCome (table_without i d.table) (AtBucket k) (with_first_weight w n)
   can_come w d at = record {
     sums = weighted_sums w n took.sums;
@@ -137,19 +137,19 @@ module _ (b : BuilderData) (i : ItemId) (k : ℕ) (n : Items) (took : Coming b i
     apart = distinct_at w d at;
   }
 
-  -- the answer of the test is that for the table with the item
+  -- the test whether the moved item is too heavy has the same result as the test of the draft's table with the item
   put_heavy : (w : ℕ) (d : Draft) → IsDraft b d → (v : Bool) → v ≡ not (is_too_heavy (table_without i d.table ++ rows (Some k) (with_first_weight w n))) → is_too_heavy (put_below k i w d.table) ≡ not v
   put_heavy w d at v e = sym (item_heavy d.table (table_without i d.table ++ rows (Some k) (with_first_weight w n)) i k w at.stands.lawful (took.there d at) (same_at w d at)) ∙ flip _ v e
 
   pub heavy_at : (w : ℕ) (d : Draft) → IsDraft b d → (v : Bool) → v ≡ not (is_too_heavy (table_without i d.table ++ rows (Some k) (with_first_weight w n))) → is_too_heavy (table_with_item d.pending i w d.table) ≡ not v
   heavy_at w d at v e = ap is_too_heavy (put_table d i k w (sym at.pending ∙ took.fills)) ∙ put_heavy w d at v e
 
-  -- told by what it weighs then
+  -- the test of the draft's table, computed from the weight that the item has in the bucket
   pub fits_test : (w v : ℕ) → v ≡ weight_sum (with_first_weight w n) → (d : Draft) → IsDraft b d → (a : Bool)
       → ((m : Items) → weight_sum m ≡ v → CanCome (table_without i d.table) (AtBucket k) m → a ≡ not (is_too_heavy (table_without i d.table ++ rows (Some k) m))) → is_too_heavy (table_with_item d.pending i w d.table) ≡ not a
   fits_test w v weighs d at a test = heavy_at w d at a (test (with_first_weight w n) (sym weighs) (can_come w d at))
 
-  -- what putting it needs, and what it makes
+  -- the table with the item in the bucket is lawful, which the method that puts it there requires
   pub can_put : (w : ℕ) → (is_device_id i ≡ true → w ≤ HEAVIEST_DEVICE) → is_too_heavy (table_with_item b.pending i w (rows_of b.forest)) ≡ false → Lawful (table_without i (rows_of b.forest) ++ rows (Some k) (with_first_weight w n))
   can_put w small light =
       put_lawful (rows_of b.forest) i k w n took.own.stands.lawful (took.there (own_draft b) took.own) (root_at (own_draft b) took.own) took.other took.one (took.node (rows_of b.forest) took.own.stands) small

@@ -1,4 +1,4 @@
--- One more type.
+-- Adding a type to the setting.
 use Rattle.std.proofs.Common.{◌≡◌, ℕ, ◌<◌, ◌≤◌, Bool, true, false, List, [], ◌∷◌, ◌++◌, length, refl, ap, sym, subst, ◌∙◌, arith, length-append, ⊎_elim}
 use Rattle.std.proofs.lemmas.Bool.Decides.{nat_tests}
 use Rattle.std.proofs.lemmas.Bool.{eqb-true}
@@ -28,7 +28,7 @@ none_passes p (x ∷ xs) h = ⊎_elim
     let no : one_if (p x) ≡ 0 = ap one_if e in omega (arith, no, none_passes p xs rest, sum_by-cons (λ z. one_if (p z)) x xs))
     (true_or_false (p x))
 
--- if at most one element of a list passes a test, so it is with one more at the end, unless the new one and another pass
+-- if at most one element of a list passes a test, this is still so with one more element at the end, unless the new element and another one pass
 pub count_one_more : {X : Type 0} (q : X → Bool) (x : X) (xs : List X) → count_by q xs ≤ 1 → (q x ≡ true → list_any q xs ≡ false) → count_by q (xs ++ x ∷ []) ≤ 1
 count_one_more q x xs once free = ⊎_elim
     (λ e. let one : one_if (q x) ≡ 1 = ap one_if e in omega (arith, one, none_passes q xs (free e), sum_by_push (λ z. one_if (q z)) xs x))
@@ -38,7 +38,7 @@ count_one_more q x xs once free = ⊎_elim
 pub less : (m n : ℕ) → nat_le m n ≡ false → n < m
 less m n h = grind (arith, nat_tests)
 
--- a type is there where it is found
+-- a search finds a type if and only if a type passes the test
 found_if : (p : KindData → Bool) (b : Bool) (k : KindData) (o : Option KindData) (rest : Bool) → is_some o ≡ rest → is_some (if b then Some k else o) ≡ (b || rest)
 found_if p true k o rest e = refl
 found_if p false k o rest e = e
@@ -60,13 +60,13 @@ has_name_found s n = some_map (λ (k : KindData). k.number) (find (λ (k : KindD
 pub some_copied : {X : Type 0} (o : Option (Bor X)) → is_some (option_copied o) ≡ is_some o
 some_copied o = some_map (λ (x : Bor _). x.now) o
 
--- a type of a name that is there is there among more types
+-- if a type has the name n, then a type still has this name after one more type is added
 more_kinds : (s : SettingData) (k : KindData) (n : List ℕ) → is_some (kind_number s n) ≡ true → is_some (kind_number (record s { kinds = s.kinds ++ k ∷ [] }) n) ≡ true
 more_kinds s k n h =
     has_name_found (record s { kinds = s.kinds ++ k ∷ [] }) n ∙ list_any-append (λ (x : KindData). bytes_eq x.name n) s.kinds (k ∷ [])
     ∙ ap (λ b. b || list_any (λ (x : KindData). bytes_eq x.name n) (k ∷ [])) (sym (has_name_found s n) ∙ h)
 
--- so a rule keeps its form
+-- so each step of a rule keeps its form
 step_kept : (s : SettingData) (k : KindData) (x : StepData) → IsStep s x → IsStep (record s { kinds = s.kinds ++ k ∷ [] }) x
 step_kept s k (take b class) h = h
 step_kept s k (choose leaf firstn count kind) h = record { range = h.range; known = more_kinds s k kind h.known }
@@ -84,7 +84,7 @@ rule_kept s k r h = record {
   steps = All-weaker (IsStep s) (IsStep (record s { kinds = s.kinds ++ k ∷ [] })) (step_kept s k) r.steps h.steps;
 }
 
--- the types with one more fit
+-- the setting with one more type fits the table
 pub Fits-with_kind : (s : SettingData) (t : List Row) (k : KindData) → Fits s t → IsKind k → has_kind_number s k.number ≡ false → has_kind_name s k.name ≡ false → nat_le MOST_TYPES (length s.kinds) ≡ false → Fits (record s { kinds = s.kinds ++ k ∷ [] }) t
 Fits-with_kind s t k f is number name few = record {
   setting = record {
@@ -105,7 +105,7 @@ Fits-with_kind s t k f is number name few = record {
   taken = f.taken;
 }
 
--- THE STEP
+-- THE STEP: the builder represents the draft with one more type
 pub kind_step : (b : BuilderData) (s : SettingData) (d : Draft) (k : ℕ) (n : List ℕ) → IsDraft b d → b.pending ≡ nothing → s ≡ record b.setting { kinds = b.setting.kinds ++ record { number = k; name = n } ∷ [] } → IsKind (record { number = k; name = n }) → has_kind_number d.setting k ≡ false → has_kind_name d.setting n ≡ false → is_full_of_kinds d ≡ false →
     IsDraft (record b { setting = s }) (with_kind d k n)
 kind_step b s d k n i idle e is number name few = record {

@@ -1,4 +1,4 @@
--- One more row: a device, and an empty bucket.
+-- Adding a row to the table: a device, or a bucket without items.
 use Rattle.std.proofs.Common.{◌≡◌, ℕ, ◌<◌, ◌≤◌, Bool, true, false, List, [], ◌∷◌, ◌++◌, length, refl, ap, sym, subst, ◌∙◌, arith, length-append, ◌+◌, ⊎_elim}
 use Rattle.std.proofs.lemmas.Bool.Decides.{nat_tests}
 use Rattle.std.proofs.lemmas.List.Sums.{sum_by_push, sum_by-cons}
@@ -41,7 +41,7 @@ not_less m n h = grind (arith, nat_tests)
 is_positive : (k : ℕ) → nat_lt 0 k ≡ true → 0 < k
 is_positive k h = grind (arith, nat_tests)
 
--- THE ROW of a device without parent
+-- THE ROW of a new device, which has no parent
 abbrev pub new_device : ℕ → List ℕ → Option (List ℕ) → Row
 new_device id name class = device_row None (record { id = id; name = name; weight = 0; class = class })
 
@@ -54,14 +54,14 @@ device_room t r l dev buck few =
     let buckets : nat_lt MOST_BUCKETS (bucket_count (t ++ r ∷ [])) ≡ false = not_less MOST_BUCKETS (bucket_count (t ++ r ∷ [])) (omega (arith, no, l.buckets, sum_by_push (λ (x : Row). one_if (is_bucket x)) t r)) in
     λ i. devices i || buckets i
 
--- the table is lawful with it
+-- the table with the new device's row is lawful
 pub device_lawful : (t : List Row) (id : ℕ) (name : List ℕ) (class : Option (List ℕ)) → Lawful t → id < DEVICE_IDS → IsName name → IfSome class IsName → is_there t (Device id) ≡ false → is_named t name ≡ false → nat_le MOST_DEVICES (device_count t) ≡ false → Lawful (t ++ new_device id name class ∷ [])
 device_lawful t id name class l small form kind fresh free few =
     Lawful-push_device t id (new_device id name class) refl l
     (record { name = form; form = record { id = small; kind = refl; light = omega arith; unplaced = λ _. refl; alg = refl; class_ids = refl; class = kind } })
     refl fresh free (device_room t (new_device id name class) l refl refl few)
 
--- THE STEP: a device
+-- THE STEP: the builder represents the draft with one more device
 pub device_step : (b : BuilderData) (f : ForestData) (d : Draft) (id : ℕ) (name : List ℕ) (class : Option (List ℕ)) → IsDraft b d → b.pending ≡ nothing → Stands f (d.table ++ new_device id name class ∷ []) → IsDraft (record b { forest = f }) (with_device d id name class)
 device_step b f d id name class i idle st = record {
   setting = i.setting;
@@ -73,7 +73,7 @@ device_step b f d id name class i idle st = record {
   part = subst (IsPending d.setting (d.table ++ new_device id name class ∷ [])) (sym (sym i.pending ∙ idle)) tt;
 }
 
--- if a type has the name, a type has its number
+-- if the type with a name has the number k, then there is a type with the number k
 kind_there : (p : KindData → Bool) (xs : List KindData) (k : ℕ) → option_map (λ (x : KindData). x.number) (find p xs) ≡ Some k → list_any (λ (x : KindData). x.number == k) xs ≡ true
 kind_there p [] k h = absurd (let no : ◌≡◌ {A = Option ℕ} None (Some k) = h in cc)
 kind_there p (x ∷ xs) k h = by_test (p x) h (kind_there p xs k) where
@@ -85,14 +85,14 @@ kind_there p (x ∷ xs) k h = by_test (p x) h (kind_there p xs k) where
 pub named_bucket_kind : (s : SettingData) (n : List ℕ) (k : ℕ) → kind_number s n ≡ Some k → names_bucket_kind s n ≡ true → is_bucket_kind s k ≡ true
 named_bucket_kind s n k e h = λ i. (ap is_some_above_zero (sym e) ∙ h) i && kind_there (λ (x : KindData). bytes_eq x.name n) s.kinds k e i
 
--- if the first words of a bucket have no fault, its type's name has a number
+-- if beginning a bucket has no fault, then a type has the name that the bucket gives
 pub no_number : (d : Draft) (q n : List ℕ) → begin_fault d q n ≡ None → kind_number d.setting q ≡ None → ⊥
 no_number d q n clear e =
     let none = none_of_three DuplicateName UnknownType TooMany (has_name d n) (not (names_bucket_kind d.setting q)) (is_full_of_buckets d) clear in
     let no : true ≡ false = ap (λ o. not (is_some_above_zero o)) (sym e) ∙ none.1.0 in
     cc
 
--- THE STEP: the first words of a bucket
+-- THE STEP: the builder represents the draft after the first words of a bucket
 pub begin_step : (b : BuilderData) (d : Draft) (q : List ℕ) (k : ℕ) (n : List ℕ) → IsDraft b d → begin_fault d q n ≡ None → kind_number d.setting q ≡ Some k → k ≤ LAST_TYPE → IsName n → IsDraft (record b { pending = begun k n }) (begun_bucket d k n)
 begin_step b d q k n i clear e most form =
     let none = none_of_three DuplicateName UnknownType TooMany (has_name d n) (not (names_bucket_kind d.setting q)) (is_full_of_buckets d) clear in
@@ -112,7 +112,7 @@ begin_step b d q k n i clear e most form =
       };
     }
 
--- what a builder keeps where a bucket gets its id
+-- the invariant of the builder is still true after the incomplete bucket gets its id
 one_at_most : (b : Bool) → one_if b ≤ 1
 one_at_most true = omega arith
 one_at_most false = omega arith
@@ -136,11 +136,11 @@ id_fits b k n id keeps e some most free = record {
   few = keeps.few;
 }
 
--- ONE MORE CLASS ID
+-- ONE MORE CLASS ID of the incomplete bucket
 ids_pushed : (b : ℕ) (cs : List ShadowData) (c : ShadowData) → own_ids b (cs ++ c ∷ []) ≡ own_ids b cs ++ c.id ∷ []
 ids_pushed b cs c = ap (λ xs. b ∷ xs) (map-append (λ (x : ShadowData). x.id) cs (c ∷ []))
 
--- an id that isn't among others is none of them
+-- an id that isn't in a list differs from each id of the list
 not_among : (j : ℕ) (xs : List ℕ) → member j xs ≡ false → list_any (λ u. u == j) xs ≡ false
 not_among j [] h = refl
 not_among j (x ∷ xs) h = λ i. or_left (x == j) (member j xs) h i || not_among j xs (or_right (x == j) (member j xs) h) i
@@ -177,7 +177,7 @@ class_id_at b s t a k n id i c cs at num = record {
   part = (at.part.0, num);
 }
 
--- THE STEP: a class id
+-- THE STEP: the builder represents the draft in which the bucket has one more class id
 pub class_id_step : (b : BuilderData) (d : Draft) (k : ℕ) (n : List ℕ) (id i : ℕ) (c : List ℕ) (cs : List ShadowData) → IsDraft b d → b.pending ≡ numbered k n id cs → 0 < i → i ≤ FARTHEST_BUCKET_ID → IsName c → class_id_fault d i c ≡ None →
     IsDraft (record b { pending = numbered k n id (cs ++ record { id = i; class = c } ∷ []) }) (with_class_id d i c)
 class_id_step b d k n id i c cs at e some most name clear =
@@ -186,7 +186,7 @@ class_id_step b d k n id i c cs at e some most name clear =
     subst (λ (x : Pending). IsDraft (record b { pending = numbered k n id (cs ++ record { id = i; class = c } ∷ []) }) (with_class_id (record { setting = d.setting; table = d.table; pending = x; adjusted = d.adjusted }) i c)) (sym p)
     (class_id_at b d.setting d.table d.adjusted k n id i c cs here (one_more_class_id d k id n c i cs p here.part.1 some most name clear))
 
--- THE ROW of an empty bucket without parent
+-- THE ROW of a new bucket, which has no items and no parent
 abbrev pub new_bucket : ℕ → List ℕ → ℕ → List ShadowData → Alg → Row
 new_bucket k n id cs alg = bucket_row None (record { id = id; kind = k; name = n; alg = alg; class_ids = cs })
 
@@ -201,7 +201,7 @@ bucket_room t r l dev buck few =
 some_alg : (alg : Alg) → Some alg ≡ None → ⊥
 some_alg alg e = cc
 
--- ids that are free and distinct are used once with those of the table
+-- if new ids are distinct and free, then each id is still used at most once
 used_once : (t : List Row) → Lawful t → (j : ℕ) (xs : List ℕ) → All (λ x. member x (used_ids t) ≡ false) xs → count_by (λ u. u == j) xs ≤ 1 → times_used j t + count_by (λ u. u == j) xs ≤ 1
 used_once t l j [] free apart = omega (arith, l.used j)
 used_once t l j (x ∷ xs) free apart = ⊎_elim
@@ -217,7 +217,7 @@ own_free : (t : List Row) (b : ℕ) (cs : List ShadowData) → CanNumber t b cs 
 own_free t b cs num =
     All-cons (λ x. member x (used_ids t) ≡ false) b (map (λ (c : ShadowData). c.id) cs) num.free (All-map (λ x. member x (used_ids t) ≡ false) (λ (c : ShadowData). c.id) cs num.fresh)
 
--- the table is lawful with it
+-- the table with the new bucket's row is lawful
 pub bucket_lawful : (s : SettingData) (t : List Row) (k : ℕ) (n : List ℕ) (id : ℕ) (cs : List ShadowData) (alg : Alg) → Lawful t → CanBegin s t k n → CanNumber t id cs → Lawful (t ++ new_bucket k n id cs alg ∷ [])
 bucket_lawful s t k n id cs alg l can num =
     Lawful-push t (new_bucket k n id cs alg) l
@@ -238,7 +238,7 @@ bucket_lawful s t k n id cs alg l can num =
     })
     refl (unused_fresh t id num.free) can.free (λ j. used_once t l j (own_ids id cs) (own_free t id cs num) (num.apart j)) (bucket_room t (new_bucket k n id cs alg) l refl refl can.few)
 
--- it is a root there
+-- the new bucket is a root of this table
 new_root : (t : List Row) (k : ℕ) (n : List ℕ) (id : ℕ) (cs : List ShadowData) (alg : Alg) → CanNumber t id cs → IsRoot (t ++ new_bucket k n id cs alg ∷ []) id
 new_root t k n id cs alg num =
     let found : row_of (t ++ new_bucket k n id cs alg ∷ []) (Bucket id) ≡ Some (new_bucket k n id cs alg) =
@@ -257,7 +257,7 @@ step_at b f s t a k n id cs alg i st = record {
   part = new_root t k n id cs alg i.part.1;
 }
 
--- THE STEP: an empty bucket
+-- THE STEP: the builder represents the draft with one more bucket, which has no items
 pub alg_step : (b : BuilderData) (f : ForestData) (d : Draft) (k : ℕ) (n : List ℕ) (id : ℕ) (cs : List ShadowData) (alg : Alg) → IsDraft b d → b.pending ≡ numbered k n id cs → Stands f (d.table ++ new_bucket k n id cs alg ∷ []) →
     IsDraft (record { setting = b.setting; forest = f; pending = filling id; adjusted = b.adjusted }) (with_alg d alg)
 alg_step b f d k n id cs alg i e st =
@@ -265,7 +265,7 @@ alg_step b f d k n id cs alg i e st =
     subst (λ (x : Pending). IsDraft (record { setting = b.setting; forest = f; pending = filling id; adjusted = b.adjusted }) (with_alg (record { setting = d.setting; table = d.table; pending = x; adjusted = d.adjusted }) alg)) (sym p)
     (step_at b f d.setting d.table d.adjusted k n id cs alg (subst (λ (x : Pending). IsDraft b (record { setting = d.setting; table = d.table; pending = x; adjusted = d.adjusted })) p i) st)
 
--- a test of what is seen of each
+-- a test of the elements as contracts see them is the same test of the mapped list
 pub any_seen : {X Y : Type 0} (f : X → Y) (p : Y → Bool) (xs : List X) → list_any (λ x. p (f x)) xs ≡ list_any p (map f xs)
 any_seen f p [] = refl
 any_seen f p (x ∷ xs) = ap (λ b. p (f x) || b) (any_seen f p xs)
@@ -274,6 +274,6 @@ any_member : (k : ℕ) (cs : List ShadowData) → list_any (λ (c : ShadowData).
 any_member k [] = refl
 any_member k (c ∷ cs) = ap (λ b. (c.id == k) || b) (any_member k cs)
 
--- an id among class ids
+-- whether an id is among class ids
 pub id_seen : {X : Type 0} (f : X → ShadowData) (k : ℕ) (xs : List X) → list_any (λ x. (f x).id == k) xs ≡ member k (map (λ (c : ShadowData). c.id) (map f xs))
 id_seen f k xs = any_seen f (λ (c : ShadowData). c.id == k) xs ∙ any_member k (map f xs)

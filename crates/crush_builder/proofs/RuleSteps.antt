@@ -1,4 +1,4 @@
--- One more rule.
+-- Adding a rule to the setting.
 use Rattle.std.proofs.Common.{◌≡◌, ℕ, ◌+◌, ◌<◌, ◌≤◌, Bool, true, false, List, [], ◌∷◌, ◌++◌, length, refl, ap, sym, subst, ◌∙◌, arith, length-append}
 use Rattle.std.proofs.lemmas.List.{length-map}
 use Rattle.std.proofs.lemmas.List.Elements.{All-nil, All-cons, All-head, All-tail, All-push, All-append, All-weaker, All-map}
@@ -31,7 +31,7 @@ use Rattle.crush_builder.specs.Rules.{IsStepForm, IsRuleForm, complete_bucket_na
 use Rattle.crush_builder.proofs.KindSteps.{count_one_more, less}
 use Rattle.crush_apply.proofs.Found.{there_by_name}
 
--- a name and an id among the rules as they are kept, and in the list that contracts see
+-- looking up a name or an id in the code's list of rules has the same result as in the list that contracts see
 pub rule_name_found : (n : List ℕ) (xs : List KeptRule) → list_any (λ (x : KeptRule). bytes_eq x.name n) xs ≡ list_any (λ (x : RuleData). bytes_eq x.name n) (map rule_data xs)
 rule_name_found n [] = refl
 rule_name_found n (x ∷ xs) = ap (λ b. bytes_eq x.name n || b) (rule_name_found n xs)
@@ -40,7 +40,7 @@ pub rule_id_found : (n : ℕ) (xs : List KeptRule) → list_any (λ (x : KeptRul
 rule_id_found n [] = refl
 rule_id_found n (x ∷ xs) = ap (λ b. (x.id == n) || b) (rule_id_found n xs)
 
--- A RULE WITHOUT FAULTS
+-- A RULE WITHOUT FAULTS: what is true of its parts
 not_some : {X : Type 0} (x : X) (o : Option X) → o ≡ Some x → o ≡ None → ⊥
 not_some x o e h = let no : ◌≡◌ {A = Option _} (Some x) None = sym e ∙ h in cc
 
@@ -80,7 +80,7 @@ rule_clear d r h =
     let e = if_none (has_rule_id d.setting r.id) _ _ b.1 in
     record { few = a.0; name = b.0; id = e.0; words = words_clear d 0 r.steps.items e.1; short = let n = steps_few d 0 r.steps.items (omega arith) e.1 in omega (arith, n) }
 
--- a rule keeps its form where there are other rules
+-- a rule keeps its form when another rule is added
 step_kept : (s : SettingData) (rs : List RuleData) (x : StepData) → IsStep s x → IsStep (record s { rules = rs }) x
 step_kept s rs (take b class) h = h
 step_kept s rs (choose leaf firstn count kind) h = record { range = h.range; known = h.known }
@@ -98,7 +98,7 @@ rule_kept s rs r h = record {
   steps = All-weaker (IsStep s) (IsStep (record s { rules = rs })) (step_kept s rs) r.steps h.steps;
 }
 
--- THE RULE THAT IS KEPT has the form
+-- THE RULE THAT THE MAP STORES has the form of a rule
 some_if : {X : Type 0} (b : Bool) (x : X) → (if b then None else Some x) ≡ None → b ≡ true
 some_if true x h = refl
 some_if false x h = absurd (let no : ◌≡◌ {A = Option _} (Some x) None = h in cc)
@@ -129,7 +129,7 @@ rule_form d r f c = record {
   steps = All-map (IsStep d.setting) (kept_step d) r.steps.items (steps_form d r.steps.items f.steps c.words);
 }
 
--- THE BUCKETS that it takes are there
+-- THE BUCKETS that the rule takes are in the table
 bucket_there : (d : Draft) (n : List ℕ) (o : Option ItemId) → id_named d.table n ≡ o → is_some (option_and_then number_of (option_and_then (closed_item d.pending) o)) ≡ true → IsThere d.table (taken_number (option_and_then number_of (option_and_then (closed_item d.pending) o)))
 bucket_there d n None e h = absurd (let no : false ≡ true = h in cc)
 bucket_there d n (Some i) e h = by_open (is_open d.pending i) i e h where
@@ -155,7 +155,7 @@ rules_there P rs r h k =
     subst (All P) (sym (flat_map-append (λ (x : RuleData). flat_map bucket_taken x.steps) rs (r ∷ [])))
     (All-append P (flat_map (λ (x : RuleData). flat_map bucket_taken x.steps) rs) (flat_map bucket_taken r.steps ++ []) h (All-append P (flat_map bucket_taken r.steps) [] k (All-nil P)))
 
--- the rules with one more fit
+-- the setting with one more rule fits the table
 pub Fits-with_rule : (d : Draft) (r : Rule) → Fits d.setting d.table → IsRuleForm r → IsClearRule d r → Fits (with_rule d r).setting d.table
 Fits-with_rule d r f form c =
     let k : RuleData = kept_rule d r in
@@ -179,7 +179,7 @@ Fits-with_rule d r f form c =
       taken = rules_there (IsThere d.table) s.rules k f.taken (steps_there d r.steps.items c.words);
     }
 
--- THE STEP
+-- THE STEP: the builder represents the draft with one more rule
 pub rule_step : (b : BuilderData) (s : SettingData) (d : Draft) (r : Rule) → IsDraft b d → b.pending ≡ nothing → s ≡ record b.setting { rules = b.setting.rules ++ kept_rule d r ∷ [] } → IsRuleForm r → rule_fault d r ≡ None → IsDraft (record b { setting = s }) (with_rule d r)
 rule_step b s d r i idle e form clear = record {
   setting = e ∙ (λ j. record (i.setting j) { rules = (i.setting j).rules ++ kept_rule d r ∷ [] });
@@ -191,7 +191,7 @@ rule_step b s d r i idle e form clear = record {
   part = subst (IsPending (with_rule d r).setting d.table) (sym (sym i.pending ∙ idle)) tt;
 }
 
--- THE FAULT of a rule is what `rule_told` says of it, because it is any other than out of memory
+-- THE FAULT of a rule: `rule_told` returns the fault itself, because it isn't OutOfMemory
 abbrev IsTold : BuildFault → Type 0
 IsTold f = is_some (fault_told f) ≡ true
 
@@ -229,13 +229,13 @@ rule_told_itself d r f e =
     (part_told (has_rule_id d.setting r.id) (record { part = AtId; fault = DuplicateId }) _ f refl (steps_told d 0 r.steps.items f))) e in
     e ∙ sym (ap (λ b. if b then Some f else None) t)
 
--- the fault of a rule is never out of memory
+-- the fault of a rule is never OutOfMemory
 pub never_lacking : (d : Draft) (r : Rule) (f : RuleFault) → rule_fault d r ≡ Some f → f.fault ≡ OutOfMemory → ⊥
 never_lacking d r f e lacks =
     let none : rule_told f ≡ None = ap (λ x. if is_some (fault_told x) then Some f else None) lacks in
     let no : Some f ≡ None = sym e ∙ rule_told_itself d r f e ∙ none in
     cc
 
--- a step that takes a name is clear only where a bucket has it
+-- if a step that takes a name has no fault, then a bucket has the name
 pub taken_named : (d : Draft) (name : List ℕ) (class : Option (List ℕ)) → complete_bucket_named d name ≡ None → word_fault d (Take name class) ≡ None → ⊥
 taken_named d name class e h = let no : false ≡ true = sym (ap is_some e) ∙ some_if (is_some (complete_bucket_named d name)) UnknownBucketInRule h in cc

@@ -1,4 +1,4 @@
--- One more tunable.
+-- Adding a tunable to the setting.
 use Rattle.std.proofs.Common.{◌≡◌, ℕ, ◌<◌, false, List, [], ◌∷◌, ◌++◌, length, sym, subst, ◌∙◌, arith, length-append}
 use Rattle.std.proofs.lemmas.Slice.Eq.{bytes_eq-Decides}
 use Rattle.std.proofs.lemmas.List.Elements.{All-push, All-weaker}
@@ -12,7 +12,7 @@ use Rattle.crush_builder.specs.Built.{Draft, nothing, with_tunable}
 use Rattle.crush_builder.specs.Building.{BuilderData, IsDraft, IsPending, is_full_of_tunables}
 use Rattle.crush_builder.proofs.KindSteps.{count_one_more, less}
 
--- a rule keeps its form
+-- a rule keeps its form when a tunable is added
 step_kept : (s : SettingData) (k : TunableData) (x : StepData) → IsStep s x → IsStep (record s { tunables = s.tunables ++ k ∷ [] }) x
 step_kept s k (take b class) h = h
 step_kept s k (choose leaf firstn count kind) h = record { range = h.range; known = h.known }
@@ -30,7 +30,7 @@ rule_kept s k r h = record {
   steps = All-weaker (IsStep s) (IsStep (record s { tunables = s.tunables ++ k ∷ [] })) (step_kept s k) r.steps h.steps;
 }
 
--- the tunables with one more fit
+-- the setting with one more tunable fits the table
 pub Fits-with_tunable : (s : SettingData) (t : List Row) (k : TunableData) → Fits s t → IsTunable k → list_any (λ (x : TunableData). bytes_eq x.name k.name) s.tunables ≡ false → nat_le MOST_TUNABLES (length s.tunables) ≡ false → Fits (record s { tunables = s.tunables ++ k ∷ [] }) t
 Fits-with_tunable s t k f is name few = record {
   setting = record {
@@ -50,7 +50,7 @@ Fits-with_tunable s t k f is name few = record {
   taken = f.taken;
 }
 
--- THE STEP
+-- THE STEP: the builder represents the draft with one more tunable
 pub tunable_step : (b : BuilderData) (s : SettingData) (d : Draft) (n : List ℕ) (v : ℕ) → IsDraft b d → b.pending ≡ nothing → s ≡ record b.setting { tunables = b.setting.tunables ++ record { name = n; value = v } ∷ [] } → IsTunable (record { name = n; value = v }) → has_tunable d.setting n ≡ false → is_full_of_tunables d ≡ false →
     IsDraft (record b { setting = s }) (with_tunable d n v)
 tunable_step b s d n v i idle e is name few = record {

@@ -1,4 +1,4 @@
--- The state of a builder, the draft that it represents, and the tests that a parser makes before each step. A draft (`Built`) is what has been built so far, with a table in place of a forest.
+-- The state of a builder, the draft that it represents, and the tests that a parser makes before each step. A draft (`Draft`) is what has been built so far; it has a table where the builder has a forest.
 pub use Rattle.crush_edits.specs.Setting.{has_tunable}
 use Rattle.std.specs.Prelude.{◌≡◌, ℕ, ◌<◌, ◌≤◌, List, [], ◌∷◌, All, map, Option, Some, None, Bool, true, false, ◌==◌, ◌||◌, ◌&&◌, if◌then◌else◌, length, bytes_eq, nat_lt, nat_le, is_some, option_and_then}
 use Rattle.std.specs.List.{count_by, list_any}
@@ -16,7 +16,7 @@ use Rattle.crush_edits.specs.Fits.{Fits}
 use Rattle.crush_builder.specs.Built.{Pending, nothing, begun, numbered, filling, Draft}
 use Rattle.crush_units.specs.declared.limits.TheConstants.{FARTHEST_BUCKET_ID, LAST_TYPE, MOST_BUCKETS, MOST_CLASS_IDS, MOST_DEVICES, MOST_TUNABLES, MOST_TYPES}
 
--- a builder as contracts see it: its setting, its forest, the incomplete bucket, and how many written weights of buckets were replaced by their sums
+-- a builder as contracts see it: its setting, its forest, the incomplete bucket, and how often a written weight of a bucket was replaced by the bucket's sum
 pub record BuilderData : Type 0 where
   pub setting : SettingData
   pub forest : ForestData
@@ -27,7 +27,7 @@ pub record BuilderData : Type 0 where
 abbrev pub is_bucket_kind : SettingData → ℕ → Bool
 is_bucket_kind s k = nat_lt 0 k && list_any (λ (x : KindData). x.number == k) s.kinds
 
--- whether there is a number, and it isn't 0
+-- whether the value is a number that isn't 0
 abbrev pub is_some_above_zero : Option ℕ → Bool
 is_some_above_zero None = false
 is_some_above_zero (Some k) = nat_lt 0 k
@@ -36,7 +36,7 @@ is_some_above_zero (Some k) = nat_lt 0 k
 abbrev pub names_bucket_kind : SettingData → List ℕ → Bool
 names_bucket_kind s n = is_some_above_zero (kind_number s n)
 
--- a bucket of this type and name can be added to the table: the setting has the type, which isn't type 0, the name is valid and no item has it, and there are fewer buckets than the limit
+-- a bucket of this type and name can be added to the table: the setting has the type, which isn't type 0; the name is valid, and no item has it; and there are fewer buckets than the limit
 pub record CanBegin (s : SettingData) (t : List Row) (kind : ℕ) (name : List ℕ) : Type 0 where
   pub known : is_bucket_kind s kind ≡ true
   pub most : kind ≤ LAST_TYPE
@@ -64,14 +64,14 @@ pub record IsRoot (t : List Row) (b : ℕ) : Type 0 where
   pub there : is_there t (Bucket b) ≡ true
   pub root : parent_of t (Bucket b) ≡ None
 
--- the incomplete bucket is consistent with the setting and the table: if it isn't in the table yet, it can be added; if it is being filled, it is a root
+-- the incomplete bucket is consistent with the setting and the table: if the table doesn't have the bucket yet, the bucket can be added; if the bucket is being filled, it is a root of the table
 abbrev pub IsPending : SettingData → List Row → Pending → Type 0
 IsPending s t nothing = Unit {0}
 IsPending s t (begun kind name) = CanBegin s t kind name
 IsPending s t (numbered kind name b class_ids) = CanBegin s t kind name × CanNumber t b class_ids
 IsPending s t (filling b) = IsRoot t b
 
--- how many buckets are held by another bucket; at most so many written weights were replaced by sums
+-- how many buckets are items of another bucket; the number of written weights that were replaced by sums is never above this number
 abbrev pub held_buckets : List Row → ℕ
 held_buckets t = count_by (λ (r : Row). is_bucket r && is_some r.parent) t
 
@@ -85,11 +85,11 @@ pub record IsDraft (b : BuilderData) (d : Draft) : Type 0 where
   pub fits : Fits d.setting d.table
   pub part : IsPending d.setting d.table d.pending
 
--- the draft whose table is the rows of the builder's own forest; the builder represents it, among others
+-- the draft whose table consists of the rows of the builder's own forest; it is one of the drafts that the builder represents
 abbrev pub own_draft : BuilderData → Draft
 own_draft b = record { setting = b.setting; table = rows_of b.forest; pending = b.pending; adjusted = b.adjusted }
 
--- the invariant of a builder, in addition to its forest's: the setting fits the rows, the incomplete bucket is consistent with both, and no more weights were replaced than there are held buckets
+-- the invariant of a builder, in addition to the invariant of its forest: the setting fits the rows, the incomplete bucket is consistent with both, and no more weights were replaced than there are held buckets
 pub record BuilderFits (b : BuilderData) : Type 0 where
   pub fits : Fits b.setting (rows_of b.forest)
   pub part : IsPending b.setting (rows_of b.forest) b.pending
@@ -141,7 +141,7 @@ is_open _ i = false
 abbrev pub has_name : Draft → List ℕ → Bool
 has_name d n = is_named d.table n || has_pending_name d.pending n
 
--- whether a bucket or a class id, of the table or of the incomplete bucket, has this id
+-- whether the id is the id or a class id of a bucket of the table or of the incomplete bucket
 abbrev pub has_bucket_id : Draft → ℕ → Bool
 has_bucket_id d k = member k (used_ids d.table) || has_pending_id d.pending k
 
@@ -165,7 +165,7 @@ has_kind_number s k = list_any (λ (x : KindData). x.number == k) s.kinds
 abbrev pub has_kind_name : SettingData → List ℕ → Bool
 has_kind_name s n = list_any (λ (x : KindData). bytes_eq x.name n) s.kinds
 
--- whether the number of devices, buckets, class ids of the incomplete bucket, types or tunables has reached its limit, so that one more would exceed it
+-- each of these says whether a limit is reached, so that one more would exceed it: the limit of devices, of buckets, of class ids of the incomplete bucket, of types, or of tunables
 abbrev pub is_full_of_devices : Draft → Bool
 is_full_of_devices d = nat_le MOST_DEVICES (device_count d.table)
 

@@ -1,4 +1,4 @@
--- What has been built of a map's text so far (a draft), and how each statement, or part of one, changes it.
+-- What has been built so far of the map that a text describes (a draft), and how each statement, or part of one, changes the draft.
 use Rattle.std.specs.Prelude.{ℕ, ◌+◌, List, [], ◌∷◌, ◌++◌, Option, None}
 use Rattle.crush_units.specs.declared.id.ItemId.{ItemId}
 use Rattle.crush_units.specs.declared.alg.Alg.{Alg}
@@ -8,14 +8,14 @@ use Rattle.crush_model.specs.ItemRows.{device_row, bucket_row}
 use Rattle.crush_edits.specs.Setting.{RuleData, SettingData}
 use Rattle.crush_map.specs.WrittenItems.{put_below, weight_or_one, adjustment}
 
--- the incomplete bucket, if any. `begun` has its type and name; `numbered` also its id and class ids; `filling` the id of a bucket that is in the table and receives items
+-- the incomplete bucket, if there is one. `begun` has its type and name, and `numbered` also has its id and class ids. `filling` has the id of a bucket that is already in the table and receives items
 pub data Pending : Type 0 where
   nothing : Pending
   begun : ℕ → List ℕ → Pending
   numbered : ℕ → List ℕ → ℕ → List ShadowData → Pending
   filling : ℕ → Pending
 
--- what has been built so far: the setting, the table, the incomplete bucket, and how many bucket items were written with a weight other than the bucket's sum
+-- what has been built so far: the setting, the table, the incomplete bucket, and how often a bucket, as an item, was written with a weight other than its sum
 pub record Draft : Type 0 where
   pub setting : SettingData
   pub table : List Row
@@ -43,7 +43,7 @@ add_rule d r = record d { setting = record d.setting { rules = d.setting.rules +
 abbrev pub with_device : Draft → ℕ → List ℕ → Option (List ℕ) → Draft
 with_device d id name class = record d { table = d.table ++ device_row None (record { id = id; name = name; weight = 0; class = class }) ∷ [] }
 
--- the draft after a bucket has begun, with its type's number and its name
+-- the draft after a bucket has begun; its type's number and its name are known
 abbrev pub begun_bucket : Draft → ℕ → List ℕ → Draft
 begun_bucket d kind name = record d { pending = begun kind name }
 
@@ -58,18 +58,18 @@ pending_with_id (filling a) b = filling a
 abbrev pub with_id : Draft → ℕ → Draft
 with_id d b = record d { pending = pending_with_id d.pending b }
 
--- the incomplete bucket after it gets one more class id, after the others
+-- the incomplete bucket after it gets one more class id, at the end of its class ids
 abbrev pub pending_with_class_id : Pending → ShadowData → Pending
 pending_with_class_id nothing c = nothing
 pending_with_class_id (begun kind name) c = begun kind name
 pending_with_class_id (numbered kind name b class_ids) c = numbered kind name b (class_ids ++ c ∷ [])
 pending_with_class_id (filling b) c = filling b
 
--- the draft after the incomplete bucket gets one more class id, with this id and class
+-- the draft after the incomplete bucket gets one more class id: b is the id, for this class
 abbrev pub with_class_id : Draft → ℕ → List ℕ → Draft
 with_class_id d b class = record d { pending = pending_with_class_id d.pending (record { id = b; class = class }) }
 
--- the row that the incomplete bucket adds to the table when it gets its algorithm: a root
+-- the row that is added to the table when the incomplete bucket gets its algorithm; the bucket is a root
 abbrev pub pending_row : Pending → Alg → List Row
 pending_row nothing alg = []
 pending_row (begun kind name) alg = []
@@ -87,14 +87,14 @@ pending_with_alg (filling b) = filling b
 abbrev pub with_alg : Draft → Alg → Draft
 with_alg d alg = record d { table = d.table ++ pending_row d.pending alg; pending = pending_with_alg d.pending }
 
--- the table after an item is put last into the bucket that is being filled, a device with this weight
+-- the table after an item is put at the end of the bucket that is being filled; a device gets the weight w
 abbrev pub table_with_item : Pending → ItemId → ℕ → List Row → List Row
 table_with_item nothing i w t = t
 table_with_item (begun kind name) i w t = t
 table_with_item (numbered kind name b class_ids) i w t = t
 table_with_item (filling b) i w t = put_below b i w t
 
--- the draft after an item is put into the bucket that is being filled; a written weight that differs from a bucket's sum is counted
+-- the draft after an item is put into the bucket that is being filled; `adjusted` increases by 1 if the item is a bucket and its written weight isn't its sum
 abbrev pub with_next_item : Draft → ItemId → Option ℕ → Draft
 with_next_item d i w = record d { table = table_with_item d.pending i (weight_or_one w) d.table; adjusted = d.adjusted + adjustment d.table i w }
 

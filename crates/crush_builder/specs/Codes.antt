@@ -1,4 +1,4 @@
--- An encoding of incomplete buckets and of builders as values of one plain type, from which each can be decoded again.
+-- An encoding of incomplete buckets and of builders as values of one plain type, from which they can be decoded.
 use Rattle.std.specs.Prelude.{◌≡◌, ℕ, List, [], ◌==◌, if◌then◌else◌, refl}
 use Rattle.std.specs.Coded.{Coded, code_by, coded×, coded_ℕ, coded_list}
 use Rattle.crush_model.specs.Items.{ShadowData}
@@ -9,7 +9,7 @@ use Rattle.crush_edits.specs.Codes.{coded_setting}
 use Rattle.crush_builder.specs.Built.{Pending, nothing, begun, numbered, filling}
 use Rattle.crush_builder.specs.Building.{BuilderData}
 
--- the code of an incomplete bucket: its variant from 0 to 3, its type's number, its id, its name and its class ids; 0 or an empty list for each that the variant lacks
+-- the code of an incomplete bucket: its variant from 0 to 3, its type's number, its id, its name and its class ids; a part that the variant doesn't have is 0 or an empty list
 abbrev pub Parts : Type 0
 Parts = ℕ × (ℕ × (ℕ × (List ℕ × List ShadowData)))
 

@@ -1,4 +1,4 @@
--- The faults of a builder's calls, except those of rules (`Rules`). Each fault has a test on the draft; of the faults whose tests hold, the one with the least number is returned.
+-- The faults of a builder's methods, except for the faults of rules, which are in `Rules`. Each fault has a test on the draft; of the faults whose tests are true, the one with the smallest number is returned.
 use Rattle.std.specs.Prelude.{ℕ, List, [], ◌∷◌, Option, Some, None, Bool, false, not, ◌&&◌, if◌then◌else◌, nat_lt}
 use Rattle.crush_units.specs.declared.id.ItemId.{ItemId}
 use Rattle.crush_units.specs.declared.id.ItemId.TheVariants.{Device}
@@ -11,7 +11,7 @@ use Rattle.crush_builder.specs.Built.{Draft, with_next_item}
 use Rattle.crush_builder.specs.Building.{is_open, has_kind_number, has_kind_name, has_name, has_bucket_id, has_class, names_bucket_kind, is_full_of_devices, is_full_of_buckets, is_full_of_class_ids, is_full_of_kinds, is_full_of_tunables}
 use Rattle.crush_units.specs.declared.limits.TheConstants.{HEAVIEST_DEVICE}
 
--- the number of a fault: of several faults at the same place of a text, the one with the least number is returned
+-- the number of a fault: of several faults at the same place of a text, the one with the smallest number is reported
 abbrev pub build_fault_number : BuildFault → ℕ
 build_fault_number BadWeight = 5
 build_fault_number DuplicateId = 6
@@ -24,7 +24,7 @@ build_fault_number TooMany = 14
 build_fault_number SumTooLarge = 15
 build_fault_number OutOfMemory = 16
 
--- what a returned fault says of the draft: that it is the draft's first fault. Out of memory says that the draft has no fault
+-- what a returned fault says about the draft: the fault is the first one that the draft has. If the returned fault is OutOfMemory, the draft has no fault
 abbrev pub fault_told : BuildFault → Option BuildFault
 fault_told OutOfMemory = None
 fault_told BadWeight = Some BadWeight
@@ -37,37 +37,37 @@ fault_told UnknownBucketInRule = Some UnknownBucketInRule
 fault_told TooMany = Some TooMany
 fault_told SumTooLarge = Some SumTooLarge
 
--- the first fault of the list whose test holds, if there is one
+-- the first fault in the list whose test is true, if there is one
 abbrev pub first_fault : List (BuildFault × Bool) → Option BuildFault
 first_fault [] = None
 first_fault (p ∷ ps) = if p.1 then Some p.0 else first_fault ps
 
--- THE FAULTS of each call, with their tests, in the order of their numbers
--- of a type: a type has the number, a type has the name, or there are as many types as the limit
+-- THE FAULTS that each method can return, with their tests, in the order of their numbers
+-- the fault of adding a type: a type has the number, a type has the name, or there are as many types as the limit
 abbrev pub kind_fault : Draft → ℕ → List ℕ → Option BuildFault
 kind_fault d k n = first_fault ((DuplicateId, has_kind_number d.setting k) ∷ ((DuplicateName, has_kind_name d.setting n) ∷ ((TooMany, is_full_of_kinds d) ∷ [])))
 
--- of a tunable: a tunable has the name, or there are as many tunables as the limit
+-- the fault of adding a tunable: a tunable has the name, or there are as many tunables as the limit
 abbrev pub tunable_fault : Draft → List ℕ → Option BuildFault
 tunable_fault d n = first_fault ((DuplicateName, has_tunable d.setting n) ∷ ((TooMany, is_full_of_tunables d) ∷ []))
 
--- of a device: a device has the id, an item has the name, or there are as many devices as the limit
+-- the fault of adding a device: a device has the id, an item has the name, or there are as many devices as the limit
 abbrev pub device_fault : Draft → ℕ → List ℕ → Option BuildFault
 device_fault d i n = first_fault ((DuplicateId, is_there d.table (Device i)) ∷ ((DuplicateName, has_name d n) ∷ ((TooMany, is_full_of_devices d) ∷ [])))
 
--- of the first words of a bucket: an item has the name, no type that buckets can have has the type's name, or there are as many buckets as the limit
+-- the fault of beginning a bucket: an item has the name, k doesn't name a type that buckets can have, or there are as many buckets as the limit
 abbrev pub begin_fault : Draft → List ℕ → List ℕ → Option BuildFault
 begin_fault d k n = first_fault ((DuplicateName, has_name d n) ∷ ((UnknownType, not (names_bucket_kind d.setting k)) ∷ ((TooMany, is_full_of_buckets d) ∷ [])))
 
--- of a bucket's id: a bucket or a class id has it
+-- the fault of setting a bucket's id: it is already the id or a class id of a bucket
 abbrev pub id_fault : Draft → ℕ → Option BuildFault
 id_fault d b = first_fault ((DuplicateId, has_bucket_id d b) ∷ [])
 
--- of a class id: a bucket or a class id has the id, the bucket has a class id for the class, or as many class ids as the limit
+-- the fault of adding a class id: it is already the id or a class id of a bucket, the bucket has a class id for the class, or it has as many class ids as the limit
 abbrev pub class_id_fault : Draft → ℕ → List ℕ → Option BuildFault
 class_id_fault d b c = first_fault ((DuplicateId, has_bucket_id d b) ∷ ((DuplicateName, has_class d c) ∷ ((TooMany, is_full_of_class_ids d) ∷ [])))
 
--- whether a weight is written, and it is above the heaviest that a device can have
+-- whether a weight is written and is above the maximum weight of a device
 abbrev pub is_written_too_heavy : Option ℕ → Bool
 is_written_too_heavy None = false
 is_written_too_heavy (Some w) = nat_lt HEAVIEST_DEVICE w
@@ -80,7 +80,7 @@ is_heavy_device i w = is_device_id i && is_written_too_heavy w
 abbrev pub is_closed : Draft → ItemId → Bool
 is_closed d i = is_there d.table i && not (is_open d.pending i)
 
--- of an item: it is a device with too heavy a weight, it is neither a device nor a complete bucket, a bucket holds it, or with it a bucket or the whole map is too heavy
+-- the fault of putting an item into a bucket: it is a device with too large a weight, it is neither a device nor a complete bucket, a bucket holds it, or with it a bucket or the whole map is too heavy
 abbrev pub item_fault : Draft → ItemId → Option ℕ → Option BuildFault
 item_fault d i w =
     first_fault ((BadWeight, is_heavy_device i w) ∷ ((UnknownItem, not (is_closed d i)) ∷ ((SecondParent, is_placed d.table i) ∷ ((SumTooLarge, is_too_heavy (with_next_item d i w).table) ∷ []))))

@@ -8,12 +8,12 @@ use Rattle.crush_builder.specs.declared.builder.Pending.{Pending as BuilderPart}
 use Rattle.crush_builder.specs.declared.builder.Pending.TheVariants.{Nothing, Begun, Numbered, Filling}
 use Rattle.crush_builder.specs.Built.{Pending, nothing, begun, numbered, filling}
 
--- the class ids in the builder's list, and none if it has no list yet
+-- the class ids in the builder's list; there are none if the builder has no list yet
 abbrev pub listed : {A : _} → Option (Vec (ShadowId A) A) → List ShadowData
 listed None = []
 listed (Some class_ids) = map shadow_data class_ids.items
 
--- the incomplete bucket of the builder's code as the value that contracts see
+-- the incomplete bucket of the code, as the value by which contracts describe it
 abbrev pub pending_data : {A : _} → BuilderPart A → Pending
 pending_data Nothing = nothing
 pending_data (Begun kind name) = begun kind name

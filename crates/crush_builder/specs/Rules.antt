@@ -1,4 +1,4 @@
--- A rule that is given to a builder: its form, its faults, and the form in which a map keeps it.
+-- A rule that is added to a builder: the form that it must have, its faults, and the form in which a map stores it.
 use Rattle.std.specs.Prelude.{ℕ, ◌+◌, ◌≤◌, List, [], ◌∷◌, Option, Some, None, Bool, ◌==◌, if◌then◌else◌, IfSome, All, map, length, bytes_eq, is_some, nat_le, option_and_then}
 use Rattle.std.specs.List.{list_any}
 use Rattle.crush_units.specs.declared.limits.TheConstants.{LARGEST_RULE_NUMBER, MOST_RULES, MOST_STEPS}
@@ -19,14 +19,14 @@ use Rattle.crush_builder.specs.Building.{item_named}
 use Rattle.crush_builder.specs.Faults.{fault_told}
 
 -- THE FORM of a rule's words and numbers, which a parser of the text ensures and the builder requires
--- of a step: a class has the form of a name, a count fits 32 bits with a sign, and a setting step has its form
+-- the form of a step: a class has the form of a name, a count fits a signed 32-bit number, and a step that sets a value has its form
 abbrev pub IsStepForm : Step → Type 0
 IsStepForm (Take name class) = IfSome class IsName
 IsStepForm (Choose leaf firstn count kind) = IsCount count
 IsStepForm (Set word value) = IsSet word value
 IsStepForm Emit = Unit {0}
 
--- of a rule: its names have the form of a name, its numbers are in range, and each step has its form
+-- the form of a rule: its names have the form of a name, its numbers are in range, and each step has its form
 pub record IsRuleForm (r : Rule) : Type 0 where
   pub name : IsName r.name
   pub id : r.id ≤ LARGEST_RULE_NUMBER
@@ -39,20 +39,20 @@ pub record IsRuleForm (r : Rule) : Type 0 where
 abbrev pub complete_bucket_named : Draft → List ℕ → Option ℕ
 complete_bucket_named d n = option_and_then number_of (item_named d n)
 
--- WHAT IS KEPT: a map keeps the id of a bucket in place of its name
--- the id that is kept; 0 if there is none, which a rule without faults doesn't have
+-- WHAT A MAP STORES: the id of a bucket replaces the bucket's name
+-- the id that a map stores, or 0 if there is no such bucket, which can't happen in a rule without faults
 abbrev pub taken_number : Option ℕ → ℕ
 taken_number None = 0
 taken_number (Some b) = b
 
--- the step as a map keeps it
+-- the step in the form in which a map stores it
 abbrev pub kept_step : Draft → Step → StepData
 kept_step d (Take name class) = take (taken_number (complete_bucket_named d name)) class
 kept_step d (Choose leaf firstn count kind) = choose leaf firstn count kind
 kept_step d (Set word value) = set word value
 kept_step d Emit = emit
 
--- the rule as a map keeps it
+-- the rule in the form in which a map stores it
 abbrev pub kept_rule : Draft → Rule → RuleData
 kept_rule d r = record { name = r.name; id = r.id; kind = r.kind; min_size = r.min_size; max_size = r.max_size; steps = map (kept_step d) r.steps.items }
 
@@ -73,18 +73,18 @@ has_rule_id s k = list_any (λ (x : RuleData). x.id == k) s.rules
 abbrev pub is_full_of_rules : Draft → Bool
 is_full_of_rules d = nat_le MOST_RULES (length d.setting.rules)
 
--- the fault of a step by itself: it takes a name that no complete bucket has, or chooses a type that the setting doesn't have
+-- the fault that a step has at any position in a rule: it takes a name that no complete bucket has, or it chooses a type that the setting doesn't have
 abbrev pub word_fault : Draft → Step → Option BuildFault
 word_fault d (Take name class) = if is_some (complete_bucket_named d name) then None else Some UnknownBucketInRule
 word_fault d (Choose leaf firstn count kind) = if is_some (kind_number d.setting kind) then None else Some UnknownType
 word_fault d (Set word value) = None
 word_fault d Emit = None
 
--- the fault of the step that follows k others: it is above the limit, or else its fault by itself
+-- the fault of the step that has k steps before it: too many steps, or otherwise the fault that the step has at any position
 abbrev pub step_fault : Draft → ℕ → Step → Option BuildFault
 step_fault d k x = if nat_le MOST_STEPS k then Some TooMany else word_fault d x
 
--- the fault at this part, if there is one, and otherwise the fault of the later parts
+-- the fault at part p, if there is one, and otherwise the fault of the later parts
 abbrev pub or_later : RulePart → Option BuildFault → Option RuleFault → Option RuleFault
 or_later p None later = later
 or_later p (Some f) later = Some (record { part = p; fault = f })
@@ -94,7 +94,7 @@ abbrev pub steps_fault : Draft → ℕ → List Step → Option RuleFault
 steps_fault d k [] = None
 steps_fault d k (x ∷ xs) = or_later (AtStep k) (step_fault d k x) (steps_fault d (k + 1) xs)
 
--- the first fault of a rule: too many rules, a taken name, a taken id, or that of its steps
+-- the first fault of a rule: there are too many rules, its name is taken, its id is taken, or a step has a fault
 abbrev pub rule_fault : Draft → Rule → Option RuleFault
 rule_fault d r =
     if is_full_of_rules d then Some (record { part = AtStatement; fault = TooMany })
@@ -102,6 +102,6 @@ rule_fault d r =
     else (if has_rule_id d.setting r.id then Some (record { part = AtId; fault = DuplicateId })
     else steps_fault d 0 r.steps.items))
 
--- what a returned fault says of the draft: that it is the rule's first fault there. Out of memory says that the rule has no fault
+-- what a returned fault says about the draft: the fault is the first one that the rule has there. If the returned fault is OutOfMemory, the rule has no fault
 abbrev pub rule_told : RuleFault → Option RuleFault
 rule_told f = if is_some (fault_told f.fault) then Some f else None

@@ -6,46 +6,47 @@ ghost use Rattle.crush_builder.specs.Faults.{build_fault_number};
 use std::alloc::AllocError;
 use thiserror::Error;
 
-/// Why the builder rejects a statement of a map's text, or a part of one.
+/// Why the builder rejects a statement of a map's text, or a part of a statement.
 #[derive(Clone, Copy, Debug, PartialEq, Eq, Error)]
 pub enum BuildFault {
     /// The weight that the text gives a device is above 2147483647 units.
     #[error("a device weighs at most 2147483647 units")]
     BadWeight,
-    /// Another device, type or rule has this id or number; or a bucket or a class id has this id.
+    /// The id or number is taken: another device, type or rule has it, or it is the id or a class
+    /// id of a bucket.
     #[error("the id is taken")]
     DuplicateId,
-    /// Another item, type, tunable or rule has this name; or the bucket has a class id for this
-    /// class already.
+    /// Another item, type, tunable or rule has this name; or the bucket already has a class id for
+    /// this class.
     #[error("the name is taken")]
     DuplicateName,
-    /// The map has no type of this name. For a bucket, type 0 is also rejected, because it is the
-    /// devices' type.
+    /// The map has no type with this name. A bucket can't have type 0 either, because type 0 is the
+    /// type of devices.
     #[error("no such type")]
     UnknownType,
     /// No device and no complete bucket has this name or id.
     #[error("no such item")]
     UnknownItem,
-    /// A bucket holds the item already; an item is in at most one bucket.
+    /// A bucket already holds the item; an item is in at most one bucket.
     #[error("a bucket holds the item already")]
     SecondParent,
-    /// No complete bucket has the name that a `take` step of a rule gives.
+    /// No complete bucket has the name that a rule's `take` step names.
     #[error("no bucket has the name that a rule takes")]
     UnknownBucketInRule,
-    /// The map has as many devices, buckets, types, tunables or rules as its limit allows, the
-    /// bucket as many class ids, or the rule as many steps.
+    /// A limit is reached: the map already has the maximum number of devices, buckets, types,
+    /// tunables or rules, the bucket already has 16 class ids, or the rule has more than 64 steps.
     #[error("more than a map has at most")]
     TooMany,
-    /// With this item a bucket would weigh more than 4294967295 units, or all placed devices
-    /// together more than 8796093022207 units.
+    /// With this item, a bucket would weigh more than 4294967295 units, or all placed devices
+    /// together would weigh more than 8796093022207 units.
     #[error("a bucket or the whole map is too heavy with this item")]
     SumTooLarge,
-    /// Memory ran out; no other fault was found.
+    /// Memory ran out, and no other fault was found.
     #[error("out of memory")]
     OutOfMemory,
 }
 
-/// The part of a rule in which a fault is. The variants are in the order of a rule's text.
+/// The part of a rule that has a fault. The variants are in the order of a rule's text.
 #[derive(Clone, Copy, Debug, PartialEq, Eq)]
 pub enum RulePart {
     /// The rule as a whole.
@@ -60,12 +61,12 @@ pub enum RulePart {
 
 /// Why the builder rejects a rule, and at which part.
 ///
-/// If several parts have a fault, the first part is reported. Out of memory is reported at
-/// [`RulePart::Statement`].
+/// If several parts have a fault, the first of these parts is reported. If memory runs out, the
+/// part is [`RulePart::Statement`].
 #[derive(Clone, Copy, Debug, PartialEq, Eq, Error)]
 #[error("{fault}")]
 pub struct RuleFault {
-    /// The part in which the fault is.
+    /// The part that has the fault.
     pub part: RulePart,
     /// What is wrong with the part.
     pub fault: BuildFault,
@@ -74,9 +75,8 @@ pub struct RuleFault {
 impl BuildFault {
     /// Returns the fault's number, from 5 to 16.
     ///
-    /// If several faults are at the same place of a text, the one with the least number is
-    /// reported. The numbers from 1 to 16 that are missing here belong to faults that only the
-    /// parser finds.
+    /// If several faults are at the same place of a text, the one with the smallest number is
+    /// reported. The other numbers from 1 to 16 belong to faults that only the parser finds.
     pub fn number(self) -> u8
         ensures { result ≡ build_fault_number self }
     {

@@ -1,4 +1,4 @@
--- A column differs exactly if two tables don't say the same of an item.
+-- Proves that at least one column differs if and only if two tables don't say the same about an item.
 use Rattle.std.proofs.Common.{◌≡◌, ◌==◌, Bool, true, false, not, ◌&&◌, ◌||◌, refl, ◌∙◌}
 use Rattle.std.specs.Prelude.{bytes_eq}
 use Rattle.crush_compare.specs.Columns.{SomeColumnOfOtherItems}

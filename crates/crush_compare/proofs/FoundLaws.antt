@@ -1,4 +1,4 @@
--- What a list has of a key, and that each pair has what both lists have of its key.
+-- Proves that each pair has the places that the two lists have for the pair's key.
 use Rattle.std.proofs.Common.{◌≡◌, ℕ, ◌+◌, ◌≤◌, ◌==◌, ◌||◌, Bool, true, false, List, [], ◌∷◌, Option, Some, None, All, map, filter_map, refl, sym, ap, ◌∙◌, arith, if◌then◌else◌}
 use Rattle.std.specs.List.{cons_option}
 use Rattle.std.specs.Option.{option_map_or}
@@ -15,16 +15,16 @@ befores ps = filter_map (λ (p : KeyPair). p.before) ps
 abbrev afters : List KeyPair → List Place
 afters ps = filter_map (λ (p : KeyPair). p.after) ps
 
--- a key that is less than all keys of a list isn't there
+-- a key that is less than all keys of a list isn't in the list
 absent_by : (k : ℕ) (x : Place) (xs : List Place) (b : Bool) → (k == x.key) ≡ b → k + 1 ≤ x.key → place_of k xs ≡ None → (if b then Some x else place_of k xs) ≡ None
 absent_by k x xs true is less rest = absurd (omega (arith, eqb-true k x.key is, less))
 absent_by k x xs false is less rest = rest
 
--- the first place of a list is that of its key
+-- a search for the key of a list's first place finds this place
 here : (k : ℕ) (x : Place) (xs : List Place) → k ≡ x.key → place_of k (x ∷ xs) ≡ Some x
 here k x xs same = ap (λ b. if b then Some x else place_of k xs) (eq-eqb k x.key same)
 
--- the keys of a list that are greater than the first place's key find the same in the rest
+-- a search for a key that is greater than the first place's key finds the same in the list as in the list without its first place
 later_by : (k : ℕ) (x : Place) (xs : List Place) (b : Bool) → (k == x.key) ≡ b → x.key + 1 ≤ k → (if b then Some x else place_of k xs) ≡ place_of k xs
 later_by k x xs true is more = absurd (omega (arith, eqb-true k x.key is, more))
 later_by k x xs false is more = refl
@@ -42,7 +42,7 @@ all_later o q xs ys low (k ∷ ks) x_under y_under up =
     let rest = all_later o q xs ys (k + 1) ks (λ x is. omega (arith, x_under x is, up.0)) (λ y is. omega (arith, y_under y is, up.0)) up.1 in
     λ i. record { before = at_x i; after = at_y i } ∷ rest i
 
--- a key below those of all pairs is in neither list
+-- a key that is less than the keys of all pairs is in neither list
 before_absent : (k : ℕ) (b a : Option Place) (xs : List Place) → k + 1 ≤ either_key b a → place_of k xs ≡ None → place_of k (cons_option b xs) ≡ None
 before_absent k None a xs less rest = rest
 before_absent k (Some x) a xs less rest = absent_by k x xs (k == x.key) refl less rest
@@ -58,7 +58,7 @@ absent k low (p ∷ ps) less one up =
     let rest = absent k (pair_key p + 1) ps (omega (arith, less, up.0)) (All-tail IsOne p ps one) up.1 in
     (before_absent k p.before p.after (befores ps) (omega (arith, less, up.0)) rest.0, after_absent k p.before p.after (afters ps) (All-head IsOne p ps one) (omega (arith, less, up.0)) rest.1)
 
--- a pair has what both lists have of its key
+-- the first pair has the places that the two lists have for its key
 first_before : (b a : Option Place) (xs : List Place) → place_of (either_key b a) xs ≡ None → place_of (either_key b a) (cons_option b xs) ≡ b
 first_before None a xs none = none
 first_before (Some x) a xs none = here x.key x xs refl
@@ -90,17 +90,17 @@ pairs_found low (p ∷ ps) one up =
     ∙ sym (all_later p.before p.after (befores ps) (afters ps) (k + 1) (map pair_key ps) (λ x is. omega (arith, before_under p.before p.after x is)) (λ y is. omega (arith, after_under p.before p.after y own is)) up.1) in
     λ i. record { before = sym at_x i; after = sym at_y i } ∷ rest i
 
--- FOUND: the pairs of two lists are what the lists have of the pairs' keys
+-- FOUND: each pair of two lists has the places that the two lists have for the pair's key
 pub found_pairs : (old new : List Place) (ps : List KeyPair) → AreKeyPairsOf old new ps → ps ≡ map (key_pair old new) (map pair_key ps)
 found_pairs old new ps h = pairs_found 0 ps h.one h.rising ∙ (λ i. map (key_pair (h.before i) (h.after i)) (map pair_key ps))
 
--- THE KEYS: two lists of pairs of the same lists have the same keys
+-- THE KEYS: if the numbers ks rise and are the keys of at least one of the lists `old` and `new`, then ks are the keys of the pairs of the two lists
 pub keys_of_pairs : (old new : List Place) (ps : List KeyPair) (ks : List ℕ) → AreKeyPairsOf old new ps → Rise ks → ((k : ℕ) → has k ks ≡ (has k (keys old) || has k (keys new))) → map pair_key ps ≡ ks
 keys_of_pairs old new ps ks h up same =
     unique 0 (map pair_key ps) ks h.rising up
     (λ k. has-pairs k ps h.one ∙ (λ i. has k (keys (h.before i)) || has k (keys (h.after i))) ∙ sym (same k))
 
--- ONE ANSWER
+-- ONE ANSWER: for two lists of places, at most one list of pairs meets `ArePairsOf`
 pub one_answer : OneAnswer
 one_answer old new ps qs h g =
     h.are ∙ ap (map positions) (found_pairs old new h.keyed h.of_keys)

@@ -1,4 +1,4 @@
--- The keys of all ids of two tables rise, and are those of the tables' rows.
+-- Proves that the keys of all ids of two tables rise, and that they are the keys of the tables' rows.
 use Rattle.std.proofs.Common.{◌≡◌, ℕ, ◌+◌, ◌^◌, ◌-◌, ◌<◌, ◌≤◌, ◌==◌, ◌||◌, ◌&&◌, Bool, true, false, nat_le, List, [], ◌∷◌, ◌++◌, refl, sym, ap, ◌∙◌, arith, map}
 use Rattle.std.specs.Prelude.{All, flat_map}
 use Rattle.std.proofs.Math.Bool.{or_assoc}
@@ -15,7 +15,7 @@ use Rattle.crush_items.specs.Order.{ascending, device_number}
 use Rattle.crush_compare.specs.Pairs.{RiseFrom, Rise}
 use Rattle.crush_compare.proofs.KeyLaws.{has, has-append, has-ascending, has-once, no, rise-once, up-ascending}
 
--- the number of devices' keys before the first
+-- the key of the device with the number d
 abbrev pub beyond : ℕ → ℕ
 beyond d = 2 ^ 32 + d
 
@@ -34,7 +34,7 @@ or_middle true false q = refl
 or_middle false true q = refl
 or_middle false false q = refl
 
--- the keys of rows are the numbers of their buckets, and those of their devices beyond
+-- a number is the key of a row if and only if it is the number of a row's bucket, or it is `beyond` d for the number d of a row's device
 key_more : (k : ℕ) (i : ItemId) (bs ds : List ℕ) (p : Bool) → p ≡ (has k bs || has k (map beyond ds)) → ((k == id_key i) || p) ≡ (has k (bucket_ids i ++ bs) || has k (map beyond (device_number i ++ ds)))
 key_more k (Bucket b) bs ds p is = ap (λ q. (k == b) || q) is ∙ sym (or_assoc (k == b) (has k bs) (has k (map beyond ds)))
 key_more k (Device d) bs ds p is = ap (λ q. (k == beyond d) || q) is ∙ or_middle (k == beyond d) (has k bs) (has k (map beyond ds))
@@ -43,7 +43,7 @@ has-rows : (k : ℕ) (t : List Row) → has k (row_keys t) ≡ (has k (flat_map 
 has-rows k [] = refl
 has-rows k (r ∷ t) = key_more k r.id (flat_map (λ (x : Row). bucket_ids x.id) t) (flat_map (λ (x : Row). device_number x.id) t) (has k (row_keys t)) (has-rows k t)
 
--- of numbers beyond, the test is one of the numbers
+-- comparing k with `beyond` d is comparing k - 2^32 with d
 beyond_is : (k d : ℕ) → (k == beyond d) ≡ (nat_le (2 ^ 32) k && ((k - 2 ^ 32) == d))
 beyond_is k d = grind (arith, nat_tests)
 
@@ -59,11 +59,11 @@ has-beyond : (k : ℕ) (ds : List ℕ) → has k (map beyond ds) ≡ (nat_le (2 
 has-beyond k [] = and_no (nat_le (2 ^ 32) k)
 has-beyond k (d ∷ ds) = (λ i. beyond_is k d i || has-beyond k ds i) ∙ and_or (nat_le (2 ^ 32) k) ((k - 2 ^ 32) == d) (has (k - 2 ^ 32) ds)
 
--- a list that is kept in order, each number once, has the same numbers beyond
+-- sorting a list and removing its repetitions doesn't change which numbers are in it
 pub has-kept : (k : ℕ) (xs : List ℕ) → has k (once (ascending xs)) ≡ has k xs
 has-kept k xs = has-once k (ascending xs) ∙ has-ascending k xs
 
--- the keys of ids of both kinds
+-- a number is a key of the buckets bs and the devices ds if and only if it is in bs or is `beyond` a number of ds
 has-ids : (k : ℕ) (bs ds : List ℕ) → has k (map id_key (map Bucket bs ++ map Device ds)) ≡ (has k bs || has k (map beyond ds))
 has-ids k [] [] = refl
 has-ids k [] (d ∷ ds) = ap (λ p. (k == beyond d) || p) (has-ids k [] ds)
@@ -75,7 +75,7 @@ or_four false true true d = refl
 or_four false true false d = refl
 or_four false false c d = refl
 
--- THE KEYS of all ids are those of the rows of both tables
+-- THE KEYS of all ids of two tables are the keys of the rows of both tables
 pub has-all_ids : (k : ℕ) (t u : List Row) → has k (map id_key (all_ids t u)) ≡ (has k (row_keys t) || has k (row_keys u))
 unfolding all_ids all_buckets all_devices
 has-all_ids k t u =
@@ -88,7 +88,7 @@ has-all_ids k t u =
     has-ids k (once (ascending (bt ++ bu))) (once (ascending (dt ++ du))) ∙ (λ i. buckets i || devices i) ∙ or_four (has k bt) (has k bu) (has k (map beyond dt)) (has k (map beyond du))
     ∙ (λ i. sym (has-rows k t) i || sym (has-rows k u) i)
 
--- the numbers of a lawful table's buckets are below those of devices' keys
+-- the number of each bucket in a lawful table is less than the key of every device
 within : (k : ℕ) (i : ItemId) (r : Row) (bs : List ℕ) → IsRowOf i r → (has k bs ≡ true → k < 2 ^ 32) → has k (bucket_ids i ++ bs) ≡ true → k < 2 ^ 32
 within k (Device d) r bs row rest is = rest is
 within k (Bucket b) r bs row rest is = by (k == b) refl is where
@@ -108,7 +108,7 @@ or_right : (p q : Bool) → q ≡ true → (p || q) ≡ true
 or_right true q is = refl
 or_right false q is = is
 
--- they rise
+-- the keys of all ids rise
 rise_beyond : (low high : ℕ) (ds : List ℕ) → low ≤ beyond high → RiseFrom high ds → RiseFrom low (map id_key (map Device ds))
 rise_beyond low high [] less up = tt
 rise_beyond low high (d ∷ ds) less up = (omega (arith, less, up.0), rise_beyond (beyond d + 1) (d + 1) ds (omega arith) up.1)
@@ -128,7 +128,7 @@ rise-all_ids t u lawful_t lawful_u =
     (λ k is. either (has k bt) (has k bu) k (few_buckets k t lawful_t.rows) (few_buckets k u lawful_u.rows) (sym (has-kept k (bt ++ bu) ∙ has-append k bt bu) ∙ is))
     (rise-once (ascending (bt ++ bu)) (up-ascending (bt ++ bu))) (rise-once (ascending ds) (up-ascending ds))
 
--- the ids of lawful tables are short
+-- in a lawful table the number of each bucket is less than 2^32, which `IsShort` says
 short_buckets : (bs : List ℕ) → ((k : ℕ) → has k bs ≡ true → k < 2 ^ 32) → All IsShort (map Bucket bs)
 short_buckets [] few = All-nil IsShort
 short_buckets (b ∷ bs) few =

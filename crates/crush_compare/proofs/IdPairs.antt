@@ -1,4 +1,4 @@
--- The pairs by ids of two lawful tables have each id of either table once.
+-- Proves that if two lawful tables are matched by ids, there is one pair for each id that at least one of the tables has.
 use Rattle.std.proofs.Common.{◌≡◌, ◌≢◌, ℕ, suc, ◌+◌, ◌<◌, ◌≤◌, ◌==◌, ◌||◌, Bool, true, false, nat_lt, List, [], ◌∷◌, Option, Some, None, length, get_or, refl, sym, ap, subst, ◌∙◌, arith, map, filter_map, if◌then◌else◌, ◌⊎◌, inl, inr, ⊎_elim}
 use Rattle.std.specs.Prelude.{All, option_and_then}
 use Rattle.std.specs.Cmp.Lexicographic.{pointwise}
@@ -41,7 +41,7 @@ same_key (Bucket b) (Bucket c) x y h = ap Bucket h
 same_key (Device d) (Bucket c) x y h = absurd (omega (arith, h, y))
 same_key (Bucket b) (Device e) x y h = absurd (omega (arith, h, x))
 
--- the ids of a lawful table are short
+-- in a lawful table the number of each bucket is less than 2^32, which `IsShort` says
 short_row : (i : ItemId) (r : Row) → IsRowOf i r → IsShort i
 short_row (Device d) r row = tt
 short_row (Bucket b) r row = let most : b ≤ 2147483648 = row.most in omega (arith, most)
@@ -56,7 +56,7 @@ Told t e = entry_of t (entry_id e) ≡ Some e
 short_told : (t : List Row) (e : EntryData) → All IsRow t → Told t e → IsShort (entry_id e)
 short_told t e rows told = short_by t (entry_id e) e (row_of t (entry_id e)) refl told rows
 
--- the entries of places, and their keys
+-- the entries at the positions of the places ps, and the keys of these entries
 abbrev found : List EntryData → List Place → List EntryData
 found es ps = filter_map (entry_at es) ps
 
@@ -73,14 +73,14 @@ keys_of : (es : List EntryData) (ps : List Place) → All (IsPlaceIn es) ps → 
 keys_of es [] placed = refl
 keys_of es (p ∷ ps) placed = keys_by es p ps (entry_at es p) (All-head (IsPlaceIn es) p ps placed) (keys_of es ps (All-tail (IsPlaceIn es) p ps placed))
 
--- A PLACE OF A KEY holds what the table has of the id
+-- A PLACE OF A KEY: the entry at the place of an id's key is what the table has for this id
 abbrev times_in : ItemId → List EntryData → ℕ
 times_in i es = sum_by (λ e. one_if (same_id (entry_id e) i)) es
 
 other_id : (i j : ItemId) → (id_key i ≡ id_key j → ⊥) → one_if (same_id j i) ≡ 0
 other_id i j other = ⊎_elim (λ p. absurd (other (ap id_key (sym p.1)))) (λ p. ap one_if p.0) (same_id_tells j i)
 
--- one place, by the entry that it holds and by the test of its key
+-- the step of this proof for one more place p, by the entry at p's position and by whether p's key is the id's key
 of_one : (t : List Row) (es : List EntryData) (p : Place) (ps : List Place) (i : ItemId) (o : Option EntryData) (b : Bool) → All IsRow t → IsShort i
     → entry_at es p ≡ o → option_map entry_key o ≡ Some p.key → All (Told t) (cons_option o (found es ps)) → (id_key i == p.key) ≡ b
     → (option_and_then (entry_at es) (place_of (id_key i) ps) ≡ entry_of t i) ⊎ ((place_of (id_key i) ps ≡ None) × (times_in i (found es ps) ≡ 0))
@@ -113,7 +113,7 @@ looked_up t es ps i lawful by_id short = ⊎_elim
     (λ h. ap (option_and_then (entry_at es)) h.0 ∙ sym (ap (option_map (row_entry t i)) (row_of-absent t i (sym (by_id.lists.ids (λ j. one_if (same_id j i))) ∙ h.1))))
     (look t es ps i lawful.rows short by_id.placed by_id.lists.told)
 
--- THE KEYS RISE, since no two rows have one id
+-- THE KEYS RISE, because no two rows have the same id
 up_keys : (low : ℕ) (ps : List Place) → IsNonDecreasingBy (λ (p : Place). p.key) ps → ((d : Place) → 0 < length ps → low ≤ (get_or ps 0 d).key) → UpFrom low (keys ps)
 up_keys low [] up least = tt
 up_keys low (p ∷ ps) up least =
@@ -151,7 +151,7 @@ by_id_rises t es ps lawful by_id =
     (All-weaker (Told t) (λ e. IsShort (entry_id e)) (λ e. short_told t e lawful.rows) (found es ps) by_id.lists.told)
     (λ i. omega (arith, by_id.lists.ids (λ j. one_if (same_id j i)), lawful.ids i)))
 
--- and are those of the rows
+-- the keys of the places are the keys of the rows
 less : (n : ℕ) → 0 < n → true ≡ nat_lt 0 n
 less n some = grind (arith, nat_tests)
 
@@ -169,13 +169,13 @@ has_by_id k t es ps by_id =
     ∙ ap (nat_lt 0) (sum_by-map (λ x. one_if (k == x)) entry_key (found es ps) ∙ by_id.lists.ids (λ i. one_if (k == id_key i)) ∙ sym (sum_by-map (λ x. one_if (k == x)) (λ (r : Row). id_key r.id) t))
     ∙ sym (has-sum k (row_keys t))
 
--- THE KEYS OF ALL IDS
+-- THE KEYS of the pairs are the keys of all ids of the tables
 pub keys_of_all_ids : KeysOfAllIds
 keys_of_all_ids t u es fs old new ps both are =
     keys_of_pairs old new ps (map id_key (all_ids t u)) are (rise-all_ids t u both.old_lawful both.new_lawful)
     (λ k. has-all_ids k t u ∙ (λ i. sym (has_by_id k t es old both.before) i || sym (has_by_id k u fs new both.after) i))
 
--- EACH ID ONCE
+-- EACH ID ONCE: there is one pair for each id
 pub at_position : (es : List EntryData) (o : Option Place) → option_and_then (slice_get es) (position o) ≡ option_and_then (entry_at es) o
 at_position es None = refl
 at_position es (Some p) = refl
@@ -195,7 +195,7 @@ each_id_once t u es fs old new ps both pairs =
     ap (map (entries_at es fs)) (h.are ∙ ap (map positions) (found_pairs old new h.keyed h.of_keys ∙ ap (map (key_pair old new)) (keys_of_all_ids t u es fs old new h.keyed both h.of_keys)))
     ∙ of_ids t u es fs old new (all_ids t u) both (short_ids t u both.old_lawful both.new_lawful)
 
--- EACH ITEM ONCE
+-- EACH ITEM ONCE: each item of either table is in exactly one pair
 before_by : (es : List EntryData) (o : Option Place) (xs : List EntryData) (ps : List Place) → xs ≡ found es ps → cons_option (option_and_then (slice_get es) (position o)) xs ≡ found es (cons_option o ps)
 before_by es None xs ps rest = rest
 before_by es (Some x) xs ps rest = ap (cons_option (entry_at es x)) rest
@@ -216,7 +216,7 @@ each_item_once t u es fs old new ps both pairs =
       after = subst (HasEntries u) (sym (ap (λ qs. filter_map (λ (q : EntryPair). q.after) (map (entries_at es fs) qs)) h.are ∙ afters_found es fs h.keyed ∙ ap (found fs) h.of_keys.after)) both.after.lists;
     }
 
--- WHAT DIFFERS of an id
+-- WHAT DIFFERS: the difference that is found for the pair of an id is the difference between what the tables say about this id
 pub differences_of_ids : DifferencesOfIds
 differences_of_ids report s p t u i =
     λ k. difference_by_ids report (entry_item t i k) (entry_item u i k) (pointwise same_class_id (entry_class_ids t i k) (entry_class_ids u i k))

@@ -1,4 +1,4 @@
--- The keys of pairs are those of both lists in ascending order, each once: two lists that rise and have the same members are one.
+-- Proves that the keys of the pairs are the keys of both lists, each once, in ascending order. The reason is that two rising lists with the same members are the same list.
 use Rattle.std.proofs.Common.{◌≡◌, ℕ, ◌+◌, ◌≤◌, ◌==◌, ◌||◌, Bool, true, false, nat_le, List, [], ◌∷◌, ◌++◌, Option, Some, None, All, map, filter_map, refl, sym, ap, ap₂, subst, ◌∙◌, arith, if◌then◌else◌}
 use Rattle.std.specs.List.{cons_option}
 use Rattle.std.proofs.Math.Bool.{or_assoc}
@@ -10,7 +10,7 @@ use Rattle.crush_compare.specs.AllIds.{once_behind, once}
 use Rattle.crush_items.specs.Order.{put_in, ascending}
 use Rattle.crush_compare.specs.Pairs.{RiseFrom, keys, AreOne, IsOne, either_key, pair_key}
 
--- whether a number is among others
+-- whether a number is in a list
 abbrev pub has : ℕ → List ℕ → Bool
 has n [] = false
 has n (x ∷ xs) = (n == x) || has n xs
@@ -36,7 +36,7 @@ pub has-append : (n : ℕ) (xs ys : List ℕ) → has n (xs ++ ys) ≡ (has n xs
 has-append n [] ys = refl
 has-append n (x ∷ xs) ys = ap (λ b. (n == x) || b) (has-append n xs ys) ∙ sym (or_assoc (n == x) (has n xs) (has n ys))
 
--- ascending order has the same members
+-- sorting a list doesn't change its members
 put_by : (n m x : ℕ) (xs : List ℕ) (b : Bool) → has n (put_in m xs) ≡ ((n == m) || has n xs) → has n (if b then m ∷ (x ∷ xs) else x ∷ put_in m xs) ≡ ((n == m) || has n (x ∷ xs))
 put_by n m x xs true ih = refl
 put_by n m x xs false ih = ap (λ b. (n == x) || b) ih ∙ or_swap (n == x) (n == m) (has n xs)
@@ -49,7 +49,7 @@ pub has-ascending : (n : ℕ) (xs : List ℕ) → has n (ascending xs) ≡ has n
 has-ascending n [] = refl
 has-ascending n (x ∷ xs) = has-put n x (ascending xs) ∙ ap (λ b. (n == x) || b) (has-ascending n xs)
 
--- and does not fall
+-- a sorted list doesn't descend, which `UpFrom` says
 abbrev pub UpFrom : ℕ → List ℕ → Type 0
 UpFrom low [] = Unit {0}
 UpFrom low (k ∷ ks) = (low ≤ k) × UpFrom k ks
@@ -66,7 +66,7 @@ pub up-ascending : (xs : List ℕ) → UpFrom 0 (ascending xs)
 up-ascending [] = tt
 up-ascending (x ∷ xs) = up-put 0 x (ascending xs) (omega arith) (up-ascending xs)
 
--- each once: the same members, and they rise
+-- removing the repetitions of a sorted list doesn't change its members, and afterwards the list rises
 once_by : (n l x : ℕ) (xs : List ℕ) (b : Bool) → (l == x) ≡ b → has n (x ∷ once_behind (Some x) xs) ≡ has n (x ∷ xs)
     → has n (l ∷ (if b then once_behind (Some x) xs else x ∷ once_behind (Some x) xs)) ≡ has n (l ∷ (x ∷ xs))
 once_by n l x xs true is ih =
@@ -97,7 +97,7 @@ pub rise-once : (xs : List ℕ) → UpFrom 0 xs → RiseFrom 0 (once xs)
 rise-once [] up = tt
 rise-once (x ∷ xs) up = (up.0, rise-behind x xs up.1)
 
--- numbers that rise are at least the first bound
+-- every member of a list that rises from `low` is at least `low`
 low_by : (n low k : ℕ) (b p : Bool) → (n == k) ≡ b → low ≤ k → (b || p) ≡ true → (p ≡ true → k + 1 ≤ n) → low ≤ n
 low_by n low k true p is least told more = omega (arith, eqb-true n k is, least)
 low_by n low k false p is least told more = omega (arith, least, more told)
@@ -116,7 +116,7 @@ tail n x xs ys true false false is p_is q_is up upper same = refl
 tail n x xs ys true true false is p_is q_is up upper same = absurd (omega (arith, eqb-true n x is, low-of n (x + 1) xs up p_is))
 tail n x xs ys true false true is p_is q_is up upper same = absurd (omega (arith, eqb-true n x is, low-of n (x + 1) ys upper q_is))
 
--- ONE LIST: two that rise and have the same members
+-- ONE LIST: two rising lists with the same members are the same list
 pub unique : (low : ℕ) (xs ys : List ℕ) → RiseFrom low xs → RiseFrom low ys → ((n : ℕ) → has n xs ≡ has n ys) → xs ≡ ys
 unique low [] [] a b same = refl
 unique low [] (y ∷ ys) a b same = no (same y ∙ here y ys)
@@ -130,7 +130,7 @@ unique low (x ∷ xs) (y ∷ ys) a b same =
     (unique (x + 1) xs ys a.1 upper
     (λ n. tail n x xs ys (n == x) (has n xs) (has n ys) refl refl refl a.1 upper (subst (λ k. ((n == x) || has n xs) ≡ ((n == k) || has n ys)) (sym head) (same n))))
 
--- the members of the pairs' keys
+-- a number is the key of a pair if and only if it is a key of one of the two lists
 has-pair : (n : ℕ) (ox oy : Option Place) (xs ys : List Place) (ks : List ℕ) → AreOne ox oy → has n ks ≡ (has n (keys xs) || has n (keys ys))
     → has n (either_key ox oy ∷ ks) ≡ (has n (keys (cons_option ox xs)) || has n (keys (cons_option oy ys)))
 has-pair n None None xs ys ks one ih = absurd one

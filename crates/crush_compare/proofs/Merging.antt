@@ -1,4 +1,4 @@
--- Two lists whose first places are paired, one pair after the other.
+-- Lemmas about the loop of `pairs_by_key`, which pairs the first remaining places of two lists in each iteration.
 use Rattle.std.proofs.Common.{◌≡◌, ℕ, ◌+◌, ◌<◌, ◌≤◌, Bool, true, false, nat_lt, List, [], ◌∷◌, ◌++◌, Option, Some, None, All, map, filter_map, option_to_list, refl, sym, ap, subst, ◌∙◌, arith, length, drop}
 use Rattle.std.proofs.lemmas.Bool.{ltb-true, ltb-false}
 use Rattle.std.proofs.lemmas.List.{map-append, append_assoc, append-nil, drop_all}
@@ -8,7 +8,7 @@ use Rattle.crush_items.specs.declared.by_id.Place.{Place}
 use Rattle.crush_compare.specs.declared.by_id.Pair.{Pair}
 use Rattle.crush_compare.specs.Pairs.{RiseFrom, Rise, keys, IsOne, pair_key, AreKeyPairsOf, ArePairsOf, beside, least_pair, positions, taken}
 
--- the pairs so far, and the places of both lists that are left
+-- the pairs ps so far, and the remaining places xs and ys of the two lists
 pub record ArePairedTo (old new : List Place) (xs ys : List Place) (ps : List KeyPair) : Type 0 where
   pub before : filter_map (λ (p : KeyPair). p.before) ps ++ xs ≡ old
   pub after : filter_map (λ (p : KeyPair). p.after) ps ++ ys ≡ new
@@ -16,12 +16,12 @@ pub record ArePairedTo (old new : List Place) (xs ys : List Place) (ps : List Ke
   pub old_rising : Rise (map pair_key ps ++ keys xs)
   pub new_rising : Rise (map pair_key ps ++ keys ys)
 
--- the places that are left behind a pair
+-- the places of one list that remain after a pair
 abbrev pub left : Option Place → List Place → List Place → List Place
 left None whole rest = whole
 left (Some z) whole rest = rest
 
--- one pair more
+-- appending one more pair to the pairs so far
 moved : (h : KeyPair → Option Place) (ps : List KeyPair) (p : KeyPair) (xs : List Place) → filter_map h (ps ++ p ∷ []) ++ xs ≡ filter_map h ps ++ (filter_map h (p ∷ []) ++ xs)
 moved h ps p xs = ap (λ z. z ++ xs) (filter_map-append h ps (p ∷ [])) ∙ append_assoc (filter_map h ps) (filter_map h (p ∷ [])) xs
 
@@ -34,7 +34,7 @@ rise_keyed ps p ks h = subst Rise (sym (keyed ps p ks)) h
 one_more : (ps : List KeyPair) (p : KeyPair) → All IsOne ps → IsOne p → All IsOne (ps ++ p ∷ [])
 one_more ps p all one = All-append IsOne ps (p ∷ []) all (All-cons IsOne p [] one (All-nil IsOne))
 
--- a key put before a greater one, and what stands behind a key left out
+-- in a rising list, the rest after a key may be replaced by a rising rest that starts with a greater key
 splice : (low : ℕ) (ks : List ℕ) (k m : ℕ) (l n : List ℕ) → RiseFrom low (ks ++ k ∷ l) → RiseFrom low (ks ++ m ∷ n) → k < m → RiseFrom low (ks ++ k ∷ (m ∷ n))
 splice low [] k m l n a b less = (a.0, (omega (arith, less), b.1))
 splice low (c ∷ ks) k m l n a b less = (a.0, splice (c + 1) ks k m l n a.1 b.1 less)
@@ -75,7 +75,7 @@ next_of_both old new xs ys ps x y false false less_is more_is h =
       new_rising = rise_keyed ps p (keys ys) (subst (λ k. Rise (map pair_key ps ++ k ∷ keys ys)) (sym same) h.new_rising);
     }
 
--- NEXT: the least of both first places is paired; a list without a first place is empty
+-- NEXT: the next pair has the lesser of the two first places, or both. A list without a first place is empty
 pub next : (old new xs ys : List Place) (ps : List KeyPair) (ox oy : Option Place) → (ox ≡ None → xs ≡ []) → (oy ≡ None → ys ≡ []) → (ox ≡ None → oy ≡ None → ⊥)
     → ArePairedTo old new (option_to_list ox ++ xs) (option_to_list oy ++ ys) ps
     → ArePairedTo old new (left (least_pair ox oy).before (option_to_list ox ++ xs) xs) (left (least_pair ox oy).after (option_to_list oy ++ ys) ys) (ps ++ least_pair ox oy ∷ [])
@@ -101,7 +101,7 @@ next old new xs ys ps None (Some y) no_xs no_ys some h =
 next old new xs ys ps (Some x) (Some y) no_xs no_ys some h =
     next_of_both old new xs ys ps x y (nat_lt x.key y.key) (nat_lt y.key x.key) refl refl h
 
--- ENDED: nothing is left of either list
+-- ENDED: if no place remains in either list, the pairs are those of the two lists
 pub ended : (old new : List Place) (ps : List KeyPair) → ArePairedTo old new [] [] ps → AreKeyPairsOf old new ps
 ended old new ps h = record {
   before = sym (append-nil _) ∙ h.before;
@@ -115,7 +115,7 @@ of_both true more x y = omega arith
 of_both false true x y = omega arith
 of_both false false x y = omega arith
 
--- what a pair takes of both lists
+-- a pair uses up at least one place
 pub takes_some : (ox oy : Option Place) → (ox ≡ None → oy ≡ None → ⊥) → 1 ≤ taken (least_pair ox oy).before + taken (least_pair ox oy).after
 takes_some None None some = absurd (some refl refl)
 takes_some None (Some y) some = omega arith
@@ -146,12 +146,12 @@ left_is : (o : Option Place) (i : ℕ) (xs : List Place) → left o (drop i xs) 
 left_is None i xs = ap (λ n. drop n xs) (omega arith)
 left_is (Some z) i xs = refl
 
--- the first place of what is left of a list, where there is one
+-- o is the first remaining place of a list from the index i, or none if no place remains
 pub record IsFirstAt (xs : List Place) (i : ℕ) (o : Option Place) : Type 0 where
   pub first : drop i xs ≡ option_to_list o ++ drop (i + 1) xs
   pub none : o ≡ None → length xs ≤ i
 
--- an iteration
+-- one iteration of the loop keeps the invariant
 pub iterated : (old new : List Place) (ps : List KeyPair) (i j : ℕ) (ox oy : Option Place) → IsFirstAt old i ox → IsFirstAt new j oy → (ox ≡ None → oy ≡ None → ⊥)
     → ArePairedTo old new (drop i old) (drop j new) ps
     → ArePairedTo old new (drop (i + taken (least_pair ox oy).before) old) (drop (j + taken (least_pair ox oy).after) new) (ps ++ least_pair ox oy ∷ [])
@@ -165,7 +165,7 @@ iterated old new ps i j ox oy x y some h =
     let of_new : left p.after (option_to_list oy ++ ys) ys ≡ drop (j + taken p.after) new = ap (λ w. left p.after w ys) (sym y.first) ∙ left_is p.after j new in
     subst (λ z. ArePairedTo old new z (drop (j + taken p.after) new) (ps ++ p ∷ [])) of_old (subst (λ z. ArePairedTo old new (left p.before (option_to_list ox ++ xs) xs) z (ps ++ p ∷ [])) of_new more)
 
--- the same, of what the loop has behind an iteration
+-- the same, stated with the variables that the loop has after an iteration
 pub iterated_to : (old new : List Place) (ps qs : List KeyPair) (i j k l : ℕ) (ox oy : Option Place) (p : KeyPair) → p ≡ least_pair ox oy → k ≡ i + taken p.before → l ≡ j + taken p.after
     → qs ≡ ps ++ p ∷ []
     → ArePairedTo old new (drop (i + taken (least_pair ox oy).before) old) (drop (j + taken (least_pair ox oy).after) new) (ps ++ least_pair ox oy ∷ [])
@@ -180,11 +180,11 @@ pub at_end : (old new : List Place) (ps : List KeyPair) (i j : ℕ) → length o
 at_end old new ps i j no_old no_new h =
     ended old new ps (subst (λ z. ArePairedTo old new z [] ps) (drop_all i old no_old) (subst (λ z. ArePairedTo old new (drop i old) z ps) (drop_all j new no_new) h))
 
--- one side of it stays within its list
+-- the index into one of the lists stays within the list
 pub stays_within : (n i k o t : ℕ) → i + o ≤ n → t ≤ o → k ≡ i + t → k ≤ n
 stays_within n i k o t within most is = omega (arith, within, most, is)
 
--- the same, of the positions of the pairs so far
+-- the same invariant, stated with the positions of the pairs so far
 pub record ArePositionsTo (old new : List Place) (xs ys : List Place) (ps : List Pair) : Type 0 where
   pub keyed : List KeyPair
   pub to : ArePairedTo old new xs ys keyed

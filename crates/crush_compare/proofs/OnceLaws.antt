@@ -1,4 +1,4 @@
--- The pairs by names of two lawful tables have each item of either table once.
+-- Proves that if two lawful tables are matched by names, each item of either table is in exactly one pair.
 use Rattle.std.proofs.Common.{◌≡◌, ℕ, ◌+◌, true, false, List, [], ◌∷◌, ◌++◌, map, filter_map, ap, subst, ◌∙◌, refl, sym, arith, append-nil}
 use Rattle.std.specs.Prelude.{All, Bool, IfSome, Option, None, Some, bytes_eq, flat_map, is_some, not, if◌then◌else◌, option_and_then}
 use Rattle.std.specs.List.{cons_option, count_by, sum_by}
@@ -28,7 +28,7 @@ use Rattle.crush_compare.specs.declared.identity.Devices.{Devices}
 use Rattle.crush_compare.specs.declared.identity.Devices.TheVariants.{ById, ByName}
 use Rattle.crush_compare.proofs.NamedLaws.{named_there}
 
--- SUMS over rows of a name
+-- SUMS over the rows that have a given name
 abbrev if_named : (Row → ℕ) → List ℕ → Row → ℕ
 if_named f m r = if bytes_eq r.name m then f r else 0
 
@@ -63,7 +63,7 @@ named_sum f m (r ∷ t) d = by_test (bytes_eq r.name m) refl (named_sum f m t re
       let all : sum_by (if_named f m) (r ∷ t) ≡ sum_by (if_named f m) t = omega (arith, own, sum_by-cons (if_named f m) r t) in
       all ∙ others ∙ ap (λ b. option_map_or f (if b then Some r else row_named t m) 0) (sym is)
 
--- A COUNTERPART'S NUMBER is the sum over all rows that are one with the item
+-- A COUNTERPART'S NUMBER: the number of an item's counterpart is the sum over all rows that are the same item
 abbrev pub hit : Devices → List ℕ → ItemId → Row → ℕ → ℕ
 hit by m i r k = if bytes_eq r.name m then (if are_one by i r.id then k else 0) else 0
 
@@ -87,7 +87,7 @@ module _ (by : Devices) (t : List Row) (y : ItemData) (n : ItemId → ℕ) (d : 
   pub counterpart_sum : DistinctNames t → option_map_or (λ (x : ItemData). n x.view.id) (counterpart by t y) 0 ≡ sum_by (λ (r : Row). hit by y.view.name y.view.id r (n r.id)) t
   counterpart_sum names = counterpart_number ∙ sym (named_sum (λ (r : Row). if are_one by y.view.id r.id then n r.id else 0) y.view.name t names)
 
--- to be one goes both ways
+-- being the same item is symmetric: if it holds for two items, it holds for them in the other order
 name_turned : (m n : List ℕ) → bytes_eq m n ≡ bytes_eq n m
 name_turned m n = by_tests (bytes_eq m n) (bytes_eq n m) refl refl where
   by_tests : (b c : Bool) → bytes_eq m n ≡ b → bytes_eq n m ≡ c → b ≡ c
@@ -109,7 +109,7 @@ one_turned by (Bucket b) (Bucket c) = refl
 hit_turned : (by : Devices) (r s : Row) (k : ℕ) → hit by s.name s.id r k ≡ hit by r.name r.id s k
 hit_turned by r s k = λ i. if name_turned r.name s.name i then (if one_turned by s.id r.id i then k else 0) else 0
 
--- ENTRIES OF A TABLE: a sum over their items is one over the rows
+-- ENTRIES OF A TABLE: a sum over the items of all entries is the sum over the rows
 entries_sum : (g : ItemData → ℕ) (t : List Row) (es : List EntryData) → Distinct t → HasEntries t es → sum_by (λ (e : EntryData). g e.item) es ≡ sum_by (λ (r : Row). g (row_item t r)) t
 entries_sum g t es d has = told_sum es has.told ∙ has.ids value ∙ found_sum t (All-found t d) where
   value : ItemId → ℕ
@@ -128,7 +128,7 @@ entries_sum g t es d has = told_sum es has.told ∙ has.ids value ∙ found_sum 
       let own : value r.id ≡ g (row_item t r) = ap (λ o. option_map_or g (option_map (row_item t) o) 0) (All-head (λ (x : Row). row_of t x.id ≡ Some x) r rs found) in
       omega (arith, own, found_sum rs (All-tail (λ (x : Row). row_of t x.id ≡ Some x) r rs found), sum_by-cons (λ (x : Row). value x.id) r rs, sum_by-cons (λ (x : Row). g (row_item t x)) r rs)
 
--- WHAT IS BEFORE: counterparts of the new items, and old items without one
+-- WHAT IS BEFORE: the items in the fields `before` of the pairs are the counterparts of the new items, and the old items that have no counterpart
 module _ (by : Devices) (t u : List Row) where
   abbrev befores : List PairData → List ItemData
   befores ps = filter_map (λ (p : PairData). p.before) ps
@@ -173,7 +173,7 @@ module _ (by : Devices) (t u : List Row) where
     step true rest = rest
     step false rest = rest
 
-  -- each is what the table says of its id
+  -- each of these items is what the old table says about its id
   abbrev Told : List Row → ItemData → Type 0
   Told s x = item_of s x.view.id ≡ Some x
 
@@ -218,7 +218,7 @@ module _ (by : Devices) (t u : List Row) where
   items_told (e ∷ fs) told =
       All-cons (Told u) e.item (map (λ (x : EntryData). x.item) fs) (told_item_of u e (All-head (λ x. entry_of u (entry_id x) ≡ Some x) e fs told)) (items_told fs (All-tail (λ x. entry_of u (entry_id x) ≡ Some x) e fs told))
 
-  -- a row of the old table counts once: as a counterpart of a new row, or alone
+  -- each row of the old table counts once: as the counterpart of a new row, or as an item without counterpart
   either_way : (k : ℕ) (o : Option ItemData) → option_map_or (λ (x : ItemData). k) o 0 + (if not (is_some o) then k else 0) ≡ k
   either_way k None = omega arith
   either_way k (Some x) = omega arith
@@ -244,7 +244,7 @@ module _ (by : Devices) (t u : List Row) where
       ap (sum_by number) (filter_map-append (λ (p : PairData). p.before) (news fs) (olds es)) ∙ sum_by-append number (befores (news fs)) (befores (olds es)) ∙ (λ i. new i + old i)
       ∙ sym (sum_by-plus (λ (r : Row). sum_by (λ (s : Row). hit by s.name s.id r (n r.id)) u) alone t) ∙ sum_by-agree _ _ (λ r. row_once n r lawful_u) t
 
-  -- EACH ITEM ONCE
+  -- EACH ITEM ONCE: each item of either table is in exactly one pair
   pub each_once : (es fs : List EntryData) → Lawful t → Lawful u → HasEntries t es → HasEntries u fs → HasEachOnce t u (news fs ++ olds es)
   each_once es fs lawful_t lawful_u has_t has_u =
       let after : afters (news fs ++ olds es) ≡ map (λ (e : EntryData). e.item) fs =

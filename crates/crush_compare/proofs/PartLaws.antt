@@ -1,4 +1,4 @@
--- The steps of an item are those of the items at or below it, each once.
+-- Proves that the walk from an item downward visits this item and each item below it exactly once.
 use Rattle.std.proofs.Common.{◌≡◌, ℕ, zero, suc, ◌+◌, ◌≤◌, ◌==◌, true, false, List, [], ◌∷◌, length, ap, subst, ◌∙◌, refl, sym, arith, ⊎_elim}
 use Rattle.std.specs.Prelude.{Bool, Option, None, Some, flat_map, is_some, ◌||◌}
 use Rattle.std.specs.List.{count_by, sum_by}
@@ -21,7 +21,7 @@ use Rattle.crush_nodes.specs.Views.{ViewData, row_view}
 use Rattle.crush_items.specs.Tree.{WalkStepData, step_at, steps_at}
 use Rattle.crush_compare.specs.Parts.{StepsArePart}
 
--- no climb meets a device
+-- a walk upward visits no device
 no_device : (d : ℕ) (xs : List ℕ) → times_in (Device d) xs ≡ 0
 no_device d [] = refl
 no_device d (x ∷ xs) = omega (arith, no_device d xs)
@@ -37,7 +37,7 @@ module _ (t : List Row) (l : Lawful t) (j : ItemId) (there : is_there t j ≡ tr
   abbrev count : List WalkStepData → ℕ
   count ss = sum_by is_it ss
 
-  -- the step of an item
+  -- the first step of the walk from an item visits this item
   own_count : (depth : ℕ) (i : ItemId) → count (step_at t depth i) ≡ one_if (same_id i j)
   unfolding step_at
   own_count depth i = by_row (row_of t i) refl where
@@ -47,7 +47,7 @@ module _ (t : List Row) (l : Lawful t) (j : ItemId) (there : is_there t j ≡ tr
         let own : one_if (same_id r.id j) ≡ one_if (same_id i j) = ap (λ k. one_if (same_id k j)) (row_id i t r is) in
         omega (arith, own, sum_by-cons is_it (record { depth = depth; item = row_view t r }) [])
 
-  -- those of a bucket, by those of its items
+  -- the steps of a bucket are its own step and the steps of its items
   bucket_count : (n depth b : ℕ) (g : ItemId → ℕ) → ((c : ItemId) → count (steps_at t n (depth + 1) c) ≡ g c) → count (steps_at t (suc n) depth (Bucket b)) ≡ one_if (same_id (Bucket b) j) + over_kids t b g
   unfolding steps_at
   bucket_count n depth b g each =
@@ -62,7 +62,7 @@ module _ (t : List Row) (l : Lawful t) (j : ItemId) (there : is_there t j ≡ tr
   unfolding steps_at
   no_steps depth b = refl
 
--- a device is found as deep as buckets are climbed
+-- how often a walk of n levels down from a bucket visits a device is how often a walk of n buckets up from the device visits this bucket
 device_count : (t : List Row) (l : Lawful t) (e : ℕ) (there : is_there t (Device e) ≡ true) (n depth b : ℕ) → count_by (λ (s : WalkStepData). same_id s.item.id (Device e)) (steps_at t n depth (Bucket b)) ≡ times_in (Bucket b) (climb t n (Device e))
 device_count t l e there zero depth b = no_steps t l (Device e) there depth b
 device_count t l e there (suc n) depth b =
@@ -73,7 +73,7 @@ device_count t l e there (suc n) depth b =
       each again (Device d) = device_steps t l (Device e) there n (depth + 1) d ∙ (let none = no_device d (climb t n (Device e)) in omega (arith, none))
       each again (Bucket c) = omega (arith, again c)
 
--- and a bucket one step deeper
+-- the same for a bucket, whose own step counts as one level more
 nested_count : (t : List Row) (l : Lawful t) (x : ℕ) (there : is_there t (Bucket x) ≡ true) (n depth b : ℕ)
     → count_by (λ (s : WalkStepData). same_id s.item.id (Bucket x)) (steps_at t (suc n) depth (Bucket b)) ≡ one_if (b == x) + times_in (Bucket b) (climb t n (Bucket x))
 nested_count t l x there zero depth b = bucket_count t l (Bucket x) there zero depth b (λ k. 0) each ∙ ap (λ m. one_if (b == x) + m) (over_kids-kids t b (λ k. 0) ∙ sum_by-zero (λ k. 0) (λ k. refl) (kids t b)) where
@@ -88,7 +88,7 @@ nested_count t l x there (suc n) depth b =
       each again (Device d) = device_steps t l (Bucket x) there (suc n) (depth + 1) d ∙ (let none = no_device d (climb t n (Bucket x)) in omega (arith, none))
       each again (Bucket c) = again c
 
--- THE STEPS OF AN ITEM
+-- THE STEPS OF AN ITEM are those of this item and of each item below it
 pub steps_are_part : StepsArePart
 steps_are_part t (Device d) j depth l there = device_steps t l j there (length t) depth d
 steps_are_part t (Bucket b) (Device e) depth l there = device_count t l e there (length t) depth b ∙ sym (one_if-is_below t l b (Device e))

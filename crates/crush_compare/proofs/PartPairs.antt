@@ -1,4 +1,4 @@
--- The pairs by names of a part are those of all pairs that are in the part.
+-- Proves that if items are matched by names, the pairs of a part are exactly the pairs that are in the part.
 use Rattle.std.proofs.Common.{◌≡◌, ℕ, true, false, List, [], ◌∷◌, ◌++◌, ◌∙◌, refl, sym}
 use Rattle.std.specs.Prelude.{Bool, None, Some, filter, flat_map, is_some, not, ◌&&◌, if◌then◌else◌}
 use Rattle.std.proofs.lemmas.List.Elements.{filter-append}

@@ -1,4 +1,4 @@
--- The positions of a run are those of the items at or below its first item.
+-- Proves that the positions of a run are those of the run's first item and of all items below it.
 use Rattle.std.proofs.Common.{◌≡◌, ℕ, zero, suc, ◌+◌, ◌-◌, ◌≤◌, true, false, List, [], ◌∷◌, length, take, drop, ap, subst, ◌∙◌, refl, sym, arith}
 use Rattle.std.specs.Prelude.{All, Bool, Option, None, Some, is_some, nat_le, nat_lt, ◌&&◌}
 use Rattle.std.specs.List.{slice_get, sum_by}
@@ -21,7 +21,7 @@ use Rattle.crush_compare.specs.Named.{is_at}
 use Rattle.crush_compare.specs.Parts.{RunIsPart}
 use Rattle.crush_compare.proofs.PartLaws.{steps_are_part}
 
--- COUNTED ONCE: an element that passes a test once is in a slice exactly if its position is
+-- COUNTED ONCE: if exactly one element of a list passes a test, a slice has this element if and only if the slice has its position
 module _ {X : Type 0} (q : X → Bool) where
   abbrev count : List X → ℕ
   count xs = sum_by (λ x. one_if (q x)) xs
@@ -82,12 +82,12 @@ first_of t [] k s at = absurd cc
 first_of t (x ∷ ss) zero s at = let same : x ≡ s = cc in ap (λ (y : WalkStepData). steps_at t (length t) y.depth y.item.id) same
 first_of t (x ∷ ss) (suc k) s at = first_of t ss k s at
 
--- the step at the position of an entry
+-- at the position of an entry, the list of steps has the step of the entry's item
 step_there : (o : Option WalkStepData) (v : ViewData) → option_map (λ (s : WalkStepData). s.item) o ≡ Some v → (s : WalkStepData) × (o ≡ Some s) × (s.item ≡ v)
 step_there None v is = absurd cc
 step_there (Some s) v is = (s, refl, cc)
 
--- an entry of a table is of an item that the table has
+-- the item of a table's entry is an item that the table has
 row_there : (t : List Row) (e : EntryData) (o : Option Row) → option_map (row_entry t (entry_id e)) o ≡ Some e → is_some o ≡ true
 row_there t e None is = absurd cc
 row_there t e (Some r) is = refl

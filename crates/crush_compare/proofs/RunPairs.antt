@@ -1,4 +1,4 @@
--- The pairs whose items are at the positions of a part are those in the part.
+-- Proves that the pairs with a position in the runs of a part are exactly the pairs in the part.
 use Rattle.std.proofs.Common.{◌≡◌, ℕ, zero, suc, ◌+◌, ◌≤◌, ◌<◌, true, false, List, [], ◌∷◌, length, map, drop, ap, ◌∙◌, refl, sym, arith}
 use Rattle.std.specs.Prelude.{Bool, Option, None, Some, filter, is_some, if◌then◌else◌, nat_le, nat_lt, ◌&&◌, ◌||◌}
 use Rattle.std.specs.List.{slice_get, slice_range}
@@ -30,7 +30,7 @@ use Rattle.crush_compare.proofs.NamedLaws.{named_there}
 use Rattle.crush_compare.proofs.PositionLaws.{run_is_part}
 use Rattle.crush_compare.proofs.WithinLaws.{views_of}
 
--- A RUN ends in the list
+-- A RUN ends at or before the end of the list
 deeper_few : (depth : ℕ) (ss : List WalkStepData) → deeper depth ss ≤ length ss
 deeper_few depth [] = omega arith
 deeper_few depth (s ∷ ss) = by_test (nat_lt depth s.depth) (deeper_few depth ss) where
@@ -43,7 +43,7 @@ ends_within [] at lt = absurd (omega (arith, lt))
 ends_within (s ∷ ss) zero lt = let few = deeper_few s.depth ss in omega (arith, few)
 ends_within (s ∷ ss) (suc at) lt = let few = ends_within ss at (omega (arith, lt)) in omega (arith, few)
 
--- a position at which there is nothing is behind the list
+-- a position at which a list has no element is not less than the list's length
 nothing_there : {X : Type 0} (xs : List X) (k : ℕ) → slice_get xs k ≡ None → length xs ≤ k
 nothing_there [] k is = omega arith
 nothing_there (x ∷ xs) zero is = absurd cc
@@ -55,7 +55,7 @@ not_within from to k past = grind (arith, nat_tests, past)
 abbrev empty : Run
 empty = record { from = 0; to = 0 }
 
--- THE POSITIONS of an item and of all items below it, if the item's position is found
+-- THE POSITIONS of an item and of all items below it are the run that starts at the item's position, if the search has found the item
 module _ {A : Type 0} (t : List Row) (xs : List (Item A)) (l : Lawful t) (has : HasEntries t (map item_entry xs)) (tree : map item_step xs ≡ tree_rows t) (i : ItemId) where
   abbrev es : List EntryData
   es = map item_entry xs
@@ -86,14 +86,14 @@ module _ {A : Type 0} (t : List Row) (xs : List (Item A)) (l : Lawful t) (has : 
     by_position own None = refl
     by_position own (Some k) = at_run p.at run own.0 own.1 own.2 from to range k
 
-  -- an item that the table has is found
+  -- the search by id finds each item that the table has
   pub not_found : option_map (entry_at es) None ≡ option_map Some (entry_of t i) → AreAt i t es empty
   not_found found there = absurd (by_row (row_of t i) there found) where
     by_row : (o : Option Row) → is_some o ≡ true → None ≡ option_map Some (option_map (row_entry t i) o) → ⊥
     by_row None has_row e = cc
     by_row (Some r) has_row e = cc
 
--- THE PART of a name: of the item that has the name, and nothing if no item has it
+-- THE PART of a name has the item with this name and the items below it, or nothing if no item has the name
 pub named_part : (t : List Row) (n : List ℕ) (top : ItemId) (es : List EntryData) (run : Run) → Lawful t → Some top ≡ id_named t n → AreAt top t es run → IsPartOf n t es run
 named_part t n top es run l found are at =
     are (named_there t n top l.ids (sym found)) at ∙ ap (λ (o : Option ItemId). option_map_or (λ (x : ItemData). option_map_or (λ j. is_at t j x.view.id) o false) (item_at es at) false) found
@@ -108,7 +108,7 @@ no_part t n es found at = empty_run at ∙ nothing (item_at es at) ∙ ap (λ (o
   nothing None = refl
   nothing (Some x) = refl
 
--- THE PAIRS at the positions of the part in either map
+-- THE PAIRS that have a position in the part of at least one map
 kept_seen : {X Y : Type 0} (f : X → Bool) (h : Y → Bool) (g : X → Y) → ((x : X) → f x ≡ h (g x)) → (xs : List X) → map g (filter f xs) ≡ filter h (map g xs)
 kept_seen f h g each [] = refl
 kept_seen f h g each (x ∷ xs) = by_test (kept_seen f h g each xs) (f x) ∙ ap (λ b. if b then g x ∷ filter h (map g xs) else filter h (map g xs)) (each x) where

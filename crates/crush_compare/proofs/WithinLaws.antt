@@ -1,4 +1,4 @@
--- The pairs by ids of a part are those of all pairs that have an item within the part.
+-- Proves that if items are matched by ids, the pairs of a part are exactly the pairs whose item is in the part of at least one map.
 use Rattle.std.proofs.Common.{◌≡◌, ℕ, zero, suc, ◌+◌, ◌<◌, ◌≤◌, ◌==◌, ◌&&◌, ◌||◌, Bool, true, false, nat_lt, List, [], ◌∷◌, ◌++◌, Option, Some, None, length, refl, sym, ap, subst, ◌∙◌, arith, map, take, drop, get_or, ◌≢◌, ◌⊎◌, inl, inr, ⊎_elim}
 use Rattle.std.specs.Prelude.{All, cond, filter, flat_map, is_some, option_and_then}
 use Rattle.std.specs.List.{count_by, slice_get, slice_range, sum_by}
@@ -44,11 +44,11 @@ use Rattle.crush_compare.proofs.KeyLaws.{has, has-append, rise-once, unique, up-
 use Rattle.crush_compare.proofs.PartLaws.{steps_are_part}
 use Rattle.crush_compare.proofs.PositionLaws.{run_is_part}
 
--- those that meet a test, one more
+-- the elements that meet a test, among the first i + 1 elements of a list
 pub more_met : {X : Type 0} (f : X → Bool) (xs : List X) (i : ℕ) (x : X) → i < length xs → x ≡ get_or xs i x → filter f (take (i + 1) xs) ≡ filter f (take i xs) ++ filter f (x ∷ [])
 more_met f xs i x lt is = ap (filter f) (take_more xs i x lt ∙ ap (λ y. take i xs ++ y ∷ []) (sym is)) ∙ filter-append f (take i xs) (x ∷ [])
 
--- NUMBERS that meet a test: the same members, and they rise
+-- NUMBERS that meet a test: filtering a rising list keeps exactly its members that meet the test, and the result rises
 has_by : (f : ℕ → Bool) (n x : ℕ) (xs : List ℕ) (b c : Bool) → (n == x) ≡ b → f x ≡ c → has n (filter f xs) ≡ (f n && has n xs) → has n (cond c (x ∷ filter f xs) (filter f xs)) ≡ (f n && (b || has n xs))
 has_by f n x xs true true same met rest =
     let own : f n ≡ true = ap f (eqb-true n x same) ∙ met in ap (λ b. b || has n (filter f xs)) same ∙ ap (λ b. b && true) (sym own)
@@ -76,7 +76,7 @@ rise-filter : (f : ℕ → Bool) (low : ℕ) (xs : List ℕ) → RiseFrom low xs
 rise-filter f low [] up = tt
 rise-filter f low (x ∷ xs) up = rise_by f low x xs (f x) up.0 (rise-filter f (x + 1) xs up.1)
 
--- of a list that is kept in order, each number once
+-- filtering a list that is sorted without repetitions: the result is the sorted list of the members that meet the test
 met_once : (f : ℕ → Bool) (xs ys : List ℕ) → ((n : ℕ) → (f n && has n xs) ≡ has n ys) → filter f (once (ascending xs)) ≡ once (ascending ys)
 met_once f xs ys same =
     unique 0 (filter f (once (ascending xs))) (once (ascending ys)) (rise-filter f 0 (once (ascending xs)) (rise-once (ascending xs) (up-ascending xs))) (rise-once (ascending ys) (up-ascending ys))
@@ -89,7 +89,7 @@ filter_ids q g (x ∷ xs) = by (q (g x)) (filter_ids q g xs) where
   by true rest = ap (λ is. g x ∷ is) rest
   by false rest = rest
 
--- THE STEPS of an item are of items that the table has
+-- THE STEPS of the walk from an item downward visit only items that the table has
 absent_steps : (t : List Row) (j : ItemId) → is_there t j ≡ false → (n depth : ℕ) (i : ItemId) → count_by (λ (s : WalkStepData). same_id s.item.id j) (steps_at t n depth i) ≡ 0
 unfolding steps_at step_at
 absent_steps t j gone n depth i = by_steps n depth i where
@@ -113,7 +113,7 @@ absent_steps t j gone n depth i = by_steps n depth i where
       sum_by-flat_map is_it (steps_at t m (d + 1)) (kids t b) ∙ sum_by-zero (λ k. sum_by is_it (steps_at t m (d + 1) k)) (λ k. by_steps m (d + 1) k) (kids t b) in
       omega (arith, own d (Bucket b), kids_none, sum_by-append is_it (step_at t d (Bucket b)) (flat_map (steps_at t m (d + 1)) (kids t b)))
 
--- WHETHER A TABLE has an item at or below the item i
+-- WHETHER A TABLE has the item j, and j is i or below i
 abbrev pub has_at : List Row → ItemId → ItemId → Bool
 has_at t i j = is_there t j && is_at t i j
 
@@ -127,7 +127,7 @@ among_steps t i j lawful = by (is_there t j) refl where
   by true there = ap (nat_lt 0) (steps_are_part t i j 0 lawful there) ∙ positive (is_at t i j)
   by false gone = ap (nat_lt 0) (absent_steps t j gone (length t) 0 i) ∙ (let no : nat_lt 0 0 ≡ false = grind (arith, nat_tests) in no)
 
--- the numbers of the ids below, of one kind
+-- a number is in the ids at or below the item i, of one kind (buckets or devices), if and only if the table has this id at or below i
 module _ (kind : ItemId → List ℕ) (g : ℕ → ItemId) (one : (n : ℕ) (i : ItemId) → sum_by (λ m. one_if (n == m)) (kind i) ≡ one_if (same_id i (g n))) where
   has_below : (t : List Row) (i : ItemId) (n : ℕ) → Lawful t → has n (flat_map kind (ids_below t i)) ≡ has_at t i (g n)
   has_below t i n lawful =
@@ -146,7 +146,7 @@ one_device : (n : ℕ) (i : ItemId) → sum_by (λ m. one_if (n == m)) (device_n
 one_device n (Bucket b) = refl
 one_device n (Device d) = let turned : one_if (n == d) ≡ one_if (d == n) = ap one_if (eqb_turned n d) in omega (arith, turned, sum_by-cons (λ m. one_if (n == m)) d [])
 
--- and those of the rows
+-- a number is in the ids of all rows, of one kind, if and only if the table has this id
 module _ (kind : ItemId → List ℕ) (g : ℕ → ItemId) (one : (n : ℕ) (i : ItemId) → has n (kind i) ≡ same_id i (g n)) where
   has_row : (t : List Row) (n : ℕ) → has n (flat_map (λ (r : Row). kind r.id) t) ≡ is_there t (g n)
   has_row [] n = refl
@@ -167,7 +167,7 @@ is_device_here : (n : ℕ) (i : ItemId) → has n (device_number i) ≡ same_id 
 is_device_here n (Bucket b) = refl
 is_device_here n (Device d) = or_none (n == d) ∙ eqb_turned n d
 
--- THE IDS OF A PART are those of all ids that either table has at or below the item
+-- THE IDS OF A PART are exactly the ids that at least one of the tables has at or below the item
 abbrev pub in_either : List Row → List Row → ItemId → ItemId → Bool
 in_either t u i j = has_at t i j || has_at u i j
 
@@ -200,7 +200,7 @@ ids_in_part t u i x y =
     ∙ (λ k. (filter_ids (in_either t u i) Bucket bs ∙ ap (map Bucket) (part_numbers bucket_ids Bucket one_bucket is_bucket_here t u i x y)) k
     ++ (filter_ids (in_either t u i) Device ds ∙ ap (map Device) (part_numbers device_number Device one_device is_device_here t u i x y)) k)
 
--- THE POSITION of an id is within the run exactly if the table has the id at or below the item
+-- THE POSITION of an id is in the run if and only if the table has this id at or below the item
 placed_in : (es : List EntryData) (k : ℕ) (ps : List Place) (x : Place) → All (IsPlaceIn es) ps → place_of k ps ≡ Some x → IsPlaceIn es x
 placed_in es k [] x placed is = absurd cc
 placed_in es k (p ∷ ps) x placed is = by (k == p.key) is (placed_in es k ps x (All-tail (IsPlaceIn es) p ps placed)) where
@@ -233,7 +233,7 @@ within_run t es ps i j run lawful by_id is_run short = by_place (place_of (id_ke
   by_place None found is = gone (sym is)
   by_place (Some x) found is = here x (entry_at es x) (placed_in es (id_key j) ps x by_id.placed found) refl (sym is)
 
--- THE PAIRS OF A PART
+-- THE PAIRS OF A PART are the pairs of the ids of the part
 kept_by : (es fs : List EntryData) (t u : List Row) (p : Pair) (ps : List Pair) (j : ItemId) (js : List ItemId) (b c : Bool) → b ≡ c → entries_at es fs p ≡ id_entries t u j → map (entries_at es fs) ps ≡ map (id_entries t u) js
     → map (entries_at es fs) (cond b (p ∷ ps) ps) ≡ map (id_entries t u) (cond c (j ∷ js) js)
 kept_by es fs t u p ps j js true true same own rest = λ k. own k ∷ rest k
@@ -260,12 +260,12 @@ module _ (t u : List Row) (es fs : List EntryData) (old new : List Place) (i : I
       ap (λ qs. map (entries_at es fs) (filter (has_item_within old_run new_run) qs)) (h.are ∙ ap (map positions) (found_pairs old new h.keyed h.of_keys ∙ ap (map (key_pair old new)) (keys_of_all_ids t u es fs old new h.keyed both h.of_keys)))
       ∙ kept_ids (all_ids t u) (short_ids t u both.old_lawful both.new_lawful) ∙ ap (map (id_entries t u)) (ids_in_part t u i both.old_lawful both.new_lawful)
 
--- the steps of items have the views of their entries
+-- the steps of a list of items show the same views as the entries of these items
 pub views_of : {A : _} (xs : List (Item A)) → map (λ (e : EntryData). e.item.view) (map item_entry xs) ≡ map (λ (s : WalkStepData). s.item) (map item_step xs)
 views_of [] = refl
 views_of (x ∷ xs) = ap (λ vs. (item_step x).item ∷ vs) (views_of xs)
 
--- A RUN from the place of the item
+-- A RUN from the place of the item i is the run of i
 pub run_here : (t : List Row) (es : List EntryData) (i : ItemId) (p : Place) (run : Run) → Lawful t → HasEntries t es → map (λ (x : EntryData). x.item.view) es ≡ map (λ (s : WalkStepData). s.item) (tree_rows t)
     → option_map (entry_at es) (Some p) ≡ option_map Some (entry_of t i) → run.from ≡ p.at → slice_range (tree_rows t) run.from run.to ≡ first_with_below t (drop p.at (tree_rows t)) → IsRunOf t es i run
 run_here t es i p run lawful has tree found from part at e is = by (entry_of t i) refl found where
@@ -275,7 +275,7 @@ run_here t es i p run lawful has tree found from part at e is = by (entry_of t i
       let here : slice_get es p.at ≡ Some top = cc in
       run_is_part t es run.from run.to at top e lawful has tree (ap (slice_get es) from ∙ here) is (part ∙ ap (λ n. first_with_below t (drop n (tree_rows t))) (sym from)) ∙ ap (λ j. is_at t j (entry_id e)) (entry_own t i top own)
 
--- and there is none of an item that the table doesn't have
+-- the empty run is the run of an item that the table doesn't have
 told_id : (t : List Row) (es : List EntryData) (k : ℕ) (e : EntryData) → All (λ x. entry_of t (entry_id x) ≡ Some x) es → slice_get es k ≡ Some e → is_there t (entry_id e) ≡ true
 told_id t [] k e told at = absurd cc
 told_id t (x ∷ es) zero e told at =

@@ -1,4 +1,4 @@
--- The ids of the items of two tables.
+-- The ids that at least one of two tables has.
 use Rattle.std.specs.Prelude.{ℕ, List, [], ◌∷◌, ◌++◌, Option, None, Some, if◌then◌else◌, map, flat_map}
 use Rattle.crush_units.specs.declared.id.ItemId.{ItemId}
 use Rattle.crush_units.specs.declared.id.ItemId.TheVariants.{Device, Bucket}
@@ -6,7 +6,7 @@ use Rattle.crush_model.specs.Table.{Row, bucket_ids}
 use Rattle.crush_items.specs.Order.{ascending, device_number}
 use Rattle.crush_compare.specs.Equal.{same_option}
 
--- numbers that rise, each once
+-- removes repetitions from a list of numbers that don't descend. `last` is the number before the list
 abbrev pub once_behind : Option ℕ → List ℕ → List ℕ
 once_behind last [] = []
 once_behind last (x ∷ xs) = if same_option last (Some x) then once_behind (Some x) xs else x ∷ once_behind (Some x) xs
@@ -14,7 +14,7 @@ once_behind last (x ∷ xs) = if same_option last (Some x) then once_behind (Som
 abbrev pub once : List ℕ → List ℕ
 once xs = once_behind None xs
 
--- the ids of both tables: buckets from -1 downward, and then devices upward
+-- the ids that at least one of the tables has, each once: buckets from -1 downward, and then devices upward
 unfoldable pub all_buckets : List Row → List Row → List ℕ
 all_buckets t u = once (ascending (flat_map (λ (r : Row). bucket_ids r.id) t ++ flat_map (λ (r : Row). bucket_ids r.id) u))
 

@@ -1,4 +1,4 @@
--- The columns in which two tables say different things of an item of one id.
+-- The columns in which two tables say different things about an item that has the same id in both tables.
 use Rattle.std.specs.Prelude.{◌≡◌, ℕ, ◌==◌, Bool, not, ◌||◌, bytes_eq}
 use Rattle.crush_units.specs.declared.id.ItemId.{ItemId}
 use Rattle.crush_items.specs.ItemData.{ItemData}
@@ -9,12 +9,12 @@ use Rattle.crush_compare.specs.declared.difference.Columns.{Columns}
 use Rattle.crush_compare.specs.declared.difference.Report.{Report}
 use Rattle.crush_compare.specs.declared.difference.Report.TheVariants.{Changes, Remaining}
 
--- whether a report takes two weights of an item as equal
+-- whether the weights that two maps give to one item count as equal in this kind of report
 abbrev pub equal_weights : Report → ItemId → ℕ → ℕ → Bool
 equal_weights Changes i a b = a == b
 equal_weights Remaining i a b = same_weight i a b
 
--- COLUMNS: those that differ, by what two tables say of the item and whether its class ids are the same
+-- COLUMNS that differ. a and b are what the two tables say about the item, and `same` says whether its class ids are the same
 abbrev pub columns_by_ids : Report → ItemData → ItemData → Bool → Columns
 columns_by_ids report a b same = record {
   name = not (bytes_eq a.view.name b.view.name);
@@ -29,6 +29,6 @@ columns_by_ids report a b same = record {
 abbrev pub is_some_other : Columns → Bool
 is_some_other c = (((((c.name || c.kind) || c.place) || c.weight) || c.class) || c.alg) || c.class_ids
 
--- a column differs exactly if two tables don't say the same of the item
+-- the law: at least one column differs if and only if the two tables don't say the same about the item
 abbrev pub SomeColumnOfOtherItems : Type 0
 SomeColumnOfOtherItems = (a b : ItemData) (same : Bool) → is_some_other (columns_by_ids Changes a b same) ≡ not (same_item a b same)

@@ -1,4 +1,4 @@
--- What differs in what two tables have of an item.
+-- The difference between what two tables say about one item.
 use Rattle.std.specs.Prelude.{Bool, List, Option, None, Some, if◌then◌else◌}
 use Rattle.std.specs.Cmp.Lexicographic.{pointwise}
 use Rattle.crush_units.specs.declared.id.ItemId.{ItemId}
@@ -11,25 +11,25 @@ use Rattle.crush_compare.specs.declared.difference.Difference.{Difference}
 use Rattle.crush_compare.specs.declared.difference.Difference.TheVariants.{Made, Removed, Changed}
 use Rattle.crush_compare.specs.declared.difference.Report.{Report}
 
--- what differs of an item that both tables have, by the columns that differ
+-- the difference if both tables have the item, given the columns that differ; none if no column differs
 abbrev pub if_other : Columns → Option Difference
 if_other columns = if is_some_other columns then Some (Changed columns) else None
 
--- DIFFERENCE: what differs of an item, by what two tables say of it and which of its columns differ
+-- DIFFERENCE between what two tables say about an item. `columns` is the function that compares the two, and none means that a table doesn't have the item
 abbrev pub difference_by : (ItemData → ItemData → Columns) → Option ItemData → Option ItemData → Option Difference
 difference_by columns None None = None
 difference_by columns None (Some b) = Some Made
 difference_by columns (Some a) None = Some Removed
 difference_by columns (Some a) (Some b) = if_other (columns a b)
 
--- by ids, if `same` says whether the item's class ids are the same
+-- the difference if items are matched by their ids. `same` says whether the item's class ids are the same
 abbrev pub difference_by_ids : Report → Option ItemData → Option ItemData → Bool → Option Difference
 difference_by_ids report before after same = difference_by (λ a b. columns_by_ids report a b same) before after
 
--- whether two tables have the same class ids of an id
+-- whether two tables have the same class ids for an id
 abbrev pub same_class_ids : List Row → List Row → ItemId → Bool
 same_class_ids t u i = pointwise same_class_id (own_class_ids t i) (own_class_ids u i)
 
--- what differs of an id in two tables
+-- the difference between what two tables say about an id
 abbrev pub id_difference : Report → List Row → List Row → ItemId → Option Difference
 id_difference report t u i = difference_by_ids report (item_of t i) (item_of u i) (same_class_ids t u i)

@@ -1,4 +1,4 @@
--- Tests of whether two values are one.
+-- Tests of whether two values are equal.
 use Rattle.std.specs.Prelude.{ℕ, ◌==◌, Bool, List, Option, bytes_eq}
 use Rattle.std.specs.Option.{option_eq}
 

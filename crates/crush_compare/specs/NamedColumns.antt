@@ -1,4 +1,4 @@
--- The columns in which two tables say different things of an item, if items are matched by their names.
+-- The columns in which two tables say different things about an item, if items are matched by their names.
 use Rattle.std.specs.Prelude.{ℕ, Bool, true, false, not, List, [], bytes_eq, unwrap_or}
 use Rattle.crush_units.specs.declared.id.ItemId.{ItemId}
 use Rattle.crush_units.specs.declared.id.ItemId.TheVariants.{Device, Bucket}
@@ -12,16 +12,16 @@ use Rattle.crush_compare.specs.declared.difference.Report.{Report}
 use Rattle.crush_compare.specs.declared.identity.Identity.{Identity}
 use Rattle.crush_compare.specs.declared.identity.Identity.TheVariants.{Ids, Names}
 
--- the name of a type; nothing if the setting doesn't have the type
+-- the name that a map's setting has for a type; an empty name if the setting doesn't have the type
 abbrev pub type_name : SettingData → ℕ → List ℕ
 type_name s kind = unwrap_or (kind_name s kind) []
 
--- whether two items are of one type, by the name of each item's type: all devices are
+-- whether the types of two items have the same name; always true for devices
 abbrev pub same_type : ItemId → List ℕ → List ℕ → Bool
 same_type (Device d) a b = true
 same_type (Bucket b) a c = bytes_eq a c
 
--- COLUMNS BY NAMES: those that differ, by what two tables say of the item. Types and places are compared by their names; ids aren't compared
+-- COLUMNS BY NAMES: the columns that differ if items are matched by their names. a and b are what the two tables say about the item. Types and places are compared by their names, and no ids are compared
 abbrev pub columns_by_names : Report → SettingData → SettingData → ItemData → ItemData → Columns
 columns_by_names report s p a b = record {
   name = false;
@@ -33,7 +33,7 @@ columns_by_names report s p a b = record {
   class_ids = false;
 }
 
--- the columns that differ, by how the items are matched
+-- the columns that differ if the items are matched as the first argument says
 abbrev pub columns_of : Identity → Report → SettingData → SettingData → Bool → ItemData → ItemData → Columns
 columns_of Ids report s p same a b = columns_by_ids report a b same
 columns_of (Names by) report s p same a b = columns_by_names report s p a b

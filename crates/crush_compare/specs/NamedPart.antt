@@ -1,4 +1,4 @@
--- The positions of a part of a name.
+-- The positions of the items in the part that a name selects.
 use Rattle.std.specs.Prelude.{◌≡◌, ℕ, true, false, List, Option, Some}
 use Rattle.std.specs.Option.{option_map_or}
 use Rattle.crush_units.specs.declared.id.ItemId.{ItemId}
@@ -11,10 +11,10 @@ use Rattle.crush_compare.specs.NamedPairs.{is_found_in}
 use Rattle.crush_compare.specs.PairItems.{item_at}
 use Rattle.crush_compare.specs.Within.{is_within}
 
--- PART: the positions of a run are those of the table's items in the part of a name
+-- PART: a position of the list es is in the run if and only if its item is in the part that the name n selects
 abbrev pub IsPartOf : List ℕ → List Row → List EntryData → Run → Type 0
 IsPartOf n t es run = (at : Option ℕ) → is_within run at ≡ is_found_in (Some n) t (item_at es at)
 
--- of an item that the table has, and of all items below it
+-- if the table has the item i, the positions in the run are exactly the positions of i and of all items below i
 abbrev pub AreAt : ItemId → List Row → List EntryData → Run → Type 0
 AreAt i t es run = is_there t i ≡ true → (at : Option ℕ) → is_within run at ≡ option_map_or (λ (x : ItemData). is_at t i x.view.id) (item_at es at) false

@@ -1,4 +1,4 @@
--- The pairs of a part of two maps: those of an item that is in the part of either map.
+-- The pairs whose item is in a run of positions of at least one of two maps.
 use Rattle.std.specs.Prelude.{◌≡◌, ℕ, Bool, false, ◌&&◌, ◌||◌, nat_le, nat_lt, List, Option, None, Some}
 use Rattle.std.specs.List.{slice_get}
 use Rattle.crush_units.specs.declared.id.ItemId.{ItemId}
@@ -9,15 +9,15 @@ use Rattle.crush_items.specs.declared.run.Run.{Run}
 use Rattle.crush_compare.specs.Named.{is_at}
 use Rattle.crush_compare.specs.declared.by_id.Pair.{Pair}
 
--- whether there is a position, and it is in the run
+-- whether the second argument is a position that is in the run
 abbrev pub is_within : Run → Option ℕ → Bool
 is_within run None = false
 is_within run (Some at) = nat_le run.from at && nat_lt at run.to
 
--- whether an item of a pair is in the run of its map
+-- whether the pair's position in the old map is in the run `old`, or its position in the new map is in the run `new`
 abbrev pub has_item_within : Run → Run → Pair → Bool
 has_item_within old new p = is_within old p.before || is_within new p.after
 
--- A RUN of entries has the item i and all items below it, as the table says, and no other item
+-- A RUN of the item i: a position of the list es is in the run if and only if the table says that the item at this position is i or below i
 abbrev pub IsRunOf : List Row → List EntryData → ItemId → Run → Type 0
 IsRunOf t es i run = (at : ℕ) (e : EntryData) → slice_get es at ≡ Some e → is_within run (Some at) ≡ is_at t i (entry_id e)

@@ -1,4 +1,4 @@
-//! The pairs by ids of a part of two maps.
+//! Matches the items of two maps by their ids, but only one item and the items below it.
 
 ghost use Rattle.std.specs.Prelude.{◌≡◌, ◌∷◌, ◌++◌, ◌<◌, ◌^◌, [], List, IfOk, OnOk, filter, length, map as each};
 ghost use Rattle.crush_model.specs.Stands.{Stands};
@@ -15,8 +15,9 @@ use crush_items::{ById, Items, Run};
 use crush_units::ItemId;
 use std::alloc::{AllocError, Allocator, Global};
 
-/// Returns the pairs by ids of the item with the id `under`, and of all items that are below it in
-/// either map, in the order of the ids.
+/// Matches the items of two maps by their ids. Returns the pair of the item with the id `under`,
+/// and the pair of each item that is below this item in at least one of the maps. The pairs are in
+/// the order of the ids: buckets from -1 downward, and then devices upward.
 pub(crate) fn pairs_below<A: Allocator, B: Allocator>(
     alloc: Global,
     old: &Items<'_, A>,
@@ -44,8 +45,8 @@ pub(crate) fn pairs_below<A: Allocator, B: Allocator>(
     pairs_within(alloc, &old_run, &new_run, pairs.as_slice())
 }
 
-/// Returns the positions of the item with this id and of all items below it; none if the map doesn't
-/// have the item. `by_id` has the places of the map's items.
+/// Returns the range of positions that has the item `under` and all items below it. If the map
+/// doesn't have the item `under`, the range is empty. `by_id` finds an item's position by its id.
 fn run_of<A: Allocator>(items: &Items<'_, A>, by_id: &ById, under: &ItemId) -> Run
     requires few { length items.now.all.items < 2 ^ 32 }
     ensures { (t : List Row) → Stands items.now.map.now.forest t
@@ -60,7 +61,8 @@ fn run_of<A: Allocator>(items: &Items<'_, A>, by_id: &ById, under: &ItemId) -> R
     }
 }
 
-/// Returns the pairs that have an item in the run of its map.
+/// Returns the pairs whose position in the old map is in the run `old`, or whose position in the
+/// new map is in the run `new`. A run is a range of positions.
 pub(crate) fn pairs_within(
     alloc: Global,
     old: &Run,
@@ -91,7 +93,7 @@ fn push_if_within(
     Ok(())
 }
 
-/// Returns whether there is a position, and it is in the run.
+/// Whether the position `at` is in the run. If `at` is `None`, the result is false.
 fn is_within(run: &Run, at: Option<u32>) -> bool
     ensures { result ≡ is_within run.now at }
 {

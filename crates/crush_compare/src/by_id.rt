@@ -1,4 +1,4 @@
-//! Items of two maps, matched by their ids.
+//! Matches the items of two maps by their ids.
 
 ghost use Rattle.std.specs.Prelude.{◌≡◌, ◌+◌, ◌<◌, ◌≤◌, ◌^◌, ◌++◌, None, IfOk, length, drop, option_to_list};
 ghost use Rattle.crush_compare.specs.Pairs.{ArePairsOf, Rise, keys, least_pair, position, positions, taken};
@@ -6,24 +6,25 @@ ghost use Rattle.crush_compare.specs.Pairs.{ArePairsOf, Rise, keys, least_pair, 
 use crush_items::Place;
 use std::alloc::{AllocError, Global};
 
-/// Where each of two maps has an item: the item's position in the list of the map's items. At
-/// least one of the maps has the item.
+/// The positions of one item in two maps: for each map, the item's position in that map's list of
+/// items, or `None` if that map doesn't have the item. At least one of the maps has the item.
 #[derive(Clone, Copy, Debug, PartialEq, Eq)]
 pub struct Pair {
     pub before: Option<u32>,
     pub after: Option<u32>,
 }
 
-/// A pair, with the keys of its items.
+/// A `Pair` in which each position is stored with the item's key, as a `Place`. The key is a number
+/// that orders the ids.
 #[derive(Clone, Copy, Debug)]
 pub(crate) struct KeyPair {
     before: Option<Place>,
     after: Option<Place>,
 }
 
-/// Returns the pairs of the places of two lists, in the order of the keys. Two places that have
-/// the same key are one pair, and each other place is a pair of its own. The keys of each list
-/// must rise.
+/// Merges two lists of places into one list of pairs, in ascending order of the keys. If both lists
+/// have a key, its two places make one pair. If only one list has a key, its place makes a pair
+/// alone. The keys of each list must be ascending.
 pub(crate) fn pairs_by_key(
     alloc: Global,
     old: &[Place],
@@ -66,7 +67,8 @@ fn behind(at: usize, place: &Option<Place>) -> usize
     }
 }
 
-/// The place that has the lesser key, or both places if they have the same key.
+/// Returns the pair of both places if their keys are equal, and otherwise the pair that has only
+/// the place with the lesser key. If one place is `None`, the pair has only the other place.
 fn least_pair(before: Option<Place>, after: Option<Place>) -> KeyPair
     ensures { result ≡ least_pair before after }
 {

@@ -1,4 +1,4 @@
-//! Items of two maps, matched by their names.
+//! Matches the items of two maps by their names.
 
 ghost use Rattle.std.specs.Prelude.{◌≡◌, ◌<◌, ◌^◌, [], ◌∷◌, ◌++◌, List, None, Some, IfOk, OnOk, flat_map, if◌then◌else◌, is_some, length, map as each};
 ghost use Rattle.crush_model.specs.Stands.{Stands};
@@ -17,9 +17,10 @@ use crush_items::{ById, Item, Items};
 use crush_map::CrushMap;
 use std::alloc::{AllocError, Allocator, Global};
 
-/// Returns the pairs of the items of two maps: first each item of the new map, in the order of its
-/// tree, with the item of the old map that is the same one, and then the items that only the old
-/// map has, in the order of its tree. It looks up the name of each item of either map once in the
+/// Matches the items of two maps by their names, and returns the pairs. First comes a pair for each
+/// item of the new map, in the order of the new map's tree. If the old map has the same item, this
+/// pair also has its position in the old map. Then comes a pair for each item that only the old map
+/// has, in the order of the old map's tree. The call looks up the name of each item once in the
 /// other map.
 pub(crate) fn pairs_by_name<A: Allocator, B: Allocator>(
     alloc: Global,
@@ -45,8 +46,8 @@ pub(crate) fn pairs_by_name<A: Allocator, B: Allocator>(
     Ok(pairs)
 }
 
-/// Appends a pair for each item of the new map, with the item of the old map that is the same one.
-/// `by_id` has the places of the old map's items.
+/// Appends a pair for each item of the new map. If the old map has the same item, the pair also has
+/// its position in the old map. `by_id` finds the position of an old map's item by the item's id.
 fn push_new<A: Allocator, B: Allocator>(
     devices: Devices,
     old: &CrushMap<A>,
@@ -73,7 +74,8 @@ fn push_new<A: Allocator, B: Allocator>(
     Ok(())
 }
 
-/// Appends a pair for each item of the old map that is not one with an item of the new map.
+/// `items` are the items of the old map. Appends a pair for each of them that the new map doesn't
+/// have.
 fn push_gone<A: Allocator, B: Allocator>(
     devices: Devices,
     items: &[Item<'_, A>],
@@ -109,8 +111,9 @@ fn push_if_gone(is_gone: bool, at: u32, pairs: &mut Vec<Pair>) -> Result<(), All
     Ok(())
 }
 
-/// Returns the position of the old map's item that is one with this item of the new map. `by_id`
-/// has the places of the old map's items.
+/// `item` is an item of the new map. Returns the position of the same item in the old map, or
+/// `None` if the old map doesn't have this item. `by_id` finds the position of an old map's item by
+/// the item's id.
 #[tactic(auto, unfolding(crate::specs::Named::counterpart))]
 fn counterpart<A: Allocator, B: Allocator>(
     devices: Devices,
@@ -134,7 +137,7 @@ fn counterpart<A: Allocator, B: Allocator>(
     }
 }
 
-/// Whether the new map has an item that is one with this item of the old map.
+/// `item` is an item of the old map. Returns whether the new map has the same item.
 #[tactic(auto, unfolding(crate::specs::Named::counterpart))]
 fn has_counterpart<A: Allocator, B: Allocator>(
     devices: Devices,

@@ -1,4 +1,5 @@
-//! Whether a column of an item is the same in two maps.
+//! Tests whether two maps agree in one column of an item: its parent, type, class, algorithm or
+//! class ids.
 
 ghost use Rattle.std.specs.Prelude.{◌≡◌, map as each};
 ghost use Rattle.std.specs.Option.{option_map};
@@ -14,7 +15,7 @@ use crush_tree::{ShadowId, View};
 use crush_units::{Alg, BucketId, ItemId, TypeId};
 use std::alloc::Allocator;
 
-/// Whether both have the same parent, or none.
+/// Whether both items have the same parent, or both have no parent.
 pub fn same_parent(before: Option<BucketId>, after: Option<BucketId>) -> bool
     ensures { result ≡ same_option before after }
 {
@@ -25,7 +26,7 @@ pub fn same_parent(before: Option<BucketId>, after: Option<BucketId>) -> bool
     }
 }
 
-/// Whether both have the same text, or none.
+/// Whether both texts are present and equal, or both are `None`.
 pub fn same_text(before: Option<&str>, after: Option<&str>) -> bool
     ensures { result ≡ same_text (option_map (λ x. x.now) before.entry)
         (option_map (λ x. x.now) after.entry) }
@@ -39,7 +40,8 @@ pub fn same_text(before: Option<&str>, after: Option<&str>) -> bool
     }
 }
 
-/// Returns the name of a type; nothing if the setting doesn't have the type.
+/// Returns the name that a map's `Setting` has for a type, or an empty name if it doesn't have this
+/// type.
 fn type_name(setting: &Setting, kind: TypeId) -> &[u8]
     ensures { result.now ≡ type_name setting.now kind }
 {
@@ -49,8 +51,8 @@ fn type_name(setting: &Setting, kind: TypeId) -> &[u8]
     }
 }
 
-/// Whether two items that are one by their names are of one type, by the names of their types. All
-/// devices are.
+/// Whether the types of two items have the same name. The two items are matched by their names. If
+/// they are devices, the result is always true.
 pub(crate) fn same_type(old: &Setting, new: &Setting, before: &View<'_>, after: &View<'_>) -> bool
     ensures { result ≡ same_type (view_data before.now).id
         (type_name old.now (view_data before.now).kind)
@@ -62,7 +64,7 @@ pub(crate) fn same_type(old: &Setting, new: &Setting, before: &View<'_>, after: 
     }
 }
 
-/// Whether both have the same algorithm, or none.
+/// Whether both items have the same algorithm, or both have none.
 pub fn same_algs(before: Option<Alg>, after: Option<Alg>) -> bool
     ensures { result ≡ same_algs before after }
 {
@@ -73,7 +75,7 @@ pub fn same_algs(before: Option<Alg>, after: Option<Alg>) -> bool
     }
 }
 
-/// Whether both have the same class ids, in the same order.
+/// Whether both lists have the same class ids in the same order.
 pub fn same_class_ids<A: Allocator, B: Allocator>(
     before: &[ShadowId<A>],
     after: &[ShadowId<B>],

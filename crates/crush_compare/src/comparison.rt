@@ -1,4 +1,4 @@
-//! Two maps whose items are matched.
+//! Compares two maps: decides which of their items are the same item, and lists them as pairs.
 
 ghost use Rattle.std.specs.Prelude.{◌≡◌, ◌<◌, ◌^◌, List, IfOk, length, map as each, option_and_then};
 ghost use Rattle.std.specs.Cmp.Lexicographic.{pointwise};
@@ -12,7 +12,7 @@ ghost use Rattle.crush_items.specs.Items.{HasEntries, item_entry};
 ghost use Rattle.crush_items.specs.SeenItem.{seen_data};
 ghost use Rattle.crush_compare.specs.declared.identity.Identity.TheVariants.{Ids, Names};
 ghost use Rattle.crush_compare.specs.AllIds.{all_ids};
-ghost use Rattle.crush_compare.specs.Comparison.{IsOfIds, IsOfIdsBelow, IsOfNames, IsPartOfNames, pair_entries};
+ghost use Rattle.crush_compare.specs.Comparison.{AreOfTrees, IsOfIds, IsOfIdsBelow, IsOfNames, IsPartOfNames, pair_entries};
 ghost use Rattle.crush_compare.specs.IdPairs.{class_ids_of, entries_at, id_entries, pair_difference};
 ghost use Rattle.crush_compare.specs.SameItem.{same_class_id};
 
@@ -29,22 +29,23 @@ use crush_tree::ShadowId;
 use crush_units::ItemId;
 use std::alloc::{AllocError, Allocator, Global};
 
-/// Two maps, and where each of them has each item of either map.
+/// Two maps, and one pair for each item that both maps have or that only one of them has.
 #[derive(Drop)]
 pub struct Comparison<'a, A: Allocator, B: Allocator> {
     pub identity: Identity,
     pub old: Items<'a, A>,
     pub new: Items<'a, B>,
-    /// By ids in the order of the ids: buckets from -1 downward, and then devices upward. By names
-    /// first the new map's items in the order of its tree, and then those that only the old map
-    /// has, in the order of its own tree.
+    /// If the items are matched by their ids, the pairs are in the order of the ids: buckets from
+    /// -1 downward, and then devices upward. If the items are matched by their names, first come
+    /// the pairs with an item of the new map, in the order of the new map's tree. Then come the
+    /// pairs of the items that only the old map has, in the order of the old map's tree.
     pub pairs: Vec<Pair>,
 }
 
 impl<'a, A: Allocator, B: Allocator> Comparison<'a, A, B> {
-    /// Returns the comparison of two maps whose items are matched by their ids, as CRUSH does. It
-    /// visits each item of each map once, and sorts the items of each map once. An `Err` says that
-    /// memory ran out.
+    /// Compares two maps by the ids of their items: as in CRUSH itself, two items with the same id
+    /// are the same item. The call visits each item of each map once, and sorts the items of each
+    /// map once. It fails only if memory runs out.
     pub fn by_ids(
         alloc: Global,
         old: &'a CrushMap<A>,
@@ -55,6 +56,8 @@ impl<'a, A: Allocator, B: Allocator> Comparison<'a, A, B> {
         ensures new { IfOk result (λ both. both.new.map.now ≡ new.now) }
         ensures pairs { IfOk result (λ both. (t u : List Row) → Stands old.now.forest t
             → Stands new.now.forest u → IsOfIds t u both) }
+        ensures trees { IfOk result (λ both. (t u : List Row) → Stands old.now.forest t
+            → Stands new.now.forest u → AreOfTrees t u both) }
     {
         let before = Items::of(alloc, old)?;
         let after = Items::of(alloc, new)?;
@@ -67,10 +70,10 @@ impl<'a, A: Allocator, B: Allocator> Comparison<'a, A, B> {
         })
     }
 
-    /// Returns the comparison of two maps whose items are matched by their ids, but only with the
-    /// pairs of a part: the item with the id `under`, and all items that are below it in either
-    /// map. If no map has this item, then there are no pairs. It visits each item of each map once,
-    /// and sorts the items of each map once. An `Err` says that memory ran out.
+    /// Compares two maps by the ids of their items, but only one part of the maps: the item with
+    /// the id `under`, and all items that are below this item in at least one of the maps. If
+    /// neither map has this item, there are no pairs. The call visits each item of each map once,
+    /// and sorts the items of each map once. It fails only if memory runs out.
     pub fn by_ids_below(
         alloc: Global,
         old: &'a CrushMap<A>,
@@ -94,10 +97,10 @@ impl<'a, A: Allocator, B: Allocator> Comparison<'a, A, B> {
         })
     }
 
-    /// Returns the comparison of two maps whose items are matched by their names: two buckets of
-    /// the same name are one, and two devices of the same name as `devices` says. It visits each
-    /// item of each map once, and looks up its name once in the other map. An `Err` says that
-    /// memory ran out.
+    /// Compares two maps by the names of their items. Two buckets of the same name are the same
+    /// bucket. `devices` says when two devices of the same name are the same device. The call
+    /// visits each item of each map once, and looks up each item's name once in the other map. It
+    /// fails only if memory runs out.
     pub fn by_names(
         alloc: Global,
         devices: Devices,
@@ -121,9 +124,10 @@ impl<'a, A: Allocator, B: Allocator> Comparison<'a, A, B> {
         })
     }
 
-    /// Returns the comparison by names of a part of two maps. The pairs are those of
-    /// [`Comparison::by_names`] whose item is, in either map, the item that has the name `under` or
-    /// an item below it. Without a name, they are the pairs of all items.
+    /// Compares two maps by the names of their items, as [`Comparison::by_names`] does, but only
+    /// one part of the maps: the item with the name `under`, and all items that are below this item
+    /// in at least one of the maps. If `under` is `None`, the part is the whole of both maps. The
+    /// call fails only if memory runs out.
     pub fn by_names_part(
         alloc: Global,
         devices: Devices,
@@ -149,7 +153,8 @@ impl<'a, A: Allocator, B: Allocator> Comparison<'a, A, B> {
         })
     }
 
-    /// Returns what the old map has of the item of a pair.
+    /// Returns what the old map says about the item of a pair, or `None` if the old map doesn't
+    /// have the item.
     pub fn before(&self, pair: Pair) -> Option<Seen<'a>>
         ensures { option_map seen_data result
             ≡ option_map (λ e. e.item) (pair_entries self.now pair).before }
@@ -157,7 +162,8 @@ impl<'a, A: Allocator, B: Allocator> Comparison<'a, A, B> {
         seen_at(&self.old, pair.before)
     }
 
-    /// Returns what the new map has of the item of a pair.
+    /// Returns what the new map says about the item of a pair, or `None` if the new map doesn't
+    /// have the item.
     pub fn after(&self, pair: Pair) -> Option<Seen<'a>>
         ensures { option_map seen_data result
             ≡ option_map (λ e. e.item) (pair_entries self.now pair).after }
@@ -165,8 +171,9 @@ impl<'a, A: Allocator, B: Allocator> Comparison<'a, A, B> {
         seen_at(&self.new, pair.after)
     }
 
-    /// Returns whether both maps have the same class ids of the item of a pair, in the same order.
-    /// A map that doesn't have the item has no class ids of it.
+    /// Returns whether both maps have the same class ids for the item of a pair, in the same order.
+    /// Class ids are the ids that Ceph gives to a bucket for each device class. A map that doesn't
+    /// have the item has no class ids for it.
     pub fn same_class_ids(&self, pair: Pair) -> bool
         ensures { result
             ≡ pointwise same_class_id (class_ids_of (pair_entries self.now pair).before)
@@ -177,9 +184,9 @@ impl<'a, A: Allocator, B: Allocator> Comparison<'a, A, B> {
         same_class_ids(before, after)
     }
 
-    /// Returns what differs in a pair; `None` if both maps say the same of its item. If items are
-    /// matched by their names, then no ids are compared: an item's type and the bucket that holds
-    /// it are compared by their names.
+    /// Returns what differs in a pair, or `None` if nothing does. `report` says what counts as a
+    /// difference. If items are matched by their names, no ids are compared: an item's type and the
+    /// bucket that holds it are then compared by their names.
     pub fn difference(&self, report: Report, pair: Pair) -> Option<Difference>
         ensures { result ≡ pair_difference self.now.identity report self.now.old.map.now.setting
             self.now.new.map.now.setting (pair_entries self.now pair) }

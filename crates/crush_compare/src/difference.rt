@@ -1,4 +1,4 @@
-//! What differs in what two maps have of an item.
+//! Finds the difference between what two maps say about one item.
 
 ghost use Rattle.std.specs.Prelude.{◌≡◌};
 ghost use Rattle.std.specs.Option.{option_map};
@@ -17,29 +17,32 @@ use crush_units::{ItemId, Weight};
 /// What counts as a difference.
 #[derive(Clone, Copy, Debug, PartialEq, Eq)]
 pub enum Report {
-    /// Each column in which two maps say different things of an item.
+    /// Every column in which two maps say different things about an item counts.
     Changes,
-    /// Only what a command could set. The weight of a bucket doesn't count, because it is the sum
-    /// of the weights in the bucket. Nor does a difference of one unit (1/65536 TiB) in the weight
-    /// of a device, because Ceph's own tool cuts a weight by up to one unit.
+    /// Only what a command could change counts. The weight of a bucket doesn't count, because it is
+    /// the sum of the weights in the bucket. Nor does a difference of one unit (1/65536 TiB) in the
+    /// weight of a device, because Ceph's own tool cuts a weight by up to one unit.
     Remaining,
 }
 
-/// The columns in which two maps say different things of an item.
+/// The columns in which two maps are compared about one item. A field is true if the two maps say
+/// different things in its column.
 #[derive(Clone, Copy, Debug, PartialEq, Eq)]
 pub struct Columns {
-    /// Never if items are matched by their names.
+    /// Whether the names differ. Always false if items are matched by their names.
     pub name: bool,
-    /// The type: its number if items are matched by their ids; its name, and only of a bucket, if
-    /// items are matched by their names.
+    /// Whether the types differ. If items are matched by their ids, the numbers of the types are
+    /// compared. If items are matched by their names, the names of the types are compared for two
+    /// buckets, and for two devices this field is always false.
     pub kind: bool,
-    /// The bucket that holds the item: its id, or its name, as items are matched.
+    /// Whether the item is in different buckets. The buckets are compared by their ids if items are
+    /// matched by their ids, and otherwise by their names.
     pub place: bool,
     pub weight: bool,
     pub class: bool,
     pub alg: bool,
-    /// The ids that Ceph gives to a bucket for each class. Never if items are matched by their
-    /// names.
+    /// Whether the class ids differ, which are the ids that Ceph gives to a bucket for each device
+    /// class. Always false if items are matched by their names.
     pub class_ids: bool,
 }
 
@@ -55,7 +58,7 @@ pub enum Difference {
 }
 
 impl Columns {
-    /// Returns whether any column differs.
+    /// Returns whether at least one column differs.
     pub(crate) fn is_some_other(self) -> bool
         ensures { result ≡ is_some_other self }
     {
@@ -68,8 +71,9 @@ impl Columns {
             || self.class_ids
     }
 
-    /// Returns the columns that differ of an item that has one id in both maps. `same_class_ids`
-    /// says whether the item has the same class ids in both maps.
+    /// Compares what the two maps say about an item that has the same id in both, and returns the
+    /// columns that differ. `same_class_ids` says whether the item has the same class ids in both
+    /// maps.
     fn by_ids(report: Report, before: &Seen<'_>, after: &Seen<'_>, same_class_ids: bool) -> Columns
         ensures { result
             ≡ columns_by_ids report (seen_data before.now) (seen_data after.now) same_class_ids }
@@ -90,8 +94,8 @@ impl Columns {
         }
     }
 
-    /// Returns the columns that differ of an item that has one name in both maps. `old` and `new`
-    /// are the settings of the maps.
+    /// Compares what the two maps say about an item that has the same name in both, and returns the
+    /// columns that differ. `old` and `new` are the settings of the maps.
     fn by_names(
         report: Report,
         old: &Setting,
@@ -118,7 +122,8 @@ impl Columns {
         }
     }
 
-    /// Returns the columns that differ of an item that both maps have.
+    /// Compares what the two maps say about an item that both have, and returns in which columns
+    /// (name, type, place, weight and so on) they differ.
     fn of(
         identity: Identity,
         report: Report,
@@ -139,9 +144,10 @@ impl Columns {
 }
 
 impl Difference {
-    /// Returns what differs of an item, by what each map has of it; `None` if nothing differs.
-    /// `old` and `new` are the settings of the maps, and `same_class_ids` says whether the item has
-    /// the same class ids in both maps.
+    /// Returns the difference between `before`, what the old map says about an item, and `after`,
+    /// what the new map says about it, or `None` if nothing differs. `old` and `new` are the
+    /// settings of the maps. `same_class_ids` says whether the item has the same class ids in both
+    /// maps.
     pub(crate) fn of(
         identity: Identity,
         report: Report,
@@ -195,8 +201,8 @@ fn equal_weights(report: Report, id: ItemId, before: Weight, after: Weight) -> b
     }
 }
 
-/// Whether two weights are at most one unit (1/65536 TiB) apart, which is what Ceph's own tool cuts
-/// of a weight.
+/// Whether two weights differ by at most one unit (1/65536 TiB). Ceph's own tool cuts a weight by
+/// up to one unit.
 pub fn are_near(here: Weight, there: Weight) -> bool
     ensures { result ≡ are_near here there }
 {
@@ -204,8 +210,9 @@ pub fn are_near(here: Weight, there: Weight) -> bool
         || (there.units() as u64) + 1 < here.units() as u64)
 }
 
-/// Whether the weights of an item count as equal if only what a command could set is a difference.
-/// The weights of a bucket always do, because a bucket weighs what is in it.
+/// Whether the weights that two maps give to one item count as equal in a report of the kind
+/// [`Report::Remaining`]. The weights of a bucket always count as equal, because no command sets
+/// the weight of a bucket.
 pub fn same_weight(id: ItemId, here: Weight, there: Weight) -> bool
     ensures { result ≡ same_weight id here there }
 {

@@ -1,11 +1,11 @@
-//! Which items of two maps are one.
+//! Decides which items of two maps are the same item.
 
 ghost use Rattle.std.specs.Prelude.{◌≡◌};
 ghost use Rattle.crush_compare.specs.Named.{are_one, is_one_device};
 
 use crush_units::{DeviceId, ItemId};
 
-/// When two devices of the same name are one.
+/// Says when two devices of the same name are the same device.
 #[derive(Clone, Copy, Debug, PartialEq, Eq)]
 pub enum Devices {
     /// If they have the same id. This is for two maps of one cluster.
@@ -14,13 +14,13 @@ pub enum Devices {
     ByName,
 }
 
-/// When an item of one map and an item of another map are one.
+/// Says when an item of one map and an item of another map are the same item.
 #[derive(Clone, Copy, Debug, PartialEq, Eq)]
 pub enum Identity {
-    /// If they have the same id, as CRUSH sees it.
+    /// If they have the same id. CRUSH itself knows an item only by its id.
     Ids,
-    /// If they have the same name, and both are buckets, or both are devices that are one as
-    /// `Devices` says.
+    /// If they have the same name, and both are buckets or both are devices. For two devices,
+    /// `Devices` says whether they must also have the same id.
     Names(Devices),
 }
 
@@ -33,7 +33,8 @@ fn is_one_device(devices: Devices, here: DeviceId, there: DeviceId) -> bool
     }
 }
 
-/// Whether two items of the same name are one, by their ids.
+/// Whether two items of the same name are the same item. Two buckets are, and a bucket and a device
+/// aren't. For two devices, `devices` decides.
 pub(crate) fn are_one(devices: Devices, here: &ItemId, there: &ItemId) -> bool
     ensures { result ≡ are_one devices here.now there.now }
 {

@@ -1,4 +1,6 @@
-//! Laws about pairs: contracts of functions that do nothing.
+//! Laws about the pairs of two maps. Each law is the contract of a function that does nothing. The
+//! laws speak of tables: a table is the list of a map's items, with a row for each, and it is
+//! lawful if it meets the definition `Lawful` of crush_model.
 
 ghost use Rattle.crush_compare.specs.Columns.{SomeColumnOfOtherItems};
 ghost use Rattle.crush_compare.specs.IdPairs.{DifferencesOfIds, EachIdOnce, EachItemOnceByIds, KeysOfAllIds};
@@ -6,52 +8,55 @@ ghost use Rattle.crush_compare.specs.NamedPairs.{PartOfPairs};
 ghost use Rattle.crush_compare.specs.Pairs.{OneAnswer};
 ghost use Rattle.crush_compare.specs.Parts.{RunIsPart, StepsArePart};
 
-/// There is at most one list of pairs of two lists of places.
+/// For two lists of places, at most one list of pairs meets the definition `ArePairsOf`.
 pub fn two_lists_have_one_list_of_pairs()
     ensures { OneAnswer }
 {}
 
-/// The keys of the pairs by ids of two lawful tables are the keys of all ids of both tables, in
-/// the order of the ids.
+/// If two lawful tables are matched by ids, the keys of the pairs are the keys of all ids of both
+/// tables, in the order of the ids.
 pub fn pairs_have_the_keys_of_all_ids()
     ensures { KeysOfAllIds }
 {}
 
-/// The pairs by ids of two lawful tables are what both tables have of each id of either table, in
-/// the order of the ids.
+/// If two lawful tables are matched by ids, there is one pair for each id of either table, in the
+/// order of the ids. The pair has what each table says about this id.
 pub fn pairs_have_each_id_once()
     ensures { EachIdOnce }
 {}
 
-/// A column differs exactly if two tables don't say the same of an item that has one id in both.
+/// If an item has the same id in both tables, at least one column differs if and only if the two
+/// tables don't say the same about the item.
 pub fn a_column_differs_of_other_items()
     ensures { SomeColumnOfOtherItems }
 {}
 
-/// Of two lawful tables, each item of either table is in exactly one of the pairs by ids.
+/// If two lawful tables are matched by ids, each item of either table is in exactly one of the
+/// pairs.
 pub fn pairs_by_ids_have_each_item_once()
     ensures { EachItemOnceByIds }
 {}
 
-/// What differs in the pair of an id is what differs of this id in both tables.
+/// If two tables are matched by ids, the difference that is found for the pair of an id is the
+/// difference between what the two tables say about this id.
 pub fn pairs_differ_as_ids_do()
     ensures { DifferencesOfIds }
 {}
 
-/// Of a lawful table, the steps of an item have each item once that is the item itself or below it,
-/// and no other item.
+/// In a lawful table, the walk from an item downward (`steps_at`) has one step for the item itself,
+/// one step for each item below it, and no other step.
 pub fn the_steps_of_an_item_are_a_part()
     ensures { StepsArePart }
 {}
 
-/// In a list of all items of a lawful table, in the order of the table's tree, the positions of a
-/// run are those of the run's first item and of all items below it.
+/// In the list of all items of a lawful table, in the order of the table's tree, a run is a range
+/// of positions. Its positions are those of the run's first item and of all items below this item.
 pub fn a_run_is_a_part()
     ensures { RunIsPart }
 {}
 
-/// The pairs by names of a part are those pairs of everything whose item is in the part of either
-/// table, in the same order.
+/// If two tables are matched by names, the pairs of a part are exactly the pairs whose item is in
+/// the part in at least one of the tables. They are in the same order as in the list of all pairs.
 pub fn pairs_of_a_part_are_those_in_the_part()
     ensures { PartOfPairs }
 {}

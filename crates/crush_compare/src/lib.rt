@@ -1,4 +1,4 @@
-//! Pairs of what two maps have of the same item, and what differs in a pair.
+//! Matches the items of two maps, and finds what the two maps say differently about each item.
 #![tactic(auto)]
 
 mod below;

@@ -1,4 +1,5 @@
-//! A part of a map, and the pairs in a part of two maps.
+//! Finds the pairs of one part of two maps. The part is the item that has a given name, and all
+//! items below this item.
 
 ghost use Rattle.std.specs.Option.{option_map};
 ghost use Rattle.std.specs.Prelude.{◌≡◌, ◌<◌, ◌^◌, List, IfOk, filter, length, map as each};
@@ -20,8 +21,9 @@ use crush_map::CrushMap;
 use crush_units::ItemId;
 use std::alloc::{AllocError, Allocator, Global};
 
-/// Whether an item of the map is in the part of this name: it is the item that has the name, or it
-/// is below this item. Without a name, every item is.
+/// Whether an item of the map is in the part that `under` selects. The part is the item with the
+/// name `under` and all items below it. If no item has this name, no item is in the part. If
+/// `under` is `None`, the part is the whole map, so every item is in it.
 pub fn is_in<A: Allocator>(map: &CrushMap<A>, under: Option<&str>, id: ItemId) -> bool
     ensures { (t : List Row) → Stands map.now.forest t
         → result ≡ is_in (option_map (λ n. n.now) under.entry) t id }
@@ -35,7 +37,7 @@ pub fn is_in<A: Allocator>(map: &CrushMap<A>, under: Option<&str>, id: ItemId) -
     }
 }
 
-/// Whether an item is `top` or below it.
+/// Whether an item is `top` itself or below `top`.
 fn is_at<A: Allocator>(map: &CrushMap<A>, top: &ItemId, id: ItemId) -> bool
     ensures { (t : List Row) → Stands map.now.forest t → result ≡ is_at t top.now id }
 {
@@ -45,8 +47,8 @@ fn is_at<A: Allocator>(map: &CrushMap<A>, top: &ItemId, id: ItemId) -> bool
     }
 }
 
-/// Returns the pairs by names of a part of two maps. They are those pairs of everything whose item
-/// is in the part of either map. Without a name, they are all pairs.
+/// Matches the items of two maps by their names, and returns the pairs whose item is in the part
+/// that `under` selects, in at least one of the maps. If `under` is `None`, returns all pairs.
 pub(crate) fn pairs_by_name_under<A: Allocator, B: Allocator>(
     alloc: Global,
     devices: Devices,
@@ -72,7 +74,8 @@ pub(crate) fn pairs_by_name_under<A: Allocator, B: Allocator>(
     }
 }
 
-/// Returns those pairs whose item is in the part of this name in either map.
+/// Returns the pairs whose item, in at least one of the maps, has the name `name` or is below the
+/// item with this name.
 fn pairs_in_part<A: Allocator, B: Allocator>(
     alloc: Global,
     name: &str,
@@ -98,8 +101,8 @@ fn pairs_in_part<A: Allocator, B: Allocator>(
     pairs_within(alloc, &before, &after, pairs)
 }
 
-/// Returns the positions of the item of this name and of all items below it; none if the map has no
-/// item of this name. It sorts the items once.
+/// Returns the range of positions that has the item with the name `name` and all items below it. If
+/// no item has this name, the range is empty. The call sorts the items once.
 fn part_of<A: Allocator>(alloc: Global, name: &str, items: &Items<'_, A>) -> Result<Run, AllocError>
     requires few { length items.now.all.items < 2 ^ 32 }
     ensures { IfOk result (λ run. (t : List Row) → Stands items.now.map.now.forest t
@@ -113,7 +116,8 @@ fn part_of<A: Allocator>(alloc: Global, name: &str, items: &Items<'_, A>) -> Res
     }
 }
 
-/// Returns the positions of the item of this id and of all items below it.
+/// Returns the range of positions that has the item with the id `top` and all items below it. If
+/// the map doesn't have this item, the range is empty.
 fn positions_at<A: Allocator>(
     alloc: Global,
     top: ItemId,

@@ -1,4 +1,4 @@
--- After a commit, what is true of every book is still true.
+-- After a commit, the invariant of the book is still true.
 use Rattle.std.proofs.Common.{◌≡◌, ◌≢◌, ℕ, ◌+◌, ◌<◌, ◌≤◌, Bool, true, false, Option, Some, None, List, [], ◌∷◌, ◌++◌, length, refl, sym, ap, ◌∙◌, subst, arith, length-append}
 use Rattle.std.specs.Prelude.{if◌then◌else◌, IfSome}
 use Rattle.std.proofs.lemmas.List.Elements.{All-push, All-nil}
@@ -45,7 +45,7 @@ module _ (p : Option MapData) (o m n : MapData) (h : List EntryData) (c : ℕ) (
   abbrev e : EntryData
   e = entry k call r
 
-  -- the call was made with the count that the history has
+  -- the call was made after as many changes as the history h has
   pub made_now : Makes (changes h) m n call r
   made_now = subst (λ (i : ℕ). Makes i m n call r) kept.counted made
 
@@ -67,7 +67,7 @@ module _ (p : Option MapData) (o m n : MapData) (h : List EntryData) (c : ℕ) (
   pub changes_push : changes (h ++ e ∷ []) ≡ c + change_of r
   changes_push = changes-push h e ∙ ap (λ (x : ℕ). x + change_of r) (sym kept.counted)
 
-  -- the history with the entry may be published
+  -- the gauge may publish the history with the new entry
   pub follows : (w : ℕ) → length h ≢ MOST_ENTRIES → ((t : List Row) → Stands n.forest t → w ≡ total t) → Follows IsLegalFrom (λ _. changes) weight_from v (e ∷ []) (c + change_of r) w
   follows w room weighs =
       let few : changes (h ++ e ∷ []) ≤ MOST_CHANGES = (let a = changes-le (h ++ e ∷ []) in let l = length-append h (e ∷ []) in let b = kept.room in omega arith) in
@@ -104,12 +104,12 @@ no_entry : (o : MapData) → (IsLegalFrom o []) × (table_from o [] ≡ rows_of 
 unfolding IsLegalBehind counted_after
 no_entry o = (tt, refl)
 
--- an empty history is legal, and the table after it is the table
+-- an empty history is legal, and the table after it is the table before it
 nothing_asked : (s : SettingData) (t : List Row) → (IsLegal s t []) × (t ≡ table_after s t [])
 unfolding IsLegalBehind counted_after
 nothing_asked s t = (tt, refl)
 
--- the map that calls are to change stands for each table for which the opening stands
+-- the map m, which calls will change, represents each table that the opening represents
 pub parted_stands : (p : Option MapData) (m o : MapData) → IsParted p m o → StandsAsBefore o m
 parted_stands (Some k) m o parted = parted.stands
 parted_stands None m o parted = λ s t stands. subst (λ (x : MapData). MapStands x s t) (sym parted) stands
@@ -118,7 +118,7 @@ pub parted_same : (p : Option MapData) (m o : MapData) → IsParted p m o → Is
 parted_same (Some k) m o parted = parted.same
 parted_same None m o parted = subst (λ (x : MapData). IsSameMap x o) (sym parted) record { setting = refl; forest = refl }
 
--- what is kept of the opening is the opening
+-- what the book keeps of the opening is the opening itself
 parted_kept : (p : Option MapData) (m o : MapData) → IsParted p m o → IfSome p (λ (k : MapData). k ≡ o)
 parted_kept (Some k) m o parted = parted.kept
 parted_kept None m o parted = tt
@@ -129,7 +129,7 @@ all_new o m before s t of =
     let now = before s t of in
     (none.0, record { setting = now.setting; forest = subst (Stands m.forest) none.1 now.forest })
 
--- what is true of every book is true of a new one
+-- the invariant of a book is true of a new book
 first_kept : (p : Option MapData) (o m : MapData) → IsSound o.forest → IsParted p m o → IsKept p o m [] 0 (Book (known o []))
 first_kept p o m sound parted =
     let first = no_entry o in
@@ -151,7 +151,7 @@ pub kept_new : (p : Option MapData) (o m : MapData) (h : List EntryData) (v : Vi
 kept_new p o m h v sound parted none snapshot =
     subst (λ (x : List EntryData × View MapData EntryData). IsKept p (opening_of x.1) m x.0 0 x.1) (λ i. (sym none i, sym snapshot i)) (first_kept p o m sound parted)
 
--- an opening and its copy are parted
+-- an opening and its copy satisfy `IsParted`
 pub copied : (o m : MapData) → m.setting ≡ o.setting → IsSameForest m.forest o.forest → ((t : List Row) → Stands o.forest t → Stands m.forest t) → IsParted (Some o) m o
 copied o m setting same stands = record {
   kept = refl;
@@ -159,7 +159,7 @@ copied o m setting same stands = record {
   stands = λ s t of. record { setting = setting ∙ of.setting; forest = stands t of.forest };
 }
 
--- the opening meets what a gauge requires
+-- the opening satisfies what a gauge requires of it (`OpensGauge`)
 pub opens : (o : MapData) (w : ℕ) → IsSound o.forest → ((t : List Row) → Stands o.forest t → w ≡ total t) → OpensGauge o w
 opens o w sound weighs =
     let first = no_entry o in

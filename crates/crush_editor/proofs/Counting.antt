@@ -1,4 +1,4 @@
--- Each operator's slips are a subsequence of its part of the history, and there are as many slips as entries. So the history has nothing else.
+-- Each operator's slips are a subsequence of its entries in the history, and there are as many slips as entries. So the history has no other entries.
 use Rattle.std.proofs.Common.{◌≡◌, ◌⊎◌, ℕ, zero, suc, ◌+◌, ◌<◌, ◌≤◌, List, [], ◌∷◌, ◌++◌, length, map, filter, Bool, true, false, cond, nat_eq, refl, sym, ap, ◌∙◌, subst, inl, inr, ⊎_elim, arith, eq-eqb, ne_eqb}
 use mathlib.Core.Logic.{dite}
 use native.Mathlib.Decide.{ℕ_discrete}
@@ -36,7 +36,7 @@ module _ {A : Type 0} where
   stands_push (x ∷ xs) (y ∷ ys) z (inl s) = inl (s.0, stands_push xs ys z s.1)
   stands_push (x ∷ xs) (y ∷ ys) z (inr s) = inr (stands_push (x ∷ xs) ys z s)
 
--- f 0 + .. + f (n - 1)
+-- the sum of f 0 to f (n - 1)
 abbrev pub below : ℕ → (ℕ → ℕ) → ℕ
 below zero f = 0
 below (suc n) f = below n f + f n
@@ -73,7 +73,7 @@ of-cons k e h = go (nat_eq e.operator k)
     go true = omega arith
     go false = omega arith
 
--- the parts of n operators are no more than the whole
+-- the entries of n operators are together at most as many as the entries of the whole history
 parts : (n : ℕ) (h : List EntryData) → below n (λ k. length (of_operator k h)) ≤ length h
 parts n [] = none n
   where
@@ -85,7 +85,7 @@ parts n (e ∷ h) =
     let one = below_suc n (λ k. length (of_operator k h)) (λ k. length (of_operator k (e ∷ h))) e.operator (λ k. of-cons k e h) in
     omega arith
 
--- the counting argument
+-- the counting argument: if there are at least as many slips as entries, then each operator's entries are exactly its slips
 pub accounts : (n : ℕ) (h : List EntryData) (slips : ℕ → List AnsweredData) → ((k : ℕ) → k < n → IsSubsequence (slips k) (of_operator k h)) → length h ≤ below n (λ k. length (slips k)) → (k : ℕ) → k < n → of_operator k h ≡ slips k
 accounts n h slips stand all k l =
     let p = parts n h in

@@ -1,4 +1,4 @@
--- An index may be sent to another thread, since each of its tables may, and the links beside them.
+-- An index may be sent to another thread, because its tables and its links may be sent.
 use denote.RattleType.{RattleType}
 use denote.Hole.{as_row}
 use denote.Param.Send.{IsSend, sendable}

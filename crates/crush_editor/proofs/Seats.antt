@@ -58,7 +58,7 @@ not_stale : (fresh : Bool) (t : List Row) (n : ℕ) (a : BatchAnswer) (r : Reply
 not_stale true t n a r told other = refl
 not_stale false t n a r told other = let stale : is_stale r ≡ true = ap is_stale told in absurd cc
 
--- so the table before the batch is the one after the history that the seat had seen
+-- so the table before the batch is the table after the history that the seat had seen
 made_of_seen : (o : MapData) (k : ℕ) (seen h : List EntryData) (c : Call) (r : Reply) → IsPrefix seen h → IsLegalFrom o (h ++ entry k c r ∷ []) → guard_of c ≡ Some (changes seen) → is_stale r ≡ false → table_from o h ≡ table_from o seen
 made_of_seen o k seen h (One e) r p legal names other = absurd cc
 made_of_seen o k seen h (Batch es) r p legal names other = absurd cc
@@ -89,7 +89,7 @@ guards o k slips seen h c r p legal = record {
 pub missed : (o : MapData) (k : ℕ) (slips : List AnsweredData) (seen now : List EntryData) → IsSeat o k slips seen → IsPrefix seen now → IsLegalFrom o now → Sees o (seat_data k slips seen) (seat_data k slips now)
 missed o k slips seen now seat p legal = record { operator = refl; slips = refl; begins = p; seat = seat_later o k slips seen now seat p legal }
 
--- a reader that has seen the history of the book
+-- what is true of a reader that has seen the whole history of the book
 pub has_met : (z : TableId) (o : MapData) (seen : List EntryData) (b now : BookData) (r : Held MapData EntryData) → b.table ≡ z → b.opening ≡ o → now.history ≡ b.history → r ≡ held b.table (reads b.opening now.history) → IsPrefix seen b.history → IsLegalFrom b.opening now.history
     → (r.table ≡ z) × (r.view ≡ reads o (seen_of r.view)) × IsPrefix seen (seen_of r.view) × IsLegalFrom o (seen_of r.view)
 has_met z o seen b now r tz oz same is pre legal =
@@ -97,7 +97,7 @@ has_met z o seen b now r tz oz same is pre legal =
     subst (λ (x : Held MapData EntryData). (x.table ≡ z) × (x.view ≡ reads o (seen_of x.view)) × IsPrefix seen (seen_of x.view) × IsLegalFrom o (seen_of x.view)) (sym h)
     (refl, refl, subst (IsPrefix seen) (sym same) pre, subst (λ (x : MapData). IsLegalFrom x now.history) oz legal)
 
--- a seat that has seen the history of the book after a call that was not answered
+-- what is true of a seat that has seen the whole history of the book, after a call that was not answered
 pub missed_all : (z : TableId) (o : MapData) (k : ℕ) (slips : List AnsweredData) (seen : List EntryData) (b now : BookData) (r : Held MapData EntryData) → b.table ≡ z → b.opening ≡ o → now.history ≡ b.history → r ≡ held b.table (reads b.opening now.history) → IsPrefix seen b.history → IsLegalFrom b.opening now.history → IsSeat o k slips seen
     → (r.table ≡ z) × (r.view ≡ reads o (seen_of r.view)) × IsSeat o k slips (seen_of r.view) × Sees o (seat_data k slips seen) (seat_data k slips (seen_of r.view))
 missed_all z o k slips seen b now r tz oz same is pre legal seat =
@@ -121,7 +121,7 @@ guards_all z o k slips seen c x b now r tz oz e is pre legal =
     let l : IsLegalFrom o after' = subst (λ (y : MapData × List EntryData). IsLegalFrom y.0 y.1) (λ i. (oz i, e i)) legal in
     subst (λ (y : Held MapData EntryData). Guards o (seat_data k slips seen) c x (seat_data k (slips ++ slip c x ∷ []) (seen_of y.view))) (sym h) (guards o k slips seen b.history c x pre l)
 
--- a seat that has seen more without an answer
+-- what is true of a seat that has seen more of the history without an answer
 pub sees_more : (z : TableId) (o : MapData) (k : ℕ) (slips : List AnsweredData) (v w : Held MapData EntryData) → v.table ≡ z → IsSeat o k slips (seen_of v.view) → w.table ≡ v.table → (h : List EntryData) × (w.view ≡ reads o h) × IsPrefix (seen_of v.view) h × IsLegalFrom o h
     → (w.table ≡ z) × (w.view ≡ reads o (seen_of w.view)) × IsSeat o k slips (seen_of w.view) × Sees o (seat_data k slips (seen_of v.view)) (seat_data k slips (seen_of w.view))
 sees_more z o k slips v w tz seat same now =
@@ -134,7 +134,7 @@ pub after_reading : (o : MapData) (v w : View MapData EntryData) (c x : ℕ) →
 after_reading o v w c x is r =
     let t = subst (λ (y : View MapData EntryData). Reads IsLegalFrom (λ _. changes) weight_from y c x w) is r in (t.0, t.1, t.2, t.3.0)
 
--- the pair of a reading is that of the history that the seat has then seen
+-- the two numbers of a reading belong to the history that the seat has seen after the reading
 pub tells_seen : (o : MapData) (v w : View MapData EntryData) (c x : ℕ) → v ≡ reads o (seen_of v) → Reads IsLegalFrom (λ _. changes) weight_from v c x w → (c ≡ changes (seen_of w)) × (x ≡ weight_from o (seen_of w))
 tells_seen o v w c x is r =
     let t = subst (λ (y : View MapData EntryData). Reads IsLegalFrom (λ _. changes) weight_from y c x w) is r in
@@ -150,7 +150,7 @@ pub after_learning : (o : MapData) (v j w : View MapData EntryData) → v ≡ re
 after_learning o v j w is also l =
     let t = subst (λ (y : View MapData EntryData × View MapData EntryData). Learns IsLegalFrom (λ _. changes) weight_from y.0 y.1 w) (λ i. (is i, also i)) l in (t.0, t.1, t.4, t.3.0)
 
--- a seat that learned a note has seen what the note's seat had
+-- after a seat has learned a note, it has seen all that the note's seat had seen
 pub note_is_seen : (o : MapData) (v j w : View MapData EntryData) → v ≡ reads o (seen_of v) → j ≡ reads o (seen_of j) → Learns IsLegalFrom (λ _. changes) weight_from v j w → IsPrefix (seen_of j) (seen_of w)
 note_is_seen o v j w is also l =
     let t = subst (λ (y : View MapData EntryData × View MapData EntryData). Learns IsLegalFrom (λ _. changes) weight_from y.0 y.1 w) (λ i. (is i, also i)) l in

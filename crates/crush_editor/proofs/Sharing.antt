@@ -51,7 +51,7 @@ module _ (N O : RattleType) (g : Desk.Ghosts N.Denot) (g' : Ledger.Ghosts N.Deno
 unkept_sent : IsSend WithoutSnapshot.the_row
 unkept_sent = search (sendable, crosses) depth 10
 
--- the same for an editor that keeps its opening, and for one that doesn't
+-- threads may share an editor that keeps its opening map, and also one that doesn't
 module _ (N : RattleType) (g : Desk.Ghosts N.Denot) (g' : Ledger.Ghosts N.Denot) where
   pub editor_sync : (o : KeptOpening.Ghosts (CrushMap.the_row Global.the_row GlobalImpl.ghosts).Denot) → IsSync (Editor.the_row N (CrushMap.the_row Global.the_row GlobalImpl.ghosts) g g' o)
   editor_sync o = any_editor_sync N (CrushMap.the_row Global.the_row GlobalImpl.ghosts) g g' o map_sent

@@ -1,4 +1,4 @@
--- What contracts say of a book, and what is true of every book.
+-- How contracts describe a book, and what is true of every book.
 use Rattle.std.specs.Prelude.{ℕ, ◌≡◌, ◌<◌, ◌≤◌, Option, Some, None, IfSome, List, [], length}
 use Rattle.std.specs.List.{All}
 use Rattle.crush_units.specs.declared.limits.TheConstants.{MOST_ENTRIES, MOST_OPERATORS}
@@ -14,7 +14,7 @@ use Rattle.crush_gauge.specs.declared.view.View.TheVariants.{Fresh, Spent, Book,
 use Rattle.crush_gauge.specs.Rule.{known}
 use Rattle.crush_editor.specs.History.{IsLegalFrom, table_from}
 
--- a book as contracts see it: the identity of its gauge's table, its opening map, its map now, and its history
+-- a book as contracts see it: the identity of its gauge's table, its opening map, the map as it is now, and its history
 pub record BookData : Type 0 where
   pub table : TableId
   pub opening : MapData
@@ -25,25 +25,25 @@ pub record BookData : Type 0 where
 abbrev pub book_data : TableId → MapData → MapData → List EntryData → BookData
 book_data z o m h = record { table = z; opening = o; map = m; history = h }
 
--- an empty map: the opening of a name for which no proof has picked one
+-- an empty map. It is the opening map of an editor's name (`Desk`) if no proof has chosen another map for this name
 abbrev pub no_map : MapData
 no_map = record {
   setting = record { kinds = []; tunables = []; rules = [] };
   forest = record { roots = none; unplaced = none; root_capacity = 0; unplaced_capacity = 0 };
 }
 
--- the opening that a seat of the gauge with this view knows; the empty map if the view is fresh or spent
+-- the opening map in the view of a gauge's seat; the empty map if the view is fresh or spent
 abbrev pub opening_of : View MapData EntryData → MapData
 opening_of Fresh = no_map
 opening_of Spent = no_map
 opening_of (Book k) = k.opening
 opening_of (Reader k) = k.opening
 
--- the map m stands for the table after the history h from the opening o, with the opening's setting
+-- the map m represents the table after the history h from the opening o, with the opening's setting
 abbrev pub StandsAfter : MapData → MapData → List EntryData → Type 0
 StandsAfter o m h = MapStands m o.setting (table_from o h)
 
--- MAKES ALL: for every setting s and table t that the old map stands for, the history is legal on them, and the new map stands for the table after it
+-- MAKES ALL: for every setting s and table t that the old map represents, the history is legal on them, and the new map represents the table after it
 abbrev pub MakesAll : MapData → MapData → List EntryData → Type 0
 MakesAll old new h = (s : SettingData) (t : List Row) → MapStands old s t → IsLegal s t h × MapStands new s (table_after s t h)
 
@@ -52,7 +52,7 @@ pub record IsSameMap (new old : MapData) : Type 0 where
   pub setting : new.setting ≡ old.setting
   pub forest : IsSameForest new.forest old.forest
 
--- the new map stands for every setting and table that the old map stands for
+-- the new map represents every setting and table that the old map represents
 abbrev pub StandsAsBefore : MapData → MapData → Type 0
 StandsAsBefore old new = (s : SettingData) (t : List Row) → MapStands old s t → MapStands new s t
 
@@ -62,12 +62,12 @@ pub record IsCopied (k m o : MapData) : Type 0 where
   pub same : IsSameMap m o
   pub stands : StandsAsBefore o m
 
--- PARTED: a book without entries, whose opening is o, has the map m for its calls to change. If it keeps the opening, m is a copy of it; otherwise m is the opening itself
+-- PARTED: in a book without entries, whose opening is o, m is the map that calls will change. If the book keeps the opening, m is a copy of o; otherwise m is o itself
 abbrev pub IsParted : Option MapData → MapData → MapData → Type 0
 IsParted (Some k) m o = IsCopied k m o
 IsParted None m o = m ≡ o
 
--- what is true of every book with the opening o, the map m and the history h: a kept map is the opening; before the first entry m is parted from o; the history is legal from o, and m stands for the table after it, whatever table o stands for; each operator's number is below 16; there are at most 65,536 entries; `count` is the number of changes; and the book's seat has seen exactly the whole history
+-- what is true of every book with the opening o, the map m and the history h: a map that the book keeps is the opening; before the first entry m is parted from o; the history is legal from o, and m represents the table after the history, whatever table o represents; each operator's number is below 16; there are at most 65,536 entries; `count` is the number of changes; and the book's seat has seen exactly the whole history
 pub record IsKept (kept : Option MapData) (o m : MapData) (h : List EntryData) (count : ℕ) (view : View MapData EntryData) : Type 0 where
   pub opening : IfSome kept (λ (k : MapData). k ≡ o)
   pub parted : h ≡ [] → IsParted kept m o

@@ -1,5 +1,6 @@
-//! The book of a map: its opening, the map now, and the history that leads from the opening to it.
-//! An editor has a book under its lock; one thread can use a book without an editor.
+//! The book of a map: the map as it was at first (the *opening*), the map as it is now, and the
+//! history of the calls between the two. An editor protects its book with a lock. A single thread
+//! can also use a book without an editor.
 
 ghost use Rattle.std.specs.List.{All};
 ghost use Rattle.std.specs.Prelude.{◌≡◌, ◌<◌, ◌≤◌, ◌++◌, ◌∷◌, [], length, IfOk, IfErr, IfSome, OnOk, OnErr};
@@ -28,7 +29,7 @@ use thiserror::Error;
 /// the call.
 #[derive(Clone, Copy, Debug, PartialEq, Eq, Error)]
 pub enum SubmitFault {
-    /// The history has 65,536 entries, which is the most.
+    /// The history has 65,536 entries, which is the maximum.
     #[error("the history is full")]
     Full,
     /// Memory could not be allocated, and the history isn't full.
@@ -36,8 +37,9 @@ pub enum SubmitFault {
     OutOfMemory,
 }
 
-/// A map, with the history of the calls made on it since its opening. `A` allocates the book's
-/// maps, and `Global` allocates the history. `O` is what the book keeps of the opening.
+/// A map, with the history of the calls that were made on it since its opening. The book's maps are
+/// allocated with `A`, and its history with `Global`. `O` says what the book keeps of the opening:
+/// a map, or nothing.
 #[derive(Drop)]
 pub struct Book<A: Allocator, O: KeptOpening = CrushMap<A>> {
     opening: O,
@@ -64,9 +66,10 @@ impl<A: Allocator, O: KeptOpening> Model for Book<A, O> {
 }
 
 impl<A: Allocator + Clone> Book<A> {
-    /// Creates a book whose opening is this map and whose history is empty. The book publishes with
-    /// `seat`, the book's seat of a gauge that was created for this map. The call copies the map
-    /// once. If memory runs out, the error gives the map back.
+    /// Creates a book whose opening is `map` and whose history is empty. `seat` is the book seat of
+    /// a gauge that was created for this map: with this seat the book publishes each change, so
+    /// that threads can read it without a lock. The method copies the map once. If memory runs out,
+    /// the error gives the map back.
     pub fn new(map: CrushMap<A>, seat: MapBookSeat, alloc: Global) -> Result<Book<A>, CrushMap<A>>
         requires { seat.view ≡ BookSees (known map []) }
         ensures opening { IfOk result (λ b. b.opening ≡ map) }
@@ -131,13 +134,13 @@ impl<A: Allocator> Book<A, WithoutSnapshot> {
 }
 
 impl<A: Allocator + Clone, O: KeptOpening> Book<A, O> {
-    /// Makes a call of operator `k` (from 0, below 16) on the map, appends it with its reply to the
-    /// history, and returns the reply.
+    /// Makes a call for operator `k` (from 0 to 15) on the map, appends the call with its reply to
+    /// the history, and returns the reply.
     ///
-    /// It publishes the new number of changes and the new weight by one store, even if the reply is
-    /// a refusal. It fails with `Full` if and only if the history is full, which is checked first;
-    /// any other error is `OutOfMemory`. After an error the history and the map, including the
-    /// map's capacities, are unchanged.
+    /// The method publishes the new number of changes and the new weight with one atomic store to
+    /// the gauge, even if the reply is a refusal. It fails with `Full` if and only if the history
+    /// is full, which is checked first; any other error is `OutOfMemory`. After an error the
+    /// history and the map, including the map's capacities, are unchanged.
     pub fn commit(
         &mut self,
         alloc: Global,
@@ -213,8 +216,8 @@ impl<A: Allocator + Clone, O: KeptOpening> Book<A, O> {
         Ok(reply)
     }
 
-    /// Joins a note into the book's seat, which leaves the book unchanged. It is called for its
-    /// contract, which proves that the note's history is a prefix of the book's history.
+    /// Joins a note into the book's seat, which changes nothing in the book. The method is called
+    /// only for its contract, which says that the note's history is a prefix of the book's history.
     pub(crate) fn merge_note(&mut self, gauge: &MapGauge, note: MapNote)
         requires gauge { self.old.table ≡ gauge.now.table.shared.table_id }
         requires note { (note.table ≡ self.old.table)
@@ -235,8 +238,8 @@ impl<A: Allocator + Clone, O: KeptOpening> Book<A, O> {
         gauge.note(&mut self.seat)
     }
 
-    /// Makes a call as [`Book::commit_copied`] does. The reader has then seen the whole history,
-    /// even after an error.
+    /// Makes a call as [`Book::commit_copied`] does. Afterwards `reader` has seen the whole
+    /// history, even if the call failed.
     pub(crate) fn execute(
         &mut self,
         gauge: &MapGauge,
@@ -271,8 +274,8 @@ impl<A: Allocator + Clone, O: KeptOpening> Book<A, O> {
         outcome
     }
 
-    /// Returns the fault of a call that could not be copied: `Full` if the history is full,
-    /// otherwise `OutOfMemory`. The reader has then seen the whole history.
+    /// Returns the fault of a call that couldn't be copied because memory ran out: `Full` if the
+    /// history is full, otherwise `OutOfMemory`. Afterwards `reader` has seen the whole history.
     pub(crate) fn refuse(&mut self, gauge: &MapGauge, reader: &mut Reader) -> SubmitFault
         requires gauge { self.old.table ≡ gauge.now.table.shared.table_id }
         requires reader { (reader.old.table ≡ self.old.table)
@@ -340,8 +343,8 @@ impl<A: Allocator, O: KeptOpening> Book<A, O> {
         self.history.as_slice()
     }
 
-    /// Does nothing when it runs; its contract states what is true of every book, for a proof that
-    /// knows nothing else of this one.
+    /// Does nothing at run time. Its contract states what is true of every book, for a proof that
+    /// knows nothing else about this book.
     pub fn recall_invariant(&self)
         ensures legal { IsLegalFrom self.now.opening self.now.history }
         ensures stands { StandsAfter self.now.opening self.now.map self.now.history }
@@ -382,7 +385,7 @@ impl<A: Allocator, O: KeptOpening> Book<A, O> {
 /// What [`Editor::close`](crate::Editor::close) and [`Book::into_closed`] return.
 #[derive(Drop)]
 pub struct Closed<A: Allocator, O: KeptOpening = CrushMap<A>> {
-    /// What was kept of the map before the first call.
+    /// What the book kept of the map before the first call.
     pub opening: O,
     /// The map after the last call.
     pub map: CrushMap<A>,
@@ -390,8 +393,8 @@ pub struct Closed<A: Allocator, O: KeptOpening = CrushMap<A>> {
     pub history: Vec<Entry>,
 }
 
-/// Publishes the number of changes and the weight after the entry `joining`, by one store. The
-/// entry is for the contract alone.
+/// Publishes the number of changes and the weight after the entry `joining`, with one atomic store.
+/// Only the contract uses the entry.
 fn publish(gauge: &MapGauge, seat: &mut MapBookSeat, joining: &Entry, count: u64, weight: u64)
     ghost joined: { EntryData }
     requires joins { joined ≡ joining.now }

@@ -1,4 +1,4 @@
-//! An editor: how it is created, the calls of its seats, and its close.
+//! The editor: how it is created, the calls that its seats make, and how it is closed.
 
 ghost use Rattle.std.specs.Prelude.{◌≡◌, ℕ, ◌<◌, ◌≤◌, [], length, IfOk, IfErr, IfSome, OnOk, OnErr, vec_len, slice_index_or};
 ghost use mathlib.Core.Logic.{◌↔◌};
@@ -30,12 +30,12 @@ use std::marker::{Brand, Model};
 use std::sync::Wait;
 use std::sync::ledger::Blank;
 
-/// What is created before an editor has its name: the gauge, the book, and the readers of the
-/// seats.
+/// The parts of an editor that isn't open yet: its gauge, its book, and a reader for each seat.
 ///
-/// The name `N` of an editor says, for contracts alone, which gauge and which opening map are the
-/// editor's, so these must exist first. A caller therefore creates a `Started`, and then calls a
-/// function that is generic in `N`, with [`Brand`] for `N`; that function calls [`Editor::open`].
+/// Contracts refer to an editor by a type `N`, which is the editor's *name*. Through the name they
+/// refer to the editor's gauge and to its opening map, so both must exist before the name is
+/// chosen. A caller therefore first creates a `Started`. Then it calls a function that is generic
+/// over `N`, and passes [`Brand`] for `N`. That function calls [`Editor::open`].
 #[derive(Drop)]
 pub struct Started<A: Allocator = Global, O: KeptOpening = CrushMap<A>> {
     gauge: MapGauge,
@@ -75,9 +75,9 @@ impl<A: Allocator, O: KeptOpening> Model for Started<A, O> {
 }
 
 impl<A: Allocator + Clone> Started<A> {
-    /// Creates the gauge, the book and the readers for this number of operators, from 1 to 16. It
-    /// copies the map once, so that the editor can return its opening. If memory runs out, the
-    /// error gives the map back.
+    /// Creates the gauge, the book, and a reader for each operator; there are 1 to 16 operators.
+    /// The method copies the map once, so that [`Editor::close`] can return the opening map. If
+    /// memory runs out, the error gives the map back.
     pub fn new(map: CrushMap<A>, operators: usize, alloc: Global) -> Result<Started<A>, CrushMap<A>>
         requires some { 0 < operators }
         requires few { operators ≤ MOST_OPERATORS }
@@ -99,9 +99,8 @@ impl<A: Allocator + Clone> Started<A> {
 }
 
 impl<A: Allocator> Started<A, WithoutSnapshot> {
-    /// Creates what [`Started::new`] does, but without a copy of the map. Calls change the map
-    /// itself, and [`Editor::close`] returns no opening. If memory runs out, the error gives the
-    /// map back.
+    /// Does what [`Started::new`] does, but without a copy of the map. Calls change the map itself,
+    /// and [`Editor::close`] returns no opening. If memory runs out, the error gives the map back.
     pub fn without_opening(
         map: CrushMap<A>,
         operators: usize,
@@ -146,8 +145,9 @@ impl<A: Allocator, O: KeptOpening> Started<A, O> {
     }
 }
 
-/// The opening map of a gauge, for contracts alone: when it runs, the program creates a gauge from
-/// the weight of the map alone. The proof of each call chooses the map.
+/// The opening map of a gauge. It exists only in contracts: at run time a gauge is created from the
+/// weight of the map, and the map itself isn't needed. The proof of each call of [`make_gauge`]
+/// says which map this is.
 trait GhostOpening {
     ghost use Rattle.crush_map.specs.MapData.{MapData};
 
@@ -177,7 +177,7 @@ fn make_gauge<M: GhostOpening, A: Allocator>(
     new_gauge::<M>(map.total(), operators, alloc)
 }
 
-/// Creates a gauge for the opening map that `M` chooses, with the book's seat and a reader for each
+/// Creates a gauge for the opening map that `M` names, with the book's seat and a reader for each
 /// operator. `weight` is the weight of all placed devices of that map, in units.
 fn new_gauge<M: GhostOpening>(
     weight: u64,
@@ -195,7 +195,7 @@ fn new_gauge<M: GhostOpening>(
 }
 
 /// The editor with the name `N`: a book under one lock, and a gauge that is read without the lock.
-/// Threads share it by reference; each of them needs a [`Seat`] of its own.
+/// Threads share an editor by reference; each thread needs a [`Seat`] of its own.
 #[derive(Drop)]
 pub struct Editor<N: Desk, O: KeptOpening = CrushMap<Global>> {
     lock_free_reader: LockFreeReader<N>,
@@ -203,16 +203,17 @@ pub struct Editor<N: Desk, O: KeptOpening = CrushMap<Global>> {
 }
 
 impl<N: Desk, O: KeptOpening> Editor<N, O> {
-    /// Makes a call of the seat's operator under the lock, and returns the reply. It waits for the
-    /// lock, perhaps for ever.
+    /// Makes a call for the seat's operator under the lock, and returns the reply. The method waits
+    /// for the lock, perhaps for ever.
     ///
-    /// The call's copies and room for the slip are allocated before the lock is acquired. After a
-    /// reply the seat has one more slip, and it has seen the history up to and including this call.
-    /// If a guarded batch names the number of changes that the seat had seen before the call, then
-    /// the reply is `Stale`, or the batch was applied to the table that the seat had seen.
+    /// The copies of the call and room for its slip are allocated before the lock is acquired.
+    /// After a reply the seat has one more slip, and it has seen the history up to and including
+    /// this call. If a guarded batch names the number of changes that the seat had seen before the
+    /// call, then either the reply is `Stale`, or the batch found the map's table as the seat had
+    /// seen it.
     ///
-    /// An error is `Full` if and only if the history is full, otherwise it is `OutOfMemory`. After
-    /// an error the call was not made and the slips are unchanged; the seat may have seen more of
+    /// The error is `Full` if and only if the history is full; otherwise it is `OutOfMemory`. After
+    /// an error the call was not made and the slips are unchanged. The seat may have seen more of
     /// the history.
     pub fn submit(
         &self,
@@ -238,8 +239,8 @@ impl<N: Desk, O: KeptOpening> Editor<N, O> {
         }
     }
 
-    /// Makes a call as [`Editor::submit`] does, but moves the call into its entry. It is copied
-    /// only once, for its slip. If it fails, the error gives the call back.
+    /// Makes a call as [`Editor::submit`] does, but moves the call into its entry. The call is
+    /// copied only once, for its slip. If the method fails, the error gives the call back.
     pub fn submit_copied(
         &self,
         rt: &impl Wait,
@@ -276,8 +277,8 @@ impl<N: Desk, O: KeptOpening> Editor<N, O> {
         Ok(reply)
     }
 
-    /// Returns the fault of a call that could not be copied. It waits for the lock, since only the
-    /// book knows whether the history is full.
+    /// Returns the fault of a call that couldn't be copied because memory ran out. The method waits
+    /// for the lock, because only the book knows whether the history is full.
     fn refuse(&self, rt: &impl Wait, seat: &mut Seat<N>) -> SubmitFault
         ensures seat { Sees N.opening seat.old seat.new }
         ensures full { (result ≡ SubmitFault.Full) ↔ (length seat.new.seen ≡ MOST_ENTRIES) }
@@ -287,7 +288,7 @@ impl<N: Desk, O: KeptOpening> Editor<N, O> {
         self.state_lock.refuse(rt, gauge, &mut seat.reader)
     }
 
-    /// Returns the part of the editor that takes readings without the lock.
+    /// Returns the part of the editor that reads the gauge without acquiring the lock.
     pub fn lock_free_reader(&self) -> &LockFreeReader<N> {
         &self.lock_free_reader
     }
@@ -303,7 +304,8 @@ impl<N: Desk, O: KeptOpening> Editor<N, O> {
         self.lock_free_reader.reading(seat)
     }
 
-    /// Returns a note of what the seat has seen, as [`LockFreeReader::note`] does.
+    /// Returns a note of what the seat has seen, for another seat of this editor, as
+    /// [`LockFreeReader::note`] does.
     pub fn note(&self, seat: &mut Seat<N>) -> Note<N>
         ensures seat { seat.new ≡ seat.old }
         ensures note { result ≡ seat.old.seen }
@@ -311,7 +313,8 @@ impl<N: Desk, O: KeptOpening> Editor<N, O> {
         self.lock_free_reader.note(seat)
     }
 
-    /// Adds a note to what the seat has seen, as [`LockFreeReader::learn`] does.
+    /// Joins a note into the seat, which has then also seen what the note's seat had seen, as
+    /// [`LockFreeReader::learn`] does.
     pub fn learn(&self, seat: &mut Seat<N>, note: Note<N>)
         ensures seat { Sees N.opening seat.old seat.new }
         ensures note { IsPrefix note seat.new.seen }
@@ -321,8 +324,8 @@ impl<N: Desk, O: KeptOpening> Editor<N, O> {
 }
 
 impl<N: Desk> Editor<N> {
-    /// Creates the editor with the name `N`, and a seat for each operator: seat k, from 0, is the
-    /// seat of operator k. If memory runs out, the error gives the opening map back.
+    /// Creates the editor with the name `N`, and a seat for each operator. The seat at index k,
+    /// from 0, is that of operator k. If memory runs out, the error gives the opening map back.
     pub fn open(
         started: Started,
         alloc: Global,
@@ -344,7 +347,7 @@ impl<N: Desk> Editor<N> {
 }
 
 impl<N: Desk> Editor<N, WithoutSnapshot> {
-    /// Creates an editor as [`Editor::open`] does, but the editor keeps nothing of its opening.
+    /// Creates an editor as [`Editor::open`] does, but the editor keeps no copy of its opening map.
     pub fn open_unkept(
         started: Started<Global, WithoutSnapshot>,
         alloc: Global,
@@ -366,8 +369,8 @@ impl<N: Desk> Editor<N, WithoutSnapshot> {
 }
 
 impl<N: Desk, O: KeptOpening> Editor<N, O> {
-    /// Creates the editor and its seats. If memory runs out, the error gives back the book, whose
-    /// history is empty.
+    /// Creates the editor and its seats from a book whose history is empty. If memory runs out, the
+    /// error gives the book back.
     fn begin(
         started: Started<Global, O>,
         alloc: Global,

@@ -5,8 +5,8 @@ use crush_history::Entry;
 use crush_map::CrushMap;
 use std::alloc::Global;
 
-/// The law of a map's gauge: which histories are legal, and for each of them its number of changes
-/// and the weight after it.
+/// What the gauge of a map must know about maps: which histories are legal, and the number of
+/// changes and the weight after each legal history.
 pub struct OfMap;
 
 impl Law<CrushMap<Global>, Entry> for OfMap {

@@ -1,10 +1,10 @@
 //! An editor that up to 16 operators (threads) use at the same time to edit one map.
 //!
-//! An [`Editor`] has a [`Book`], which is the map with the history of its calls, under one lock,
-//! and a gauge that is read without the lock. Each operator has a [`Seat`]: with it the operator
-//! submits calls and takes readings, and it keeps a slip for each answered call. Only
-//! [`Editor::submit`] and [`Editor::submit_copied`] may wait. Read [`Started`] first: it says how
-//! an editor is created.
+//! An [`Editor`] has a [`Book`] under one lock, and a gauge that is read without the lock. A book
+//! is the map with the history of its calls. Each operator has a [`Seat`], with which it submits
+//! calls and takes readings of the gauge. For each answered call the seat keeps a *slip*, which has
+//! a copy of the call, and the reply. Only [`Editor::submit`] and [`Editor::submit_copied`] may
+//! wait. Read [`Started`] first: it says how an editor is created.
 #![tactic(auto)]
 
 mod book;

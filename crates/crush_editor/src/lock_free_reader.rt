@@ -1,4 +1,5 @@
-//! Readings of an editor that don't acquire the editor's lock.
+//! Reads the number of changes and the weight of an editor's map without acquiring the editor's
+//! lock.
 
 ghost use Rattle.std.specs.Prelude.{◌≡◌, ◌≤◌};
 ghost use mathlib.Core.List.{IsPrefix};
@@ -60,8 +61,8 @@ impl<N: Desk> LockFreeReader<N> {
     }
 
     /// Returns the number of changes so far, and the weight of all placed devices in units (65536
-    /// units are 1.0), both after the same history, which the seat has then seen. It is one atomic
-    /// load: it acquires no lock and allocates no memory.
+    /// units are 1.0). Both numbers belong to the same history, and afterwards the seat has seen
+    /// this history. The method makes one atomic load; it acquires no lock and allocates no memory.
     pub fn reading(&self, seat: &mut Seat<N>) -> Reading
         ensures seat { Sees N.opening seat.old seat.new }
         ensures changes { result.changes ≡ changes seat.new.seen }
@@ -71,8 +72,8 @@ impl<N: Desk> LockFreeReader<N> {
         self.gauge.read(&mut seat.reader)
     }
 
-    /// Returns a note of what the seat has seen, for another seat of this editor. The seat is
-    /// unchanged.
+    /// Returns a note of what the seat has seen, for another seat of this editor. The method
+    /// doesn't change what this seat has seen.
     pub fn note(&self, seat: &mut Seat<N>) -> Note<N>
         ensures seat { seat.new ≡ seat.old }
         ensures note { result ≡ seat.old.seen }
@@ -84,7 +85,7 @@ impl<N: Desk> LockFreeReader<N> {
         }
     }
 
-    /// Joins a note into the seat: the seat has then also seen what the note's seat had seen when
+    /// Joins a note into the seat. The seat has then also seen what the note's seat had seen when
     /// the note was made. So the seat's next reading is no older than what either seat had seen.
     pub fn learn(&self, seat: &mut Seat<N>, note: Note<N>)
         ensures seat { Sees N.opening seat.old seat.new }

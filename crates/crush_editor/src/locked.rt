@@ -17,8 +17,9 @@ use std::marker::{Brand, Model};
 use std::sync::ledger;
 use std::sync::ledger::{Ledger, Share};
 
-/// The name of one editor. It is for contracts alone, and says which gauge, which opening map and
-/// which ledger are this editor's.
+/// A type that stands for one editor. Only contracts use it: through this type they refer to the
+/// editor's gauge (the word that operators read without the lock), to its opening map (the map
+/// before the first call), and to its ledger, which counts the calls of all seats.
 pub trait Desk: Ledger {
     ghost use Rattle.atomic_table.specs.Seated.{TableId};
     ghost use Rattle.crush_map.specs.MapData.{MapData};
@@ -37,8 +38,8 @@ impl Desk for Brand {
     ghost opening = { no_map };
 }
 
-/// An operator's place at an editor. It has the operator's number, and a slip for each of the
-/// operator's answered calls, in order. For contracts alone it also has the history that the
+/// The object with which one operator uses an editor. It has the operator's number, and a slip for
+/// each of the operator's answered calls, in order. In contracts it also has the history that the
 /// operator has seen.
 #[derive(Drop)]
 pub struct Seat<N: Desk> {
@@ -62,9 +63,9 @@ impl<N: Desk> Model for Seat<N> {
         × IsSeat N.opening s.operator s.slips.items (seen_of s.reader.view) };
 }
 
-/// What the lock protects. `count` is, for contracts alone, the length of the book's history; each
-/// seat has a share of it, the number of its answered calls. `spare` is the empty share that is
-/// left after each seat has taken its own.
+/// What the lock protects. `count` exists only for proofs: it is the number of calls in the book's
+/// history. Each seat has a share of this number, which is the number of the seat's answered calls.
+/// `spare` is the share that no seat has; it is always 0.
 #[derive(Drop)]
 pub(crate) struct Locked<N: Desk, O: KeptOpening> {
     pub(crate) book: Book<Global, O>,
@@ -90,9 +91,9 @@ impl<N: Desk, O: KeptOpening> Model for Locked<N, O> {
 }
 
 impl<N: Desk, O: KeptOpening> Locked<N, O> {
-    /// Executes a call of operator `k`, and counts it in the seat's share if it is answered. The
-    /// reader has then seen the whole history, even after an error. If the call fails, the error
-    /// gives it back, and the book and the share are unchanged.
+    /// Executes a call of operator `k`. If the call is answered, the seat's share increases by 1.
+    /// If the call fails, the error gives the call back, and the book and the share are unchanged.
+    /// In both cases `reader` has seen the whole history afterwards.
     pub(crate) fn submit(
         &mut self,
         gauge: &MapGauge,
@@ -131,7 +132,8 @@ impl<N: Desk, O: KeptOpening> Locked<N, O> {
         Ok(reply)
     }
 
-    /// Returns the fault of a call that could not be copied, as [`Book::refuse`] does.
+    /// Returns the fault of a call that couldn't be copied because memory ran out, as
+    /// [`Book::refuse`] does: `Full` if the history is full, otherwise `OutOfMemory`.
     pub(crate) fn refuse(&mut self, gauge: &MapGauge, reader: &mut Reader) -> SubmitFault
         requires gauge { gauge.now.table.shared.table_id ≡ N.gauge }
         requires reader { (reader.old.table ≡ N.gauge)

@@ -6,16 +6,17 @@ ghost use Rattle.crush_editor.specs.History.{slip};
 use crush_history::{Call, Reply, Slip};
 use std::alloc::{AllocError, Global};
 
-/// A copy of a call, for the call's slip. Only this file creates a `Ready`, and it makes room for
-/// the slip first, so that a caller with a `Ready` has both the copy and the room.
+/// A copy of a call, for the call's slip. Only [`Ready::new`] creates a `Ready`. It first reserves
+/// room for one more slip in the seat's vector of slips. So a caller that has a `Ready` has both
+/// the copy and the room.
 #[derive(Drop)]
 pub(crate) struct Ready {
     for_slip: Call,
 }
 
 impl Ready {
-    /// Makes room for one more slip, and copies the call for it. Fails if memory runs out. The
-    /// slips are unchanged in any case.
+    /// Reserves room for one more slip in `slips`, and copies the call for this slip. Fails if
+    /// memory runs out. The slips themselves are unchanged in any case.
     pub(crate) fn new(
         alloc: Global,
         slips: &mut Vec<Slip>,

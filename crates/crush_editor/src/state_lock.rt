@@ -1,5 +1,6 @@
-//! The lock of an editor. Only this file can acquire it: each acquisition needs the permission to
-//! wait ([`Wait`]), and an acquisition for a call also needs the memory for the call's slip.
+//! The lock of an editor. Only this file can acquire the lock. Each acquisition needs the
+//! permission to wait ([`Wait`]), and an acquisition for a call also needs the memory for the
+//! call's slip.
 
 ghost use Rattle.std.specs.Prelude.{◌≡◌, ◌<◌, ◌≤◌, length, vec_len, vec_capacity};
 ghost use mathlib.Core.Logic.{◌↔◌};
@@ -29,7 +30,7 @@ impl<N: Desk, O: KeptOpening> StateLock<N, O> {
         }
     }
 
-    /// Acquires the lock for a call. The caller shows that memory for the slip is allocated: there
+    /// Acquires the lock for a call. The caller proves that memory for the slip is allocated: there
     /// is room in `slips`, and `ready` is the copy of the call.
     pub(crate) fn lock(
         &self,
@@ -44,8 +45,9 @@ impl<N: Desk, O: KeptOpening> StateLock<N, O> {
         self.state.lock(rt)
     }
 
-    /// Acquires the lock, and returns the fault of a call that could not be copied: `Full` if the
-    /// history is full, otherwise `OutOfMemory`. The reader has then seen the whole history.
+    /// Acquires the lock, and returns the fault of a call that couldn't be copied because memory
+    /// ran out: `Full` if the history is full, otherwise `OutOfMemory`. Afterwards `reader` has
+    /// seen the whole history.
     pub(crate) fn refuse(
         &self,
         rt: &impl Wait,
@@ -66,7 +68,8 @@ impl<N: Desk, O: KeptOpening> StateLock<N, O> {
         self.state.lock(rt).refuse(gauge, reader)
     }
 
-    /// Returns what the lock protects. Nobody else can have the lock, so this doesn't wait.
+    /// Returns what the lock protects. The caller owns the lock, so no other thread can hold it,
+    /// and the method doesn't wait.
     pub(crate) fn into_inner(self) -> Locked<N, O> {
         let StateLock { state } = self;
         state.into_inner()

@@ -48,7 +48,7 @@ room_test a = (NoRoom, has_too_many a.table)
 abbrev pub sum_test : After → Refusal × Bool
 sum_test a = (SumTooLarge, is_too_heavy a.table)
 
--- of refusals with their tests, the first whose test holds
+-- of a list of refusals with their tests, the first refusal whose test holds
 abbrev pub first_refusal : List (Refusal × Bool) → Option Refusal
 first_refusal [] = None
 first_refusal (p ∷ ps) = if p.1 then Some p.0 else first_refusal ps

@@ -26,7 +26,7 @@ one_changed false = 0
 abbrev pub with_done : Dones → Bool → ℕ → Dones
 with_done d changed made = record { edits = d.edits + 1; changed = d.changed + one_changed changed; made = d.made + made }
 
--- continues with the other edits after one edit; if that one is refused, the batch is refused with its index, which is the number of edits before it
+-- continues with the remaining edits after the result of one edit; if that edit is refused, the batch is refused with its index, which is the number of edits before it
 abbrev pub and_then : Dones → Answer → (Dones → List Row → BatchAnswer) → BatchAnswer
 and_then d (refused r) others = batch_refused d.edits r
 and_then d (done changed made t) others = others (with_done d changed made) t

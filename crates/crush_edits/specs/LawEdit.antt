@@ -40,11 +40,11 @@ pub record Keeps (s : SettingData) (t : List Row) : Type 0 where
   pub lawful : Lawful t
   pub fits : Fits s t
 
--- EDITS: if the table is lawful and fitted by the setting, and a valid edit isn't refused, then so is the table after the edit
+-- EDITS: if the table is lawful, the setting fits it, and a valid edit isn't refused, then the table after the edit is lawful and the setting fits it
 abbrev pub EditKeeps : Type 0
 EditKeeps = (s : SettingData) (t : List Row) (e : Edit) → Keeps s t → IsEdit e → refusal s t e ≡ None → Keeps s (after s t e).table
 
--- BATCHES: if the table is lawful and fitted by the setting, and a batch of valid edits isn't refused, then so is the table after the batch
+-- BATCHES: if the table is lawful, the setting fits it, and a batch of valid edits isn't refused, then the table after the batch is lawful and the setting fits it
 abbrev pub BatchKeeps : Type 0
 BatchKeeps = (s : SettingData) (t u : List Row) (es : List Edit) (d : Dones) → Keeps s t → All IsEdit es → batch s t es ≡ batch_done d u → Keeps s u
 
@@ -53,6 +53,6 @@ abbrev pub is_remove : Edit → Bool
 is_remove (Remove n) = true
 is_remove _ = false
 
--- MADE: after any valid edit except Remove that isn't refused, the table has as many more buckets as the edit reports to have created
+-- MADE: after any valid edit except Remove that isn't refused, the number of buckets in the table has grown by the number of buckets that the edit reports to have created
 abbrev pub MadeAreBuckets : Type 0
 MadeAreBuckets = (s : SettingData) (t : List Row) (e : Edit) → Keeps s t → IsEdit e → refusal s t e ≡ None → is_remove e ≡ false → bucket_count (after s t e).table ≡ bucket_count t + (after s t e).made

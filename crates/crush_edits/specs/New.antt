@@ -1,4 +1,4 @@
--- Which stops are a route, at whose end an item can be put, and which new buckets a table can get.
+-- Which stops are a route, so that an item can be put at its end, and which new buckets a table can get.
 use Rattle.std.specs.Prelude.{◌≡◌, ℕ, ◌<◌, ◌≤◌, List, Option, true, false, ◌==◌, length, All, IfSome, bytes_eq}
 use Rattle.std.specs.List.{count_by}
 use Rattle.crush_units.specs.declared.id.ItemId.TheVariants.{Bucket}

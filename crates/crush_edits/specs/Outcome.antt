@@ -8,6 +8,6 @@ use Rattle.crush_edits.specs.Answer.{Answer, done}
 abbrev pub IsChange : Answer → Type 0
 IsChange a = (made : ℕ) × (u : List Row) × (a ≡ done true made u)
 
--- the edit isn't refused, d says what it did, and what was edited represents (stands for) the table after the edit
+-- the edit isn't refused, d says what it did, and what was edited represents the table after the edit
 abbrev pub IsDone : (List Row → Type 0) → Answer → Done → Type 0
 IsDone stands a d = (u : List Row) × (a ≡ done d.changed d.made u) × stands u

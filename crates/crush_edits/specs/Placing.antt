@@ -15,7 +15,7 @@ use Rattle.crush_edits.specs.Put.{put, held}
 use Rattle.crush_edits.specs.Answer.{After, kept, on_some, meets, room_test, sum_test}
 use Rattle.crush_edits.specs.Located.{location_tests, located_device_tests, end_tests}
 
--- the table after the item of row r is put at the end of the route, and the number of buckets that the route creates
+-- the table after the item of row r is put into the bucket of the first stop, and the number of buckets that the route creates
 abbrev pub put_after : List Row → Row → List StopData → After
 put_after t r ps = record { table = put t r ps; made = length (fresh_stops t ps) }
 
@@ -55,7 +55,7 @@ device_put_tests s t d n w l a = located_device_tests s t d n w l ++ (end_tests 
 abbrev pub move_item : SettingData → List Row → List Pair → ItemId → After
 move_item s t l i = if held t i (stops s l) then kept t else on_some t (row_of t i) (λ r. put_after t r (stops s l))
 
--- MOVE: the same for the item of name n
+-- MOVE: does this for the item of name n
 abbrev pub after_move : SettingData → List Row → List ℕ → List Pair → After
 after_move s t n l = on_some t (id_named t n) (move_item s t l)
 

@@ -1,4 +1,4 @@
--- The new buckets of a route, each in the next, and the table after an item is put at the end of the route.
+-- The new buckets of a route, each inside the next, and the table after an item is put into the bucket of the first stop.
 use Rattle.std.specs.Prelude.{ℕ, List, [], ◌∷◌, ◌++◌, Option, Some, None, Bool, false, length}
 use Rattle.crush_units.specs.declared.id.ItemId.{ItemId}
 use Rattle.crush_units.specs.declared.id.ItemId.TheVariants.{Bucket}
@@ -40,7 +40,7 @@ abbrev pub chain : List NewData → Option ℕ → List Row
 chain [] top = []
 chain (n ∷ ns) top = bucket_row (next_up ns top) (new_header n) ∷ chain ns top
 
--- the bucket that the item is put into at the end of a route
+-- the bucket that the item is put into: the lowest new bucket if the route creates buckets, and otherwise the bucket that receives the item
 abbrev pub next_place : List Row → List StopData → Option ℕ
 next_place t ps = next_up (new_buckets t ps) (receiver t ps)
 
@@ -48,7 +48,7 @@ next_place t ps = next_up (new_buckets t ps) (receiver t ps)
 abbrev pub put_at : List Row → Row → List NewData → Option ℕ → List Row
 put_at t r ns top = without_row r.id t ++ (chain ns top ++ record r { parent = next_up ns top } ∷ [])
 
--- PUT: the table after the item of row r is put at the end of the route
+-- PUT: the table after the buckets that the route lacks are created, and the item of row r is put into the bucket of the first stop
 abbrev pub put : List Row → Row → List StopData → List Row
 put t r ps = put_at t r (new_buckets t ps) (receiver t ps)
 

@@ -13,14 +13,14 @@ pub record TunableData : Type 0 where
   pub name : List ℕ
   pub value : ℕ
 
--- a step of a rule. take: the distance of a bucket's id below 0, and a class or none. choose: whether a device below each item is chosen (chooseleaf), whether items after a lost one move up (firstn), how many items, and the name of their type. set: the name of a parameter, and its value. emit: outputs what was chosen
+-- a step of a rule. take: the distance of a bucket's id below 0, and a class or none. choose: whether the step also chooses a device below each item (chooseleaf), whether items after a failed one move up (firstn), how many items, and the name of their type. set: the name of a parameter, and its value. emit: outputs what was chosen
 pub data StepData : Type 0 where
   take : ℕ → Option (List ℕ) → StepData
   choose : Bool → Bool → ℤ → List ℕ → StepData
   set : List ℕ → ℕ → StepData
   emit : StepData
 
--- a rule: its name, its id, the kind of pools that it serves, their smallest and largest size if it says them, and its steps in order
+-- a rule: its name, its id, the kind of pools that it serves, their smallest and largest size if the rule gives these, and its steps in order
 pub record RuleData : Type 0 where
   pub name : List ℕ
   pub id : ℕ
@@ -55,7 +55,7 @@ kind_name s n = first_name s.kinds n
 abbrev pub has_tunable : SettingData → List ℕ → Bool
 has_tunable s n = list_any (λ (x : TunableData). bytes_eq x.name n) s.tunables
 
--- the bucket that a step takes, as a list of one or none
+-- the bucket that a step takes, as a list with one element, or an empty list if the step takes no bucket
 abbrev pub bucket_taken : StepData → List ℕ
 bucket_taken (take b class) = b ∷ []
 bucket_taken (choose leaf firstn count kind) = []

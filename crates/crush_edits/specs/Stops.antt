@@ -12,7 +12,7 @@ pub record StopData : Type 0 where
   pub kind : ℕ
   pub name : List ℕ
 
--- inserts a stop before the first whose type number is not less
+-- inserts a stop before the first stop whose type number is at least its own
 abbrev pub insert_stop : StopData → List StopData → List StopData
 insert_stop p ps = insert ps (position_or_len (λ (q : StopData). nat_le p.kind q.kind) ps) p
 
@@ -50,6 +50,6 @@ number_of (Bucket b) = Some b
 abbrev pub bucket_named : List Row → List ℕ → Option ℕ
 bucket_named t n = option_and_then number_of (id_named t n)
 
--- the receiver: the bucket that ends the route, which receives the uppermost new bucket, or the item if no bucket is new
+-- the receiver: the bucket that ends the route. It receives the uppermost new bucket, or the item if no bucket is new
 abbrev pub receiver : List Row → List StopData → Option ℕ
 receiver t ps = option_and_then number_of (end_id t ps)

@@ -6,25 +6,27 @@ use crate::location::Location;
 use crush_units::{DeviceId, Name, Weight};
 use std::alloc::{AllocError, Global};
 
-/// An edit of a map, as `ceph osd crush` makes it. The brackets name its command and, for most
-/// edits, Ceph's function.
+/// An edit of a map, as a command of `ceph osd crush` makes it. At the end of each variant's
+/// comment, brackets name this command and, for most edits, the function of Ceph.
 ///
 /// The fields `name`, `a`, `b` and `from` are names of items, `to` is the new name of a bucket,
 /// `kind` is the name of a type, and `class` is the name of a class. `weight` is the weight of a
-/// device, and `at` is where an item is to be put.
+/// device, and `at` is the location where an item is to be put.
 #[derive(Debug, Drop)]
 pub enum Edit {
-    /// Puts a device that is in no bucket into the bucket that the location leads to, with this
-    /// weight; creates the device if its id is new (`add`, `insert_item`).
+    /// Puts a device into the bucket that the location leads to, with this weight. The device must
+    /// not be in a bucket yet. If its id is new, the edit creates the device (`add`,
+    /// `insert_item`).
     Insert {
         device: DeviceId,
         name: Name<Global>,
         weight: Weight,
         at: Location,
     },
-    /// Creates the device at the location, or moves it there. A device that is in a bucket already
-    /// keeps its own weight, and `weight` is for any other. If the location's bucket of the lowest
-    /// type already holds the device, nothing changes (`create-or-move`, `create_or_move_item`).
+    /// Creates the device at the location, or moves it there. A device that is already in a bucket
+    /// keeps its own weight; any other device gets the weight `weight`. If the location's bucket of
+    /// the lowest type already holds the device, nothing changes (`create-or-move`,
+    /// `create_or_move_item`).
     CreateOrMove {
         device: DeviceId,
         name: Name<Global>,
@@ -78,8 +80,8 @@ pub enum Edit {
         from: Name<Global>,
         to: Name<Global>,
     },
-    /// Sets the class of a device that has none. If the device has this class already, nothing
-    /// changes; if it has another one, the edit is refused (`set-device-class`).
+    /// Sets the class of a device that has none. If the device already has this class, nothing
+    /// changes. If it has another class, the edit is refused (`set-device-class`).
     SetClass {
         name: Name<Global>,
         class: Name<Global>,

@@ -21,10 +21,11 @@ pub struct Pair {
 
 /// Where an item is to be put: up to 16 pairs of a type name and a bucket name, in any order.
 ///
-/// An edit takes the pairs by ascending number of their types, and puts the item into the bucket of
-/// the first pair. If that bucket isn't in the map, the edit creates it in the bucket of the next
-/// pair, and so on up to the first bucket that is in the map. If none is, the last bucket that is
-/// created is a root. The remaining pairs are checked, and otherwise ignored.
+/// An edit reads the pairs in ascending order of their types' numbers, and puts the item into the
+/// bucket of the first pair. If that bucket isn't in the map, the edit creates it in the bucket of
+/// the next pair, and so on up to the first bucket that is in the map. If no pair's bucket is in
+/// the map, the last bucket that is created is a root. The remaining pairs are checked, and
+/// otherwise ignored.
 #[derive(Debug, Drop)]
 pub struct Location {
     pairs: Vec<Pair>,

@@ -18,16 +18,18 @@ pub enum Refusal {
     /// The location has a type name or a bucket name twice, or has the name of type 0, the type of
     /// devices, as a type name.
     BadLocation,
-    /// The map has no type of this name, which the location has or a new bucket is to have.
+    /// The location or the new bucket names a type that the map doesn't have.
     NoSuchType,
     /// The location has no pairs.
     NoPlace,
-    /// The weight is above 2147483647 units, even if the edit wouldn't use it.
+    /// The weight is above 2147483647 units. The edit is refused even if it wouldn't use the
+    /// weight.
     WeightTooLarge,
-    /// The map has no item of this name. `Rename` is refused with this if the map has neither name.
+    /// The map has no item of this name. `Rename` is refused with this if the map has neither the
+    /// old nor the new name.
     NoSuchItem,
     /// Another item has the name, or the device of this id has another name. `Rename` is refused
-    /// with this if the map has both names, even if they are the same.
+    /// with this if the map has both the old and the new name, even if they are the same.
     NameTaken,
     /// The device that is to be inserted is already in a bucket.
     AlreadyPlaced,
@@ -51,7 +53,8 @@ pub enum Refusal {
     InUse,
     /// The item that is to be renamed is a device.
     NotDirectory,
-    /// The map has the new name and not the old one, as if the bucket had been renamed before.
+    /// The map has the new name and doesn't have the old one, as if the bucket had been renamed
+    /// before.
     AlreadyRenamed,
     /// The map would have more than 4,096 buckets or more than 65,536 devices.
     NoRoom,

@@ -13,9 +13,11 @@ pub struct Rule {
     pub id: u32,
     /// The kind of pools that the rule serves, for example `replicated`.
     pub kind: Name<Global>,
-    /// The smallest size of a pool that the rule serves, if it says one, at most 2147483647.
+    /// The smallest size of a pool that the rule serves, at most 2147483647, or `None` if the rule
+    /// gives no such size.
     pub min_size: Option<u32>,
-    /// The largest size of a pool that the rule serves, if it says one, at most 2147483647.
+    /// The largest size of a pool that the rule serves, at most 2147483647, or `None` if the rule
+    /// gives no such size.
     pub max_size: Option<u32>,
     /// The steps, in order: at most 64.
     pub steps: Vec<Step>,
@@ -29,12 +31,12 @@ pub enum Step {
     Take(Name<Global>, Option<Name<Global>>),
     /// Chooses items of a type.
     Choose {
-        /// Whether a device below each chosen item is chosen, too (`chooseleaf`).
+        /// Whether the step also chooses a device below each chosen item (`chooseleaf`).
         leaf: bool,
-        /// Whether the items after a lost one move up (`firstn`), or all keep their places
-        /// (`indep`).
+        /// Whether the items after a failed item move up to fill its place (`firstn`), or all items
+        /// keep their places (`indep`).
         firstn: bool,
-        /// How many items are chosen; a number below 0 is added to the pool's size.
+        /// How many items are chosen. If the number is 0 or below, the pool's size is added to it.
         count: i32,
         /// The name of the type of the items.
         kind: Name<Global>,

@@ -48,7 +48,7 @@ pub enum KeptStep {
 
 /// What a map holds besides its items: types, tunables and rules.
 ///
-/// Each of the three keeps the order in which the map declares it.
+/// Types, tunables and rules are each kept in the order in which the map declares them.
 #[derive(Debug, Drop)]
 pub struct Setting {
     kinds: Kinds,
@@ -137,7 +137,8 @@ impl Setting {
         }
     }
 
-    /// Adds a type after the types that the setting has. No type may have its number yet.
+    /// Adds a type after the types that the setting has. No type of the setting may have this
+    /// number.
     ///
     /// Fails if there is no memory for it; the setting is then unchanged.
     pub fn push_kind(&mut self, number: TypeId, name: Name<Global>) -> Result<(), AllocError>
@@ -150,7 +151,8 @@ impl Setting {
         Ok(())
     }
 
-    /// Adds a tunable after the tunables that the setting has. No tunable may have its name yet.
+    /// Adds a tunable after the tunables that the setting has. No tunable of the setting may have
+    /// this name.
     ///
     /// Fails if there is no memory for it; the setting is then unchanged.
     pub fn push_tunable(&mut self, name: Name<Global>, value: u32) -> Result<(), AllocError>
@@ -165,7 +167,7 @@ impl Setting {
 
     /// Adds a rule after the rules that the setting has.
     ///
-    /// Fails if there is no memory for it; the setting is then unchanged. Its time grows with the
+    /// Fails if there is no memory for it; the setting is then unchanged. The cost grows with the
     /// number of buckets that the rules take.
     pub fn push_rule(&mut self, rule: KeptRule) -> Result<(), AllocError>
         ensures ok { OnOk result (self.new
@@ -198,7 +200,7 @@ impl Setting {
     }
 
     /// Returns the number of the type of this name, or `None` if there is no such type. If several
-    /// types have the name, it is the number of the first.
+    /// types have the name, returns the number of the first.
     pub fn kind_number(&self, name: &[u8]) -> Option<TypeId>
         ensures { result ≡ kind_number self.now name.now }
     {
@@ -236,8 +238,8 @@ impl Setting {
     }
 }
 
-/// Whether the name is one that only type 0 may have, because a part of a map's text begins with
-/// this word.
+/// Whether only type 0 may have this name. A map's text has parts that begin with such a word, so
+/// the word can't be the name of another type.
 pub fn is_reserved(name: &[u8]) -> bool
     ensures { result ≡ is_reserved_name name.now }
 {

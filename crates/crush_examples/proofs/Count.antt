@@ -1,4 +1,4 @@
--- The count of a request, at a call: what it is handed. Assumes `Logic`.
+-- Lemmas about a call of `counts_down`: what the caller must pass to it. The file assumes `Logic`.
 use Rattle.std.proofs.Common.{ℕ, List, [], ◌∷◌, refl}
 use seplogic.Ra.Ura.{Ura}
 use mir.Val.{Val, vptr}
@@ -26,14 +26,14 @@ module _ {M : Type 1} {𝓤 : Ura M} (𝓛 : Logic 𝓤) (at_mem : Memory → SP
   abbrev pub Counts : Contract 𝓤
   Counts = triple_of 𝓛 count.signature (count.spec 𝓛 at_mem run)
 
-  -- at a cell that is lent for κ and lies at c
+  -- the ghost values of a call with the cell at the address c, which is borrowed for the lifetime κ
   abbrev pub at_cell : Lft → Share → ℕ × ℕ → Counts.Ghost
   at_cell κ q c = (((κ, tt), (q, tt), tt, (record { ref_ptr = c; now = record { value = tt } }, tt), (vptr c.0 c.1 ∷ [], tt)), tt)
 
 module _ {M : Type 1} {𝓤 : Ura M} (𝓛 : Logic 𝓤) (at_mem : Memory → SProp 𝓤) (run : Routine → Fun 𝓤) (κ : Lft) (q : Share) (c : ℕ × ℕ) where
   open 𝓛 use {A}
 
-  -- the loan of the cell is all that it asks for
+  -- the borrowed cell and the lifetime's token are all that the call requires
   pub asks : ent 𝓤 (sep 𝓤 (sem 𝓛 (hidden_shr Number κ (record { value = tt }) c.0 c.1)) (A.lft κ q)) ((Counts 𝓛 at_mem run).pre (at_cell 𝓛 at_mem run κ q c))
   asks = qed 𝓛 (‵ (hidden_shr Number κ (record { value = tt }) c.0 c.1) ∷ ‵ (flft κ q) ∷ []) ∵
       feq_i ! (List Val) (vptr c.0 c.1 ∷ []) (vptr c.0 c.1 ∷ []) refl $ fjoin ! $ nothing ! $ move ! (1 ∷ []) $ fjoin ! $

@@ -1,6 +1,6 @@
-//! The expected results of the runs, one part for each run, in the order of the runs.
+//! Holds the expected results of the runs: one part for each run, in the order of the runs.
 
-/// The expected parts, and how many of them runs have taken.
+/// The expected parts, and how many of them have been compared with runs so far.
 #[derive(Clone, Copy)]
 pub struct Expected<'e> {
     parts: &'e [&'e [u8]],
@@ -8,13 +8,13 @@ pub struct Expected<'e> {
 }
 
 impl<'e> Expected<'e> {
-    /// The parts for all runs to come; none is taken yet.
+    /// Returns the expected parts for all runs. None of the parts has been compared yet.
     pub fn new(parts: &'e [&'e [u8]]) -> Expected<'e> {
         Expected { parts, taken: 0 }
     }
 
-    /// Takes the next part, and returns whether it equals what a run wrote; `false` if no part is
-    /// left.
+    /// Takes the next part, and returns whether it equals what a run wrote. If no part is left,
+    /// returns `false`.
     pub fn takes(&mut self, written: &[u8]) -> bool {
         match self.parts.get(self.taken) {
             Some(part) => {
@@ -25,7 +25,7 @@ impl<'e> Expected<'e> {
         }
     }
 
-    /// The number of parts that no run has taken.
+    /// Returns the number of parts that are left.
     pub fn left(&self) -> usize {
         self.parts.len().saturating_sub(self.taken)
     }

@@ -1,7 +1,8 @@
-//! Runs jobs with a known output while one request for memory of the job's map is refused: in the
-//! first run the first request, in the next run the second, and so on. Each job is run on a map
-//! alone, and then with a book, which keeps a map and its history. An operation that fails for lack
-//! of memory is repeated, so each run must end with the known output.
+//! Runs jobs whose output is known. In each run, one of the requests for memory that the job's map
+//! makes is refused: the first request in the first run, the second request in the next run, and so
+//! on. Each job is run in two ways: on a map alone, and with a `Book`, which keeps a map and its
+//! history. An operation that fails because memory ran out is repeated, so each run must end with
+//! the known output.
 
 use crate::jobs::RECORD_SEPARATOR;
 use anyhow::{Context, ensure};
@@ -16,7 +17,7 @@ mod map;
 mod refusing;
 mod run;
 
-/// Runs each job of the records, and prints its name after it has passed.
+/// Runs the job of each record, and prints the job's name after the job has passed.
 pub fn run_growths(rt: &HostRuntime, records: &[u8]) -> anyhow::Result<()> {
     for record in records.split(|byte| *byte == RECORD_SEPARATOR) {
         let parts = read_parts(record).context("a part is missing")?;
@@ -28,8 +29,8 @@ pub fn run_growths(rt: &HostRuntime, records: &[u8]) -> anyhow::Result<()> {
     Ok(())
 }
 
-/// Runs a job once for each request, which is then refused. Fails if fewer runs report that memory
-/// ran out than the job's map makes requests.
+/// Runs a job several times. Each run refuses another one of the job's requests for memory. Fails
+/// if fewer runs report that memory ran out than the job's map makes requests.
 fn run_record(rt: &HostRuntime, parts: &Parts, maker: Maker) -> anyhow::Result<()> {
     let memory = Refusing::new(rt.alloc());
     let (told, fewest) = run_each(rt.alloc(), &memory, parts, maker)?;

@@ -1,6 +1,6 @@
-//! Runs jobs as `crushedit` does: first those of the file `jobs`, then those of the file `records`.
-//! Each must end with the output, summary, standard error and status that its part of the file
-//! `expected` has.
+//! Runs jobs as `crushedit` does: first the jobs of the file `jobs`, then those of the file
+//! `records`. The file `expected` has a part for each run. The run's output, summary, standard
+//! error and status must equal this part.
 
 use crate::expected::Expected;
 use crush_input::{Words, report};
@@ -16,7 +16,8 @@ const PART_SEPARATOR: u8 = 0;
 
 pub const RECORD_SEPARATOR: u8 = 0x1e;
 
-/// Runs all jobs, and prints which of them end as expected, and how many parts no run took, if any.
+/// Runs all jobs, and prints which of them end as expected. If there are more expected parts than
+/// runs, also prints how many parts are left.
 pub fn run_jobs(
     rt: &HostRuntime,
     workers: &(impl AllocGlobal + RandomSource + Threads + Wait + Sync),
@@ -50,7 +51,7 @@ fn run_files(
     }
 }
 
-/// Runs the command line of each line, which has its words without the program's name.
+/// Runs each line as a command line. The line has the words that follow the program's name.
 fn run_lines(
     rt: &HostRuntime,
     workers: &(impl AllocGlobal + RandomSource + Threads + Wait + Sync),
@@ -71,7 +72,8 @@ fn run_lines(
     Ok(())
 }
 
-/// Runs one command line. If the command line is rejected, that is reported as a read fault.
+/// Runs one command line. If the command line is rejected, the outcome of the run is
+/// `RunFault::Read`.
 fn run_line(
     rt: &HostRuntime,
     workers: &(impl AllocGlobal + RandomSource + Threads + Wait + Sync),
@@ -99,7 +101,8 @@ fn run_line(
     write_end(words, &ending, written)
 }
 
-/// Runs the jobs between record separators, and prints how many end as expected.
+/// Runs the jobs of `records`, between which there are record separators, and prints how many of
+/// them end as expected.
 fn run_records(
     rt: &HostRuntime,
     workers: &(impl AllocGlobal + RandomSource + Threads + Wait + Sync),
@@ -145,7 +148,7 @@ fn run_record(
     run_job(workers, &NoGate, &request, &mut reader, written)
 }
 
-/// Writes the summary, what is printed on standard error, and the status.
+/// Writes the summary, the text for standard error, and the status.
 fn write_end(words: Words<'_>, ending: &Ending, written: &mut Vec<u8>) -> io::Result<()> {
     match &ending.outcome {
         Ok(done) => writeln!(

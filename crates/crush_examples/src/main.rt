@@ -1,5 +1,5 @@
-//! Runs the jobs of the examples, and prints for each run whether its output is as expected. Then
-//! runs jobs while memory is refused (`growths`).
+//! Runs the jobs of the examples, and prints for each run whether it ended as expected. Then runs
+//! other jobs, and refuses one of their requests for memory in each run (`growths`).
 #![tactic(auto)]
 
 use growths::run_growths;

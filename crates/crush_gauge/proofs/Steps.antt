@@ -1,4 +1,4 @@
--- Each step of a gauge keeps the rule.
+-- Each step of a gauge preserves the rule of the word.
 use Rattle.std.proofs.Common.{◌≡◌, ◌≢◌, ◌⊎◌, ℕ, zero, suc, ◌+◌, ◌*◌, ◌/◌, ◌%◌, ◌<◌, ◌≤◌, List, [], ◌∷◌, ◌++◌, length, set, Bool, true, false, refl, sym, ap, ◌∙◌, subst, inl, inr, ⊎_elim, arith, nat_le}
 use Rattle.std.specs.Prelude.{slice_index, slice_set}
 use mathlib.Core.Option.{some, none, some-injective, some-ne-none}
@@ -46,14 +46,14 @@ module _ {O E : Type 0} (legal : O → List E → Type 0) (changes weight : O �
       (λ (x : (j ≢ id) × (get_elem? views j ≡ some u)). others j u x.0 x.1)
       (at_set views id j w u e)
 
-  -- a view other than the book's still fits when the history grows
+  -- a view other than the book's still fits after the history grows
   fits_more : (o : O) (book : ℕ) (b es : List E) (j : ℕ) (u : View O E) → j ≢ book → Fit o book b j u → Fit o book (b ++ es) j u
   fits_more o book b es j Fresh apart f = absurd f
   fits_more o book b es j Spent apart f = tt
   fits_more o book b es j (Book k) apart f = absurd (apart f.0)
   fits_more o book b es j (Reader k) apart f = record { opening = f.opening; lawful = f.lawful; begins = prefix_trans k.seen b (b ++ es) f.begins (es, refl); mine = f.mine; other = f.other }
 
-  -- a load that changes the view alone
+  -- a load that changes only the view preserves the rule
   reread : (o : O) (s : S) (r : Keep o s) (id : ℕ) (c : List (ℕ × Unit {0})) (w : View O E) → Fit o r.book r.all id w → Keep o (stepped s 0 (slice_index s.words 0) id c w keeps)
   reread o s r id c w fit = record {
     book = r.book;
@@ -68,7 +68,7 @@ module _ {O E : Type 0} (legal : O → List E → Type 0) (changes weight : O �
   others o book b views id v other w each apart there =
       ⊎_elim (λ (t : (other ≡ id) × (v ≡ w)). absurd (apart t.0)) (λ (t : (other ≢ id) × (get_elem? views other ≡ some w)). each other w t.1) (at_set views id other v w there)
 
-  -- the rule is kept when one view changes and a second seat is spent
+  -- the rule is preserved when one view changes and a second seat is spent
   join_kept : (o : O) (s : S) (r : Keep o s) (id : ℕ) (v : View O E) (other : ℕ) → Fit o r.book r.all id v → Keep o record { words = s.words; homes = s.homes; views = set (set s.views id v) other Spent }
   join_kept o s r id v other fit = record {
     book = r.book;
@@ -297,7 +297,7 @@ not_fresh_follows legal changes weight Spent es x y f e = absurd f
 not_fresh_follows legal changes weight (Book k) es x y f e = cc
 not_fresh_follows legal changes weight (Reader k) es x y f e = absurd f
 
--- as soon as some seat's view isn't fresh, there is an opening
+-- if some seat's view isn't fresh, there is an opening
 module _ {O E : Type 0} (legal : O → List E → Type 0) (changes weight : O → List E → ℕ) where
   abbrev alone_fresh : List (View O E)
   alone_fresh = Fresh ∷ []
@@ -348,11 +348,11 @@ module _ {O E : Type 0} (legal : O → List E → Type 0) (changes weight : O �
       subst (λ (m : Me (Unit {0}) (View O E)). Allows (Holds legal changes weight n) slots id m 0 (λ x. x) (learned legal changes weight (step slots 0 0 0 none) m)) (sym same)
       (wider_step n slots id (u, c) 0 (λ x. x) (learned legal changes weight (step slots 0 0 0 none) (u, c)) (not_fresh u j) (λ o. compares legal changes weight o slots id u c (not_spent u j)))
 
-  -- the table when it is created
+  -- the rule is true of the table when it is created
   pub table_is_fresh : (n : ℕ) → Holds legal changes weight n (opening {S = Unit {0}} (n ∷ []) [] Fresh)
   table_is_fresh n = inl record { words = refl; views = refl }
 
-  -- the first seat gets the opening
+  -- after the first step, the first seat has the opening
   pub begins : (n slots id : ℕ) (os : List O) (me : Me (Unit {0}) (View O E)) → me ≡ (Fresh, []) → Opens legal changes weight os n
       → Allows (Holds legal changes weight n) slots id me 0 (λ x. x) (begun os (step slots 0 0 0 none) me)
   begins n slots id [] me is opens = absurd opens

@@ -1,5 +1,5 @@
-//! The gauge: one shared word that encodes two numbers of a history, its number of changes and its
-//! weight.
+//! The gauge: one 64-bit word, shared by threads, that encodes two numbers of a history. The
+//! numbers are how many of the history's entries are changes, and the weight after the history.
 
 ghost use Rattle.std.specs.Prelude.{◌≡◌, ℕ, ◌<◌, ◌≤◌, ◌++◌, ◌∷◌, [], IfOk, vec_len, length};
 ghost use Rattle.std.specs.List.{All};
@@ -16,13 +16,15 @@ use atomic_table::{Seat, Table};
 use std::alloc::{AllocError, Global};
 use std::marker::Brand;
 
-/// One shared word, `changes * 2^43 + weight`, for a history of entries `E` after an opening `O`.
+/// One shared word with the value `changes * 2^43 + weight`, for a history of entries `E` after an
+/// opening `O`. The opening is what the history starts from, for example a map.
 ///
-/// The law `P` says which histories are legal. The steps of all threads on the word have one total
-/// order (sequential consistency).
+/// The law `P` says which histories are legal. The loads and stores of the word by all threads have
+/// one total order (sequential consistency).
 #[derive(Drop)]
 pub struct Gauge<O, E, P: Law<O, E>> {
-    /// The table that has the shared word and, for contracts alone, what each seat has seen.
+    /// The table that has the shared word. In contracts, the table also has what each seat has
+    /// seen. This part doesn't exist when the program runs.
     pub table: Table<(), View<O, E>, u64, Rule<P>, Global>,
     pub ghost one_word: { (table.shared.table_id.words ≡ 1) × (table.shared.table_id.slots ≡ 0) },
 }
@@ -66,7 +68,8 @@ impl<O, E, P: Law<O, E>> Gauge<O, E, P> {
         Ok((gauge, book, seats))
     }
 
-    /// Turns the first seat of the table into the book's seat, with the opening that `M` chooses.
+    /// Turns the first seat of the table into the book's seat, which is the seat that publishes.
+    /// The book's seat has then seen the opening that `M` chooses.
     fn begin<M: ChoosesGhost<O>>(&self, first: Seat<(), View<O, E>>, weight: u64) -> BookSeat<O, E>
         requires gauge { first.table_id ≡ self.now.table.shared.table_id }
         requires key { self.now.table.shared.key ≡ weight }
@@ -100,7 +103,8 @@ impl<O, E, P: Law<O, E>> Gauge<O, E, P> {
         Ok(seats)
     }
 
-    /// Returns a note of what a seat of either kind has seen. The seat has seen the same as before.
+    /// Returns a note of what a seat of either kind has seen. The call doesn't change what the seat
+    /// has seen.
     pub(crate) fn note_of(&self, seat: &mut Seat<(), View<O, E>>) -> Note<O, E>
         requires gauge { seat.old.table_id ≡ self.now.table.shared.table_id }
         requires either { IsEither seat.old.me.0 }
@@ -115,10 +119,10 @@ impl<O, E, P: Law<O, E>> Gauge<O, E, P> {
 
     /// Publishes one entry by one store, after which all seats of the gauge can read the new pair.
     ///
-    /// The caller's proof chooses the entry. The history with this entry appended must be legal. It
-    /// must have `changes` changes, at most [`MOST_CHANGES`](crate::limits::MOST_CHANGES), and the
-    /// weight `weight`, below 2^43, in the units of the law. The book's seat has then seen the
-    /// entry.
+    /// The caller's proof chooses the entry. The history with this entry appended must be legal.
+    /// This history must have `changes` changes, at most
+    /// [`MOST_CHANGES`](crate::limits::MOST_CHANGES), and the weight `weight`, below 2^43, in the
+    /// units of the law. The book's seat has then seen the entry.
     pub fn publish(&self, book: &mut BookSeat<O, E>, changes: u64, weight: u64)
         ghost entry: { E }
         requires gauge { book.old.table ≡ self.now.table.shared.table_id }
@@ -141,8 +145,8 @@ impl<O, E, P: Law<O, E>> Gauge<O, E, P> {
             .store::<Publish<M>>(&mut book.seat, 0, word)
     }
 
-    /// Returns the pair of the history at this moment. It reads the word by one load, which waits
-    /// for nobody and allocates nothing.
+    /// Returns the pair of the history at the moment of the call. The call reads the word by one
+    /// load, never waits for another thread, and allocates nothing.
     ///
     /// The seat has then seen this history, which begins with what the seat had seen before.
     pub fn read(&self, seat: &mut ReadSeat<O, E>) -> Reading
@@ -159,7 +163,7 @@ impl<O, E, P: Law<O, E>> Gauge<O, E, P> {
     }
 
     /// Returns a note of what a seat of either kind has seen, for another seat of the same gauge.
-    /// The seat has seen the same as before.
+    /// The call doesn't change what the seat has seen.
     pub fn note<S: Watcher<O, E>>(&self, seat: &mut S) -> Note<O, E>
         requires { (S.knows seat.old).table ≡ self.now.table.shared.table_id }
         ensures seat { S.knows seat.new ≡ S.knows seat.old }
@@ -173,8 +177,7 @@ impl<O, E, P: Law<O, E>> Gauge<O, E, P> {
     /// The seat and the note must be of this gauge. A seat that reads has then seen the longer of
     /// the two histories, and the shorter is a prefix of it. The book's seat has already seen the
     /// whole history, so it learns only that the note's history is a prefix of its own. The call
-    /// takes two steps on the gauge's table: it joins the note's seat into this seat, and then
-    /// loads the word.
+    /// first joins the note's seat into this seat, and then loads the word.
     pub fn learn<S: Watcher<O, E>>(&self, seat: &mut S, note: Note<O, E>)
         requires seat { (S.knows seat.old).table ≡ self.now.table.shared.table_id }
         requires note { note.table ≡ self.now.table.shared.table_id }

@@ -1,13 +1,14 @@
-//! The rule that every step on the word keeps, and what each kind of step does to a seat's view.
-//! The types here have no data. The code that takes a step names one of them, which gives the step
-//! its contract.
+//! The invariant of the shared word, and what each kind of step adds to what a seat has seen. A
+//! *step* is a load or a store of the word, or a split or a join of seats. The types here have no
+//! data. The code that takes a step names one of these types, and the type gives the step its
+//! contract.
 
 use crate::view::{Law, View};
 use atomic_table::{Join, Play, Split, TableRule};
 use std::marker::{Brand, PhantomData};
 
-/// The rule of the word: there is one history, and the word encodes its number of changes and its
-/// weight. The key of the table is the weight at the opening.
+/// The invariant of the word, which every step preserves: there is one history, and the word
+/// encodes its number of changes and its weight. The key of the table is the weight at the opening.
 pub struct Rule<P> {
     of: PhantomData<P>,
 }
@@ -21,8 +22,8 @@ impl<O, E, P: Law<O, E>> TableRule<(), View<O, E>, u64> for Rule<P> {
     ghost first = { λ weight. Fresh };
 }
 
-/// Chooses the opening or the entries of a step, which exist in contracts alone. The proof of the
-/// call says what is chosen.
+/// Chooses the opening or the entries of a step. They exist only in contracts, and the proof of
+/// each call says which ones the call chooses.
 pub(crate) trait ChoosesGhost<T> {
     ghost use Rattle.std.specs.Prelude.{List};
 
@@ -35,7 +36,8 @@ impl<T> ChoosesGhost<T> for Brand {
     ghost chosen = { [] };
 }
 
-/// The first load: the fresh seat becomes the book's seat, with the opening.
+/// The step of the first load. The new seat, which has seen nothing yet, becomes the book's seat.
+/// It has then seen the opening.
 pub(crate) struct Begin<M> {
     of: PhantomData<M>,
 }
@@ -46,7 +48,8 @@ impl<O, E, M: ChoosesGhost<O>> Play<(), View<O, E>> for Begin<M> {
     ghost then = { begun M.chosen };
 }
 
-/// A store by the book's seat: the chosen entries are appended to its history.
+/// A store by the book's seat. The chosen entries are appended to the history that this seat has
+/// seen.
 pub(crate) struct Publish<M> {
     of: PhantomData<M>,
 }
@@ -69,7 +72,8 @@ impl<O, E, P: Law<O, E>> Play<(), View<O, E>> for Load<P> {
     ghost then = { loaded P.legal P.changes P.weight };
 }
 
-/// A load after a join: both histories of the join are then prefixes of what the seat has seen.
+/// The load after a join. It shows that both histories that the join compared are prefixes of what
+/// the seat has seen.
 pub(crate) struct Compare<P> {
     of: PhantomData<P>,
 }
@@ -92,8 +96,9 @@ impl<O, E> Split<View<O, E>> for SplitOff {
     ghost right = { copied };
 }
 
-/// A join of two seats: the first has then seen the longer of the two histories, or, if it is the
-/// book's seat, the same as before. The second seat is used up.
+/// A join of two seats. Each seat has seen a history. If the first seat is a seat that reads, then
+/// after the join it has seen the longer of the two histories. If the first seat is the book's
+/// seat, what it has seen doesn't change. The second seat can't be used after the join.
 pub(crate) struct Merge;
 
 impl<O, E> Join<View<O, E>> for Merge {

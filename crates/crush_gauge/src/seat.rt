@@ -1,5 +1,5 @@
-//! The seats of a gauge, through which threads use its word. What a seat has seen exists in
-//! contracts alone.
+//! The seats of a gauge, through which threads use its word. What a seat has seen exists only in
+//! contracts.
 
 ghost use Rattle.std.specs.Prelude.{◌≡◌};
 
@@ -8,7 +8,7 @@ use atomic_table::Seat;
 use std::marker::Model;
 
 /// The seat that publishes entries, by [`Gauge::publish`](crate::Gauge::publish). Each gauge has
-/// one, and it has seen the whole history.
+/// one such seat, and this seat has seen the whole history.
 #[derive(Drop)]
 pub struct BookSeat<O, E> {
     pub(crate) seat: Seat<(), View<O, E>>,

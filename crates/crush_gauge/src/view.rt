@@ -1,4 +1,4 @@
-//! What a seat has seen of the history. The types here are used in contracts alone.
+//! What a seat has seen of the history. The types here are used only in contracts.
 
 use std::collections::LinkedList;
 
@@ -24,10 +24,11 @@ pub struct Known<O, E> {
     pub opening: O,
     /// The history that the seat has seen.
     pub seen: LinkedList<E>,
-    /// The history that this seat had seen before its last join; empty after the load that follows.
+    /// The history that this seat had seen before its last join. It is empty again after the load
+    /// that follows the join.
     pub mine: LinkedList<E>,
-    /// The history that the other seat of the last join had seen; empty after the load that
-    /// follows.
+    /// The history that the other seat of the last join had seen. It is empty again after the load
+    /// that follows the join.
     pub other: LinkedList<E>,
 }
 
@@ -35,7 +36,7 @@ pub struct Known<O, E> {
 pub enum View<O, E> {
     /// The first seat of a gauge, before the gauge has an opening.
     Fresh,
-    /// A seat that was joined into another one, and is used no more.
+    /// A seat that was joined into another one, and can't be used any more.
     Spent,
     /// The seat that publishes.
     Book(Known<O, E>),

@@ -1,5 +1,5 @@
-//! What the two kinds of seat have in common: a note can be made of what a seat of either kind has
-//! seen, and the seat can learn from another seat's note.
+//! The calls that seats of both kinds have: one returns a note of what the seat has seen, and the
+//! other lets the seat learn from another seat's note.
 
 ghost use Rattle.std.specs.Prelude.{◌≡◌};
 ghost use Rattle.crush_gauge.specs.Rule.{Learns};
@@ -17,15 +17,15 @@ pub trait Watcher<O, E> {
     /// The gauge of the seat, and what the seat has seen.
     ghost knows: { Self → Held O E };
 
-    /// Returns a note of what the seat has seen. The seat must be of this gauge, and has seen the
-    /// same as before.
+    /// Returns a note of what the seat has seen. The seat must belong to this gauge. The call
+    /// doesn't change what the seat has seen.
     fn note_of<P: Law<O, E>>(&mut self, gauge: &Gauge<O, E, P>) -> Note<O, E>
         requires { (knows self.old).table ≡ gauge.now.table.shared.table_id }
         ensures seat { knows self.new ≡ knows self.old }
         ensures note { result ≡ copy_of (knows self.old) };
 
     /// Lets the seat learn from a note, so that it has also seen the note's history. The seat and
-    /// the note must be of this gauge.
+    /// the note must belong to this gauge.
     fn learn_from<P: Law<O, E>>(&mut self, gauge: &Gauge<O, E, P>, note: Note<O, E>)
         requires seat { (knows self.old).table ≡ gauge.now.table.shared.table_id }
         requires note { note.table ≡ gauge.now.table.shared.table_id }

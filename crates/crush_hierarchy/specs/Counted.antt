@@ -1,20 +1,20 @@
--- The numbers of devices and of buckets among items, and sums of such numbers.
+-- How many devices and how many buckets there are among items and below them, and sums of such numbers.
 use Rattle.std.specs.Prelude.{◌≡◌, ◌+◌, ◌<◌, ◌≤◌, ◌^◌}
 use Rattle.crush_model.specs.Items.{Items, size_of}
 use Rattle.crush_nodes.specs.Search.{devices_in}
 use Rattle.crush_nodes.specs.declared.view.Counts.{Counts}
 
--- The items, with everything below them, are fewer than 2^32 devices and fewer than 2^32 buckets.
+-- Among the items n and the items below them, there are fewer than 2^32 devices and fewer than 2^32 buckets.
 pub record AreFew (n : Items) : Type 0 where
   pub devices : devices_in n < 2 ^ 32
   pub buckets : size_of n < 2 ^ 32
 
--- The counts are the numbers of devices and of buckets among the items and everything below them.
+-- The counts are the numbers of devices and of buckets among the items n and the items below them.
 pub record AreCountsIn (n : Items) (counts : Counts) : Type 0 where
   pub devices : counts.devices ≡ devices_in n
   pub buckets : counts.buckets ≡ size_of n
 
--- Both counts together are fewer than 2^32 devices and fewer than 2^32 buckets.
+-- The counts a and b together have fewer than 2^32 devices and fewer than 2^32 buckets.
 pub record AreFewTogether (a b : Counts) : Type 0 where
   pub devices : a.devices + b.devices < 2 ^ 32
   pub buckets : a.buckets + b.buckets < 2 ^ 32
@@ -24,7 +24,7 @@ pub record AreAtMost (counts most : Counts) : Type 0 where
   pub devices : counts.devices ≤ most.devices
   pub buckets : counts.buckets ≤ most.buckets
 
--- The counts a and b add up to `whole`, both in devices and in buckets.
+-- The devices of the counts a and b add up to the devices of `whole`, and their buckets to the buckets of `whole`.
 pub record AddUp (a b whole : Counts) : Type 0 where
   pub devices : whole.devices ≡ a.devices + b.devices
   pub buckets : whole.buckets ≡ a.buckets + b.buckets

@@ -16,23 +16,23 @@ use Rattle.crush_index.specs.declared.index.Index.{Index}
 use Rattle.crush_index.specs.declared.index.restore.NameMemory.{NameMemory}
 use Rattle.crush_hierarchy.specs.declared.hierarchy.renamed.OldName.{OldName}
 
--- What an index answers after the item i has the name instead of its own one: the name leads to i, and its own name to no item. If an item had the name already, the answers are the old ones.
+-- What an index answers after the item i was renamed from the first name to the second: the second name has the id i, and the first name has no id. If an item already had the second name, the answers are the same as before.
 abbrev pub answers_named : ItemId → List ℕ → List ℕ → Index → Answers
 answers_named i own name index = if is_some (id_answer index.names name) then answers index else without_name own (with_name name i (answers index))
 
--- After an Ok the index answers as after the renaming of the item i from `own` to `name`, and the answer can restore the name `own`. After an Err the index answers as before. In both cases it hashes as before.
+-- If the call succeeds, the index gives the answers that it has after the item i is renamed from `own` to `name`, and the result of the call can restore the name `own`. If the call fails, the index answers as before. In both cases the index hashes as before.
 pub record TellsName {E : Type 0} (i : ItemId) (name own : List ℕ) (old new : Index) (answer : Result NameMemory E) : Type 0 where
   pub ok : OnOk answer (answers new ≡ answers_named i own name old)
   pub back : IfOk answer (λ back. back.name ≡ own)
   pub err : OnErr answer (answers new ≡ answers old)
   pub hashing : hashings new ≡ hashings old
 
--- The item i exists and can be given the old name, and what is kept for the index is for this name.
+-- The item i exists and can be given its old name, and the memory that was kept for the index is for this name.
 pub record CanRestoreName {A : Type 0} (i : ItemId) (old : OldName A) (g : ForestData) : Type 0 where
   pub can : CanRename i old.name g
   pub back : old.back.name ≡ old.name
 
--- After an Ok the item i has the name in the new forest. The answer is its old name, which can be restored, and the forest would then be exactly the old one. After an Err nothing has changed. Each place has as much room as before.
+-- If the call succeeds, the item i has the name `name` in the new forest, and the result is the item's old name. If the old name were restored, the forest would be exactly the old forest. If the call fails, nothing has changed. Each place has as much room as before.
 pub record ReplacesName {A E : Type 0} (i : ItemId) (name : List ℕ) (old new : ForestData) (answer : Result (OldName A) E) : Type 0 where
   pub stands : OnOk answer ((t : List Row) → Stands old t → Stands new (set_name i name t))
   pub rooms : (p : Place) → room new p ≡ room old p

@@ -1,7 +1,8 @@
 //! The hierarchy of a CRUSH map with an index, so that items are found without a search.
 //!
-//! A [`Hierarchy`] keeps a forest of `crush_tree` and an index of `crush_index` in agreement:
-//! `specs/Indexed.antt` defines when they agree.
+//! A [`Hierarchy`] has a forest of `crush_tree` and an index of `crush_index`, and each edit
+//! changes both, so that the index always belongs to the forest. `specs/Indexed.antt` defines what
+//! this means.
 #![tactic(auto)]
 
 mod hierarchy;

@@ -1,4 +1,4 @@
--- The lines of a history, one line more.
+-- The lines of a history with one more line.
 use Rattle.std.proofs.Common.{◌≡◌, ℕ, ◌+◌, ◌<◌, List, [], ◌∷◌, ◌++◌, length, take, get_or, refl, sym, ap, subst, ◌∙◌, append_assoc, arith}
 use Rattle.std.specs.Prelude.{slice_index_or}
 use Rattle.std.proofs.lemmas.List.{append-nil, take_more, length-take-le, length-map, get_or-map}
@@ -10,7 +10,7 @@ use Rattle.crush_history.specs.Entries.{AreOf}
 use Rattle.crush_history.specs.declared.script.Script.{Script}
 use Rattle.crush_history.specs.Script.{ScriptData, script_data, scripts_data}
 
--- the lines, and behind them that of one entry more
+-- the lines with one more entry are the lines before, followed by the line of this entry
 pub entries_text-push : (names : List (List ℕ)) (n : ℕ) (h : List EntryData) (e : EntryData)
     → entries_text names n (h ++ e ∷ []) ≡ entries_text names n h ++ entry_text (n + length h) (slice_index_or names e.operator []) e
 unfolding entries_text
@@ -19,13 +19,13 @@ entries_text-push names n (f ∷ h) e =
     ap (λ z. entry_text n (slice_index_or names f.operator []) f ++ z) (entries_text-push names (n + 1) h e ∙ ap (λ m. entries_text names (n + 1) h ++ entry_text m (slice_index_or names e.operator []) e) (omega arith))
     ∙ sym (append_assoc (entry_text n (slice_index_or names f.operator []) f) (entries_text names (n + 1) h) _)
 
--- one entry more may be one change more
+-- one more entry adds at most one change
 pub changes-push : (h : List EntryData) (e : EntryData) → changes (h ++ e ∷ []) ≡ changes h + change_of e.reply
 unfolding changes
 changes-push [] e = omega arith
 changes-push (f ∷ h) e = omega (arith, changes-push h e)
 
--- the name of a script by its number
+-- the name of the script with an index
 pub operator_name-at : (scripts : List Script) (i : ℕ) (x : Script) → i < length scripts → x ≡ get_or scripts i x → x.name ≡ slice_index_or (names_of (scripts_data scripts)) i []
 operator_name-at scripts i x h is =
     let long : i < length (scripts_data scripts) = omega (arith, h, length-map scripts script_data) in
@@ -33,19 +33,19 @@ operator_name-at scripts i x h is =
     ∙ ap (λ (z : ScriptData). z.name) (sym (get_or-map script_data scripts i x (script_data x) h))
     ∙ sym (get_or-map (λ (z : ScriptData). z.name) (scripts_data scripts) i (script_data x) [] long)
 
--- the changes among one entry more
+-- the number of changes in the entries up to and including index i is the number in the entries before i, plus 1 if entry i is a change
 pub changes-take : (entries : List Entry) (i : ℕ) (e : Entry) → i < length entries → e ≡ get_or entries i e → changes (take (i + 1) entries) ≡ changes (take i entries) + change_of e.reply
 changes-take entries i e h is =
     ap (λ xs. changes xs) (take_more entries i e h)
     ∙ changes-push (take i entries) (get_or entries i e)
     ∙ ap (λ (z : Entry). changes (take i entries) + change_of z.reply) (sym is)
 
--- no entry, no change
+-- without entries there are no changes
 pub no_changes : ◌≡◌ {A = ℕ} 0 (changes [])
 unfolding changes
 no_changes = refl
 
--- the lines up to one place and the line there
+-- the lines of the entries up to and including index i are the lines of the entries before i, followed by the line of entry i
 pub lines-take : (names : List (List ℕ)) (entries : List Entry) (i : ℕ) (e : Entry) → i < length entries → e ≡ get_or entries i e
     → entries_text names 1 (take (i + 1) entries) ≡ entries_text names 1 (take i entries) ++ line_text (i + 1) (slice_index_or names e.operator []) e.call e.reply
 lines-take names entries i e h is =
@@ -56,12 +56,12 @@ lines-take names entries i e h is =
     ∙ ap (λ (z : Entry). entries_text names 1 so_far ++ entry_text (1 + length so_far) (slice_index_or names z.operator []) z) (sym is)
     ∙ ap (λ n. entries_text names 1 so_far ++ line_text n (slice_index_or names e.operator []) e.call e.reply) (omega (arith, long))
 
--- no entry, no line
+-- without entries there are no lines
 pub no_lines : (names : List (List ℕ)) → ◌≡◌ {A = List ℕ} [] (entries_text names 1 [])
 unfolding entries_text
 no_lines names = refl
 
--- no entry is of another operator, and one entry more of an operator below n
+-- if there are no entries, then each entry's operator is below n; this is still true after one more entry whose operator is below n
 pub none_yet : (n : ℕ) (entries : List Entry) → entries ≡ [] → AreOf n entries
 none_yet n entries is = subst (AreOf n) (sym is) (All-nil (λ (e : Entry). e.operator < n))
 

@@ -38,7 +38,7 @@ refused_batch : line_text 1 (codes "a") (Batch (Rename (codes "h1") (codes "hq")
 unfolding line_head line_end
 refused_batch = rw (decimal_digit 1 (lit< tt), decimal_digit 2 (lit< tt)) refl
 
--- a guarded batch that is made, and the same again, which is stale
+-- a guarded batch that is applied, and the same batch again, which is stale
 guarded_line : line_text 1 (codes "a") (Guarded 0 (Reweight (codes "osd.0") 131072 ∷ [])) (Dones (record { edits = 1; changed = 1; made = 0 })) ≡ codes "# 1 a begin at 0 ; reweight osd.0 2.00000 ; commit = dones 1 changed 1 made 0\n"
 unfolding line_head line_end digits
 guarded_line = refl

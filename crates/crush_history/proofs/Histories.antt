@@ -10,7 +10,7 @@ use Rattle.crush_history.specs.Script.{ScriptData, call_count}
 use Rattle.crush_history.specs.History.{EntryData, AnsweredData, Counted, untouched, later, counted_after, changes, call_outcome, table_after, IsLegalBehind, IsLegal, of_operator, entry_on, turn, turns_from, turns}
 use Rattle.crush_history.specs.Turns.{calls_at, calls_of, TurnsAreHistory}
 
--- after two histories, one behind the other
+-- the state after one history and then another: the second history begins in the state that the first one has left
 pub counted_after-append : (s : SettingData) (q : Counted) (h g : List EntryData) → counted_after s q (h ++ g) ≡ counted_after s (counted_after s q h) g
 unfolding counted_after
 counted_after-append s q [] g = refl
@@ -21,7 +21,7 @@ unfolding changes
 changes-append [] g = omega arith
 changes-append (e ∷ h) g = omega (arith, changes-append h g)
 
--- the number is that of the changes
+-- a history increases the count in the state by its number of changes
 pub count-after : (s : SettingData) (q : Counted) (h : List EntryData) → (counted_after s q h).count ≡ q.count + changes h
 unfolding counted_after changes
 count-after s q [] = omega arith
@@ -30,7 +30,7 @@ count-after s q (e ∷ h) = omega (arith, count-after s (later s q e) h)
 pub count-from : (s : SettingData) (t : List Row) (h : List EntryData) → (counted_after s (untouched t) h).count ≡ changes h
 count-from s t h = omega (arith, count-after s (untouched t) h)
 
--- one entry more
+-- the state after a history of one entry
 counted_after-one : (s : SettingData) (u : Counted) (e : EntryData) → counted_after s u (e ∷ []) ≡ later s u e
 unfolding counted_after
 counted_after-one s u e = refl
@@ -38,25 +38,25 @@ counted_after-one s u e = refl
 pub counted_after-push : (s : SettingData) (q : Counted) (h : List EntryData) (e : EntryData) → counted_after s q (h ++ e ∷ []) ≡ later s (counted_after s q h) e
 counted_after-push s q h e = counted_after-append s q h (e ∷ []) ∙ counted_after-one s (counted_after s q h) e
 
--- one behind the other, legal histories are one
+-- if one history is legal, and another is legal after it, then both together are legal
 pub IsLegal-append : (s : SettingData) (q : Counted) (h g : List EntryData) → IsLegalBehind s q h → IsLegalBehind s (counted_after s q h) g → IsLegalBehind s q (h ++ g)
 unfolding counted_after IsLegalBehind
 IsLegal-append s q [] g first second = second
 IsLegal-append s q (e ∷ h) g first second = (first.0, IsLegal-append s (later s q e) h g first.1 second)
 
--- what stands before another in a legal one is legal
+-- the beginning of a legal history is legal
 pub IsLegal-front : (s : SettingData) (q : Counted) (h g : List EntryData) → IsLegalBehind s q (h ++ g) → IsLegalBehind s q h
 unfolding IsLegalBehind
 IsLegal-front s q [] g legal = tt
 IsLegal-front s q (e ∷ h) g legal = (legal.0, IsLegal-front s (later s q e) h g legal.1)
 
--- and what stands behind it is legal there
+-- the rest of a legal history is legal after its beginning
 pub IsLegal-behind : (s : SettingData) (q : Counted) (h g : List EntryData) → IsLegalBehind s q (h ++ g) → IsLegalBehind s (counted_after s q h) g
 unfolding counted_after IsLegalBehind
 IsLegal-behind s q [] g legal = legal
 IsLegal-behind s q (e ∷ h) g legal = IsLegal-behind s (later s q e) h g legal.1
 
--- one entry more of a history, from its first call on: its table, whether it is legal, and what its reply then is
+-- a history with one more entry: the table after it, when it is legal, and the reply that the new entry has if it is legal
 pub table_after-push : (s : SettingData) (t : List Row) (h : List EntryData) (e : EntryData) → table_after s t (h ++ e ∷ []) ≡ (call_outcome s (table_after s t h) (changes h) e.call).table
 table_after-push s t h e =
     ap (λ (q : Counted). q.table) (counted_after-push s (untouched t) h e)
@@ -92,7 +92,7 @@ IsLegal-turns_from s q k [] = tt
 IsLegal-turns_from s q k (x ∷ xs) =
     IsLegal-append s q (turn s q k x.calls) _ (IsLegal-turn s q k x.calls) (IsLegal-turns_from s (counted_after s q (turn s q k x.calls)) (k + 1) xs)
 
--- how many entries there are
+-- there are as many entries as calls
 pub length-turn : (s : SettingData) (q : Counted) (k : ℕ) (calls : List Call) → length (turn s q k calls) ≡ length calls
 unfolding turn
 length-turn s q k [] = refl
@@ -109,7 +109,7 @@ length-turns_from s q k (x ∷ xs) =
 pub length-turns : (s : SettingData) (t : List Row) (scripts : List ScriptData) → length (turns s t scripts) ≡ call_count scripts
 length-turns s t scripts = length-turns_from s (untouched t) 0 scripts
 
--- the calls of one operator in a history
+-- whether the entry is one of operator k
 abbrev is_of : ℕ → EntryData → Bool
 is_of k e = e.operator == k
 
@@ -133,7 +133,7 @@ unfolding turn
 other_calls s q k j [] other = refl
 other_calls s q k j (c ∷ cs) other = rw other (other_calls s (later s q (entry_on s q k c)) k j cs other)
 
--- no entry is an earlier operator's
+-- the entries of the scripts of operator k and later operators have no call of an earlier operator
 earlier_calls : (s : SettingData) (q : Counted) (k j : ℕ) (scripts : List ScriptData) → j < k → calls_of (of_operator j (turns_from s q k scripts)) ≡ []
 unfolding turns_from
 earlier_calls s q k j [] less = refl

@@ -1,4 +1,4 @@
--- The lines of refused entries, one entry more, and worked examples.
+-- The lines of refused entries with one more entry, and worked examples.
 use Rattle.std.proofs.Common.{◌≡◌, ℕ, ◌+◌, ◌<◌, true, List, [], ◌∷◌, ◌++◌, length, take, get_or, refl, sym, ap, ◌∙◌, append_assoc, arith}
 use Rattle.std.specs.Fmt.{digits}
 use Rattle.std.proofs.lemmas.List.{append-nil, take_more, length-take-le}
@@ -12,7 +12,7 @@ use Rattle.crush_history.specs.History.{EntryData}
 use Rattle.crush_history.specs.HistoryText.{line_head, line_end}
 use Rattle.crush_history.specs.Refused.{is_refused, refusals, refused_line, refused_text}
 
--- the lines, and behind them what one entry more has
+-- the lines with one more entry are the lines before, followed by this entry's line if it was refused
 refused_text-push : (names : List (List ℕ)) (n : ℕ) (h : List EntryData) (e : EntryData)
     → refused_text names n (h ++ e ∷ []) ≡ refused_text names n h ++ refused_line (n + length h) (slice_index_or names e.operator []) e
 unfolding refused_text
@@ -35,7 +35,7 @@ pub no_refused : (names : List (List ℕ)) → ◌≡◌ {A = List ℕ} [] (refu
 unfolding refused_text
 no_refused names = refl
 
--- one entry more may be one refusal more
+-- one more entry adds at most one refusal
 refusals-push : (h : List EntryData) (e : EntryData) → refusals (h ++ e ∷ []) ≡ refusals h + (if is_refused e.reply then 1 else 0)
 unfolding refusals
 refusals-push [] e = omega arith
@@ -51,19 +51,19 @@ pub no_refusals : ◌≡◌ {A = ℕ} 0 (refusals [])
 unfolding refusals
 no_refusals = refl
 
--- of three calls the first and the last are refused
+-- an example: of three calls, the first and the last are refused
 example : refused_text (codes "a" ∷ []) 1 ((record { operator = 0; call = One (Remove (codes "default")); reply = Refused NotEmpty }) ∷ ((record { operator = 0; call = One (Reweight (codes "osd.0") 131072); reply = Done (record { changed = true; made = 0 }) }) ∷ ((record { operator = 0; call = One (Remove (codes "x")); reply = Refused NoSuchItem }) ∷ [])))
     ≡ codes "# 1 a rm default = refused NotEmpty 39\n# 3 a rm x = refused NoSuchItem 2\n"
 unfolding refused_text line_head line_end digits
 example = refl
 
--- and a batch
+-- an example of a refused batch
 batch_example : refused_text (codes "a" ∷ []) 1 ((record { operator = 0; call = Batch (Remove (codes "osd.0") ∷ (Remove (codes "default") ∷ [])); reply = BatchRefused 1 NotEmpty }) ∷ [])
     ≡ codes "# 1 a begin ; rm osd.0 ; rm default ; commit = refused at 1 NotEmpty 39\n"
 unfolding refused_text line_head line_end digits
 batch_example = refl
 
--- and a guarded batch that came too late
+-- an example of a guarded batch that is stale
 stale_example : refused_text (codes "a" ∷ []) 1 ((record { operator = 0; call = Guarded 0 (Reweight (codes "osd.0") 131072 ∷ []); reply = Dones (record { edits = 1; changed = 1; made = 0 }) }) ∷ ((record { operator = 0; call = Guarded 0 (Reweight (codes "osd.0") 131072 ∷ []); reply = Stale 1 }) ∷ []))
     ≡ codes "# 2 a begin at 0 ; reweight osd.0 2.00000 ; commit = refused Stale 11 changes 1\n"
 unfolding refused_text line_head line_end digits

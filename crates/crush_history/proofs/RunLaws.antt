@@ -1,4 +1,4 @@
--- What a run keeps.
+-- A run keeps the table lawful, and the setting still fits the table (`Keeps`).
 use Rattle.std.proofs.Common.{◌≡◌, ℕ, ◌+◌, ◌==◌, Bool, true, false, List, [], ◌∷◌, Option, Some, None, refl}
 use Rattle.std.proofs.lemmas.List.Elements.{All-nil, All-cons, All-head, All-tail, All-append}
 use Rattle.std.specs.Prelude.{All}
@@ -17,7 +17,7 @@ use Rattle.crush_history.specs.Script.{ScriptData}
 use Rattle.crush_history.specs.History.{EntryData, Counted, untouched, later, counted_after, edit_outcome, batch_outcome, guarded_outcome, entry_on, turn, turns_from}
 use Rattle.crush_history.specs.LawRun.{IsCall, CallKeeps, HistoryKeeps, TurnsKeep}
 
--- a call that is refused leaves the table
+-- after an edit, refused or not, `Keeps` is still true of the table
 edit_outcome_keeps : (s : SettingData) (t : List Row) (e : Edit) (o : Option Refusal) → refusal s t e ≡ o → Keeps s t → IsEdit e → Keeps s (edit_outcome t (answer o t (after s t e))).table
 edit_outcome_keeps s t e None is keeps form = edit_keeps s t e keeps form is
 edit_outcome_keeps s t e (Some r) is keeps form = keeps
@@ -26,7 +26,7 @@ batch_outcome_keeps : (s : SettingData) (t : List Row) (es : List Edit) (a : Bat
 batch_outcome_keeps s t es (batch_refused index r) is keeps forms = keeps
 batch_outcome_keeps s t es (batch_done d u) is keeps forms = batch_keeps s t u es d keeps forms is
 
--- nor does one that is stale
+-- after a guarded batch, stale or not, `Keeps` is still true of the table
 guarded_outcome_keeps : (s : SettingData) (t : List Row) (n : ℕ) (es : List Edit) (fresh : Bool) → Keeps s t → All IsEdit es → Keeps s (guarded_outcome fresh t n (batch s t es)).table
 guarded_outcome_keeps s t n es true keeps forms = batch_outcome_keeps s t es (batch s t es) refl keeps forms
 guarded_outcome_keeps s t n es false keeps forms = keeps
@@ -46,7 +46,7 @@ entries_keep s q (e ∷ h) keeps forms =
 pub history_keeps : HistoryKeeps
 history_keeps s t h keeps forms = entries_keep s (untouched t) h keeps forms
 
--- what holds of the calls of scripts holds of those of their turns
+-- what is true of all calls of the scripts is true of the calls in the scripts' entries
 turn_calls : (P : Call → Type 0) (s : SettingData) (q : Counted) (k : ℕ) (calls : List Call) → All P calls → All (λ (e : EntryData). P e.call) (turn s q k calls)
 unfolding turn
 turn_calls P s q k [] all = All-nil (λ (e : EntryData). P e.call)

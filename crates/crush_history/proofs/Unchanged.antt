@@ -1,4 +1,4 @@
--- What is no change leaves the table.
+-- A call that isn't a change leaves the table as it is.
 use Rattle.std.proofs.Common.{◌≡◌, ℕ, ◌+◌, ◌≤◌, ◌==◌, ◌&&◌, Bool, true, false, not, List, [], ◌∷◌, Option, Some, None, nat_eq, refl, ap, sym, ◌∙◌, arith}
 use Rattle.std.specs.Prelude.{bytes_eq, if◌then◌else◌}
 use Rattle.std.specs.Option.{option_eq}
@@ -27,7 +27,7 @@ use Rattle.crush_history.specs.History.{EntryData, Counted, untouched, later, co
 use Rattle.crush_history.specs.LawRun.{NoChangeKeeps, SameCountSameTable}
 use Rattle.crush_history.proofs.Histories.{changes-append, counted_after-append, IsLegal-behind}
 
--- TABLES that are found the same are one
+-- TABLES that the test finds to be the same are equal
 option_same : {A : Type 0} (eq : A → A → Bool) → ((a b : A) → eq a b ≡ true → a ≡ b) → (o p : Option A) → option_eq eq o p ≡ true → o ≡ p
 option_same eq same None None e = refl
 option_same eq same None (Some b) e = absurd cc
@@ -80,7 +80,7 @@ row_same a b e =
 table_same : (t u : List Row) → same_table t u ≡ true → t ≡ u
 table_same t u e = each_same same_row row_same t u e
 
--- AN EDIT
+-- AN EDIT whose answer reports no change leaves the table as it is
 edit_kept : (t u : List Row) (o : Option Refusal) (a : After) (made : ℕ) → answer o t a ≡ done false made u → u ≡ t
 edit_kept t u (Some r) a made is = absurd cc
 edit_kept t u None a made is =
@@ -88,7 +88,7 @@ edit_kept t u None a made is =
     let own : a.table ≡ u = cc in
     sym own ∙ sym (table_same t a.table (not-false (same_table t a.table) same))
 
--- A BATCH counts no fewer changes than it begins with
+-- A BATCH counts at least as many changes as it begins with
 changed_more : (s : SettingData) (es : List Edit) (d e : Dones) (t u : List Row) → batch_from s es d t ≡ batch_done e u → d.changed ≤ e.changed
 changed_more s [] d e t u is = let same : d ≡ e = cc in omega (arith, ap (λ (x : Dones). x.changed) same)
 changed_more s (x ∷ es) d e t u is = at (edit s t x) (λ changed made v. changed_more s es (with_done d changed made) e v u) is
@@ -108,7 +108,7 @@ batch_kept s (x ∷ es) d e t u is few = at (edit s t x) (λ made v. batch_kept 
     at (done true made v) others answers ends = absurd (omega (arith, few, changed_more s es (with_done d true made) e v u ends))
     at (done false made v) others answers ends = others made v ends (omega (arith, few)) ∙ edit_kept t v (refusal s t x) (after s t x) made answers
 
--- A CALL
+-- A CALL whose reply reports no change leaves the table as it is
 edit_outcome_kept : (s : SettingData) (t : List Row) (e : Edit) (a : Answer) → edit s t e ≡ a → is_change (edit_outcome t a).reply ≡ false → (edit_outcome t a).table ≡ t
 edit_outcome_kept s t e (refused r) is none = refl
 edit_outcome_kept s t e (done true made u) is none = absurd cc
@@ -127,7 +127,7 @@ no_change_keeps s t n (One e) none = edit_outcome_kept s t e (edit s t e) refl n
 no_change_keeps s t n (Batch es) none = batch_outcome_kept s t es (batch s t es) refl none
 no_change_keeps s t n (Guarded seen es) none = guarded_outcome_kept s t n es (seen == n) none
 
--- A HISTORY
+-- A HISTORY whose entries report no change leaves the table as it is
 no_change : (b : Bool) → (if b then 1 else 0) ≤ 0 → b ≡ false
 no_change true few = absurd (omega (arith, few))
 no_change false few = refl
@@ -146,7 +146,7 @@ same_count_same_table s t h g legal same =
     ap (λ (q : Counted). q.table) (counted_after-append s (untouched t) h g)
     ∙ stretch_kept s (counted_after s (untouched t) h) g behind (omega (arith, same, changes-append h g))
 
--- A STALE reply tells how many changes there are
+-- A reply that is STALE has the number of changes in the history
 edit_not_stale : (t : List Row) (a : Answer) (m : ℕ) → (edit_outcome t a).reply ≡ Stale m → ⊥
 edit_not_stale t (refused r) m is = absurd cc
 edit_not_stale t (done changed made u) m is = absurd cc

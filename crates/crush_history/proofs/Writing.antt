@@ -5,7 +5,7 @@ use Rattle.std.specs.Io.KnownBytes.{Appends}
 use Rattle.crush_units.specs.Writes.{Writes}
 use Rattle.crush_units.proofs.Appending.{appends_both, then_less}
 
--- a text that is written whole, and then another
+-- if x was written completely, then the result of writing y after it is the result of writing x followed by y
 pub then_writes : {X E : Type 0} (r : Result X E) (a b c : Option (List ℕ)) (x y : List ℕ) → Appends a b x → Writes r b c y → Writes r a c (x ++ y)
 then_writes (Ok v) a b c x y first second = appends_both a b c x y first second
 then_writes (Err e) a b c x y first second = then_less a b c x y first second

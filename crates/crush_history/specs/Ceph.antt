@@ -1,4 +1,4 @@
--- An edit as Ceph's command.
+-- An edit as the command of Ceph that makes the same change.
 use Rattle.std.specs.Prelude.{ℕ, ◌==◌, Bool, false, ◌||◌, List, [], ◌∷◌, ◌++◌, codes, decimal, if◌then◌else◌}
 use Rattle.std.specs.List.{list_any}
 use Rattle.crush_edits.specs.declared.location.Pair.{Pair}
@@ -7,7 +7,7 @@ use Rattle.crush_edits.specs.declared.edit.Edit.TheVariants.{Insert, CreateOrMov
 use Rattle.crush_units.specs.ExactWeight.{exact_text}
 use Rattle.crush_history.specs.HistoryText.{edit_text, pairs_text}
 
--- the word that Ceph asks for before it swaps buckets that stand apart
+-- the option ` --yes-i-really-mean-it` for a swap, which Ceph requires if the two buckets have different parents; no text for any other edit
 abbrev pub assent : Edit → List ℕ
 assent (Insert device name weight at) = []
 assent (CreateOrMove device name weight at) = []
@@ -22,16 +22,16 @@ assent (Rename from to) = []
 assent (SetClass name class) = []
 assent (RemoveClass name) = []
 
--- a word that begins with `-`
+-- whether a word begins with `-`
 abbrev pub is_dashed : List ℕ → Bool
 is_dashed [] = false
 is_dashed (b ∷ rest) = b == 45
 
--- a pair of the location is such a word: it begins with the name of its type
+-- whether a pair TYPE=NAME of the location begins with `-`, that is, whether its TYPE does
 abbrev pub has_dashed_type : List Pair → Bool
 has_dashed_type at = list_any (λ (p : Pair). is_dashed p.kind) at
 
--- after its first word, a command has a word that begins with `-`, which Ceph would read as an option
+-- whether a command has, after its first word, a word that begins with `-`, which Ceph would read as an option
 abbrev pub has_dash : Edit → Bool
 has_dash (Insert device name weight at) = is_dashed name || has_dashed_type at
 has_dash (CreateOrMove device name weight at) = is_dashed name || has_dashed_type at
@@ -46,7 +46,7 @@ has_dash (Rename from to) = is_dashed from || is_dashed to
 has_dash (SetClass name class) = is_dashed class || is_dashed name
 has_dash (RemoveClass name) = is_dashed name
 
--- the words before a command: if it has a word that begins with `-`, they end in `--`, after which Ceph reads no options
+-- the words before a command. If the command has a word that begins with `-`, these words end in `--`, because Ceph reads no options after `--`
 abbrev pub ceph_head : Edit → List ℕ
 ceph_head e = if has_dash e then codes "ceph osd crush -- " else codes "ceph osd crush "
 
@@ -69,10 +69,10 @@ ceph_words (Rename from to) = edit_text (Rename from to)
 ceph_words (SetClass name class) = edit_text (SetClass name class)
 ceph_words (RemoveClass name) = edit_text (RemoveClass name)
 
--- an edit as a line for a shell
+-- an edit as a line for a shell: the words before the command, the command, the option that a swap needs, and a line feed
 abbrev pub ceph_line : Edit → List ℕ
 ceph_line e = ceph_head e ++ ceph_words e ++ (assent e ++ codes "\n")
 
--- how many lines there are
+-- the line that says how many commands there are
 unfoldable pub ceph_heading : ℕ → List ℕ
 ceph_heading count = codes "# " ++ decimal count ++ codes " commands\n"

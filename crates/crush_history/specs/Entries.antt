@@ -1,4 +1,4 @@
--- Which operators made the calls of a run's entries.
+-- Says that each entry of a history is of one of the given operators.
 use Rattle.std.specs.Prelude.{ℕ, ◌<◌, List, All}
 use Rattle.crush_history.specs.declared.entry.Entry.{Entry}
 

@@ -18,18 +18,18 @@ pub record Outcome : Type 0 where
   pub reply : Reply
   pub table : List Row
 
--- the outcome of an edit, from the table before and the table's answer; a refused edit leaves the table as it is
+-- the outcome of an edit, computed from the table before the edit and from the model's answer (`Answer`), which is a new table or a refusal; a refused edit leaves the table as it is
 abbrev pub edit_outcome : List Row → Answer → Outcome
 edit_outcome t (refused r) = record { reply = Refused r; table = t }
 edit_outcome t (done changed made u) = record { reply = Done (record { changed = changed; made = made }); table = u }
 
--- the outcome of a batch, from the table before and the table's answer; a refused batch leaves the table as it is
+-- the outcome of a batch, computed from the table before the batch and from the model's answer (`BatchAnswer`), which is a new table or a refusal; a refused batch leaves the table as it is
 abbrev pub batch_outcome : List Row → BatchAnswer → Outcome
 batch_outcome t (batch_refused index r) = record { reply = BatchRefused index r; table = t }
 batch_outcome t (batch_done d u) = record { reply = Dones d; table = u }
 
--- the outcome of a guarded batch: if the number of changes n is the one that the call expects (true), that of the batch; otherwise
--- the reply is stale with n, whatever the edits are, and the table is unchanged
+-- the outcome of a guarded batch. If the first argument is true (the batch's `seen` is n, the number of changes so far), it is the outcome of the batch without the guard.
+-- Otherwise the reply is stale with n, whatever the edits are, and the table is unchanged
 abbrev pub guarded_outcome : Bool → List Row → ℕ → BatchAnswer → Outcome
 guarded_outcome true t n a = batch_outcome t a
 guarded_outcome false t n a = record { reply = Stale n; table = t }
@@ -66,11 +66,11 @@ pub record Counted : Type 0 where
   pub table : List Row
   pub count : ℕ
 
--- the table before the first call, with no changes
+-- the table before the first call: the number of changes is 0
 abbrev pub untouched : List Row → Counted
 untouched t = record { table = t; count = 0 }
 
--- the table t, with the number of changes in the history h
+-- the table t, together with the number of changes in the history h
 abbrev pub behind : List Row → List EntryData → Counted
 behind t h = record { table = t; count = changes h }
 
@@ -87,7 +87,7 @@ counted_after s q (e ∷ h) = counted_after s (later s q e) h
 abbrev pub table_after : SettingData → List Row → List EntryData → List Row
 table_after s t h = (counted_after s (untouched t) h).table
 
--- a history that begins with this table and number of changes is legal: each entry's reply is the reply to its call on the table, and after the changes, at that point
+-- a history that begins with this table and number of changes is legal: each entry's reply is the one that `call_outcome` gives for its call on the table and the number of changes after the earlier entries
 unfoldable pub IsLegalBehind : SettingData → Counted → List EntryData → Type 0
 IsLegalBehind s q [] = Unit {0}
 IsLegalBehind s q (e ∷ h) = (e.reply ≡ (call_outcome s q.table q.count e.call).reply) × IsLegalBehind s (later s q e) h
@@ -104,11 +104,11 @@ AnsweredData = Slip
 abbrev pub of_operator : ℕ → List EntryData → List AnsweredData
 of_operator k h = map (λ (e : EntryData). record { call = e.call; reply = e.reply }) (filter (λ (e : EntryData). e.operator == k) h)
 
--- the entry that results if operator k makes the call now
+-- the entry that results if operator k makes the call c on the table and with the number of changes of q
 abbrev pub entry_on : SettingData → Counted → ℕ → Call → EntryData
 entry_on s q k c = record { operator = k; call = c; reply = (call_outcome s q.table q.count c).reply }
 
--- the entries that result if operator k makes these calls one after the other
+-- the entries that result if operator k makes these calls one after the other, beginning with the table and the number of changes of q
 unfoldable pub turn : SettingData → Counted → ℕ → List Call → List EntryData
 turn s q k [] = []
 turn s q k (c ∷ cs) = entry_on s q k c ∷ turn s (later s q (entry_on s q k c)) k cs

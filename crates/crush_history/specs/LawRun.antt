@@ -1,4 +1,4 @@
--- The laws of runs: if a table is lawful and the setting fits it (`Keeps`), so it is after a call, a history, or scripts that run one after the other; and the table stays the same as long as nothing is reported as a change.
+-- The laws of runs. If a table is lawful and the setting fits it (`Keeps`), then both are still true after a call, after a history, and after scripts that run one after the other. The table stays the same as long as no reply reports a change.
 use Rattle.std.specs.Prelude.{◌≡◌, ℕ, ◌++◌, List, All, false}
 use Rattle.crush_model.specs.Table.{Row}
 use Rattle.crush_edits.specs.Setting.{SettingData}
@@ -8,21 +8,21 @@ use Rattle.crush_history.specs.declared.call.Call.TheVariants.{One, Batch, Guard
 use Rattle.crush_history.specs.Script.{ScriptData}
 use Rattle.crush_history.specs.History.{EntryData, call_outcome, is_change, changes, table_after, IsLegal, turns}
 
--- each edit of the call has its form, which the types of the code guarantee
+-- each edit of the call has the form that `IsEdit` requires; the types of the code guarantee this
 abbrev pub IsCall : Call → Type 0
 IsCall (One e) = IsEdit e
 IsCall (Batch es) = All IsEdit es
 IsCall (Guarded seen es) = All IsEdit es
 
--- A CALL leaves such a table such a table, whatever the reply is
+-- A CALL: if a table is lawful and the setting fits it, this is still so after a call, whatever the reply is
 abbrev pub CallKeeps : Type 0
 CallKeeps = (s : SettingData) (t : List Row) (n : ℕ) (c : Call) → Keeps s t → IsCall c → Keeps s (call_outcome s t n c).table
 
--- A HISTORY leaves such a table such a table
+-- A HISTORY: if a table is lawful and the setting fits it, this is still so after a history
 abbrev pub HistoryKeeps : Type 0
 HistoryKeeps = (s : SettingData) (t : List Row) (h : List EntryData) → Keeps s t → All (λ (e : EntryData). IsCall e.call) h → Keeps s (table_after s t h)
 
--- SCRIPTS that run one after the other leave such a table such a table
+-- SCRIPTS: if a table is lawful and the setting fits it, this is still so after scripts that run one after the other
 abbrev pub TurnsKeep : Type 0
 TurnsKeep = (s : SettingData) (t : List Row) (scripts : List ScriptData) → Keeps s t → All (λ (x : ScriptData). All IsCall x.calls) scripts → Keeps s (table_after s t (turns s t scripts))
 

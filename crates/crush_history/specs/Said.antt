@@ -1,4 +1,4 @@
--- The edits that a command can say.
+-- Which edits the commands of a script can express.
 use Rattle.std.specs.Prelude.{◌≡◌, ℕ, ◌<◌, ◌^◌, ◌==◌, Bool, not, ◌&&◌, ◌||◌, List, length, take, drop, slice_index, codes, bytes_eq, Option, Some, None, if◌then◌else◌}
 use Rattle.std.specs.Str.Parse.{digits_value}
 use Rattle.crush_units.specs.Name.{IsName}
@@ -19,14 +19,14 @@ device_named name =
     if bytes_eq (take 4 name) (codes "osd.") && is_plain (drop 4 name) then device_from (digits_value 10 (drop 4 name))
     else None
 
--- what a command can say to place a device: its name n is `osd.N` with the id d as N, its weight w is below 2^32, and l is a location
+-- a command can express that a device is placed: its name n is `osd.N`, where N is its id d; its weight w is below 2^32; and l has the form of a location
 pub record IsSaidPlacing (d : ℕ) (n : List ℕ) (w : ℕ) (l : List Pair) : Type 0 where
   pub name : IsName n
   pub device : device_named n ≡ Some d
   pub weight : w < 2 ^ 32
   pub at : IsLocation l
 
--- the edits that a command can say: each name is a name, each weight is below 2^32, each location is one, and a device to place is as above
+-- a command can express the edit: each name in it has the form of a name, each weight is below 2^32, each location has the form of a location, and a device that the edit places satisfies `IsSaidPlacing`
 abbrev pub IsSaid : Edit → Type 0
 IsSaid (Insert d n w l) = IsSaidPlacing d n w l
 IsSaid (CreateOrMove d n w l) = IsSaidPlacing d n w l

@@ -1,4 +1,4 @@
--- How a call changes a map, and what the history is of scripts that run one after the other.
+-- How a call changes a map, and what a history of given scripts is.
 use Rattle.std.specs.Prelude.{◌≡◌, ℕ, zero, suc, List, [], ◌∷◌, length, map}
 use Rattle.crush_model.specs.Table.{Row}
 use Rattle.crush_edits.specs.Setting.{SettingData}
@@ -8,7 +8,7 @@ use Rattle.crush_history.specs.declared.call.Reply.{Reply}
 use Rattle.crush_history.specs.Script.{ScriptData, call_count}
 use Rattle.crush_history.specs.History.{call_outcome, EntryData, AnsweredData, IsLegal, of_operator, turns}
 
--- MADE: for each setting and table that the map represents before the call, the reply is that of the table after n changes, and the map represents the same setting and the table after the call
+-- MADE: if the map represents the setting s and the table t before the call, then the reply is the one that `call_outcome` gives on t after n changes, and the map afterwards represents s and the table that `call_outcome` gives
 abbrev pub Makes : ℕ → MapData → MapData → Call → Reply → Type 0
 Makes n old new call reply = (s : SettingData) (t : List Row) → MapStands old s t → (reply ≡ (call_outcome s t n call).reply) × MapStands new s (call_outcome s t n call).table
 
@@ -22,12 +22,12 @@ calls_at (x ∷ xs) (suc k) = calls_at xs k
 abbrev pub calls_of : List AnsweredData → List Call
 calls_of answered = map (λ (a : AnsweredData). a.call) answered
 
--- the history is one of these scripts: it is legal, the calls of operator k are those of script k in order, and it has no other calls
+-- h is a history of these scripts: it is legal, the calls of operator k in it are those of script k in the same order, and it has no other calls
 pub record IsHistoryOf (s : SettingData) (t : List Row) (scripts : List ScriptData) (h : List EntryData) : Type 0 where
   pub legal : IsLegal s t h
   pub calls : (k : ℕ) → calls_of (of_operator k h) ≡ calls_at scripts k
   pub length : length h ≡ call_count scripts
 
--- scripts that run one after the other give such a history
+-- scripts that run one after the other have such a history
 abbrev pub TurnsAreHistory : Type 0
 TurnsAreHistory = (s : SettingData) (t : List Row) (scripts : List ScriptData) → IsHistoryOf s t scripts (turns s t scripts)

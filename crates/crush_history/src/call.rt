@@ -31,33 +31,35 @@ impl Model for Edits {
 pub enum Call {
     /// One edit.
     One(Edit),
-    /// A batch: each edit applies to the map that the edits before it made. Either all edits are
-    /// made or none is.
+    /// A batch. Each edit is applied to the result of the edits before it in the batch. Either all
+    /// edits of the batch are applied, or none is.
     Batch(Edits),
-    /// A batch that is applied only if the history has exactly `seen` changes when the call is
-    /// made. Otherwise the reply is [`Reply::Stale`].
+    /// A guarded batch. It is applied only if, when the call is made, exactly `seen` calls of the
+    /// history have changed the map. Otherwise the reply is [`Reply::Stale`].
     Guarded { seen: u32, edits: Edits },
 }
 
 /// The result of a call. Only a call with the reply `Done` or `Dones` can have changed the map.
 #[derive(Clone, Copy, Debug, PartialEq, Eq)]
 pub enum Reply {
-    /// The edit was made.
+    /// The edit was applied.
     Done(Done),
-    /// All edits of the batch were made.
+    /// All edits of the batch were applied.
     Dones(Dones),
     /// The edit was refused.
     Refused(Refusal),
-    /// An edit of the batch was refused, so none was made. Has the index, from 0, of the first
-    /// refused edit, and its refusal.
+    /// An edit of the batch was refused, so no edit of the batch was applied. The first value is
+    /// the index of the first refused edit, from 0. The second value says why this edit was
+    /// refused.
     BatchRefused(u32, Refusal),
-    /// The guarded batch wasn't made, because the history has this number of changes, which isn't
-    /// the number that the call expects.
+    /// The guarded batch wasn't applied, because its `seen` isn't the number of changes in the
+    /// history. The value is the number of changes in the history.
     Stale(u32),
 }
 
 impl Edits {
-    /// Returns a batch of these edits, in order. The caller guarantees at most 65,536 edits.
+    /// Returns a batch of the given edits, in the given order. The caller guarantees that there are
+    /// at most 65,536 edits.
     pub fn new(edits: Vec<Edit>) -> Edits
         requires { length edits.items ≤ MOST_EDITS }
         ensures { result ≡ edits.items }
@@ -80,7 +82,7 @@ impl Edits {
         self.edits.len() < MOST_EDITS
     }
 
-    /// Adds an edit after the others.
+    /// Adds an edit at the end of the batch.
     ///
     /// The caller guarantees that the batch has fewer than 65,536 edits. If memory runs out,
     /// returns the edit in the error.
@@ -91,7 +93,7 @@ impl Edits {
         self.edits.push(edit)
     }
 
-    /// Returns a copy of the batch in memory of `alloc`, or an error if memory runs out.
+    /// Returns a copy of the batch, allocated with `alloc`, or an error if memory runs out.
     pub(crate) fn try_copy(&self, alloc: Global) -> Result<Edits, AllocError>
         ensures { IfOk result (λ copy. copy ≡ self.now) }
     {
@@ -101,9 +103,9 @@ impl Edits {
 }
 
 impl Call {
-    /// Returns a copy of the call in memory of `alloc`, or an error if memory runs out.
+    /// Returns a copy of the call, allocated with `alloc`, or an error if memory runs out.
     ///
-    /// An operator lends a call only while it is made; a history keeps a copy.
+    /// An operator owns its call and lends it only while the call runs, so a history keeps a copy.
     pub fn try_copy(&self, alloc: Global) -> Result<Call, AllocError>
         ensures { IfOk result (λ copy. copy ≡ self.now) }
     {
@@ -118,7 +120,7 @@ impl Call {
     }
 }
 
-/// Copies the edits, in order, into memory of `alloc`.
+/// Copies the edits, in order, to a vector that is allocated with `alloc`.
 fn copy_edits(alloc: Global, edits: &[Edit]) -> Result<Vec<Edit>, AllocError>
     ensures { IfOk result (λ copies. copies.items ≡ edits.now) }
 {

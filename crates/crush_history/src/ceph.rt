@@ -1,4 +1,4 @@
-//! An edit as Ceph's command.
+//! Prints an edit as the command of Ceph that makes the same change.
 
 ghost use Rattle.std.specs.Prelude.{◌≡◌, ◌++◌, OnOk, codes, flat_map};
 ghost use Rattle.crush_history.specs.Ceph.{assent, ceph_head, ceph_heading, ceph_line, ceph_words, has_dash, has_dashed_type, is_dashed, name_and_exact};
@@ -10,7 +10,8 @@ use crush_units::{Name, Weight, put_all};
 use itoa::Buffer;
 use std::alloc::{AllocError, Global};
 
-/// The word that Ceph requires to swap buckets that stand apart.
+/// Returns ` --yes-i-really-mean-it` if the edit swaps two buckets: Ceph requires this option if
+/// they have different parents. Returns an empty text for any other edit.
 fn assent(edit: &Edit) -> &'static [u8]
     ensures { result.now ≡ assent edit.now }
 {
@@ -32,7 +33,8 @@ fn has_dashed_type(pairs: &[Pair]) -> bool
     pairs.iter().any(|pair| is_dashed(&pair.kind))
 }
 
-/// Whether the command of an edit has a word that Ceph would read as an option.
+/// Whether the edit's command has, after its first word, a word that begins with `-`. Ceph would
+/// read such a word as an option.
 fn has_dash(edit: &Edit) -> bool
     ensures { result ≡ has_dash edit.now }
 {
@@ -52,7 +54,8 @@ fn has_dash(edit: &Edit) -> bool
     }
 }
 
-/// The words before the command of an edit.
+/// Returns the words that come before the edit's command: `ceph osd crush `, and then `-- ` if
+/// [`has_dash`] is true.
 fn ceph_head(edit: &Edit) -> &'static [u8]
     ensures { result.now ≡ ceph_head edit.now }
 {
@@ -63,8 +66,9 @@ fn ceph_head(edit: &Edit) -> &'static [u8]
     }
 }
 
-/// Appends the words of the command of an edit. They are those of a script, but weights are in exact
-/// form: Ceph rounds a weight down to units, and so reads the same weight.
+/// Appends the words of the edit's command. They are the same as in a script, except that weights
+/// are in exact form, with six decimals. Ceph rounds a weight down to whole units (1/65536), and
+/// reads the same weight from this form.
 fn push_words(edit: &Edit, text: &mut Vec<u8>) -> Result<(), AllocError>
     ensures { OnOk result (text.new.items ≡ text.old.items ++ ceph_words edit.now) }
 {
@@ -107,7 +111,8 @@ fn push_edit(edit: &Edit, text: &mut Vec<u8>) -> Result<(), AllocError>
     write_edit(edit, text).map_err(|_| AllocError)
 }
 
-/// Appends a command that puts a device with a weight at a location.
+/// Appends a command that puts a device at a location: the command's first word, the device's name,
+/// its weight in exact form, and the pairs of the location.
 fn push_placing(
     first: &[u8],
     name: &Name<Global>,
@@ -160,11 +165,11 @@ fn push_end(edit: &Edit, text: &mut Vec<u8>) -> Result<(), AllocError>
     text.extend_from_slice(b"\n")
 }
 
-/// Appends an edit as a line for a shell: `ceph osd crush`, its command, and for a swap
-/// `--yes-i-really-mean-it`. Weights are in exact form, with six decimals.
+/// Appends an edit as a line for a shell: `ceph osd crush`, the edit's command, and, if the edit
+/// swaps two buckets, `--yes-i-really-mean-it`. Weights are in exact form, with six decimals.
 ///
-/// If a word of the command begins with `-`, `--` comes before the command, so that Ceph doesn't
-/// read this word as an option. Ceph refuses a word that begins with two dashes.
+/// If a word of the command begins with `-`, the line has `--` before the command, so that Ceph
+/// doesn't read this word as an option. Ceph refuses a word that begins with two dashes.
 pub fn push_ceph_line(edit: &Edit, text: &mut Vec<u8>) -> Result<(), AllocError>
     ensures { OnOk result (text.new.items ≡ text.old.items ++ ceph_line edit.now) }
 {
@@ -180,7 +185,7 @@ fn push_all(parts: &[&[u8]], text: &mut Vec<u8>) -> Result<(), AllocError>
     put_all(text, parts).map_err(|_| AllocError)
 }
 
-/// How many commands there are: `# N commands`.
+/// Appends the line that says how many commands there are: `# N commands`.
 #[tactic(auto, unfolding(crate::specs::Ceph::ceph_heading))]
 pub fn push_ceph_heading(count: u64, text: &mut Vec<u8>) -> Result<(), AllocError>
     ensures { OnOk result (text.new.items ≡ text.old.items ++ ceph_heading count) }

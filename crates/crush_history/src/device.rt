@@ -1,4 +1,4 @@
-//! The names of devices that a command can say: `osd.N`.
+//! Reads a device's id N from a name of the form `osd.N`.
 
 ghost use Rattle.std.specs.Prelude.{◌≡◌, ◌==◌, ◌||◌, not, length, slice_index};
 ghost use Rattle.crush_history.specs.Said.{device_named};
@@ -7,14 +7,16 @@ use crush_units::DeviceId;
 use crush_units::limits::LAST_DEVICE_ID;
 use crush_units::number::number_up_to;
 
-/// Whether a number is written without a leading zero that could be left out.
+/// Whether a number is written without superfluous leading zeros: it has only one digit, or its
+/// first digit isn't 0.
 fn begins_plain(digits: &[u8]) -> bool
     ensures { result ≡ (length digits.now == 1 || not (slice_index digits.now 0 == 48)) }
 {
     !matches!(digits, [b'0', _, ..])
 }
 
-/// Returns the id N of a device whose name is `osd.N`; returns `None` if the name hasn't this form.
+/// Returns the id N of a device whose name is `osd.N`, or `None` if the name doesn't have this
+/// form.
 ///
 /// N has no superfluous leading zeros, and is at most 2147483647.
 pub fn device_named(name: &[u8]) -> Option<DeviceId>

@@ -16,9 +16,8 @@ pub struct Entry {
     pub reply: Reply,
 }
 
-/// A call and its reply, as the operator that made the call keeps them.
-///
-/// It is an entry without the operator's index.
+/// A call and its reply, as the operator that made the call stores them: an [`Entry`] without the
+/// operator's index.
 #[derive(Debug, Drop)]
 pub struct Slip {
     /// The call that the operator made.
@@ -27,8 +26,8 @@ pub struct Slip {
     pub reply: Reply,
 }
 
-/// Whether the reply says that the call changed the map: its edit did, or at least one edit of its
-/// batch.
+/// Whether the reply says that the call changed the map: its edit changed the map, or at least one
+/// edit of its batch did.
 pub fn is_change(reply: Reply) -> bool
     ensures { result ≡ is_change reply }
 {

@@ -113,7 +113,7 @@ fn write_refused<W: Write>(refusal: Refusal, out: &mut W) -> Result<(), WriteFau
     write_refusal(refusal, out)
 }
 
-/// Writes where a batch was refused: ` = refused at INDEX `.
+/// Writes the index of the edit at which a batch was refused, as ` = refused at INDEX `.
 fn write_refused_at<W: Write>(index: u32, out: &mut W) -> Result<(), WriteFault>
     ensures writes { Writes result (W.contents out.old) (W.contents out.new)
         (refused_at_text index) }
@@ -203,10 +203,11 @@ pub fn operator_name(scripts: &[Script], operator: usize) -> &[u8]
 
 /// Returns the text of a history, with one line for each entry, as [`write_entry`] writes it.
 ///
-/// Lines are numbered from 1. An entry's operator is an index in `scripts`, whose script gives the
-/// operator's name; the caller guarantees that each is in range, and fewer than 2^32 entries. The
-/// text is returned as a whole, so that memory can only run out before anything is written. Returns
-/// an error if memory runs out.
+/// Lines are numbered from 1. The field `operator` of an entry is an index in `scripts`: the script
+/// with this index has the operator's name. The caller guarantees that each index is in range, and
+/// that there are fewer than 2^32 entries. The caller gets the whole text before it writes any
+/// part, so memory can only run out before anything is written. Returns an error if memory runs
+/// out.
 pub fn history_text(
     alloc: Global,
     scripts: &[Script],

@@ -1,4 +1,4 @@
-//! Calls on a map, their replies, and the history of both.
+//! Calls on a map, the replies to them, and the history of calls and replies.
 //!
 //! A [`Call`] is one edit or one batch that an operator sends, a [`Reply`] is its result, and an
 //! [`Entry`] of a history has both. [`make_call`] makes one call on a map, and [`history_text`]

@@ -9,7 +9,8 @@ use crush_edits::{BatchFault, Edit, EditFault};
 use crush_map::CrushMap;
 use std::alloc::{AllocError, Allocator};
 
-/// Applies one edit; a refusal is a reply, and running out of memory is an error.
+/// Applies one edit. If the edit is refused, the reply says so. If memory runs out, returns an
+/// error.
 fn make_edit<A: Allocator + Clone>(map: &mut CrushMap<A>, edit: &Edit) -> Result<Reply, AllocError>
     ensures made { IfOk result (λ reply. (n : ℕ)
         → Makes n map.old map.new (Call.One edit.now) reply) }
@@ -22,7 +23,8 @@ fn make_edit<A: Allocator + Clone>(map: &mut CrushMap<A>, edit: &Edit) -> Result
     }
 }
 
-/// Applies a batch of edits; a refusal is a reply, and running out of memory is an error.
+/// Applies a batch of edits. If an edit is refused, the reply says so. If memory runs out, returns
+/// an error.
 fn make_batch<A: Allocator + Clone>(
     map: &mut CrushMap<A>,
     edits: &[Edit],
@@ -39,7 +41,8 @@ fn make_batch<A: Allocator + Clone>(
     }
 }
 
-/// Applies a batch if the number of changes so far, `count`, is `seen`; otherwise it is stale.
+/// Applies a batch if `count`, which is the number of changes so far, equals `seen`. Otherwise the
+/// reply is [`Reply::Stale`].
 fn make_guarded<A: Allocator + Clone>(
     map: &mut CrushMap<A>,
     count: u32,
@@ -58,9 +61,10 @@ fn make_guarded<A: Allocator + Clone>(
 
 /// Makes one call on a map, and returns its reply.
 ///
-/// `count` is the number of changes in the history so far, which a guarded batch is compared with.
-/// If the reply is a refusal or stale, the map represents the same tables as before. Returns an
-/// error only if memory runs out; then the map is unchanged.
+/// `count` is the number of changes in the history so far. A guarded batch is applied only if its
+/// `seen` is this number. If the reply is a refusal or [`Reply::Stale`], the map represents the
+/// same tables of the model as before, so its contents haven't changed. Returns an error only if
+/// memory runs out; then the map is unchanged.
 pub fn make_call<A: Allocator + Clone>(
     map: &mut CrushMap<A>,
     count: u32,

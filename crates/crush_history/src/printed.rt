@@ -1,4 +1,4 @@
-//! Printing a call as the commands that a script would have for it.
+//! Prints a call as the commands that a script would have for it.
 
 ghost use Rattle.std.specs.Prelude.{◌≡◌, ◌++◌, codes, IfErr};
 ghost use Rattle.crush_units.specs.Writes.{Writes};
@@ -101,7 +101,8 @@ pub(crate) fn write_pairs<W: Write>(pairs: &[Pair], out: &mut W) -> Result<(), W
     Ok(())
 }
 
-/// Writes a command that puts a device with a weight at a location.
+/// Writes a command that puts a device at a location: the command's first word, the device's name,
+/// its weight with five decimals, and the pairs of the location.
 fn write_placing<W: Write>(
     first: &[u8],
     name: &Name<Global>,
@@ -167,7 +168,7 @@ pub fn write_edit<W: Write>(edit: &Edit, out: &mut W) -> Result<(), WriteFault>
     }
 }
 
-/// Writes one edit of a batch and the separator after it.
+/// Writes one edit of a batch, and ` ; ` after it.
 fn write_edit_of_batch<W: Write>(edit: &Edit, out: &mut W) -> Result<(), WriteFault>
     ensures writes { Writes result (W.contents out.old) (W.contents out.new)
         (edit_text edit.now ++ codes " ; ") }
@@ -188,7 +189,7 @@ fn write_edits<W: Write>(edits: &[Edit], out: &mut W) -> Result<(), WriteFault>
     Ok(())
 }
 
-/// Writes what follows the `begin` of a batch: its edits and `commit`.
+/// Writes what follows `begin ; ` in a batch: its edits and `commit`.
 fn write_rest<W: Write>(edits: &[Edit], out: &mut W) -> Result<(), WriteFault>
     ensures writes { Writes result (W.contents out.old) (W.contents out.new)
         (rest_text edits.now) }
@@ -226,7 +227,7 @@ fn write_guarded<W: Write>(seen: u32, edits: &[Edit], out: &mut W) -> Result<(),
     write_rest(edits, out)
 }
 
-/// Writes a call on one line; a batch is `begin ; EDIT ; .. ; commit`.
+/// Writes a call on one line. A batch is written as `begin ; EDIT ; .. ; commit`.
 pub(crate) fn write_call<W: Write>(call: &Call, out: &mut W) -> Result<(), WriteFault>
     ensures writes { Writes result (W.contents out.old) (W.contents out.new) (call_text call.now) }
     ensures fault { IfErr result (λ fault. fault ≡ WriteFault.Write) }

@@ -57,9 +57,9 @@ fn push_refused(
 
 /// Returns the lines of the entries that were refused or stale, numbered as in the whole history.
 ///
-/// The lines have the form that [`write_entry`] writes. An entry's operator is an index in
-/// `scripts`; the caller guarantees that each is in range, and fewer than 2^32 entries. Returns an
-/// error if memory runs out.
+/// The lines have the form that [`write_entry`] writes. The field `operator` of an entry is an
+/// index in `scripts`. The caller guarantees that each index is in range, and that there are fewer
+/// than 2^32 entries. Returns an error if memory runs out.
 pub fn refused_text(
     alloc: Global,
     scripts: &[Script],

@@ -43,7 +43,7 @@ hidden_use true false = refl
 hidden_use false true = refl
 hidden_use false false = refl
 
--- ROWS SIDE BY SIDE
+-- THE ROWS OF TWO LISTS
 some_of : {X : Type 0} (o p : Option X) → is_some (if is_some o then o else p) ≡ (is_some o || is_some p)
 some_of None p = refl
 some_of (Some x) p = refl
@@ -119,7 +119,7 @@ same_but-left a b s u e = without_rows-append a b u ∙ ap (without_rows b) e �
 pub same_but-right : (a b : List Row) (s u : Answers) → SameBut b s u → SameBut (a ++ b) s u
 same_but-right a b s u e = without_rows-append a b u ∙ turned b a u ∙ ap (without_rows a) e ∙ turned a b s ∙ sym (without_rows-append a b s)
 
--- answers that change as by one row are those after the row was added
+-- if answers change as they do for one row, they are the answers after the row was added
 pub came : (r : Row) (s u : Answers) → ((n : List ℕ) → u.names n ≡ (if bytes_eq r.name n then Some r.id else s.names n)) → ((i : ItemId) → u.places i ≡ (if same_id r.id i then Some (place_under (is_device r) r.parent) else s.places i))
     → ((k : ℕ) → u.used k ≡ (s.used k || member k (uses r))) → u ≡ with_row r s
 came r s u names places used = tells u (with_row r s) names places used
@@ -146,7 +146,7 @@ same_but_one r s u names places used = without_one r u ∙ tells (without_row r 
 pub hidden_one : {X : Type 0} (b : Bool) (o v w : Option X) → w ≡ (if b then o else v) → (if b then None else w) ≡ (if b then None else v)
 hidden_one b o v w e = ap (λ z. if b then None else z) e ∙ hidden b None v o
 
--- what holds always also holds after an error, and on success
+-- what is always true is also true after an error, and on success
 pub on_err : {T E P : Type 0} (r : Result T E) → P → OnErr r P
 on_err (Ok x) p = tt
 on_err (Err e) p = p

@@ -1,4 +1,4 @@
--- What a chain answers for each key after one key got another value, and after one was removed.
+-- What a chain answers for each key after one key got another value, and after one key was removed.
 use Rattle.std.proofs.Common.{◌≡◌, Bool, true, false, sym, ◌∙◌, refl, true≢false}
 use Rattle.std.specs.Prelude.{if◌then◌else◌, Option, Some, None}
 use Rattle.std.specs.Cmp.{IsEquivalence}
@@ -11,7 +11,7 @@ answer_if : {K V : Type 0} (test : K → Bool) (x : Bool) (p q : Chain K V) → 
 answer_if test true p q = refl
 answer_if test false p q = refl
 
--- the answer for a key after another was removed: whether the first link has the removed key (x) or the key asked for (y), and whether these are the same key (z)
+-- the answer for a key after another key was removed. x: whether the first link has the removed key; y: whether it has the requested key; z: whether these keys are the same
 without_link : {V : Type 0} (x y z : Bool) → (x ≡ true → z ≡ y) → (y ≡ true → z ≡ x) → (m r : Option V) (v : V) → m ≡ (if z then None else r)
     → (if x then m else (if y then Some v else m)) ≡ (if z then None else (if y then Some v else r))
 without_link true y true first second m r v e = e

@@ -26,7 +26,7 @@ module _ {A : _} (own : ℕ) (cs : List (ShadowId A)) (i : ℕ) where
   abbrev taken : List ℕ
   taken = own ∷ shadow_numbers (take i cs)
 
-  -- after the next class id
+  -- the answers after the next class id
   module _ (x : ShadowId A) (id : ℕ) (lt : i < length cs) (at : x ≡ get_or cs i x) (is : id ≡ x.id) where
     abbrev more : List ℕ
     more = own ∷ shadow_numbers (take (i + 1) cs)
@@ -55,7 +55,7 @@ module _ {A : _} (own : ℕ) (cs : List (ShadowId A)) (i : ℕ) where
     one_more_free old now new before one k =
         one k ∙ ap (λ b. if id == k then false else b) (before k) ∙ sym (either_then (member k taken) (id == k) false (used_answer old k)) ∙ ap (λ b. if b then false else used_answer old k) (sym (member_more k))
 
-  -- after a class id that wasn't inserted
+  -- the answers after a class id couldn't be inserted
   hidden_part : (o m r : Bool) → (if (m || r) then false else (o || m)) ≡ (if (m || r) then false else o)
   hidden_part true true r = refl
   hidden_part true false r = refl

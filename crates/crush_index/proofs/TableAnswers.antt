@@ -30,7 +30,7 @@ use Rattle.crush_index.specs.IndexAnswers.{IsIndexOf, Answers, answers, with_row
 use Rattle.crush_index.proofs.PlaceColumn.{place_in-last}
 use Rattle.crush_index.proofs.AnswersLaws.{tells, is_named-append, is_there-append}
 
--- the answers of an index of the table
+-- the answers that an index of the table gives
 abbrev pub answer_of : List Row → Answers
 answer_of t = record { names = λ n. id_named t n; places = λ i. place_in t i; used = λ k. member k (used_ids t) }
 
@@ -44,7 +44,7 @@ is_index t index e = record {
   used = λ k j. (e j).used k;
 }
 
--- WHAT STANDS IN ONE OF TWO TABLES
+-- WHAT IS IN ONE OF TWO TABLES
 named_alone : (b : Bool) (r : Row) → is_some (option_map (λ (x : Row). x.id) (if b then Some r else None)) ≡ b
 named_alone true r = refl
 named_alone false r = refl
@@ -117,7 +117,7 @@ module _ (t u : List Row) (l : Lawful (t ++ u)) where
       (λ i. gone_if (is_there u i) None (place_in t i) (λ h. ap (option_map (λ (r : Row). place_under (is_device r) r.parent)) (no_row (row_of t i) (ids_apart i h))))
       (λ k. gone_if (member k (used_ids u)) false (member k (used_ids t)) (used_apart k))
 
--- ROWS THAT COME LAST
+-- ROWS THAT ARE APPENDED
 one_more : (t : List Row) (r : Row) → is_named t r.name ≡ false → is_there t r.id ≡ false → with_row r (answer_of t) ≡ answer_of (t ++ r ∷ [])
 one_more t r name id = tells (with_row r (answer_of t)) (answer_of (t ++ r ∷ [])) (λ n. sym (id_named-last t r n name)) (λ i. sym (place_in-last t r id i)) (λ k. sym (used-last t r k))
 
@@ -133,7 +133,7 @@ with_answer t (r ∷ u) ids names =
     omega (arith, ids r.id, times-append r.id t (r ∷ u), is_there-times t r.id both, is_there-times (r ∷ u) r.id here))) in
     ap (with_rows u) (one_more t r name id) ∙ with_answer (t ++ r ∷ []) u (subst Distinct e ids) (subst DistinctNames e names) ∙ ap answer_of (sym e)
 
--- A PART THAT GOES
+-- A PART THAT IS REMOVED
 swapped : (a b c : Bool) → (a || (b || c)) ≡ (b || (a || c))
 swapped true true c = refl
 swapped true false c = refl

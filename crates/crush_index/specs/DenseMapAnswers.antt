@@ -1,4 +1,4 @@
--- What a map of numbers answers, in which most numbers are near to 0.
+-- Which value a DenseMap has for a number. Most of its numbers are near to 0.
 use Rattle.std.specs.Prelude.{◌≡◌, ℕ, List, Option, None, if◌then◌else◌, nat_eq, get_or}
 use Rattle.std.specs.Option.{option_or}
 use Rattle.indexmap.specs.IndexMap.{IndexMap, get, hasher_of}
@@ -7,11 +7,11 @@ use Rattle.crush_index.specs.declared.chain.Chain.{Chain}
 use Rattle.crush_index.specs.declared.hashing.Hashing.{Hashing}
 use Rattle.crush_index.specs.declared.dense_map.DenseMap.{DenseMap}
 
--- the entry of a number in the vector; past the last one there is none
+-- the entry of a number in the vector, or None if the vector has no entry with this index
 abbrev pub entry_at : {T : Type 0} → List (Option T) → ℕ → Option T
 entry_at entries n = get_or entries n None
 
--- the value of a number in the hash map, or, if there is none, the value in the chain
+-- the value that a number has in the hash map, or, if the hash map doesn't have the number, its value in the chain
 abbrev pub sparse_at : {T S : Type 0} → IndexMap ℕ T S → Chain ℕ T → ℕ → Option T
 sparse_at sparse overflow n = option_or (get nat_eq sparse n) (chain_answer (nat_eq n) overflow)
 
@@ -23,7 +23,7 @@ answer_at dense_map n = option_or (entry_at dense_map.dense.items n) (sparse_at 
 abbrev pub DenseMapSame : {T : Type 0} → DenseMap T → DenseMap T → Type 0
 DenseMapSame old new = (n : ℕ) → answer_at new n ≡ answer_at old n
 
--- one number has the value o, or none, and each other number has the same value as before
+-- one number has the value that the option o gives, or no value if o is None; each other number has the same value as before
 abbrev pub DenseMapWith : {T : Type 0} → DenseMap T → DenseMap T → ℕ → Option T → Type 0
 DenseMapWith old new number o = (n : ℕ) → answer_at new n ≡ (if nat_eq number n then o else answer_at old n)
 

@@ -1,9 +1,9 @@
--- How calls change a map of numbers: old is the map before a call, new the one after it.
+-- How calls change a DenseMap: `old` is the map before a call, and `new` the map after it.
 use Rattle.std.specs.Prelude.{◌≡◌, ℕ, Some, Result, OnOk, OnErr}
 use Rattle.crush_index.specs.DenseMapAnswers.{DenseMapSame, DenseMapWith, numbered_hashing}
 use Rattle.crush_index.specs.declared.dense_map.DenseMap.{DenseMap}
 
--- on success the number has this value, and each other number the same as before; after an error each number has the same value as before; the hashing is the same in both cases
+-- if the call succeeds, the number has this value, and each other number has the same value as before; if the call fails, each number has the same value as before. In both cases the hashing is the same as before
 pub record Inserts {T X E : Type 0} (number : ℕ) (value : T) (old new : DenseMap T) (answer : Result X E) : Type 0 where
   pub ok : OnOk answer (DenseMapWith old new number (Some value))
   pub err : OnErr answer (DenseMapSame old new)

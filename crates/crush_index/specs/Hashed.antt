@@ -5,7 +5,7 @@ use Rattle.std.specs.Hash.DefaultHasher as sip
 use Rattle.std.specs.declared.hash.DefaultHasher.{DefaultHasher}
 use Rattle.std.specs.declared.hash.RandomState.{RandomState}
 
--- the state in which a hasher begins: that of SipHash without keys, or with these keys
+-- the state in which a hasher begins: the first state of SipHash with these keys, or without keys if none are given
 abbrev pub first_state : Option RandomState → DefaultHasher
 first_state None = sip.initial
 first_state (Some keys) = initial_hasher keys

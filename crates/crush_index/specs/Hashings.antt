@@ -1,4 +1,4 @@
--- How an index hashes: each of its tables keeps the hashing with which it was created.
+-- How an index hashes. Each table of an index keeps the hashing with which the table was created.
 use Rattle.std.specs.Prelude.{◌≡◌}
 use Rattle.indexmap.specs.IndexSet.{hasher_of as set_hasher_of}
 use Rattle.crush_index.specs.DenseMapAnswers.{numbered_hashing}
@@ -17,7 +17,7 @@ names_hashing names = names.hashing
 abbrev pub used_hashing : UsedIds → Hashing
 used_hashing used = set_hasher_of used.sparse
 
--- the hashings of the places: one for the numbers of devices, and those for buckets
+-- the hashings of the tables of places: one for the numbers of devices, and two for buckets
 pub record PlacesHashings : Type 0 where
   pub devices : Hashing
   pub buckets : SlotsHashings

@@ -1,4 +1,4 @@
--- What an index answers, and when these are the answers of a table.
+-- What an index answers, and when its answers are right for a table.
 use Rattle.std.specs.Prelude.{ℕ, List, [], ◌∷◌, Option, Some, None, Bool, false, ◌||◌, if◌then◌else◌, bytes_eq}
 use Rattle.crush_units.specs.declared.id.ItemId.{ItemId}
 use Rattle.crush_units.specs.Id.{same_id}
@@ -15,7 +15,7 @@ use Rattle.crush_index.specs.PlacesAnswers.{place_answer, ArePlacesOf}
 use Rattle.crush_index.specs.UsedLaw.{uses}
 use Rattle.crush_index.specs.UsedAnswers.{used_answer, AreUsedIn}
 
--- INDEX OF A TABLE: the index answers as the table says: which id each name has, where each item is, and which ids are used
+-- INDEX OF A TABLE: all answers of the index are right for the table: the id of each name, the place of each item, and which ids are used
 pub record IsIndexOf (t : List Row) (index : Index) : Type 0 where
   pub names : AreNamesOf t index.names
   pub places : ArePlacesOf t index.places
@@ -31,7 +31,7 @@ pub record Answers : Type 0 where
 abbrev pub answers : Index → Answers
 answers index = record { names = id_answer index.names; places = place_answer index.places; used = used_answer index.used }
 
--- the answers after a row was added: its name has its id, its item has the place below its parent, and its ids are used
+-- the answers after the row r was added: the name of r has the id of r, the item of r has the place that the parent of r gives, and all ids of r are used
 abbrev pub with_row : Row → Answers → Answers
 with_row r s = record {
   names = λ n. if bytes_eq r.name n then Some r.id else s.names n;
@@ -39,12 +39,12 @@ with_row r s = record {
   used = λ k. s.used k || member k (uses r);
 }
 
--- the answers after several rows were added, the first one first
+-- the answers after several rows were added, in their order
 abbrev pub with_rows : List Row → Answers → Answers
 with_rows [] s = s
 with_rows (r ∷ t) s = with_rows t (with_row r s)
 
--- the answers after all names and ids of these rows were removed: the names have no id, the items no place, and the ids are free
+-- the answers after all names and ids of these rows were removed: the names have no id, the items have no place, and the ids are free
 abbrev pub without_rows : List Row → Answers → Answers
 without_rows t s = record {
   names = λ n. if is_named t n then None else s.names n;
@@ -60,7 +60,7 @@ with_name name i s = record s { names = λ n. if bytes_eq name n then Some i els
 abbrev pub without_name : List ℕ → Answers → Answers
 without_name name s = record s { names = λ n. if bytes_eq name n then None else s.names n }
 
--- the row of a node below this parent, or below none, without the rows of the items below the node
+-- the row of the node itself, with this parent or with no parent; the rows of the items below the node aren't included
 abbrev pub own_row : {A : _} → Option ℕ → Node A → Row
 own_row p (Device l) = device_row p (leaf_data l)
 own_row p (Bucket b) = bucket_row p b.value.header

@@ -1,4 +1,4 @@
--- How calls change an index: old is the index before a call, new the one after it. The hashings never change.
+-- How calls change an index: `old` is the index before a call, and `new` the index after it. The hashings never change.
 use Rattle.std.specs.Prelude.{◌≡◌, ℕ, List, [], ◌∷◌, Result, OnOk, OnErr}
 use Rattle.crush_units.specs.declared.id.ItemId.{ItemId}
 use Rattle.crush_model.specs.Items.{Items}
@@ -9,19 +9,19 @@ use Rattle.crush_index.specs.IndexLaw.{StaysIndex, TakesRows, LosesPart, LosesRo
 use Rattle.crush_index.specs.IndexAnswers.{answers, with_name, with_row, without_name, without_rows}
 use Rattle.crush_index.specs.declared.index.Index.{Index}
 
--- on success the items were added as the last ones of the place (TakesRows); after an error the index is still the index of each table to which they could have been added (StaysIndex)
+-- if the call succeeds, the items were added as the last items of the place (TakesRows); if it fails, the index is still an index of each table to which the items could have been added (StaysIndex)
 pub record Inserts {X E : Type 0} (place : Place) (n : Items) (old new : Index) (answer : Result X E) : Type 0 where
   pub ok : OnOk answer (TakesRows place n old new)
   pub err : OnErr answer (StaysIndex place n old new)
   pub hashing : hashings new ≡ hashings old
 
--- the items were removed, whether they were a part of the table (LosesPart) or had been added last (LosesRows)
+-- the items were removed; this holds both if they were an item of the table with everything below it (LosesPart), and if their rows were the last of the table (LosesRows)
 pub record Removes (n : Items) (old new : Index) : Type 0 where
   pub part : LosesPart n old new
   pub rows : LosesRows n old new
   pub hashing : hashings new ≡ hashings old
 
--- on success the name has the id i, and all other answers are as before; after an error all answers are as before
+-- if the call succeeds, the name has the id i, and all other answers are as before; if it fails, all answers are as before
 pub record AddsName {X E : Type 0} (name : List ℕ) (i : ItemId) (old new : Index) (answer : Result X E) : Type 0 where
   pub ok : OnOk answer (answers new ≡ with_name name i (answers old))
   pub err : OnErr answer (answers new ≡ answers old)
@@ -32,7 +32,7 @@ pub record ForgetsName (name : List ℕ) (old new : Index) : Type 0 where
   pub gone : answers new ≡ without_name name (answers old)
   pub hashing : hashings new ≡ hashings old
 
--- on success the row was added; after an error all answers are as before, except for the row's name and ids, of which nothing is said
+-- if the call succeeds, the row was added; if it fails, all answers are as before, except that the answers for the row's name and ids may be any
 pub record InsertsRow {X E : Type 0} (r : Row) (old new : Index) (answer : Result X E) : Type 0 where
   pub ok : OnOk answer (answers new ≡ with_row r (answers old))
   pub err : OnErr answer (without_rows (r ∷ []) (answers new) ≡ without_rows (r ∷ []) (answers old))

@@ -1,4 +1,4 @@
--- A name as a key of a hash map: with its digest, which alone is hashed.
+-- A name as a key of a hash map. The key has the name and its digest, and the hash map hashes only the digest.
 use Rattle.std.specs.Prelude.{◌≡◌, ℕ, List, [], ◌∷◌, Bool, true, ◌&&◌, ◌==◌, nat_eq, bytes_eq, fold, length, slice_index, if◌then◌else◌}
 use Rattle.std.specs.Cmp.{IsEquivalence}
 use Rattle.std.specs.Cmp.Rules.{comparing}
@@ -18,7 +18,7 @@ digest h name = sip.finish (fold sip.write (first_state h.keys) (at_once name))
 abbrev pub key_of : Hashing → List ℕ → ℕ × List ℕ
 key_of h name = (digest h name, name)
 
--- the key that is looked for: its digest and the borrowed bytes
+-- the key that is looked for: the digest of a name and the borrowed bytes of the name
 abbrev pub lookup_key : LookupKey → ℕ × List ℕ
 lookup_key lookup = (lookup.digest, lookup.bytes.now)
 
@@ -26,7 +26,7 @@ lookup_key lookup = (lookup.digest, lookup.bytes.now)
 abbrev pub same_key : ℕ × List ℕ → ℕ × List ℕ → Bool
 same_key x y = nat_eq x.0 y.0 && bytes_eq x.1 y.1
 
--- this test is an equivalence
+-- the test same_key is an equivalence relation
 pub same_key_equiv : IsEquivalence same_key
 same_key_equiv = Prim.search (comparing, rules)
 
@@ -34,7 +34,7 @@ same_key_equiv = Prim.search (comparing, rules)
 pub same_digests : (x y : ℕ × List ℕ) → same_key x y ≡ true → x.0 ≡ y.0
 same_digests x y e = Prim.search (comparing, rules)
 
--- a hasher of digests to which nothing was written
+-- a hasher of digests before anything is written to it
 abbrev pub nothing_passed : IdentityHasher
 nothing_passed = record { digest = 0 }
 

@@ -1,4 +1,4 @@
--- Which changes of a table need which update of its index of names. In each law old, or names, is the index of the table before the change; new, or the same names, is then the index of the table after it.
+-- How the names in an index have to be updated after a change of the table of rows. In a law with `old` and `new`, the names `old` are right for the table before the change, and the names `new` are right for the table after it. In a law with `names`, no update is needed: the same names are right before and after.
 use Rattle.std.specs.Prelude.{◌≡◌, ℕ, List, [], ◌∷◌, ◌++◌, Some, None, Bool, false, ◌==◌}
 use Rattle.crush_units.specs.declared.id.ItemId.{ItemId}
 use Rattle.crush_units.specs.declared.id.ItemId.TheVariants.{Bucket}
@@ -9,7 +9,7 @@ use Rattle.crush_model.specs.Columns.{set_weights, set_name, without_row, exchan
 use Rattle.crush_index.specs.declared.names.Names.{Names}
 use Rattle.crush_index.specs.NamesAnswers.{AreNamesOf, AnswersOne, AnswersTwo}
 
--- the names of a lawful table are those of each table with the same rows and the same items of each bucket in order
+-- names that are right for a lawful table are right for each table that has the same rows, and in which each bucket has the same items in the same order
 abbrev pub NamesOfSame : Type 0
 NamesOfSame =
     (names : Names) (t u : List Row) → Lawful t → Same t u → AreNamesOf t names → AreNamesOf u names
@@ -19,7 +19,7 @@ abbrev pub NamesOfWeights : Type 0
 NamesOfWeights =
     (names : Names) (t : List Row) (which : Row → Bool) (w : ℕ) → AreNamesOf t names → AreNamesOf (set_weights which w t) names
 
--- an exchange of the items of two buckets alone needs no update
+-- an exchange of the items of two buckets, without their names, needs no update
 abbrev pub NamesOfParents : Type 0
 NamesOfParents =
     (names : Names) (t : List Row) (a b : ℕ) → AreNamesOf t names → AreNamesOf (exchange_parents a b t) names
@@ -40,7 +40,7 @@ NamesFollowName =
     (old new : Names) (t : List Row) (i : ItemId) (from to : List ℕ) → Lawful t → Lawful (set_name i to t) → AreNamesOf t old → name_of t i ≡ Some from
     → AnswersTwo old new to (Some i) from None → AreNamesOf (set_name i to t) new
 
--- two different buckets exchange their names and items, and the table is lawful before, and with the names alone exchanged: each name gets the id of the other bucket
+-- two different buckets exchange their names and items. If the table is lawful before, and also if only the names are exchanged, then each of the names gets the id of the other bucket
 abbrev pub NamesFollowSwap : Type 0
 NamesFollowSwap =
     (old new : Names) (t : List Row) (a b : ℕ) (first second : List ℕ) → Lawful t → Lawful (exchange_names a b t) → (a == b) ≡ false → AreNamesOf t old

@@ -1,4 +1,4 @@
--- How calls change the index of places: old is the index before a call, new the one after it.
+-- How calls change the places in an index: `old` has the places before a call, and `new` the places after it.
 use Rattle.std.specs.Prelude.{◌≡◌, Some, Result, OnOk, OnErr}
 use Rattle.crush_units.specs.declared.id.ItemId.{ItemId}
 use Rattle.crush_nodes.specs.declared.place.Place.{Place}
@@ -6,7 +6,7 @@ use Rattle.crush_index.specs.Hashings.{places_hashings}
 use Rattle.crush_index.specs.PlacesAnswers.{StandsSame, StandsAt}
 use Rattle.crush_index.specs.declared.places.Places.{Places}
 
--- on success the item has the place, and each other item the same as before; after an error each item has the same place as before; the hashings are the same in both cases
+-- if the call succeeds, the item has the place, and each other item has the same place as before; if the call fails, each item has the same place as before. In both cases the hashings are the same as before
 pub record Inserts {X E : Type 0} (i : ItemId) (place : Place) (old new : Places) (answer : Result X E) : Type 0 where
   pub ok : OnOk answer (StandsAt old new i (Some place))
   pub err : OnErr answer (StandsSame old new)

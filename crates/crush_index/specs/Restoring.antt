@@ -10,16 +10,16 @@ use Rattle.crush_index.specs.declared.index.restore.PlaceMemory.{PlaceMemory}
 use Rattle.crush_index.specs.declared.index.restore.PlaceMemory.TheVariants.{Device, Bucket}
 use Rattle.crush_index.specs.declared.index.restore.RestoreMemory.{RestoreMemory}
 
--- no item is below the node: its own row is all of its rows
+-- no item is below the node: the node has only one row, which is its own
 abbrev pub IsAlone : {A : _} → Node A → Type 0
 IsAlone x = (p : Option ℕ) → rows p (items_of (x ∷ [])) ≡ own_row p x ∷ []
 
--- whether the memory is for the place of a device, not of a bucket
+-- true if the memory is for the place of a device, and false if it is for the place of a bucket
 abbrev pub is_for_device : PlaceMemory → Bool
 is_for_device (Device e) = true
 is_for_device (Bucket n s) = false
 
--- WAY BACK: the name is the row's name, the memory for its place is of the row's kind, and there is memory for as many ids as the row uses
+-- RESTORING A ROW: the memory has the row's name, its memory for the place is for the row's kind of item, and it has memory for as many ids as the row uses
 pub record CanRestoreRow (r : Row) (memory : RestoreMemory) : Type 0 where
   pub name : memory.name.name ≡ r.name
   pub place : is_for_device memory.place ≡ is_device r

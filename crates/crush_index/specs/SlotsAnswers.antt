@@ -1,4 +1,4 @@
--- What the slots of buckets answer, and how calls change them.
+-- Which slot each bucket has, which bucket has a slot, which entry a bucket has, and how calls change this.
 use Rattle.std.specs.Prelude.{◌≡◌, ◌==◌, ℕ, Option, None, if◌then◌else◌}
 use Rattle.crush_model.specs.Columns.{exchange_id}
 use Rattle.crush_index.specs.DenseMapAnswers.{numbered_hashing}
@@ -15,15 +15,15 @@ slot_answer slots b = slot_in slots.numbers b
 abbrev pub bucket_at : Slots → ℕ → ℕ
 bucket_at slots s = bucket_in slots.slots s
 
--- the entry of the bucket that has a slot, or none
+-- the entry of the bucket that has a slot, or None if the bucket has no entry
 abbrev pub entry_in_slot : Slots → ℕ → Option Entry
 entry_in_slot slots s = entry_in slots.slots s
 
--- the entry of a bucket, or none
+-- the entry of a bucket, or None if the bucket has no entry
 abbrev pub entry_answer : Slots → ℕ → Option Entry
 entry_answer slots b = entry_in_slot slots (slot_answer slots b)
 
--- the hashings of both maps, for bucket ids and for slots that are far from 0
+-- the hashings of the two maps, which hash only bucket ids and slots that are far from 0
 pub record SlotsHashings : Type 0 where
   pub numbers : Hashing
   pub slots : Hashing
@@ -32,12 +32,12 @@ pub record SlotsHashings : Type 0 where
 abbrev pub slots_hashings : Slots → SlotsHashings
 slots_hashings slots = record { numbers = numbered_hashing slots.numbers; slots = numbered_hashing slots.slots }
 
--- each slot has the same bucket as before, and each bucket the same entry
+-- each slot has the same bucket as before, and each bucket has the same entry as before
 pub record KeepsAll (old new : Slots) : Type 0 where
   pub bucket : (s : ℕ) → bucket_at new s ≡ bucket_at old s
   pub answers : (c : ℕ) → entry_answer new c ≡ entry_answer old c
 
--- one bucket has the entry kept, or none; each slot has the same bucket as before, and each other bucket the same entry
+-- the bucket b has the given entry, or no entry if None is given; each slot has the same bucket as before, and each other bucket has the same entry as before
 pub record Keeps (b : ℕ) (entry : Option Entry) (old new : Slots) : Type 0 where
   pub bucket : (s : ℕ) → bucket_at new s ≡ bucket_at old s
   pub answers : (c : ℕ) → entry_answer new c ≡ (if b == c then entry else entry_answer old c)

@@ -8,6 +8,6 @@ use Rattle.crush_index.specs.declared.hashing.Hashing.{Hashing}
 abbrev pub near_ids : ℕ
 near_ids = 69696
 
--- whether an id is stored: one below near_ids by its bit, which isn't set past the last word, any other in the hash set
+-- whether an id is stored. An id below `near_ids` is stored as a bit; the bits after the last word count as clear. Any other id is stored in the hash set
 abbrev pub bit_answer : List ℕ → IndexSet ℕ Hashing → ℕ → Bool
 bit_answer words sparse k = if nat_lt k near_ids then bit_at (slice_index words (k / 64)) (k % 64) == 1 else contains nat_eq sparse k

@@ -1,4 +1,4 @@
--- Which changes of a table need which update of its index of used ids. In each law old, or used, is the index of the table before the change; new, or the same used ids, is then the index of the table after it.
+-- How the used ids in an index have to be updated after a change of the table of rows. In a law with `old` and `new`, the used ids `old` are right for the table before the change, and the used ids `new` are right for the table after it. In a law with `used`, no update is needed: the same used ids are right before and after.
 use Rattle.std.specs.Prelude.{◌≡◌, ℕ, List, [], ◌∷◌, ◌++◌, Some, Bool, false, ◌||◌, if◌then◌else◌, map}
 use Rattle.crush_units.specs.declared.id.ItemId.{ItemId}
 use Rattle.crush_model.specs.Items.{ShadowData}
@@ -9,11 +9,11 @@ use Rattle.crush_model.specs.Columns.{set_weights, set_name, without_row, swap_b
 use Rattle.crush_index.specs.declared.used.UsedIds.{UsedIds}
 use Rattle.crush_index.specs.UsedAnswers.{used_answer, AreUsedIn}
 
--- the ids that one row uses: the id of a bucket, and its class ids
+-- the ids that one row uses: its class ids, and its own id if it is the row of a bucket
 abbrev pub uses : Row → List ℕ
 uses r = bucket_ids r.id ++ map (λ (c : ShadowData). c.id) r.class_ids
 
--- the used ids of a table are those of each table with the same rows and the same items of each bucket in order
+-- used ids that are right for a table are right for each table that has the same rows, and in which each bucket has the same items in the same order
 abbrev pub UsedOfSame : Type 0
 UsedOfSame = (used : UsedIds) (t u : List Row) → Same t u → AreUsedIn t used → AreUsedIn u used
 

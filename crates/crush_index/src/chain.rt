@@ -1,5 +1,5 @@
-//! A linked list for entries that are restored to a table when no memory is left for the table to
-//! grow.
+//! A linked list for the entries that an undo must restore to a table although no memory is left
+//! for the table to grow.
 
 ghost use Rattle.std.specs.Prelude.{◌≡◌, Bool, IfOk, is_some};
 ghost use Rattle.std.specs.Option.{option_map};
@@ -8,7 +8,7 @@ ghost use Rattle.crush_index.specs.Chains.{chain_answer, chain_with, chain_witho
 use std::alloc::{AllocError, Global};
 use std::mem::replace;
 
-/// Decides which stored keys match a key that is looked for.
+/// A key to look for, which says of each stored key whether it matches.
 pub(crate) trait KeyMatch<K> {
     /// Whether a stored key matches.
     ghost matches: { Self → K → Bool };
@@ -28,8 +28,8 @@ impl KeyMatch<u32> for u32 {
 }
 
 /// A linked list of keys with their values. The memory of each link was allocated in advance, so
-/// that an entry can be added when no memory is left. The list is nearly always empty, and is
-/// searched link by link.
+/// that an entry can be added even when memory has run out. The list is nearly always empty. A
+/// look-up goes through it link by link.
 pub(crate) enum Chain<K: Drop, V: Drop> {
     End,
     Link {
@@ -101,7 +101,7 @@ impl<K: Drop, V: Copy + Drop> Chain<K, V> {
         }
     }
 
-    /// Replaces the value of the first key that matches, and returns whether a key matches.
+    /// Replaces the value of the first key that matches. Returns true if there was such a key.
     pub(crate) fn set<Q: KeyMatch<K>>(&mut self, lookup: &Q, value: V) -> bool
         ensures there { result ≡ is_some (chain_answer (Q.matches lookup.now) self.old) }
         ensures with { self.new ≡ chain_with (Q.matches lookup.now) value self.old }
@@ -141,7 +141,7 @@ impl<K: Drop, V: Copy + Drop> Chain<K, V> {
         }
     }
 
-    /// Adds a link before the first one, in the memory of `spare`.
+    /// Adds a link at the front of the list. The link is stored in the memory `spare`.
     pub(crate) fn push(&mut self, spare: Spare<K, V>, key: K, value: V)
         ensures { Pushes key value self.old self.new }
     {

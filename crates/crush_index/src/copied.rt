@@ -1,4 +1,4 @@
-//! Copies vectors, for the tables of an index.
+//! Copies a vector. The tables of an index use this for their own copies.
 
 ghost use Rattle.std.specs.Prelude.{◌≡◌, IfOk};
 

@@ -1,8 +1,9 @@
-//! A hasher for digests: the hash of a digest is the digest itself.
+//! A hasher for *digests*, which are hashes that were computed before. The hash of a digest is the
+//! digest itself.
 
 use std::hash::{BuildHasher, Hasher};
 
-/// Creates the hashers of the table of names.
+/// Creates an [`IdentityHasher`] for each look-up in the table of names.
 #[derive(Clone, Copy)]
 pub(crate) struct IdentityHashing;
 
@@ -35,7 +36,8 @@ impl Hasher for IdentityHasher {
         self.digest
     }
 
-    // A digest arrives as eight bytes, the lowest first. Other writes are ignored.
+    // A digest is written as eight bytes, the lowest byte first. A write of any other length is
+    // ignored.
     fn write(&mut self, bytes: &[u8]) {
         if bytes.len() == 8 {
             self.digest = u64::from_le_bytes([

@@ -1,4 +1,4 @@
-//! The choice whether an index hashes with random keys.
+//! Whether an index hashes its names and ids with random SipHash keys.
 
 ghost use Rattle.std.specs.Prelude.{◌≡◌, Some, None};
 
@@ -7,7 +7,7 @@ use std::hash::{BuildHasher, DefaultHasher, RandomState};
 /// How an index hashes names and ids: by SipHash, with random keys or without them.
 ///
 /// Without random keys, the author of a map can choose names that all have the same hash, so that
-/// each look-up compares many names. With keys that are drawn at random at the start, this attack
+/// each look-up compares many names. If the program draws random keys when it starts, this attack
 /// fails.
 #[derive(Clone, Copy)]
 pub struct Hashing {
@@ -15,7 +15,7 @@ pub struct Hashing {
 }
 
 impl Hashing {
-    /// Returns a hashing without keys, for a caller that has no source of random keys.
+    /// Returns a hashing without random keys, for a caller that has no source of random numbers.
     pub fn plain() -> Hashing
         ensures { result.keys ≡ None }
     {

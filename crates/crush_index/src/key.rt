@@ -1,4 +1,5 @@
-//! The keys of the table of names: a name with its digest.
+//! The keys of the hash table of names. A key is a name together with the hash of the name, which
+//! is called the name's *digest*.
 
 ghost use Rattle.std.specs.Prelude.{◌≡◌};
 ghost use Rattle.std.specs.Cmp.Rules.{comparing, hashing as hashed};
@@ -14,8 +15,8 @@ use std::alloc::{AllocError, Global};
 use std::hash::{BuildHasher, Hash, Hasher};
 use std::marker::Model;
 
-/// A name with its digest, which is the SipHash of its bytes. The table of names hashes the digest
-/// alone, so that a copy of the index hashes no name again.
+/// A name with its digest, which is the SipHash of the bytes of the name. The table of names hashes
+/// only the digest, so that no name has to be hashed again when the index is copied.
 #[derive(Drop)]
 pub(crate) struct Key {
     global: Global,
@@ -82,7 +83,7 @@ impl Hash for Key {
     }
 }
 
-/// A key to look for: the bytes of a name, borrowed, with their digest.
+/// A key to look for: the borrowed bytes of a name, with the digest of the name.
 #[derive(Clone, Copy)]
 pub(crate) struct LookupKey<'a> {
     digest: u64,
@@ -90,7 +91,7 @@ pub(crate) struct LookupKey<'a> {
 }
 
 impl<'a> LookupKey<'a> {
-    /// Returns the key to look for, given the bytes of a name.
+    /// Returns the key with which the name that has these bytes is looked for.
     pub(crate) fn of(bytes: &'a [u8], hashing: &Hashing) -> LookupKey<'a>
         ensures { lookup_key result ≡ key_of hashing.now bytes.now }
     {
@@ -145,8 +146,8 @@ impl<'a> KeyMatch<Key> for LookupKey<'a> {
     }
 }
 
-/// Returns the SipHash of a name. It writes all bytes at once, since [`Name`] would be hashed byte
-/// by byte, which takes about five times as long.
+/// Returns the SipHash of a name. The function passes all bytes to the hasher in one write. Hashing
+/// a [`Name`] itself would pass its bytes one by one, which takes about five times as long.
 #[tactic(auto, unfolding(crate::specs::Keys::digest))]
 fn digest(name: &[u8], hashing: &Hashing) -> u64
     ensures { result ≡ digest hashing.now name.now }

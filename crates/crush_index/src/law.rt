@@ -1,13 +1,14 @@
-//! Laws of the index: which changes of a table need which update of its index. Each law is the
-//! contract of a function that does nothing.
+//! Laws that say after which changes of a table the index of the table has to be updated, and how.
+//! Each law is the contract of a function that does nothing.
 
 ghost use Rattle.crush_index.specs.NamesLaw.{NamesOfSame, NamesOfWeights, NamesOfParents, NamesFollowRow, NamesFollowWithout, NamesFollowName, NamesFollowSwap};
 ghost use Rattle.crush_index.specs.PlacesLaw.{PlacesOfSame, PlacesOfWeights, PlacesOfNames, PlacesFollowRow, PlacesFollowWithout, PlacesFollowMove, PlacesFollowSwap};
 ghost use Rattle.crush_index.specs.UsedLaw.{UsedOfSame, UsedOfWeights, UsedOfNames, UsedOfSwap, UsedFollowRow, UsedFollowWithout};
 
-/// Proves which changes of a table need an update of the names. They are a new row, a removed row,
-/// a new name of an item, and an exchange of two buckets. Another order of the rows, new weights
-/// and an exchange of the items of two buckets alone need none.
+/// Proves after which changes of a table the names in its index have to be updated. An update is
+/// needed if a row is added or removed, if an item gets another name, or if two buckets are
+/// exchanged. No update is needed if the rows are in another order, if weights change, or if two
+/// buckets exchange only their items.
 pub fn names_follow_the_table()
     ensures same { NamesOfSame }
     ensures weights { NamesOfWeights }
@@ -18,9 +19,9 @@ pub fn names_follow_the_table()
     ensures swap { NamesFollowSwap }
 {}
 
-/// Proves which changes of a table need an update of the places. They are a new row, a removed row,
-/// a move of an item, and an exchange of two buckets. Another order of the rows, new weights and
-/// new names need none.
+/// Proves after which changes of a table the places in its index have to be updated. An update is
+/// needed if a row is added or removed, if an item is moved, or if two buckets are exchanged. No
+/// update is needed if the rows are in another order, or if weights or names change.
 pub fn places_follow_the_table()
     ensures same { PlacesOfSame }
     ensures weights { PlacesOfWeights }
@@ -31,8 +32,9 @@ pub fn places_follow_the_table()
     ensures swap { PlacesFollowSwap }
 {}
 
-/// Proves which changes of a table need an update of the used ids. They are a new row and a removed
-/// row. Another order of the rows, new weights, new names and an exchange of two buckets need none.
+/// Proves after which changes of a table the used ids in its index have to be updated. An update is
+/// needed if a row is added or removed. No update is needed if the rows are in another order, if
+/// weights or names change, or if two buckets are exchanged.
 pub fn used_ids_follow_the_table()
     ensures same { UsedOfSame }
     ensures weights { UsedOfWeights }

@@ -1,10 +1,10 @@
-//! An index of a hierarchy, which finds the id of a name, the place of an item and whether an id is
-//! used without searching the hierarchy's nodes.
+//! An index of a hierarchy. It finds the id of the item that has a name, and the place of an item,
+//! and it says whether an id is used. It does this without searching the nodes of the hierarchy.
 //!
-//! An [`Index`] is updated after each edit by the owner of the hierarchy, `crush_hierarchy`. The
-//! contracts describe what an index answers, as a function of the table of the hierarchy's rows.
-//! The answers don't depend on the order of the index's entries, on its memory or on hash values.
-//! [`law`] says which changes of the table need which update.
+//! `crush_hierarchy`, which owns the hierarchy, updates the [`Index`] after each edit. The
+//! contracts give the answers of an index as a function of the table that has the hierarchy's rows.
+//! The answers don't depend on the order of the entries in the index, on the memory of the index,
+//! or on hash values. [`law`] says after which changes of the table the index has to be updated.
 #![tactic(auto)]
 
 mod chain;

@@ -1,4 +1,4 @@
-//! The table of names: which item has which name.
+//! The table of names, which finds the item that has a name.
 
 ghost use Rattle.std.specs.Prelude.{◌≡◌, true, false, Some, None, List, ℕ, ◌++◌, ◌∷◌, [], bytes_eq, IfOk, IsSome};
 ghost use Rattle.crush_model.specs.Table.{Row, is_named, name_of};
@@ -20,7 +20,8 @@ pub(crate) struct Names {
     global: Global,
     hashing: Hashing,
     ids: IndexMap<Key, ItemId, IdentityHashing>,
-    /// The names that were restored when no memory was left for `ids` to grow.
+    /// The names that an undo restored when no memory was left for `ids` to grow, with the ids of
+    /// their items.
     overflow: Chain<Key, ItemId>,
 }
 
@@ -77,8 +78,8 @@ impl Names {
         self.overflow.remove(&lookup);
     }
 
-    /// Inserts as [`Names::insert`] does, but without an error: if memory runs out, it uses
-    /// `spare`.
+    /// Inserts a name with its id, as [`Names::insert`] does, but can't fail: if memory runs out,
+    /// the entry is stored in the memory `spare`.
     pub(crate) fn restore(&mut self, name: Name<Global>, id: ItemId, spare: Spare<Key, ItemId>)
         ensures answers { AnswersOne self.old self.new name (Some id) }
         ensures hashing { names_hashing self.new ≡ names_hashing self.old }
@@ -90,8 +91,8 @@ impl Names {
         }
     }
 
-    /// Exchanges the ids of the names `a` and `b`. Before the call, `first` must be the id of `a`,
-    /// and `second` the id of `b`.
+    /// Exchanges the ids of the names `a` and `b`. `first` must be the id that `a` has before the
+    /// call, and `second` the id that `b` has before the call.
     pub(crate) fn exchange(&mut self, a: &[u8], b: &[u8], first: ItemId, second: ItemId)
         requires first { id_answer self.old a.now ≡ Some first }
         requires second { id_answer self.old b.now ≡ Some second }
@@ -102,7 +103,7 @@ impl Names {
         self.set(a, second);
     }
 
-    /// Replaces the id of a name that has one.
+    /// Replaces the id of a name that is in the table.
     fn set(&mut self, name: &[u8], id: ItemId)
         requires { IsSome (id_answer self.old name.now) }
         ensures answers { AnswersOne self.old self.new name.now (Some id) }

@@ -1,27 +1,28 @@
-//! Entries of items. An entry names the bucket that holds the item by the bucket's slot instead of
-//! the bucket's id. The module `slots` knows which bucket has which slot.
+//! The entries of items in the index. An entry names the bucket that holds the item by the bucket's
+//! slot instead of its id. The module `slots` has the slot of each bucket.
 
 use crush_units::BucketId;
 
-/// The place of an item, which names a bucket by its slot.
+/// The place of an item. If the place is a bucket, it is given by the slot of the bucket.
 #[derive(Clone, Copy)]
 pub(crate) enum SlotParent {
-    /// The buckets that no bucket holds.
+    /// The list of roots, which are the buckets that no bucket holds.
     Roots,
-    /// The devices that no bucket holds.
+    /// The list of unplaced devices, which are the devices that no bucket holds.
     Unplaced,
     /// The items of the bucket that has this slot.
     Slot(BucketId),
 }
 
-/// What the index stores of an item.
+/// What the index stores for an item: the item's place, and two hints.
 #[derive(Clone, Copy)]
 pub(crate) struct Entry {
     pub(crate) parent: SlotParent,
-    /// Where the slot in `parent` is probably stored. A look-up tries it first and never trusts it.
+    /// A hint that says where the slot in `parent` is probably stored. A look-up tries this
+    /// position first, and checks whether the slot is there.
     pub(crate) slot_hint: u32,
-    /// The item's probable index among its siblings, from 0. A walk tries it first and never trusts
-    /// it.
+    /// A hint: the item's probable index among its siblings, from 0. A walk tries this index first,
+    /// and checks whether the item is there.
     pub(crate) hint: u32,
 }
 

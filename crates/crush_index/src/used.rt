@@ -12,20 +12,21 @@ use crush_units::limits::FARTHEST_BUCKET_ID;
 use indexmap::IndexSet;
 use std::alloc::{AllocError, Global};
 
-/// How many ids, from 0 downward, have a bit. They are enough to include the free ids that are
-/// nearest to 0: a map uses at most 17 ids for each of its 4,096 buckets, and an edit needs at most
-/// 16 more.
+/// Each id whose distance below 0 is less than `DENSE_END` has a bit. These ids include all free
+/// ids that an edit needs: a map uses at most 17 ids for each of its 4,096 buckets, and an edit
+/// needs at most 16 more, which are the free ids nearest to 0.
 const DENSE_END: u32 = 69696;
 
-/// The set of used ids, as distances below 0.
+/// The set of used ids. Each id is given as its distance below 0.
 ///
-/// Ids below [`DENSE_END`] are bits of words, so that the first free id is found word by word.
-/// Other ids are in a hash set. The words are never removed.
+/// Each id whose distance is less than [`DENSE_END`] has a bit in `words`, which is set if the id
+/// is used. The search for a free id tests 64 of these ids at a time. All other used ids are in a
+/// hash set. The vector `words` never becomes shorter.
 #[derive(Drop)]
 pub(crate) struct UsedIds {
     words: Vec<u64>,
     sparse: IndexSet<u32, Hashing>,
-    /// The ids that were restored when no memory was left for `words` or `sparse` to grow.
+    /// The ids that an undo restored when no memory was left for `words` or `sparse` to grow.
     overflow: Chain<u32, ()>,
     ghost few: { length words.items ≤ 1089 },
 }
@@ -66,7 +67,7 @@ impl UsedIds {
         self.has_bit(id) || self.overflow.get(&id).is_some()
     }
 
-    /// Whether an id is in `words` or `sparse`, without looking into `overflow`.
+    /// Whether an id is in `words` or `sparse`. Doesn't look into `overflow`.
     fn has_bit(&self, id: u32) -> bool
         ensures { result ≡ bit_answer self.now.words.items self.now.sparse id }
     {
@@ -90,8 +91,8 @@ impl UsedIds {
         Ok(())
     }
 
-    /// Inserts as [`UsedIds::insert`] does, but without an error: if memory runs out, it uses
-    /// `spare`.
+    /// Inserts an id, as [`UsedIds::insert`] does, but can't fail: if memory runs out, the id is
+    /// stored in the memory `spare`.
     pub(crate) fn restore(&mut self, id: u32, spare: Spare<u32, ()>)
         ensures answers { UsesOne self.old self.new id true }
         ensures hashing { used_hashing self.new ≡ used_hashing self.old }
@@ -109,8 +110,8 @@ impl UsedIds {
         self.overflow.remove(&id);
     }
 
-    /// Returns the least id that is at least `least` and isn't used, or `None` if all such ids that
-    /// a bucket can have are used.
+    /// Returns the lowest unused id that is at least `least`. Returns `None` if all ids from
+    /// `least` to the highest id that a bucket can have are used.
     pub(crate) fn first_free(&self, least: u32) -> Option<u32>
         ensures some { IfSome result (IsFirstFree self.now least) }
         ensures none { IfNone result (AreAllUsed self.now least) }
@@ -123,8 +124,9 @@ impl UsedIds {
         None
     }
 
-    /// Returns an id that is at least `least`, such that all ids from `least` to the one before it
-    /// are used. It is usually the first free id.
+    /// Returns an id from which a search for a free id can start: the result is at least `least`,
+    /// and all ids from `least` to the id before the result are used. The result is usually itself
+    /// free.
     fn first_clear(&self, least: u32) -> u32
         ensures least { least ≤ result }
         ensures used { (k : ℕ) → least ≤ k → k < result → used_answer self.now k ≡ true }
@@ -168,7 +170,7 @@ fn copy_sparse(sparse: &IndexSet<u32, Hashing>) -> Result<IndexSet<u32, Hashing>
     Ok(copy)
 }
 
-/// Returns the word at `place`, or 0 if `place` is past the last word.
+/// Returns the word with the index `place`, or 0 if `place` is past the last word.
 fn word_at(words: &[u64], place: usize) -> u64
     ensures { result ≡ slice_index words.now place }
 {
@@ -178,7 +180,8 @@ fn word_at(words: &[u64], place: usize) -> u64
     }
 }
 
-/// Appends words that are 0 until there is a word at `place`. Returns an error if memory runs out.
+/// Appends words that are 0 until there is a word with the index `place`. Returns an error if
+/// memory runs out.
 fn grow_to(words: &mut Vec<u64>, place: usize) -> Result<(), AllocError>
     requires within { place < 1089 }
     requires few { length words.old.items ≤ 1089 }
@@ -192,7 +195,8 @@ fn grow_to(words: &mut Vec<u64>, place: usize) -> Result<(), AllocError>
     Ok(())
 }
 
-/// Returns the lowest bit of the word at `place` whose id is at least `least`.
+/// Returns the number of the lowest bit whose id is at least `least`, in the word with the index
+/// `place`.
 fn first_bit(least: u32, place: usize) -> u32
     requires { least / 64 ≤ place }
     ensures within { result < 64 }

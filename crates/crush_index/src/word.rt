@@ -26,8 +26,8 @@ pub(crate) fn without_bit(word: u64, bit: u32) -> u64
     word & !(1 << bit)
 }
 
-/// Returns the lowest bit that is at least `least` and isn't set, or `None` if all of these bits
-/// are set.
+/// Returns the number of the lowest clear bit that is at least `least`, or `None` if all bits from
+/// `least` on are set.
 pub(crate) fn first_clear(word: u64, least: u32) -> Option<u32>
     requires { least < 64 }
     ensures within { IfSome result (λ bit. bit < 64) }

@@ -6,22 +6,22 @@ use Rattle.std.specs.Prelude.{IfSome}
 use Rattle.std.specs.Io.KnownBytes.{Consumes, IsAtEnd, Keeps}
 use Rattle.crush_input.specs.Input.{TakesFew, TakesMost}
 
--- nothing is taken yet
+-- at first, nothing is taken
 pub Consumes-nothing : (a : Option (List ℕ)) → Consumes a a []
 Consumes-nothing None = tt
 Consumes-nothing (Some xs) = refl
 
--- a reader that gave nothing gave few bytes
+-- if a reader gave no bytes, it gave few bytes
 pub few_nothing : (a b : Option (List ℕ)) → b ≡ a → TakesFew a b
 few_nothing a b same = ([], omega arith, subst (λ (c : Option (List ℕ)). Consumes a c []) (sym same) (Consumes-nothing a))
 
--- the bytes that were taken are the prefix, of their length, of all bytes
+-- if n bytes were taken, they are the first n bytes of all bytes
 pub prefix_of_all : (a b : Option (List ℕ)) (x : List ℕ) (n : ℕ) → Consumes a b x → length x ≡ n → IfSome a (λ all. x ≡ take n all)
 prefix_of_all None b x n h e = tt
 prefix_of_all (Some xs) None x n h e = absurd h
 prefix_of_all (Some xs) (Some ys) x n h e = sym (ap (take n) h ∙ take_at x ys n e)
 
--- at the end of the reader all bytes were taken, so they are also the first n bytes for each n that isn't less
+-- at the end of the reader all bytes have been taken; so they are also the first n bytes of all bytes, for each n that isn't less than their number
 pub all_of_it : (a b : Option (List ℕ)) (x : List ℕ) (n : ℕ) → Consumes a b x → IsAtEnd b → length x ≤ n → IfSome a (λ all. x ≡ take n all)
 all_of_it None b x n h e l = tt
 all_of_it (Some xs) None x n h e l = absurd h
@@ -29,7 +29,7 @@ all_of_it (Some xs) (Some ys) x n h e l =
     let whole : xs ≡ x = h ∙ ap (λ (z : List ℕ). x ++ z) e ∙ append-nil x in
     sym (ap (take n) whole ∙ take_all n x l)
 
--- a read that gave no byte
+-- a read that gave no byte changes nothing
 pub Consumes-no_more : (a b c : Option (List ℕ)) (x y : List ℕ) (n : ℕ) → Consumes a b x → Consumes b c (take n y) → n ≡ 0 → Consumes a c x
 Consumes-no_more a b c x y n h k e =
     let none : take n y ≡ [] = ap (λ (m : ℕ). take m y) e in

@@ -10,11 +10,11 @@ use Rattle.crush_input.specs.Joined.{ScriptSpanData, joined, joined_known, line_
 use Rattle.crush_input.specs.Origins.{origin_in, whole_of}
 use Rattle.crush_input.proofs.Noted.{ComeFrom}
 
--- the first and the last of four texts are no longer than all
+-- the first and the last of four texts together are no longer than all four together
 two_lengths : (a b c d : List ℕ) → length a + length d ≤ length (a ++ b ++ c ++ d)
 two_lengths a b c d = omega (arith, length-append (a ++ b ++ c) d, length-append (a ++ b) c, length-append a b)
 
--- of a script no more is read than the job may still have, and one byte; what was read is the whole script if the job with it is no longer than a job may be
+-- of a script, at most one byte more is read than the job may still have; if the job with the script isn't longer than a job may be, then the whole script was read
 script_read : (before s t : List ℕ) → s ≡ take (readable_bytes before) t → length before + length s ≤ LONGEST_JOB → s ≡ t
 script_read before s t is short =
     let few : length t ≤ readable_bytes before = omega (arith, short, ap length is, length-take (readable_bytes before) t) in
@@ -36,7 +36,7 @@ joined_input a b s t name job script = record {
       λ i. joined (first i) name (script_whole a s t script (omega (arith, short, few, ap length first)) i);
 }
 
--- if a job and a script were read as IsJoined and IsReadBehind say, then the joined job was read as IsJoined says, with one more part
+-- if a job was read as `IsJoined` says, and a script as `IsReadAndAppended` says, then the joined job was read as `IsJoined` says, with one more part
 joined_read : (read more : Joined) (b t name : List ℕ) (spans : List ScriptSpanData) → IsJoined read b spans → IsReadAndAppended read more name (Some t) → IsJoined more (joined b name t) (spans ++ script_span_of b name t ∷ [])
 joined_read read more b t name spans job behind = record {
   bytes = subst (λ (z : List ℕ). IsInput z (joined b name t)) (sym behind.bytes) (joined_input read.bytes.items b behind.script t name job.bytes behind.read);
@@ -76,17 +76,17 @@ module _ {Z : Type 0} (content : List ℕ → Option (List ℕ)) where
   pub no_part : (known : Option (List ℕ)) (names : List (String Z)) (i : ℕ) (before : List ScriptSpanData) → length names ≤ i → before ++ script_spans_of content known (drop i names) ≡ before
   no_part known names i before past = ap (λ (ns : List (String Z)). before ++ script_spans_of content known ns) (drop_all i names past) ∙ append-nil before
 
--- the bytes that a job begins with were read as IsJoined says, without parts, before the first script
+-- before the first script, the bytes with which a job begins were read as `IsJoined` says, without parts
 pub begun : (first : Option (List ℕ)) (read : Joined) → IfSome first (IsInput read.bytes.items) → read.spans.items ≡ [] → IfSome first (λ b. IsJoined read b [])
 begun None read input none = tt
 begun (Some xs) read input none = record { bytes = input; spans = λ short. ap (map script_span_data) none }
 
--- the bytes of a job that was read as IsJoined says were read as IsInput says
+-- if a job was read as `IsJoined` says, then its bytes were read as `IsInput` says
 pub input_of_joined : (all : Option (List ℕ)) (read : Joined) (spans : List ScriptSpanData) → IfSome all (λ b. IsJoined read b spans) → IfSome all (IsInput read.bytes.items)
 input_of_joined None read spans is = tt
 input_of_joined (Some xs) read spans is = is.bytes
 
--- the lines of a job that was read come from the same files as those of all bytes
+-- the lines of a job that was read come from the same files as the lines of all bytes
 pub come_from : (name first : List ℕ) (stand : List ScriptSpan) (all : Option (List ℕ)) (read : Joined) (spans : List ScriptSpanData) → name ≡ first → stand ≡ read.spans.items → IfSome all (λ b. IsJoined read b spans)
     → IfSome all (ComeFrom (λ line. origin_in (whole_of name) (map script_span_data stand) line) (λ line. origin_in (whole_of first) spans line) read.bytes.items)
 come_from name first stand None read spans named there is = tt

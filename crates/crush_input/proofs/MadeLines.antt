@@ -1,4 +1,4 @@
--- The lines of entries that made buckets unasked, one entry more, and worked examples.
+-- The lines of entries that created more buckets than they have `add-bucket` commands, after one more entry, and worked examples.
 use Rattle.std.proofs.Common.{◌≡◌, ℕ, ◌+◌, ◌<◌, true, List, [], ◌∷◌, ◌++◌, length, take, get_or, refl, sym, ap, ◌∙◌, append_assoc, arith}
 use Rattle.std.specs.Fmt.{digits}
 use Rattle.std.proofs.lemmas.List.{append-nil, take_more, length-take-le}
@@ -12,7 +12,7 @@ use Rattle.crush_history.specs.History.{EntryData}
 use Rattle.crush_history.specs.HistoryText.{line_head, line_end}
 use Rattle.crush_input.specs.Made.{made_line, made_text, makings}
 
--- the lines, and behind them what one entry more has
+-- the lines after one more entry are the lines before, followed by the line of this entry
 made_text-push : (names : List (List ℕ)) (n : ℕ) (h : List EntryData) (e : EntryData)
     → made_text names n (h ++ e ∷ []) ≡ made_text names n h ++ made_line (n + length h) (slice_index_or names e.operator []) e
 unfolding made_text
@@ -35,7 +35,7 @@ pub no_made : (names : List (List ℕ)) → ◌≡◌ {A = List ℕ} [] (made_te
 unfolding made_text
 no_made names = refl
 
--- a host of which the name is mistyped
+-- a command with a mistyped host name, which creates a host
 mistyped : EntryData
 mistyped = record { operator = 0; call = One (Move (codes "osd.0") (record { kind = codes "host"; name = codes "h11" } ∷ [])); reply = Done (record { changed = true; made = 1 }) }
 
@@ -46,7 +46,7 @@ output = record { operator = 0; call = One (AddBucket (codes "h3") (codes "host"
 refused : EntryData
 refused = record { operator = 0; call = One (Move (codes "x") (record { kind = codes "host"; name = codes "h11" } ∷ [])); reply = Refused NoSuchItem }
 
--- a batch that makes the bucket that it asks for, and one that makes another too
+-- a batch that creates only the bucket of its `add-bucket` command, and a batch that also creates another bucket
 asked_batch : EntryData
 asked_batch = record { operator = 0; call = Batch (AddBucket (codes "h3") (codes "host") ∷ (Move (codes "h3") (record { kind = codes "root"; name = codes "default" } ∷ []) ∷ [])); reply = Dones (record { edits = 2; changed = 2; made = 1 }) }
 
@@ -56,7 +56,7 @@ mistyped_batch = record { operator = 0; call = Guarded 0 (AddBucket (codes "h3")
 history : List EntryData
 history = output ∷ (mistyped ∷ (refused ∷ (asked_batch ∷ (mistyped_batch ∷ []))))
 
--- of five calls two make a bucket for which no `add-bucket` asks
+-- two of five calls create a bucket without an `add-bucket` command
 two_of_five : makings history ≡ 2
 unfolding history mistyped output refused asked_batch mistyped_batch
 two_of_five = refl

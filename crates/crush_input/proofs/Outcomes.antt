@@ -1,11 +1,11 @@
--- What follows from one or two statements on a result.
+-- Properties of a result that follow from one or two other properties of it.
 use Rattle.std.proofs.Common.{◌++◌, ℕ, List, Option, Result, Ok, Err}
 use Rattle.std.specs.Prelude.{IfErr, IfOk}
 use Rattle.std.specs.Io.KnownBytes.{Appends}
 use Rattle.crush_units.specs.Writes.{Writes}
 use Rattle.crush_units.proofs.Appending.{appends_both, then_less}
 
--- what follows from one statement on the value of an Ok, or from two
+-- a property of the value of an Ok, which follows from one or two other properties of this value
 pub when_ok : {X E : Type 0} (P Q : X → Type 0) (r : Result X E) → ((x : X) → P x → Q x) → IfOk r P → IfOk r Q
 when_ok P Q (Ok x) then_is p = then_is x p
 when_ok P Q (Err e) then_is p = tt
@@ -14,7 +14,7 @@ pub when_both : {X E : Type 0} (P S Q : X → Type 0) (r : Result X E) → ((x :
 when_both P S Q (Ok x) then_is p s = then_is x p s
 when_both P S Q (Err e) then_is p s = tt
 
--- what follows from one statement on an error, or from two
+-- a property of an error, which follows from one or two other properties of this error
 pub err_as : {X E : Type 0} (P Q : E → Type 0) (r : Result X E) → ((e : E) → P e → Q e) → IfErr r P → IfErr r Q
 err_as P Q (Ok x) then_is p = tt
 err_as P Q (Err e) then_is p = then_is e p
@@ -23,7 +23,7 @@ pub err_both : {X E : Type 0} (P S Q : E → Type 0) (r : Result X E) → ((e : 
 err_both P S Q (Ok x) then_is p s = tt
 err_both P S Q (Err e) then_is p s = then_is e p s
 
--- a text that was written, followed by a second one: the result of the second write is that of both
+-- if the text x was written, then the result of writing y after it is the result of writing x followed by y
 pub then_writes : {X E : Type 0} (r : Result X E) (a b c : Option (List ℕ)) (x y : List ℕ) → Appends a b x → Writes r b c y → Writes r a c (x ++ y)
 then_writes (Ok v) a b c x y first second = appends_both a b c x y first second
 then_writes (Err e) a b c x y first second = then_less a b c x y first second

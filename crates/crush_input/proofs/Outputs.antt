@@ -1,4 +1,4 @@
--- The other map that the words ask for, and the notes of its faults and of the job's.
+-- The second map that the command line names, the notes of its faults, and the notes of the job's faults.
 use Rattle.std.proofs.Common.{◌≡◌, ℕ, Bool, false, List, Option, Some, None, Result, Ok, Err, inl, inr, length, refl, ap, subst, ◌∙◌, arith}
 use Rattle.std.specs.Prelude.{IfOk, IfSome}
 use mathlib.Core.Logic.{dite}
@@ -20,16 +20,16 @@ use Rattle.crush_input.specs.Notes.{AreNotesOfFault, AreNotesOfFile, AreNotesOfS
 use Rattle.crush_input.specs.Origins.{job_origin}
 use Rattle.crush_input.specs.Stages.{IsInputFault, IsNoJob}
 
--- a fault of a text that isn't out of memory is a flaw of it
+-- a fault of a text is a flaw of the text, unless it is that memory ran out
 pub flaw_where : (bytes : List ℕ) (f : TextFault) → is_out_of_memory f.kind ≡ false → IsFlawOrOutOfMemory bytes f → IsMapFlaw bytes f
 flaw_where bytes f room (inl want) = let e = ap is_out_of_memory want in absurd cc
 flaw_where bytes f room (inr flaw) = flaw
 
--- the notes of a flaw are right: they have its place, and there are none without `--explain`
+-- the notes of a flaw are right: they have the flaw's place, and there are none without `--explain`
 pub flaw_noted : (explain : Bool) (w : SecondMap) (name bytes : List ℕ) (f : TextFault) (notes : List ℕ) → notes ≡ flaw_notes explain name bytes f → AreNotesOfSecondMap explain name (Some bytes) (run.SecondMap w (unread.Text f)) notes
 flaw_noted explain w name bytes f notes is = (λ quiet. is ∙ ap (λ e. flaw_notes e name bytes f) quiet, is)
 
--- the notes of the bytes that were read are those of all bytes of a file
+-- the notes that are computed from the bytes that were read are the notes of all bytes of the file
 flaw_of_all : (explain : Bool) (name : List ℕ) (all : Option (List ℕ)) (bytes : List ℕ) (f : TextFault) (notes : List ℕ) → IfSome all (IsInput bytes) → IsSecondMapFault bytes (unread.Text f) → notes ≡ flaw_notes explain name bytes f
     → IfSome all (λ xs. notes ≡ flaw_notes explain name xs f)
 flaw_of_all explain name None bytes f notes input h is = tt
@@ -55,7 +55,7 @@ map_noted_of_all explain why name all bytes run.NoType notes input h told = told
 map_noted_of_all explain why name all bytes run.NoClass notes input h told = told
 map_noted_of_all explain why name all bytes (run.SecondMap w f) notes input h told = other_of_all explain name all bytes f notes input h.1 told
 
--- what holds of the bytes that were read also holds of all bytes of a file
+-- if the bytes that were read are the text of a map, then so are all bytes of the file
 text_of_all : (m : MapData) (all : Option (List ℕ)) (bytes : List ℕ) → IfSome all (IsInput bytes) → IsTextOf m bytes → IfSome all (IsTextOf m)
 text_of_all m None bytes input is = tt
 text_of_all m (Some xs) bytes input is = subst (IsTextOf m) (input.read is.short) is
@@ -84,12 +84,12 @@ map_fault_of_all why all bytes run.NoType input h = absurd h
 map_fault_of_all why all bytes run.NoClass input h = absurd h
 map_fault_of_all why all bytes (run.SecondMap w s) input h = (h.0, other_fault_of_all all bytes s input h.1)
 
--- a failed read is a fault of the map, whatever bytes its file has
+-- a failed read is a fault of the second map, whatever bytes its file has
 pub unread_map : (why : SecondMap) (all : Option (List ℕ)) → IsMapFault why all (run.SecondMap why unread.Read)
 unread_map why None = (refl, tt)
 unread_map why (Some xs) = (refl, tt)
 
--- each other fault while the file is read is out of memory, which is also a fault of the map
+-- each other fault that occurs while the file is read is that memory ran out, which is also possible for the second map
 pub other_map : (why : SecondMap) (f : RunFault) (all : Option (List ℕ)) → IsInputFault f → (f ≡ run.Read → ⊥) → IsMapFault why all f
 other_map why (run.Job j) all h other = absurd h
 other_map why run.Read all h other = absurd (other refl)

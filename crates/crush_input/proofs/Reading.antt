@@ -6,7 +6,7 @@ use Rattle.crush_input.specs.declared.fault.RunFault.TheVariants as run
 use Rattle.crush_input.specs.Notes.{AreNotesOfFile}
 use Rattle.crush_input.specs.Options.{IsFile, AreNotesOfInputFault, IsPartUnread, AreNotesOfFailedRead, IsScript}
 
--- the notes of a file that the options name are notes of the job
+-- the note about a file that the options name is a note of the job
 unread_part : (options : Options) (name notes : List ℕ) → IsFile options.file name ⊎ IsScript options.scripts.items name → AreNotesOfFile options.mode.explain name run.Read notes → AreNotesOfFailedRead options notes
 unread_part options name notes named told = (told.0, at options.mode.explain refl)
   where
@@ -28,7 +28,7 @@ part_noted options name run.NoType notes named told = told
 part_noted options name run.NoClass notes named told = told
 part_noted options name (run.SecondMap w s) notes named told = told
 
--- no notes are right for each fault
+-- it is right for each fault that there are no notes
 pub quiet_part : (options : Options) (f : RunFault) (notes : List ℕ) → notes ≡ [] → AreNotesOfInputFault options f notes
 quiet_part options (run.Job j) notes none = none
 quiet_part options run.Read notes none = (λ quiet. none, inl none)

@@ -1,4 +1,4 @@
--- What holds of the bytes that were read of a job also holds of all bytes that there were to read.
+-- What is true of the bytes that were read of a job is also true of all bytes that could be read.
 use Rattle.std.proofs.Common.{◌≡◌, ℕ, ◌≤◌, Bool, true, false, List, Option, Some, None, Result, Ok, Err, length, take, sym, ap, subst, ◌∙◌, arith}
 use Rattle.std.specs.Prelude.{IfOk, IfSome}
 use mathlib.Core.Logic.{dite}
@@ -19,7 +19,7 @@ use Rattle.crush_input.specs.declared.aborted.ParsedJob.{ParsedJob}
 use Rattle.crush_reasons.specs.Place.{OriginData}
 use Rattle.crush_input.proofs.Noted.{ComeFrom}
 
--- the bytes that a reader gives, up to one byte too many for a job, are all that it has if either is no longer than a job may be
+-- if the bytes that were read are the first MOST_BYTES bytes of `all`, then they are all bytes of `all` if they or `all` are no longer than a job may be
 input_of_take : (bytes all : List ℕ) → bytes ≡ take MOST_BYTES all → IsInput bytes all
 input_of_take bytes all e = record {
   read = λ short. let few : length all ≤ MOST_BYTES = omega (arith, short, ap length e, length-take MOST_BYTES all) in e ∙ take_all MOST_BYTES all few;
@@ -72,7 +72,7 @@ pub refusal_of_all : (all : Option (List ℕ)) (bytes : List ℕ) (f : JobFault)
 refusal_of_all None bytes f input h = (h.0, tt)
 refusal_of_all (Some xs) bytes f input h = (h.0, fault_of_all bytes xs f input h.1)
 
--- a fault of a run whose bytes aren't a job is also one for all bytes that there were to read
+-- if a run fails because the bytes that were read aren't a job, then it may also fail so for all bytes
 pub no_job_of_all : (f : RunFault) (all : Option (List ℕ)) (bytes : List ℕ) → IfSome all (IsInput bytes) → IsNoJob (Some bytes) f → IsReadFault all f
 no_job_of_all (run.Job f) all bytes input h = refusal_of_all all bytes f input h
 no_job_of_all run.Read all bytes input h = tt
@@ -101,7 +101,7 @@ read_fault_of_input run.NoType all h = absurd h
 read_fault_of_input run.NoClass all h = absurd h
 read_fault_of_input (run.SecondMap w s) all h = absurd h
 
--- what is kept of the bytes that were read is what is kept of all bytes, if these are a job, since their lines come from the same files
+-- what is stored of the bytes that were read is what is stored of all bytes, if these are a job, because their lines come from the same files
 pub weighed_of_all : {E : Type 0} (explain : Bool) (o p : ℕ → OriginData) (all : Option (List ℕ)) (bytes xs : List ℕ) (job : JobData) (r : Result ParsedJob E) → IfSome all (ComeFrom o p bytes) → all ≡ Some xs → length bytes ≤ LONGEST_JOB → bytes ≡ xs
     → IfOk r (IsParsedJob explain o bytes job) → IfOk r (IsParsedJob explain p xs job)
 weighed_of_all explain o p all bytes xs job r from is_xs short same parsed_job =
@@ -109,7 +109,7 @@ weighed_of_all explain o p all bytes xs job r from is_xs short same parsed_job =
     let origins : o ≡ p = come.1 short in
     subst (λ (z : List ℕ). IfOk r (IsParsedJob explain p z job)) same (subst (λ (q : ℕ → OriginData). IfOk r (IsParsedJob explain q bytes job)) origins parsed_job)
 
--- the bytes that are kept are no more than a job may have
+-- at most as many bytes are stored as a job may have
 pub kept_short : (explain : Bool) (bytes : List ℕ) → length bytes ≤ LONGEST_JOB → length (bytes_kept explain bytes) ≤ LONGEST_JOB
 kept_short true bytes short = short
 kept_short false bytes short = omega arith

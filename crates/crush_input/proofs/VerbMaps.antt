@@ -1,4 +1,4 @@
--- The maps of verbs: what holds of the bytes that were read also holds of all bytes of a file.
+-- The map files of verbs: what is true of the bytes that were read is also true of all bytes of a file.
 use Rattle.std.proofs.Common.{◌≡◌, ◌<◌, ◌≤◌, ℕ, List, Option, Some, None, length, ap, subst, ◌∙◌, arith}
 use Rattle.std.specs.Prelude.{IfSome}
 use mathlib.Core.Logic.{dite}
@@ -37,7 +37,7 @@ flaw_noted_of_all : (shown : List ℕ) (all : Option (List ℕ)) (bytes : List �
 flaw_noted_of_all shown None bytes f notes input few is = tt
 flaw_noted_of_all shown (Some xs) bytes f notes input few is = is ∙ ap (λ z. verb_flaw_notes shown z f) (input.read few)
 
--- the notes of the bytes that were read are those of the file
+-- the notes that are computed from the bytes that were read are the notes of the file
 pub verb_noted_of_all : (maps : MapForm) (name shown : List ℕ) (all : Option (List ℕ)) (bytes : List ℕ) (f : VerbMapFault) (notes : List ℕ) → IfSome all (IsInput bytes) → IsVerbTextFault maps bytes f → AreNotesOfVerbMap name shown (Some bytes) f notes → AreNotesOfVerbMap name shown all f notes
 verb_noted_of_all maps name shown all bytes (verb.Text f) notes input h told = flaw_noted_of_all shown all bytes f notes input h.0 told
 verb_noted_of_all maps name shown all bytes verb.Cut notes input h told = told
@@ -45,12 +45,12 @@ verb_noted_of_all maps name shown all bytes verb.TooLong notes input h told = to
 verb_noted_of_all maps name shown all bytes verb.Read notes input h told = absurd h
 verb_noted_of_all maps name shown all bytes verb.Memory notes input h told = told
 
--- out of memory is a fault of each file
+-- for each file, it is possible that memory ran out
 pub memory_is_fault : (maps : MapForm) (all : Option (List ℕ)) → IsVerbMapFault maps all verb.Memory
 memory_is_fault maps None = tt
 memory_is_fault maps (Some xs) = tt
 
--- the notes of a fault of bytes are right for it
+-- the notes of a fault of the bytes are right for this fault
 pub verb_noted : (maps : MapForm) (name shown bytes : List ℕ) (f : VerbMapFault) (notes : List ℕ) → IsVerbTextFault maps bytes f → notes ≡ verb_map_notes shown bytes f → AreNotesOfVerbMap name shown (Some bytes) f notes
 verb_noted maps name shown bytes (verb.Text f) notes h is = is
 verb_noted maps name shown bytes verb.Cut notes h is = is

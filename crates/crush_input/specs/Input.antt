@@ -6,44 +6,44 @@ use Rattle.crush_input.specs.declared.input.Joined.{Joined}
 use Rattle.crush_input.specs.Joined.{ScriptSpanData, joined, script_span_data, script_span_of, script_spans_of, with_scripts}
 use Rattle.crush_units.specs.declared.limits.TheConstants.{LONGEST_JOB}
 
--- `bytes` were read of `all`: if either is no longer than a job may be, both are the same
+-- `bytes` are what was read of `all`: if either of them is no longer than a job may be, the two are equal
 pub record IsInput (bytes all : List ℕ) : Type 0 where
   pub read : length bytes ≤ LONGEST_JOB → bytes ≡ all
   pub whole : length all ≤ LONGEST_JOB → bytes ≡ all
 
--- the job `read` has bytes that were read of `all`, as above, and its parts are `stand`, unless `all` is longer than a job may be
+-- the bytes of `read` were read of `all` (`IsInput`), and its parts are `stand`, unless `all` is longer than a job may be. A part says which lines of a job come from one file of scripts
 pub record IsJoined (read : Joined) (all : List ℕ) (stand : List ScriptSpanData) : Type 0 where
   pub bytes : IsInput read.bytes.items all
   pub spans : length all ≤ LONGEST_JOB → map script_span_data read.spans.items ≡ stand
 
--- how many more bytes may be read after these: as many as the job may still have, and one more, so that a longer job is noticed
+-- the number of bytes that may be read after these: as many as the job may still have, and one more, so that a job that is too long is noticed
 abbrev pub readable_bytes : List ℕ → ℕ
 readable_bytes bytes = (LONGEST_JOB + 1) - length bytes
 
--- READ BEHIND: the script of the file `name` was appended to what was read of a job, and its lines were noted. The script is the first `readable_bytes` bytes of the file, if the file's bytes are known.
+-- READ AND APPENDED: the script in the file `name` was appended to what was read of a job, and its lines were stored as a part. The script is the first `readable_bytes` bytes of the file, if the file's bytes are known.
 pub record IsReadAndAppended (before after : Joined) (name : List ℕ) (all : Option (List ℕ)) : Type 0 where
   pub script : List ℕ
   pub read : IfSome all (λ bytes. script ≡ take (readable_bytes before.bytes.items) bytes)
   pub bytes : after.bytes.items ≡ joined before.bytes.items name script
   pub spans : map script_span_data after.spans.items ≡ map script_span_data before.spans.items ++ script_span_of before.bytes.items name script ∷ []
 
--- the bytes that a job begins with: those of its file, or those of standard input if there is no file
+-- the bytes with which a job begins: those of its file, or those of standard input if there is no file
 abbrev pub first_bytes : {Z : Type 0} → (List ℕ → Option (List ℕ)) → Option (String Z) → Option (List ℕ) → Option (List ℕ)
 first_bytes content None input = input
 first_bytes content (Some name) input = content name.bytes.items
 
--- JOB BYTES: the bytes of a job: those that it begins with, followed by the scripts of files
+-- JOB BYTES: the bytes with which the job begins, followed by the scripts of files
 abbrev pub job_bytes : (List ℕ → Option (List ℕ)) → Options → Option (List ℕ) → Option (List ℕ)
 job_bytes content options input = with_scripts content (first_bytes content options.file input) options.scripts.items
 
--- which lines of the job are the scripts of these files
+-- which lines of the job come from each file of scripts
 abbrev pub job_script_spans : (List ℕ → Option (List ℕ)) → Options → Option (List ℕ) → List ScriptSpanData
 job_script_spans content options input = script_spans_of content (first_bytes content options.file input) options.scripts.items
 
--- TAKEN: at most `most` bytes were taken from the reader, the first that it had
+-- TAKEN: at most `most` bytes were taken from the reader, in the reader's order
 abbrev pub TakesMost : ℕ → Option (List ℕ) → Option (List ℕ) → Type 0
 TakesMost most old new = (taken : List ℕ) × (length taken ≤ most) × Consumes old new taken
 
--- at most as many bytes as the longest job has, and one more, were taken from the reader
+-- at most LONGEST_JOB + 1 bytes were taken from the reader
 abbrev pub TakesFew : Option (List ℕ) → Option (List ℕ) → Type 0
 TakesFew old new = TakesMost (LONGEST_JOB + 1) old new

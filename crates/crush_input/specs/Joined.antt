@@ -24,7 +24,7 @@ begins_section_in starts comment (b ∷ bs) =
     else (if is_line_blank b then begins_section_in false false bs
     else (starts && b == 37))))
 
--- the number of bytes of a file's name up to its last `/`, and with it; `seen` bytes before these were looked at, and `best` of them are up to the last `/` so far
+-- the number of bytes of a file's name up to and including its last `/`. `seen` bytes were tested before these bytes, and `best` is the number for them
 abbrev pub folder_length : ℕ → ℕ → List ℕ → ℕ
 folder_length seen best [] = best
 folder_length seen best (b ∷ bs) = folder_length (seen + 1) (if b == 47 then seen + 1 else best) bs
@@ -33,11 +33,11 @@ folder_length seen best (b ∷ bs) = folder_length (seen + 1) (if b == 47 then s
 abbrev pub last_part : List ℕ → List ℕ
 last_part name = drop (folder_length 0 0 name) name
 
--- the operator of a script by its file's name: the name without its folders, up to the first `.`
+-- the operator of a script, given its file's name: the name without its folders, up to the first `.`
 abbrev pub operator_of : List ℕ → List ℕ
 operator_of name = take (position_or_len (λ b. b == 46) (last_part name)) (last_part name)
 
--- the line `%operator NAME` that begins the section of an operator. If `operator` isn't a name, the line is `%operator` alone, with which no bytes are a job.
+-- the line `%operator NAME` with which the section of an operator begins. If `operator` isn't a name, the line is `%operator` alone, and bytes with this line are never a job.
 abbrev pub section_head : List ℕ → List ℕ
 section_head operator = if is_name operator then codes "%operator " ++ operator ++ codes "\n" else codes "%operator\n"
 
@@ -45,18 +45,18 @@ section_head operator = if is_name operator then codes "%operator " ++ operator 
 abbrev pub operator_line : List ℕ → List ℕ → List ℕ
 operator_line name script = if begins_section_in true false script then [] else section_head (operator_of name)
 
--- JOINED: a job, followed by the script of a file of this name on a new line, below a `%operator` line if it needs one
+-- JOINED: a job, and then the script of a file of this name on a new line, after a `%operator` line if the script needs one
 abbrev pub joined : List ℕ → List ℕ → List ℕ → List ℕ
 joined job name script = job ++ line_end job ++ operator_line name script ++ script
 
--- PART: which lines of a job are the script of the file `name`. They begin with the line `from`, counted from 1, which is the `%operator`
--- line if one is put before the script. `before` is the number of lines of the job before the first line of the file itself.
+-- PART: which lines of a job come from the script in the file `name`. They begin with the line `from`, counted from 1, which is the `%operator`
+-- line if such a line is put before the script. `before` is the number of lines of the job before the first line of the file itself.
 pub record ScriptSpanData : Type 0 where
   pub name : List ℕ
   pub from : ℕ
   pub before : ℕ
 
--- a part as the program holds it, as data
+-- the program's `ScriptSpan` as plain data
 abbrev pub script_span_data : ScriptSpan → ScriptSpanData
 script_span_data p = record { name = p.name.now; from = p.from; before = p.before }
 
@@ -68,7 +68,7 @@ script_span_of job name script = record {
   before = line_feeds (job ++ line_end job ++ operator_line name script);
 }
 
--- `joined` if the bytes of the job and of the script are known; otherwise the result isn't known
+-- the result of `joined`, if the bytes of the job and of the script are known; otherwise none
 abbrev pub joined_known : Option (List ℕ) → List ℕ → Option (List ℕ) → Option (List ℕ)
 joined_known (Some job) name (Some script) = Some (joined job name script)
 joined_known job name script = None
@@ -83,7 +83,7 @@ abbrev pub with_scripts : {Z : Type 0} → (List ℕ → Option (List ℕ)) → 
 with_scripts content job [] = job
 with_scripts content job (name ∷ names) = with_scripts content (joined_known job name.bytes.items (content name.bytes.items)) names
 
--- the part of each of these scripts in the joined job, if it is known
+-- the part of each of these scripts in the joined job, if the bytes are known
 abbrev pub script_spans_of : {Z : Type 0} → (List ℕ → Option (List ℕ)) → Option (List ℕ) → List (String Z) → List ScriptSpanData
 script_spans_of content job [] = []
 script_spans_of content job (name ∷ names) =

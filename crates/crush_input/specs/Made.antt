@@ -1,4 +1,4 @@
--- The entries of a history that made more buckets than they have `add-bucket` commands, and the lines of these entries.
+-- The entries of a history that created more buckets than they have `add-bucket` commands, and the lines of these entries.
 use Rattle.std.specs.Prelude.{ℕ, ◌+◌, List, [], ◌∷◌, ◌++◌, Bool, true, false, if◌then◌else◌, nat_lt, slice_index_or}
 use Rattle.std.specs.List.{count_by}
 use Rattle.crush_edits.specs.declared.edit.Edit.{Edit}
@@ -10,7 +10,7 @@ use Rattle.crush_history.specs.declared.call.Reply.TheVariants.{Done, Dones, Ref
 use Rattle.crush_history.specs.History.{EntryData}
 use Rattle.crush_history.specs.HistoryText.{entry_text}
 
--- whether an edit is an `add-bucket`, which makes one bucket if it is done
+-- whether an edit is an `add-bucket`, which creates one bucket if it is applied
 abbrev pub is_add_bucket : Edit → Bool
 is_add_bucket (AddBucket name kind) = true
 is_add_bucket e = false
@@ -21,7 +21,7 @@ add_bucket_count (One e) = if is_add_bucket e then 1 else 0
 add_bucket_count (Batch es) = count_by is_add_bucket es
 add_bucket_count (Guarded seen es) = count_by is_add_bucket es
 
--- the number of buckets that a call made, by its reply
+-- the number of buckets that a call created, which its reply says
 abbrev pub buckets_made : Reply → ℕ
 buckets_made (Done d) = d.made
 buckets_made (Dones d) = d.made
@@ -29,19 +29,19 @@ buckets_made (Refused r) = 0
 buckets_made (BatchRefused index r) = 0
 buckets_made (Stale n) = 0
 
--- MAKES MORE: whether an entry made more buckets than its call has `add-bucket` commands; then a location named a bucket that wasn't there
+-- MAKES MORE: whether an entry created more buckets than its call has `add-bucket` commands. If it did, a location of the call named a bucket that wasn't in the map
 abbrev pub makes_more : EntryData → Bool
 makes_more e = nat_lt (add_bucket_count e.call) (buckets_made e.reply)
 
--- the number of such entries
+-- the number of entries that created more buckets than they have `add-bucket` commands
 abbrev pub makings : List EntryData → ℕ
 makings h = count_by makes_more h
 
--- the history line of such an entry, and nothing for any other entry
+-- the history line of an entry for which `makes_more` is true; nothing for any other entry
 abbrev pub made_line : ℕ → List ℕ → EntryData → List ℕ
 made_line number operator e = if makes_more e then entry_text number operator e else []
 
--- MADE TEXT: the history lines of such entries, each with its number in the history; `number` is that of the first entry here
+-- MADE TEXT: the history lines of all entries for which `makes_more` is true, each with its number in the history. `number` is the number of the first entry of the list
 unfoldable pub made_text : List (List ℕ) → ℕ → List EntryData → List ℕ
 made_text names number [] = []
 made_text names number (e ∷ h) = made_line number (slice_index_or names e.operator []) e ++ made_text names (number + 1) h

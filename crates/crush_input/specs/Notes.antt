@@ -1,4 +1,4 @@
--- The notes of a run: what standard error gets below its one line.
+-- The notes of a run: what is written to standard error after the first line.
 use Rattle.std.specs.Prelude.{◌≡◌, ℕ, ◌<◌, Bool, true, false, List, [], ◌++◌, Option, None, Some, Result, Ok, Err, IfSome, codes, if◌then◌else◌, map}
 use Rattle.crush_edits.specs.Setting.{SettingData}
 use Rattle.crush_map.specs.MapData.{MapData, MapStands}
@@ -24,19 +24,19 @@ use Rattle.crush_input.specs.declared.aborted.KeptText.{KeptText}
 use Rattle.crush_input.specs.Made.{made_text, makings}
 use Rattle.crush_input.specs.Origins.{origin_of, whole_of}
 
--- there is a kept map, and it has this setting and represents this table
+-- there is a stored map, which has this setting and represents this table
 abbrev pub IsKept : Option MapData → SettingData → List Row → Type 0
 IsKept None s t = ⊥
 IsKept (Some m) s t = MapStands m s t
 
--- WHAT IS KEPT OF A JOB'S TEXT to write notes from: the file that each line comes from, the lines of each script's edits, the bytes, and the notes on bucket weights in the text that aren't the sum
+-- WHAT IS STORED OF A JOB'S TEXT, so that notes can be written: the file from which each line comes, the numbers of the lines with each script's edits, the bytes, and the notes on bucket weights in the text that aren't sums
 pub record TextData : Type 0 where
   pub origin : ℕ → OriginData
   pub lines : List (List ℕ)
   pub bytes : List ℕ
   pub weights : List ℕ
 
--- what the program keeps, as data
+-- the program's `KeptText` as plain data
 abbrev pub text_data : KeptText → TextData
 text_data k = record { origin = origin_of k.origins; lines = lines_data k.lines.items; bytes = k.bytes.items; weights = k.weights.items }
 
@@ -51,19 +51,19 @@ refused_notes mode text s t names h =
 abbrev pub weight_notes : Bool → List ℕ → List Row → List ℕ
 weight_notes explain bytes t = if explain then written_text t (map_part bytes) else []
 
--- the bytes that are kept of a job: all of them with `--explain`, otherwise none
+-- the bytes that are stored of a job: all of them with `--explain`, otherwise none
 abbrev pub bytes_kept : Bool → List ℕ → List ℕ
 bytes_kept explain bytes = if explain then bytes else []
 
--- THE TEXT that a run keeps of a job with these bytes and this table, whose lines have these origins
+-- THE TEXT that a run stores of a job with these bytes and this table; `origin` says from which file each line comes
 abbrev pub text_of : Bool → (ℕ → OriginData) → List ℕ → List Row → TextData
 text_of explain origin bytes t = record { origin = origin; lines = job_lines bytes; bytes = bytes_kept explain bytes; weights = weight_notes explain bytes t }
 
--- the notes of refused calls, followed by those of weights, which were kept
+-- the notes of refused calls, followed by the stored notes of weights
 abbrev pub history_notes : Mode → TextData → SettingData → List Row → List (List ℕ) → List EntryData → List ℕ
 history_notes mode text s t names h = refused_notes mode text s t names h ++ text.weights
 
--- NOTES OF A FAULT OF BYTES: with `--explain`, the fault's place in the file that its line comes from, and the reason; otherwise nothing
+-- NOTES OF A FAULT OF BYTES: with `--explain`, the place of the fault in the file from which its line comes, and the reason; otherwise nothing
 abbrev pub place_notes : Bool → (ℕ → OriginData) → List ℕ → JobFault → List ℕ
 place_notes explain origin bytes fault = if explain then fault_text (origin (fault_line bytes fault)) bytes fault else []
 
@@ -71,33 +71,33 @@ place_notes explain origin bytes fault = if explain then fault_text (origin (fau
 abbrev pub unread_text : List ℕ → List ℕ → List ℕ
 unread_text name reason = codes "  " ++ map shown_byte name ++ codes ": " ++ reason ++ codes "\n"
 
--- the notes are such a note of the file `name`, with any reason
+-- the notes are the note of a file that can't be read (`unread_text`), for the file `name` and with some reason
 abbrev pub IsNoteOfUnreadFile : List ℕ → List ℕ → Type 0
 IsNoteOfUnreadFile name notes = (reason : List ℕ) × (notes ≡ unread_text name reason)
 
--- NOTES OF A FILE of this name, whose reading ended with a fault: after a failed read the note above with `--explain`; otherwise nothing
+-- NOTES OF A FILE of this name, whose reading ended with a fault: if a read failed and `--explain` is given, the note about the file; otherwise nothing
 abbrev pub AreNotesOfFile : Bool → List ℕ → RunFault → List ℕ → Type 0
 AreNotesOfFile explain name run.Read notes = (explain ≡ false → notes ≡ []) × (explain ≡ true → IsNoteOfUnreadFile name notes)
 AreNotesOfFile explain name fault notes = notes ≡ []
 
--- the notes of a flaw of another map: with `--explain`, its place, with the name of the map's file, and the reason; otherwise nothing
+-- the notes of a flaw of the second map. With `--explain`, they have the flaw's place, with the name of the map's file, and the reason; otherwise there are none
 abbrev pub flaw_notes : Bool → List ℕ → List ℕ → TextFault → List ℕ
 flaw_notes explain name bytes fault = if explain then fault_text (whole_of name) bytes (job.Text fault) else []
 
--- the notes of a fault of another map: for a flaw those above, if the map's bytes are known; if it is too long, nothing; if its file can't be read, the note of the file
+-- the notes of a fault of the second map. For a flaw they are `flaw_notes`, if the map's bytes are known. If the map is too long, there are none. If its file can't be read, they are the note about the file
 abbrev pub AreNotesOfSecondMapFault : Bool → List ℕ → Option (List ℕ) → SecondMapFault → List ℕ → Type 0
 AreNotesOfSecondMapFault explain name all (unread.Text fault) notes = (explain ≡ false → notes ≡ []) × IfSome all (λ bytes. notes ≡ flaw_notes explain name bytes fault)
 AreNotesOfSecondMapFault explain name all unread.TooLong notes = notes ≡ []
 AreNotesOfSecondMapFault explain name all unread.Read notes = AreNotesOfFile explain name run.Read notes
 
--- NOTES OF ANOTHER MAP in a file of this name: those of its fault as above, and nothing for any other fault of the run
+-- NOTES OF THE SECOND MAP, whose file has this name: for a fault of this map, the notes of this fault; for any other fault of the run there are none
 abbrev pub AreNotesOfSecondMap : Bool → List ℕ → Option (List ℕ) → RunFault → List ℕ → Type 0
 AreNotesOfSecondMap explain name all (run.SecondMap which fault) notes = AreNotesOfSecondMapFault explain name all fault notes
 AreNotesOfSecondMap explain name all fault notes = notes ≡ []
 
--- NOTES OF A HISTORY: the notes of refused calls and of weights, if the run is done or ends by a failed write, by refused calls or by a name that the map lacks. If it
--- ends by made buckets, the lines of the calls that made them precede these notes. If it ends by differences that remain after a plan, `rest`, the lines of these
--- differences, follows these notes. Nothing is said of other faults.
+-- NOTES OF A HISTORY: the notes of refused calls and of weights, if the run succeeds, or fails because of a failed write, of refused calls or of a name that the map doesn't have.
+-- If it fails because of calls that created buckets, the lines of these calls come before these notes. If it fails because of differences that remain after a plan, `rest`, which has the
+-- lines of these differences, comes after these notes. The definition says nothing about other faults.
 abbrev pub AreNotesOfHistory : {X : Type 0} → Mode → TextData → SettingData → List Row → List (List ℕ) → List EntryData → List ℕ → Result X RunFault → List ℕ → Type 0
 AreNotesOfHistory mode text s t names h rest (Ok x) notes = notes ≡ history_notes mode text s t names h
 AreNotesOfHistory mode text s t names h rest (Err run.Write) notes = notes ≡ history_notes mode text s t names h
@@ -109,9 +109,9 @@ AreNotesOfHistory mode text s t names h rest (Err run.NoType) notes = notes ≡ 
 AreNotesOfHistory mode text s t names h rest (Err run.NoClass) notes = notes ≡ history_notes mode text s t names h
 AreNotesOfHistory mode text s t names h rest (Err fault) notes = Unit {0}
 
--- NOTES WITHOUT A HISTORY: what holds of the notes of a fault, whatever the history is. For a fault of the bytes, the notes have its place if the bytes are known, and there
--- are none without `--explain`. For a failed write, or a name that the map lacks, there are none without `--explain`. Of refused calls, made buckets and remaining
--- differences nothing is said. For any other fault there are none.
+-- NOTES WITHOUT A HISTORY: what is true of the notes of a fault, whatever the history is. For a fault of the bytes, the notes have the fault's place if the bytes are known, and without
+-- `--explain` there are none. For a failed write, or a name that the map doesn't have, there are none without `--explain`. The definition says nothing about refused calls, created buckets and
+-- remaining differences. For any other fault there are none.
 abbrev pub AreNotesOfFault : Bool → (ℕ → OriginData) → Option (List ℕ) → RunFault → List ℕ → Type 0
 AreNotesOfFault explain origin all (run.Job fault) notes = (explain ≡ false → notes ≡ []) × IfSome all (λ bytes. notes ≡ place_notes explain origin bytes fault)
 AreNotesOfFault explain origin all run.Write notes = explain ≡ false → notes ≡ []
@@ -123,14 +123,14 @@ AreNotesOfFault explain origin all run.NoType notes = explain ≡ false → note
 AreNotesOfFault explain origin all run.NoClass notes = explain ≡ false → notes ≡ []
 AreNotesOfFault explain origin all fault notes = notes ≡ []
 
--- the same for the result of a run: a run that was done has no notes without `--explain`
+-- what is true of the notes of a run's result: if the run failed, they are the notes of its fault (`AreNotesOfFault`). A run that succeeded has no notes without `--explain`
 abbrev pub AreNotesOfResult : {X : Type 0} → Bool → (ℕ → OriginData) → Option (List ℕ) → Result X RunFault → List ℕ → Type 0
 AreNotesOfResult explain origin all (Ok x) notes = explain ≡ false → notes ≡ []
 AreNotesOfResult explain origin all (Err fault) notes = AreNotesOfFault explain origin all fault notes
 
--- STRICT: if a run is strict, its history has no refused entry when it is done, or when it ends by a failed write, by made buckets, by remaining differences or
--- by a name that the map lacks. A run that ends by refusals is strict, and its fault has their number, at least 1. Only a strict run ends by remaining
--- differences. Nothing is said of other faults.
+-- STRICT: if a run is strict, its history has no refused entry when the run succeeds, or when it fails because of a failed write, of created buckets, of remaining differences or of
+-- a name that the map doesn't have. A run that fails because of refusals is strict, and its fault has their number, at least 1. Only a strict run fails because of remaining
+-- differences. The definition says nothing about other faults.
 abbrev pub IsStrict : {X : Type 0} → Bool → List EntryData → Result X RunFault → Type 0
 IsStrict strict h (Ok x) = strict ≡ true → refusals h ≡ 0
 IsStrict strict h (Err run.Write) = strict ≡ true → refusals h ≡ 0
@@ -142,9 +142,9 @@ IsStrict strict h (Err run.NoType) = strict ≡ true → refusals h ≡ 0
 IsStrict strict h (Err run.NoClass) = strict ≡ true → refusals h ≡ 0
 IsStrict strict h (Err fault) = Unit {0}
 
--- NO MAKE: with `--no-make`, no entry of the history made more buckets than its call has `add-bucket` commands when the run is done, or when it ends by a failed write,
--- by remaining differences or by a name that the map lacks. A run that ends by such entries has `--no-make`, and its fault has their number, at least 1.
--- Nothing is said of other faults.
+-- NO MAKE: with `--no-make`, no entry of the history created more buckets than its call has `add-bucket` commands when the run succeeds, or when it fails because of a failed write,
+-- of remaining differences or of a name that the map doesn't have. A run that fails because of such entries has `--no-make`, and its fault has their number, at least 1.
+-- The definition says nothing about other faults.
 abbrev pub IsNoMake : {X : Type 0} → Bool → List EntryData → Result X RunFault → Type 0
 IsNoMake no_make h (Ok x) = no_make ≡ true → makings h ≡ 0
 IsNoMake no_make h (Err run.Write) = no_make ≡ true → makings h ≡ 0

@@ -1,4 +1,4 @@
--- What a run prints and reads for its command line, and the notes of faults on the way.
+-- What a run prints and reads for its command line, and the notes of the faults that occur meanwhile.
 use Rattle.std.specs.Prelude.{◌≡◌, ◌⊎◌, ℕ, ◌<◌, ◌≤◌, Bool, false, List, [], Option, None, Some, Result, Err, IfSome, String, length, option_map, slice_index_or}
 use Rattle.crush_model.specs.Table.{Row}
 use Rattle.crush_model.specs.Stands.{Stands}
@@ -37,40 +37,40 @@ pub record IsTextOf (m : MapData) (bytes : List ℕ) : Type 0 where
   pub text : IsMapText bytes m.setting table adjusted
   pub stands : Stands m.forest table
 
--- the bytes of a string, if there is one
+-- the bytes of a string; none if there is no string
 abbrev pub name_text : {Z : Type 0} → Option (String Z) → Option (List ℕ)
 name_text name = option_map (λ n. n.bytes.items) name
 
--- the part has the same names as the part `words` of the command line
+-- the part has the same names as the part `words`, which is the part on the command line
 pub record IsPartOf (words part : TreePartSpec) : Type 0 where
   pub under : name_text part.under ≡ name_text words.under
   pub down_to : name_text part.down_to ≡ name_text words.down_to
   pub class : name_text part.class ≡ name_text words.class
 
--- the output is the tree of such a part
+-- the output is a tree, or the part of a tree that has the names of the part `words`
 abbrev pub IsTreeOf : TreePartSpec → Output → Type 0
 IsTreeOf words (output.Tree part) = IsPartOf words part
 IsTreeOf words what = ⊥
 
--- the old map is that of the file which the words name, if the file's bytes are known, and the rest is as the words say
+-- the old map is the map in the file that the command line names, if the file's bytes are known. Everything else is as the command line says
 pub record IsOldOf (content : List ℕ → Option (List ℕ)) (words : Since) (old : OldMap) : Type 0 where
   pub map : IfSome (content words.map.bytes.items) (IsTextOf old.map)
   pub by_name : old.by_name ≡ words.by_name
   pub under : name_text old.under ≡ name_text words.under
 
--- the same of a tree of changes, whose part is the one that the words name
+-- the old map of a tree of changes is the map in the file that the command line names, if the file's bytes are known. The part is the one that the command line names
 pub record IsOldTreeOf (content : List ℕ → Option (List ℕ)) (words : ChangeTree) (old : OldTree) : Type 0 where
   pub map : IfSome (content words.map.bytes.items) (IsTextOf old.map)
   pub part : IsPartOf words.part old.part
 
--- the wanted map is that of the file which the words name, if the file's bytes are known, and the rest is as the words say
+-- the wanted map is the map in the file that the command line names, if the file's bytes are known. Everything else is as the command line says
 pub record IsTargetOf (content : List ℕ → Option (List ℕ)) (words : Target) (target : TargetMap) : Type 0 where
   pub map : IfSome (content words.map.bytes.items) (IsTextOf target.map)
   pub as_ceph : target.as_ceph ≡ words.as_ceph
   pub by_name : target.by_name ≡ words.by_name
   pub under : name_text target.under ≡ name_text words.under
 
--- the output `what` is the one that the words ask for; another map in it is that of its file, if the file's bytes are known
+-- the output `what` is the one that the command line selects. If it needs a second map, this is the map in the second map's file, if the file's bytes are known
 abbrev pub IsOutputOf : (List ℕ → Option (List ℕ)) → OutputSpec → Output → Type 0
 IsOutputOf content output_spec.Map what = what ≡ output.Map
 IsOutputOf content (output_spec.Tree part) what = IsTreeOf part what
@@ -82,19 +82,19 @@ IsOutputOf content (output_spec.Changes words) what = ⊥
 IsOutputOf content (output_spec.To words) (output.To target) = IsTargetOf content words target
 IsOutputOf content (output_spec.To words) what = ⊥
 
--- the fault of the bytes of another map's file: they have this flaw, or are more than a job may have. Nothing is said of a failed read.
+-- the fault of the bytes of the second map's file: the bytes have this flaw, or there are more of them than a job may have. The definition says nothing about a failed read.
 abbrev pub IsSecondMapFault : List ℕ → SecondMapFault → Type 0
 IsSecondMapFault bytes (unread.Text fault) = (length bytes ≤ LONGEST_JOB) × IsMapFlaw bytes fault
 IsSecondMapFault bytes unread.TooLong = LONGEST_JOB < length bytes
 IsSecondMapFault bytes unread.Read = Unit {0}
 
--- the faults with which the reading of the map for the option `why` may fail: a fault of this map, which its file's bytes have if they are known, or out of memory
+-- the faults with which reading the map for the option `why` may fail: a fault of this map, which the bytes of its file have if they are known; or memory ran out
 abbrev pub IsMapFault : SecondMap → Option (List ℕ) → RunFault → Type 0
 IsMapFault why all (run.SecondMap which fault) = (which ≡ why) × IfSome all (λ bytes. IsSecondMapFault bytes fault)
 IsMapFault why all run.Memory = Unit {0}
 IsMapFault why all fault = ⊥
 
--- the faults with which the making of the output may fail: for another map those above, for a tree out of memory, and otherwise none
+-- the faults with which creating the output may fail: for a second map the faults of `IsMapFault`, for a tree only that memory ran out, and for any other output none
 abbrev pub IsOutputFault : (List ℕ → Option (List ℕ)) → OutputSpec → RunFault → Type 0
 IsOutputFault content (output_spec.Tree part) fault = fault ≡ run.Memory
 IsOutputFault content (output_spec.Since words) fault = IsMapFault second.Since (content words.map.bytes.items) fault
@@ -102,7 +102,7 @@ IsOutputFault content (output_spec.Changes words) fault = IsMapFault second.Sinc
 IsOutputFault content (output_spec.To words) fault = IsMapFault second.To (content words.map.bytes.items) fault
 IsOutputFault content what fault = ⊥
 
--- the notes of such a fault: for another map those of its file, and for a tree none
+-- the notes of such a fault: for a second map the notes about its file, and for a tree none
 abbrev pub AreNotesOfOutputFault : (List ℕ → Option (List ℕ)) → Bool → OutputSpec → RunFault → List ℕ → Type 0
 AreNotesOfOutputFault content explain (output_spec.Tree part) fault notes = notes ≡ []
 AreNotesOfOutputFault content explain (output_spec.Since words) fault notes = AreNotesOfSecondMap explain words.map.bytes.items (content words.map.bytes.items) fault notes
@@ -110,7 +110,7 @@ AreNotesOfOutputFault content explain (output_spec.Changes words) fault notes = 
 AreNotesOfOutputFault content explain (output_spec.To words) fault notes = AreNotesOfSecondMap explain words.map.bytes.items (content words.map.bytes.items) fault notes
 AreNotesOfOutputFault content explain what fault notes = ⊥
 
--- one of these files of scripts has this name
+-- one of these files of scripts is called `name`
 pub record IsScript {Z : Type 0} (scripts : List (String Z)) (name : List ℕ) : Type 0 where
   pub place : ℕ
   pub there : place < length scripts
@@ -118,28 +118,28 @@ pub record IsScript {Z : Type 0} (scripts : List (String Z)) (name : List ℕ) :
   pub is : script ≡ slice_index_or scripts place script
   pub bytes : script.bytes.items ≡ name
 
--- the job's file has this name; false if the job is read from standard input
+-- the job's file is called `name`; false if the job is read from standard input
 abbrev pub IsFile : {Z : Type 0} → Option (String Z) → List ℕ → Type 0
 IsFile None name = ⊥
 IsFile (Some file) name = file.bytes.items ≡ name
 
--- the notes are that a file can't be opened or read, which the options name as the job's file or as a file of a script
+-- the notes say that a file can't be opened or read. The file is the job's file or a file of scripts, and the options name it
 pub record IsPartUnread (options : Options) (notes : List ℕ) : Type 0 where
   pub name : List ℕ
   pub named : IsFile options.file name ⊎ IsScript options.scripts.items name
   pub unread : IsNoteOfUnreadFile name notes
 
--- NOTES OF A JOB that couldn't be read: nothing without `--explain`; with it, nothing or the note of a file as above
+-- NOTES OF A JOB that couldn't be read: without `--explain` none; with `--explain` none, or the note about a file as in `IsPartUnread`
 abbrev pub AreNotesOfFailedRead : Options → List ℕ → Type 0
 AreNotesOfFailedRead options notes = (options.mode.explain ≡ false → notes ≡ []) × ((notes ≡ []) ⊎ IsPartUnread options notes)
 
--- the notes of a fault while the bytes of a job are read: those above for a failed read, and nothing for any other fault
+-- the notes of a fault that occurs while the bytes of a job are read: after a failed read as in `AreNotesOfFailedRead`, and none after any other fault
 abbrev pub AreNotesOfInputFault : Options → RunFault → List ℕ → Type 0
 AreNotesOfInputFault options run.Read notes = AreNotesOfFailedRead options notes
 AreNotesOfInputFault options fault notes = notes ≡ []
 
--- NOTED AS ASKED: the notes of a run with these options. A fault of another map has those of that map, and a failed read those of a job that couldn't be read.
--- Any other result has the notes of any run, which show a place in the file that its line comes from.
+-- NOTES FOR OPTIONS: the notes of a run with these options. After a fault of the second map, they are the notes of that map. After a failed read, they are the notes of a job that couldn't be read.
+-- For any other result, they are the notes that any run has for this result. If they show a place, it is the place in the file from which the line comes.
 abbrev pub AreNotesForOptions : (List ℕ → Option (List ℕ)) → Options → Option (List ℕ) → Result Summary RunFault → List ℕ → Type 0
 AreNotesForOptions content options input (Err (run.SecondMap which fault)) notes = AreNotesOfOutputFault content options.mode.explain options.output_spec (run.SecondMap which fault) notes
 AreNotesForOptions content options input (Err run.Read) notes = AreNotesOfFailedRead options notes

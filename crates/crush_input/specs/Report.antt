@@ -15,11 +15,11 @@ use Rattle.crush_input.specs.declared.fault.SecondMap.TheVariants as second
 use Rattle.crush_input.specs.declared.summary.Summary.{Summary}
 use Rattle.crush_input.specs.Words.{WordsData}
 
--- the line for out of memory, wherever it occurred
+-- the line that says that memory ran out
 abbrev pub out_of_memory : List ℕ
 out_of_memory = codes "crushedit: out of memory\n"
 
--- the line with the number of bucket weights in the map's text that sums replaced
+-- the line with the number of bucket weights in the map's text that were replaced by sums
 abbrev pub adjusted_line : ℕ → List ℕ
 adjusted_line adjusted = codes "crushedit: adjusted " ++ decimal adjusted ++ codes "\n"
 
@@ -47,34 +47,34 @@ job_fault OutOfMemory = out_of_memory
 abbrev pub refused_line : ℕ → List ℕ
 refused_line count = codes "crushedit: refused " ++ decimal count ++ codes "\n"
 
--- the line with the number of calls that made more buckets than they have `add-bucket` commands, and so ended a run with `--no-make`
+-- the line with the number of calls that created more buckets than they have `add-bucket` commands, which ended a run with `--no-make`
 abbrev pub made_line : ℕ → List ℕ
 made_line count = codes "crushedit: made " ++ decimal count ++ codes "\n"
 
--- the line with the number of differences that remain after a plan, and so ended a strict run
+-- the line with the number of differences that remain after a plan, which ended a strict run
 abbrev pub differs_line : ℕ → List ℕ
 differs_line count = codes "crushedit: differs " ++ decimal count ++ codes "\n"
 
--- the word in the line for a fault of another map: the option that names the map
+-- the word in the line for a fault of the second map: the option that names the map
 abbrev pub map_word : SecondMap → List ℕ
 map_word second.Since = codes "since"
 map_word second.To = codes "to"
 
--- the line for a fault of another map's text: the option, its place and its name
+-- the line for a fault of the second map's text: the option, the fault's place and its name
 abbrev pub second_map_text_fault : SecondMap → TextFault → List ℕ
 second_map_text_fault which f = codes "crushedit: " ++ map_word which ++ codes ": byte " ++ decimal f.place ++ codes ": " ++ fault_name f.kind ++ codes "\n"
 
--- the line for a fault of another map
+-- the line for a fault of the second map
 abbrev pub second_map_fault : SecondMap → SecondMapFault → List ℕ
 second_map_fault which (unread.Text f) = if is_out_of_memory f.kind then out_of_memory else second_map_text_fault which f
 second_map_fault which unread.TooLong = codes "crushedit: " ++ map_word which ++ codes ": TooLong\n"
 second_map_fault which unread.Read = codes "crushedit: " ++ map_word which ++ codes ": read fault\n"
 
--- the line for an item, a type or a class that the map lacks, with its name from the command line, of which each byte is shown as in every message
+-- the line for an item, a type or a class that the map doesn't have. It has the name from the command line, whose bytes are shown as in every message
 abbrev pub lacking_line : List ℕ → List ℕ → List ℕ
 lacking_line what name = codes "crushedit: no " ++ what ++ map shown_byte name ++ codes "\n"
 
--- the line for a run that was not done
+-- the line for a run that failed
 abbrev pub run_fault : WordsData → RunFault → List ℕ
 run_fault w (run.Job f) = if lacks_memory f then out_of_memory else job_fault f
 run_fault w run.Read = codes "crushedit: read fault\n"
@@ -89,32 +89,32 @@ run_fault w run.NoType = lacking_line (codes "type ") w.down_to
 run_fault w run.NoClass = lacking_line (codes "class ") w.class
 run_fault w (run.SecondMap which f) = second_map_fault which f
 
--- the one line for the result of a run; nothing if the run was done and no weight was replaced
+-- the first line, for the result of a run; nothing if the run succeeded and no weight was replaced
 abbrev pub report_line : WordsData → Result Summary RunFault → List ℕ
 report_line w (Ok s) = if s.adjusted == 0 then [] else adjusted_line s.adjusted
 report_line w (Err f) = run_fault w f
 
--- the reason for out of memory
+-- the reason that memory ran out
 abbrev pub memory_reason : List ℕ
 memory_reason = codes "  there is less memory than the job wants\n"
 
--- the reason if the file of another map is too long
+-- the reason if the file of the second map is too long
 abbrev pub long_reason : SecondMap → List ℕ
 long_reason second.Since = codes "  the file of --since has at most 16777216 bytes\n"
 long_reason second.To = codes "  the file of --to has at most 16777216 bytes\n"
 
--- the reason if the file of another map can't be opened or read
+-- the reason if the file of the second map can't be opened or read
 abbrev pub unread_reason : SecondMap → List ℕ
 unread_reason second.Since = codes "  the file of --since is to be there, and to be read to its end\n"
 unread_reason second.To = codes "  the file of --to is to be there, and to be read to its end\n"
 
--- the reason for a fault of another map; nothing for a flaw of its text, whose reason is in the notes
+-- the reason for a fault of the second map; nothing for a flaw of its text, whose reason is in the notes
 abbrev pub second_map_reason : SecondMap → SecondMapFault → List ℕ
 second_map_reason which (unread.Text f) = if is_out_of_memory f.kind then memory_reason else []
 second_map_reason which unread.TooLong = long_reason which
 second_map_reason which unread.Read = unread_reason which
 
--- the reason why a run was not done; nothing if the notes of the run have it
+-- the reason why a run failed; nothing if the notes of the run have it
 abbrev pub fault_reason : RunFault → List ℕ
 fault_reason (run.Job f) = if lacks_memory f then memory_reason else []
 fault_reason run.Read = codes "  each file, or standard input, is to be there, and to be read to its end\n"
@@ -129,12 +129,12 @@ fault_reason run.NoType = codes "  --down-to wants the name of a type of the map
 fault_reason run.NoClass = codes "  --class wants the class of a device of the map after the scripts\n"
 fault_reason (run.SecondMap which f) = second_map_reason which f
 
--- the reason for the result of a run; nothing if the run was done
+-- the reason for the result of a run; nothing if the run succeeded
 abbrev pub outcome_reason : Result Summary RunFault → List ℕ
 outcome_reason (Ok s) = []
 outcome_reason (Err f) = fault_reason f
 
--- the one line, followed by the reason with `--explain`
+-- the first line; with `--explain`, the reason follows
 abbrev pub report_lines : WordsData → Result Summary RunFault → List ℕ
 report_lines w outcome = report_line w outcome ++ (if w.explain then outcome_reason outcome else [])
 
@@ -142,13 +142,13 @@ report_lines w outcome = report_line w outcome ++ (if w.explain then outcome_rea
 abbrev pub report_text : WordsData → Result Summary RunFault → List ℕ → List ℕ
 report_text w outcome notes = report_lines w outcome ++ notes
 
--- the status for a fault of another map
+-- the status for a fault of the second map
 abbrev pub second_map_status : SecondMapFault → ℕ
 second_map_status (unread.Text f) = if is_out_of_memory f.kind then 4 else 1
 second_map_status unread.TooLong = 1
 second_map_status unread.Read = 3
 
--- the status for a run that was not done
+-- the status for a run that failed
 abbrev pub fault_status : RunFault → ℕ
 fault_status (run.Job f) = if lacks_memory f then 4 else 1
 fault_status run.Read = 3
@@ -163,9 +163,9 @@ fault_status run.NoType = 1
 fault_status run.NoClass = 1
 fault_status (run.SecondMap which f) = second_map_status f
 
--- STATUS: 0 if the run was done, or 6 if its summary says that there is something to report. If it was not done: 1 if the bytes aren't a job or another map isn't a map, or
+-- STATUS: 0 if the run succeeded, or 6 if its summary says that there is something to report. If the run failed: 1 if the bytes aren't a job or the second map isn't a map, or
 -- if the map lacks a name of the command line; 3 if reading or writing failed; 4 if memory ran out or a thread couldn't be started; 5 if calls of a strict
--- run were refused, differences remain after its plan, or buckets were made in spite of `--no-make`
+-- run were refused, differences remain after its plan, or buckets were created in spite of `--no-make`
 abbrev pub status : Result Summary RunFault → ℕ
 status (Ok s) = if s.differs then 6 else 0
 status (Err f) = fault_status f

@@ -1,4 +1,4 @@
--- The maps of verbs: what their files have to be, and what standard error gets if they aren't.
+-- The map files of verbs: what the files must contain, and what is written to standard error if they don't.
 use Rattle.std.specs.Prelude.{◌≡◌, ◌⊎◌, ◌<◌, ◌≤◌, ◌+◌, ◌-◌, ◌==◌, ◌++◌, ◌&&◌, ◌||◌, not, ℕ, Bool, true, false, List, [], ◌∷◌, Option, IfSome, codes, decimal, drop, if◌then◌else◌, length, min, slice_index, take}
 use Rattle.std.specs.List.{ends_with}
 use Rattle.std.specs.Str.{bytes_eq}
@@ -33,7 +33,7 @@ end_line = codes "# end crush map"
 abbrev pub is_text_byte : ℕ → Bool
 is_text_byte b = not (is_line_blank b || b == 10)
 
--- the number of bytes up to the last one that is neither a blank nor a line feed; `seen` bytes before these were looked at, and `best` is the number so far
+-- the number of bytes up to the last one that is neither a blank nor a line feed. `seen` bytes were tested before these bytes, and `best` is the number for them
 abbrev pub text_length : ℕ → ℕ → List ℕ → ℕ
 text_length seen best [] = best
 text_length seen best (b ∷ bs) = text_length (seen + 1) (if is_text_byte b then seen + 1 else best) bs
@@ -46,24 +46,24 @@ without_end bytes = take (text_length 0 0 bytes) bytes
 abbrev pub ends_in_end_line : List ℕ → Bool
 ends_in_end_line bytes = bytes_eq bytes end_line || ends_with (λ a b. a == b) bytes (codes "\n# end crush map")
 
--- WHOLE: whether the last line of a text that has more than blanks is `# end crush map`; blanks may follow it in the line
+-- WHOLE: whether the last line that has more than blanks is `# end crush map`; blanks may follow these words in the line
 abbrev pub is_whole : List ℕ → Bool
 is_whole bytes = ends_in_end_line (without_end bytes)
 
--- whether the files have to be whole maps
+-- whether the files must be complete maps
 abbrev pub wants_whole : MapForm → Bool
 wants_whole form.WholeMap = true
 wants_whole other = false
 
--- CUT: whether a text counts as cut that has no other fault: it has to be whole, and isn't
+-- CUT: whether a text without another fault counts as cut: it must be complete, and isn't
 abbrev pub is_cut : MapForm → List ℕ → Bool
 is_cut maps bytes = wants_whole maps && not (is_whole bytes)
 
--- the same for a text with a fault at this place: no line feed follows the place
+-- whether a text with a fault at this place counts as cut: it must be complete and isn't, and no line feed follows the place
 abbrev pub is_cut_at : MapForm → List ℕ → ℕ → Bool
 is_cut_at maps bytes place = is_cut maps bytes && (line_feeds (drop (min place (length bytes)) bytes) == 0)
 
--- A MAP: the bytes are no longer than a job may be, and are the text of a map, which is whole if it has to be
+-- A MAP: there are at most as many bytes as a job may have, they are the text of a map, and this text is complete if it must be
 pub record IsVerbMap (maps : MapForm) (bytes : List ℕ) : Type 0 where
   pub short : length bytes ≤ LONGEST_JOB
   pub setting : SettingData
@@ -72,21 +72,21 @@ pub record IsVerbMap (maps : MapForm) (bytes : List ℕ) : Type 0 where
   pub text : IsMapText bytes setting table adjusted
   pub whole : is_cut maps bytes ≡ false
 
--- the bytes count as cut: they are the text of a map, which had to be whole, or have a flaw after whose place no line feed follows
+-- the bytes count as cut: they are the text of a map that must be complete and isn't, or they have a flaw after whose place no line feed follows
 abbrev pub IsCutText : MapForm → List ℕ → Type 0
 IsCutText maps bytes =
     ((s : SettingData) × (t : List Row) × (n : ℕ) × IsMapText bytes s t n × (is_cut maps bytes ≡ true))
     ⊎ ((f : TextFault) × IsMapFlaw bytes f × (is_cut_at maps bytes f.place ≡ true))
 
--- A CUT MAP: the bytes are no longer than a job may be, and count as cut
+-- A CUT MAP: there are at most as many bytes as a job may have, and they count as cut
 abbrev pub IsCutMap : MapForm → List ℕ → Type 0
 IsCutMap maps bytes = (length bytes ≤ LONGEST_JOB) × IsCutText maps bytes
 
--- a flaw that is told: the text has it, and doesn't count as cut
+-- a flaw that is reported: the text has this flaw, and doesn't count as cut
 abbrev pub IsToldFlaw : MapForm → List ℕ → TextFault → Type 0
 IsToldFlaw maps bytes fault = (length bytes ≤ LONGEST_JOB) × (IsMapFlaw bytes fault × (is_cut_at maps bytes fault.place ≡ false))
 
--- why these bytes are no such map. It is never a failed read, and nothing is said of out of memory.
+-- why these bytes aren't a map that the verb can use. The reason is never a failed read. The definition says nothing about the fault that memory ran out.
 abbrev pub IsVerbTextFault : MapForm → List ℕ → VerbMapFault → Type 0
 IsVerbTextFault needs bytes (verb.Text fault) = IsToldFlaw needs bytes fault
 IsVerbTextFault needs bytes verb.Cut = IsCutMap needs bytes
@@ -94,7 +94,7 @@ IsVerbTextFault needs bytes verb.TooLong = LONGEST_JOB < length bytes
 IsVerbTextFault needs bytes verb.Read = ⊥
 IsVerbTextFault needs bytes verb.Memory = Unit {0}
 
--- A FAULT OF A FILE: why a file is no such map. If its bytes are known, they have the fault, unless the file wasn't read.
+-- A FAULT OF A FILE: why a file isn't a map that the verb can use. If the file's bytes are known, they have the fault, unless the file couldn't be read.
 abbrev pub IsVerbMapFault : MapForm → Option (List ℕ) → VerbMapFault → Type 0
 IsVerbMapFault needs all verb.Read = Unit {0}
 IsVerbMapFault needs all fault = IfSome all (λ bytes. IsVerbTextFault needs bytes fault)
@@ -104,17 +104,17 @@ abbrev pub is_bad_word : TextFaultKind → Bool
 is_bad_word text.BadWord = true
 is_bad_word kind = false
 
--- whether a line begins with `%` at the place of this flaw, as the head of a script does
+-- whether the flaw is at a `%` at the beginning of a line, as it is if a script follows the map
 abbrev pub begins_script : List ℕ → TextFault → Bool
 begins_script bytes fault = is_bad_word fault.kind && (fault.place == 0 || slice_index bytes (fault.place - 1) == 10) && slice_index bytes fault.place == 37
 
--- NOTES OF A FLAW of a verb's map in a file that is called `shown`: its place and the reason. Of the head of a script they say where scripts go.
+-- NOTES OF A FLAW of a verb's map in a file that is called `shown`: its place and the reason. If the flaw is the beginning of a script, they say where scripts belong.
 abbrev pub verb_flaw_notes : List ℕ → List ℕ → TextFault → List ℕ
 verb_flaw_notes shown bytes fault =
     if begins_script bytes fault then flaw_place_text (whole_of shown) bytes fault ++ codes "  scripts are files of their own here: crushedit apply MAP SCRIPT\n"
     else fault_text (whole_of shown) bytes (job.Text fault)
 
--- the reason for a fault without a place; nothing for a failed read, whose note is that of the file, and for out of memory
+-- the reason for a fault that has no place. There is none for a failed read, whose reason is in the note about the file, and none if memory ran out
 abbrev pub verb_map_reason : VerbMapFault → List ℕ
 verb_map_reason verb.Cut = codes "  the text doesn't end with `# end crush map`: was it cut? If it is whole, add that line\n"
 verb_map_reason verb.TooLong = codes "  the file of a map has at most 16777216 bytes\n"
@@ -125,13 +125,13 @@ abbrev pub verb_map_notes : List ℕ → List ℕ → VerbMapFault → List ℕ
 verb_map_notes shown bytes (verb.Text fault) = verb_flaw_notes shown bytes fault
 verb_map_notes shown bytes fault = verb_map_reason fault
 
--- NOTES OF A FAULT of the file `name`: those above, of which those of a flaw depend on the file's bytes; after a failed read the note of the file
+-- NOTES OF A FAULT of the file `name`, as in `verb_map_notes`. The notes of a flaw depend on the file's bytes; a failed read has the note about the file
 abbrev pub AreNotesOfVerbMap : List ℕ → List ℕ → Option (List ℕ) → VerbMapFault → List ℕ → Type 0
 AreNotesOfVerbMap name shown all (verb.Text fault) notes = IfSome all (λ bytes. notes ≡ verb_flaw_notes shown bytes fault)
 AreNotesOfVerbMap name shown all verb.Read notes = IsNoteOfUnreadFile name notes
 AreNotesOfVerbMap name shown all fault notes = notes ≡ verb_map_reason fault
 
--- the word before a fault of a map: nothing for the map from which a run begins
+-- the words before a fault of a map, which say which map it is; nothing for the map from which a run begins
 abbrev pub map_prefix : VerbMap → List ℕ
 map_prefix which.First = []
 map_prefix which.Old = codes "old: "
@@ -145,7 +145,7 @@ verb_map_line map verb.TooLong = codes "crushedit: " ++ map_prefix map ++ codes 
 verb_map_line map verb.Read = codes "crushedit: " ++ map_prefix map ++ codes "read fault\n"
 verb_map_line map verb.Memory = out_of_memory
 
--- the status for such a fault
+-- the status for a fault of a verb's map
 abbrev pub verb_map_status : VerbMapFault → ℕ
 verb_map_status (verb.Text f) = 1
 verb_map_status verb.Cut = 1

@@ -1,25 +1,25 @@
--- The words of a command line that the report of its run needs.
+-- What the report on standard error needs to know of the command line.
 use Rattle.std.specs.Prelude.{ℕ, Bool, false, List, [], unwrap_or}
 use Rattle.crush_options.specs.declared.parsed_options.Options.{Options}
 use Rattle.crush_options.specs.OutputFlags.{flags_by}
 use Rattle.crush_input.specs.declared.words.Words.{Words}
 
--- whether `--explain` is given, and the names that `--under`, `--down-to` and `--class` give, each empty if it isn't given
+-- whether `--explain` is given, and the names after `--under`, `--down-to` and `--class`, each of them empty if it isn't given
 pub record WordsData : Type 0 where
   pub explain : Bool
   pub under : List ℕ
   pub down_to : List ℕ
   pub class : List ℕ
 
--- these words as the program holds them, as data
+-- the program's `Words` as plain data
 abbrev pub words_data : Words → WordsData
 words_data w = record { explain = w.explain; under = w.under.now; down_to = w.down_to.now; class = w.class.now }
 
--- none of these words
+-- these values if no option is given
 abbrev pub no_words : WordsData
 no_words = record { explain = false; under = []; down_to = []; class = [] }
 
--- these words of the command line that has the options
+-- these values of a command line that has these options
 abbrev pub words_of : Options → WordsData
 words_of options = record {
   explain = options.mode.explain;

@@ -1,4 +1,4 @@
-//! The job of a run that was parsed, or why the run stopped before.
+//! The parsed job of a run, or the reason why the run stopped before its scripts ran.
 
 ghost use Rattle.std.specs.Prelude.{◌≡◌, []};
 
@@ -7,24 +7,24 @@ use crate::origins::Origins;
 use crush_script::Job;
 use std::alloc::Global;
 
-/// What is kept of a job's text to write notes from.
+/// What is stored of a job's text, from which notes about the text can be written later.
 #[derive(Drop)]
 pub struct KeptText<'a> {
-    /// The bytes of the job; empty without `explain`.
+    /// The bytes of the job. Without `explain` they are empty.
     pub bytes: Vec<u8>,
-    /// For each script of the job, the numbers of the lines that say its edits.
+    /// For each script of the job, the numbers of the lines that have its edits.
     pub lines: Vec<Vec<u32>>,
     /// The files that the lines of the job come from.
     pub origins: Origins<'a>,
-    /// The notes on carriage returns in the map's text, and on bucket weights in it that aren't the
-    /// sum; empty without `explain`.
+    /// The notes on the map's text: about carriage returns in it, and about bucket weights in it
+    /// that aren't sums. Without `explain` they are empty.
     pub weights: Vec<u8>,
 }
 
-/// A job, and what is kept of its text.
+/// A parsed job, and what is stored of its text.
 #[derive(Drop)]
 pub struct ParsedJob<'a> {
-    /// The job, without the lines of its edits, which are kept with the text.
+    /// The job. It doesn't have the line numbers of its edits, which are stored in `text`.
     pub job: Job,
     pub text: KeptText<'a>,
 }
@@ -33,7 +33,7 @@ pub struct ParsedJob<'a> {
 #[derive(Debug, Drop)]
 pub struct Aborted {
     pub fault: RunFault,
-    /// The lines of standard error below its one line.
+    /// The lines that follow the first line on standard error.
     pub notes: Vec<u8>,
 }
 

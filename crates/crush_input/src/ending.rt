@@ -1,4 +1,4 @@
-//! The lines on standard error, and the status with which the program ends.
+//! Writes the lines on standard error, and chooses the status with which the program ends.
 
 ghost use Rattle.std.specs.Prelude.{◌≡◌, ◌++◌, [], codes, if◌then◌else◌};
 ghost use Rattle.crush_units.specs.Writes.{Writes, AppendsPrefix};
@@ -22,7 +22,8 @@ const OUT_OF_MEMORY: &[u8] = b"crushedit: out of memory\n";
 
 const MEMORY_REASON: &[u8] = b"  there is less memory than the job wants\n";
 
-/// The reason for a failed write, or for output that couldn't be stored.
+/// The reason that is printed if writing to standard output failed, or if the output couldn't be
+/// stored.
 const WRITE_REASON: &[u8] =
     b"  standard output took less than the whole, or did not store it: what stands there isn't to be used\n";
 
@@ -279,7 +280,8 @@ fn second_map_reason(which: SecondMap, fault: SecondMapFault) -> &'static [u8]
     }
 }
 
-/// Returns the line with the reason why a run was not done; empty if the run's notes have it.
+/// Returns the line that gives the reason why a run failed. It is empty if the run's notes have the
+/// reason.
 fn fault_reason(fault: RunFault) -> &'static [u8]
     ensures { result.now ≡ fault_reason fault }
 {
@@ -378,7 +380,7 @@ fn status_of(outcome: &Result<Summary, RunFault>) -> u8
     }
 }
 
-/// What [`report`] did.
+/// The result of [`report`].
 #[derive(Clone, Copy, Debug, PartialEq, Eq)]
 pub struct ReportOutcome {
     /// The status with which the program ends.
@@ -387,21 +389,23 @@ pub struct ReportOutcome {
     pub written: Result<(), WriteFault>,
 }
 
-/// Writes the text of standard error for a run, and returns the status of the program.
+/// Writes the text for standard error about a run, and returns the status of the program.
 ///
-/// The text is at most one line on the outcome; then, with `--explain`, a line with the reason for
-/// a fault, unless the notes have it; then `notes`. The status is:
+/// The text begins with at most one line on the outcome of the run. With `--explain`, a line with
+/// the reason for a fault follows, unless the notes have the reason. The text ends with `notes`.
 ///
-/// - 0: The run was done.
-/// - 6: The run was done, and with `--exit-code` there is something to report.
+/// The status is:
+///
+/// - 0: The run has succeeded.
+/// - 6: The run has succeeded, and with `--exit-code` there is something to report.
 /// - 1: The input isn't a job, the file of `--since` or `--to` isn't a map, or the map after the
 ///   scripts lacks the item of `--under`, the type of `--down-to` or the class of `--class`.
 /// - 3: Reading or writing failed.
 /// - 4: Memory ran out, or a thread couldn't be started.
-/// - 5: Refused calls, made buckets or remaining differences ended the run. The notes have their
-///   lines.
+/// - 5: The run failed because of refused calls, of calls that created buckets, or of differences
+///   that remain. The notes list them.
 ///
-/// If writing to standard error fails, `written` says so, and the status is the same.
+/// If writing to standard error fails, `written` says so, and the status doesn't change.
 pub fn report<E: Write>(
     words: Words<'_>,
     outcome: &Result<Summary, RunFault>,
@@ -419,12 +423,13 @@ pub fn report<E: Write>(
     }
 }
 
-/// Writes the text for a command line that starts no run, and returns the status of the program.
+/// Writes the text for a command line that starts no run, and returns the status of the program:
 ///
-/// - 0: The help or the version was asked for, and was written to standard output as a whole.
-/// - 3: The same, but it couldn't be written as a whole. Standard error gets a line that says so.
-/// - 2: The command line was refused. Standard error gets the reason.
-/// - 4: Memory ran out. Standard error gets a line that says so.
+/// - 0: The help or the version was requested, and all of it was written to standard output.
+/// - 3: The help or the version was requested, but not all of it could be written. A line on
+///   standard error says so.
+/// - 2: The command line was rejected. The reason is written to standard error.
+/// - 4: Memory ran out. A line on standard error says so.
 ///
 /// A failed write to standard error is ignored.
 pub fn report_options<W: Write, E: Write>(fault: &OptionsFault, out: &mut W, err: &mut E) -> u8

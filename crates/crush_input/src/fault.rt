@@ -1,4 +1,4 @@
-//! Why a run was not done.
+//! The reasons why a run fails.
 
 use crush_script::JobFault;
 use crush_text::TextFault;
@@ -6,7 +6,7 @@ use crush_units::WriteFault;
 use std::alloc::{AllocError, AllocFailed};
 use thiserror::Error;
 
-/// For which option a map other than the job's is read.
+/// The option for which a map other than the job's map is read.
 #[derive(Clone, Copy, Debug, PartialEq, Eq)]
 pub enum SecondMap {
     /// `--since`: the changes since this map are printed.
@@ -15,11 +15,11 @@ pub enum SecondMap {
     To,
 }
 
-/// Why the map of `--since` or `--to` was not read.
+/// Why the map of `--since` or `--to` could not be read.
 #[derive(Clone, Copy, Debug, PartialEq, Eq, Error)]
 pub enum SecondMapFault {
-    /// The map's text has this flaw; its place is a byte of the file, from 0. It is never out of
-    /// memory.
+    /// The map's text has this fault. The place of the fault is the 0-based index of a byte of the
+    /// file. The fault is never that memory ran out.
     #[error("{0}")]
     Text(TextFault),
     /// The map's file has more than 16,777,216 bytes.
@@ -30,7 +30,7 @@ pub enum SecondMapFault {
     Read,
 }
 
-/// Why a run was not done. Nothing was written, except in the case of [`RunFault::Write`].
+/// Why a run failed. Nothing was written, except in the case of [`RunFault::Write`].
 #[derive(Clone, Copy, Debug, PartialEq, Eq, Error)]
 pub enum RunFault {
     /// The bytes that were read aren't a job. The fault never says that memory ran out.
@@ -39,7 +39,7 @@ pub enum RunFault {
     /// Standard input or a file of the job couldn't be opened or read.
     #[error("read fault")]
     Read,
-    /// Writing the output failed; a prefix of it was written.
+    /// Writing the output failed. A prefix of the output was written, which may be empty.
     #[error("write fault")]
     Write,
     #[error("out of memory")]
@@ -47,16 +47,16 @@ pub enum RunFault {
     /// A thread for an operator couldn't be started.
     #[error("no thread")]
     Thread,
-    /// In a strict run, this many calls were refused.
+    /// The run is strict, and this many of its calls were refused.
     #[error("refused {0}")]
     Refused(u32),
-    /// With `--no-make`, this many calls made more buckets than they have `add-bucket` commands.
+    /// With `--no-make`, this many calls created more buckets than they have `add-bucket` commands.
     #[error("made {0}")]
     Made(usize),
-    /// The job was read, but the map of `--since` or `--to` was not.
+    /// The job was read, but the map of `--since` or `--to` couldn't be read.
     #[error("another map: {1}")]
     SecondMap(SecondMap, SecondMapFault),
-    /// In a strict run, this many differences remain after the commands of the plan.
+    /// The run is strict, and this many differences remain after the commands of the plan.
     #[error("differs {0}")]
     Differs(usize),
     /// `--under` names no item of the map after the scripts.
@@ -65,7 +65,8 @@ pub enum RunFault {
     /// `--down-to` names no type of the map.
     #[error("no type")]
     NoType,
-    /// `--class` names a class that no device of the map after the scripts has.
+    /// `--class` names a class that no device of the map after the scripts has. For a tree of what
+    /// has changed, no device of the old map has the class either.
     #[error("no class")]
     NoClass,
 }

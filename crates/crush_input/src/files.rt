@@ -8,19 +8,19 @@ use std::rt::Files;
 
 /// Opens files by name, for reading.
 pub trait Opens {
-    /// A file that is open for reading.
+    /// The type of a file that is open for reading.
     type Opened: Read + Drop;
 
-    // The bytes of the file of a name, if contracts know them.
+    // The bytes of the file with this name, or `None` if contracts don't know the bytes.
     ghost content: { Self → List ℕ → Option (List ℕ) };
 
-    /// Opens the file of this name. Fails with the system's error if it can't be opened.
+    /// Opens the file with this name. If it can't be opened, fails with the system's error.
     fn open(&self, name: &str) -> io::Result<Self::Opened>
         ensures { IfOk result (λ file. IfSome (content self.now name.now)
             (λ bytes. Self.Opened.remaining file ≡ Some bytes)) };
 }
 
-/// The files of the operating system. Contracts don't know their bytes.
+/// The files of the operating system. Contracts know nothing about their bytes.
 #[derive(Drop)]
 pub struct SystemFiles<'a, F>(pub &'a F);
 

@@ -18,17 +18,19 @@ use crush_units::limits::LONGEST_JOB;
 use std::alloc::{AllocError, Global};
 use std::io::{self, Read};
 
-/// The most bytes that are read: one more than a job may have, so that a longer job is noticed.
+/// The largest number of bytes that are read. It is one more than a job may have, so that a job
+/// with too many bytes is noticed.
 pub const MOST_BYTES: usize = LONGEST_JOB + 1;
 
-/// The most bytes that one read asks for.
+/// The largest number of bytes that one read requests.
 const PIECE: usize = 65_536;
 
-/// Reads the bytes of a job, up to their end or up to the first byte too many for a job.
+/// Reads the bytes of a job up to their end. If there are more bytes than a job may have, reads
+/// only one byte too many.
 ///
-/// Takes at most [`MOST_BYTES`] (16,777,217) bytes, by at most as many reads, even if it fails.
-/// Fails with [`RunFault::Read`] if a read fails, which isn't tried again, and with
-/// [`RunFault::Memory`] if memory runs out.
+/// The function reads at most [`MOST_BYTES`] (16,777,217) bytes, with at most as many reads, even
+/// if it fails. It fails with [`RunFault::Read`] if a read fails; that read isn't repeated. It
+/// fails with [`RunFault::Memory`] if memory runs out.
 pub fn read_bytes<R: Read>(alloc: Global, reader: &mut R) -> Result<Vec<u8>, RunFault>
     ensures few { IfOk result (λ bytes. length bytes.items ≤ MOST_BYTES) }
     ensures fault { IfErr result IsInputFault }
@@ -73,8 +75,8 @@ impl From<AllocError> for ReadFailure {
     }
 }
 
-/// Reads at most `most` bytes, by at most `most` reads. Not inlined, so that the buffer `piece`
-/// isn't on the stack while a job runs.
+/// Reads at most `most` bytes, with at most `most` reads. The function isn't inlined, so that its
+/// buffer `piece` isn't on the stack while a job runs.
 #[inline(never)]
 fn read_most<R: Read>(alloc: Global, most: usize, reader: &mut R) -> Result<Vec<u8>, ReadFailure>
     ensures few { IfOk result (λ bytes. length bytes.items ≤ most) }
@@ -123,7 +125,7 @@ fn read_without_notes<R: Read>(
     }
 }
 
-/// Reads at most `most` bytes of an open file. With `explain`, a failed read is noted with the
+/// Reads at most `most` bytes of an open file. With `explain`, a note about a failed read has the
 /// file's name and the system's reason.
 fn read_named<R: Read>(
     alloc: Global,
@@ -166,7 +168,7 @@ pub(crate) fn read_file<F: Opens>(
     }
 }
 
-/// Reads the job's file, or standard input if the options name no file.
+/// Reads the job's file. If the options name no file, reads standard input.
 fn read_first<F: Opens, R: Read>(
     alloc: Global,
     files: &F,
@@ -188,7 +190,7 @@ fn read_first<F: Opens, R: Read>(
     }
 }
 
-/// The bytes of a job, and where the script of each file is in them.
+/// The bytes of a job, and for each file of scripts, which lines of the job come from this file.
 #[derive(Drop)]
 pub(crate) struct Joined<'a> {
     pub(crate) bytes: Vec<u8>,

@@ -22,7 +22,8 @@ use std::hash::RandomState;
 use std::io::Read;
 use std::random::RandomSource;
 
-/// Returns hashing with random keys from the system, or without keys if the system has none.
+/// Returns hashing with random keys from the system. If the system has none, returns hashing
+/// without keys.
 pub(crate) fn drawn_hashing<H: RandomSource>(rt: &H) -> Hashing {
     match RandomState::new(rt) {
         Ok(keys) => Hashing::keyed(keys),
@@ -32,9 +33,10 @@ pub(crate) fn drawn_hashing<H: RandomSource>(rt: &H) -> Hashing {
 
 /// Parses the bytes of a job, whose lines come from the files in `origins`.
 ///
-/// With `explain`, keeps the bytes, and notes each weight in the map's text that isn't the sum.
-/// Fails with [`RunFault::Job`] if the bytes aren't a job; with `explain`, notes say where and why.
-/// Fails with [`RunFault::Memory`], without notes, if memory runs out.
+/// With `explain`, the bytes are stored, and a note is written about each bucket weight in the
+/// map's text that isn't a sum. Fails with [`RunFault::Job`] if the bytes aren't a job; with
+/// `explain`, notes say where and why. Fails with [`RunFault::Memory`], without notes, if memory
+/// runs out.
 pub fn job_of<'a, H: AllocGlobal + RandomSource>(
     rt: &H,
     explain: bool,
@@ -63,12 +65,12 @@ pub fn job_of<'a, H: AllocGlobal + RandomSource>(
     }
 }
 
-/// Reads and parses the job that the options name, followed by the scripts of the files they name.
+/// Reads and parses a job: the file that the options name, and the scripts of further files.
 ///
-/// Reads the job from its file, or from `input` if the options name no file. Takes at most
-/// 16,777,217 bytes from `input`, and none if there is a file. Fails with [`RunFault::Read`] if a
-/// file or `input` can't be read, and otherwise as [`job_of`] does. With `explain`, a file that
-/// can't be opened or read is noted with the system's reason.
+/// If the options name no file for the job, the job is read from `input`. At most 16,777,217 bytes
+/// are read from `input`, and none if the options name a file. Fails with [`RunFault::Read`] if a
+/// file or `input` can't be read. If they can be read, fails in the cases in which [`job_of`]
+/// fails. With `explain`, a note about a file that can't be opened or read has the system's reason.
 pub fn read_whole<'a, H: AllocGlobal + RandomSource, F: Opens, R: Read>(
     rt: &H,
     files: &F,

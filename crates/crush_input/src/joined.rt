@@ -1,4 +1,4 @@
-//! Appends scripts from files of their own to a job.
+//! Appends scripts from files to a job.
 
 ghost use Rattle.std.specs.Prelude.{◌≡◌, ◌≤◌, ◌++◌, ◌==◌, ◌-◌, IfOk, OnOk, false, length, slice_index, true};
 ghost use Rattle.std.specs.List.{position_or_len};
@@ -8,14 +8,14 @@ use crush_script::line_feeds;
 use crush_units::is_name;
 use std::alloc::AllocError;
 
-/// The lines of a job that are the script of a file.
+/// The lines of a job that come from the script of one file.
 #[derive(Clone, Copy)]
 pub(crate) struct ScriptSpan<'a> {
     pub(crate) name: &'a [u8],
     /// The number of the script's first line in the job, from 1. If a line `%operator NAME` was
-    /// put before the script, it is that line.
+    /// added before the script, this is the number of the added line.
     pub(crate) from: usize,
-    /// The number of lines of the job before the first line of the file itself.
+    /// The number of lines that the job has before the first line of the file itself.
     pub(crate) before: usize,
 }
 
@@ -40,7 +40,8 @@ pub(crate) fn is_line_blank(byte: u8) -> bool
     byte == b' ' || byte == b'\t' || byte == b'\r'
 }
 
-/// Whether the first line that has more than blanks and a comment begins with `%`.
+/// Whether the script begins a section itself: its first line that isn't empty or a comment begins
+/// with `%`.
 fn begins_section(script: &[u8]) -> bool
     ensures { result ≡ begins_section_in true false script.now }
 {
@@ -90,8 +91,8 @@ fn dot_at(name: &[u8]) -> usize
     name.len()
 }
 
-/// Returns the operator of a script from the name of its file: the name without its folders, up to
-/// the first `.`.
+/// Returns the operator's name for a script, which comes from the name of its file: the last part
+/// of the path, up to the first `.`.
 fn operator_of(name: &[u8]) -> &[u8]
     ensures { result.now ≡ operator_of name.now }
 {
@@ -100,8 +101,8 @@ fn operator_of(name: &[u8]) -> &[u8]
     operator
 }
 
-/// Appends the line `%operator NAME`. If `operator` isn't a name, appends `%operator` alone, which
-/// is refused when the job is parsed.
+/// Appends the line `%operator NAME`. If `operator` isn't a valid name, appends `%operator` alone,
+/// which is rejected when the job is parsed.
 fn push_section_head(operator: &[u8], bytes: &mut Vec<u8>) -> Result<(), AllocError>
     ensures { OnOk result (bytes.new.items ≡ bytes.old.items ++ section_head operator.now) }
 {
@@ -123,8 +124,9 @@ fn push_operator_line(name: &[u8], script: &[u8], bytes: &mut Vec<u8>) -> Result
     push_section_head(operator_of(name), bytes)
 }
 
-/// Appends a script to the bytes of a job, on a new line, and returns which lines it is. Puts a
-/// line `%operator NAME` before it, unless the script begins a section itself.
+/// Appends a script to the bytes of a job, on a new line, and returns which lines of the job are
+/// the script. If the script doesn't begin a section itself, adds a line `%operator NAME` before
+/// it.
 pub(crate) fn push_script<'a>(
     name: &'a [u8],
     script: &[u8],

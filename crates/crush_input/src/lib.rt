@@ -1,9 +1,10 @@
-//! The input of a run, and its report and notes on standard error, without an editor or a thread.
+//! Reads the input of a run, and writes the run's report and notes. The crate uses no editor and no
+//! threads.
 //!
-//! [`read_whole`] reads the job that a command line names, and [`output_of`] reads the other map
-//! that its output needs. A [`RunFault`] says why a run was not done. [`report`] writes to standard
-//! error and returns the status. The definitions are in `specs/Input.antt`, `specs/Notes.antt` and
-//! `specs/Report.antt`.
+//! [`read_whole`] reads the job that a command line names, and [`output_of`] reads the map of
+//! `--since` or `--to`, if the output needs it. A [`RunFault`] says why a run failed. [`report`]
+//! writes to standard error and returns the status. The definitions are in `specs/Input.antt`,
+//! `specs/Notes.antt` and `specs/Report.antt`.
 #![tactic(auto)]
 
 mod aborted;

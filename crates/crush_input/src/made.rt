@@ -1,5 +1,5 @@
-//! The calls that made more buckets than they have `add-bucket` commands. Such a call has a
-//! location with a bucket that wasn't in the map.
+//! Finds the calls that created more buckets than they have `add-bucket` commands. A location in
+//! such a call named a bucket that wasn't in the map, so the call created this bucket, too.
 
 ghost use Rattle.std.specs.Prelude.{◌≡◌, ◌<◌, ◌≤◌, ◌^◌, ◌++◌, IfErr, IfOk, OnOk, length, true};
 ghost use Rattle.std.specs.List.{count_by};
@@ -74,10 +74,10 @@ fn count_making(entries: &[Entry]) -> usize
     count
 }
 
-/// Checks, if `no_make` is set, that no call made more buckets than it has `add-bucket` commands.
+/// With `no_make`, checks that no call created more buckets than it has `add-bucket` commands.
 ///
-/// Fails with [`RunFault::Made`], which has the number of such calls, if there are any. Without
-/// `no_make` it always succeeds.
+/// If there are such calls, fails with [`RunFault::Made`], which has their number. Without
+/// `no_make`, the function always succeeds.
 pub fn check_made(no_make: bool, entries: &[Entry]) -> Result<(), RunFault>
     ensures made { IsNoMake no_make entries.now result }
     ensures fault { IfErr result (IsMadeFault no_make) }
@@ -107,7 +107,8 @@ fn push_made(
     write_entry(number, operator, &entry.call, entry.reply, text).map_err(|_| AllocError)
 }
 
-/// Returns the history lines of these calls, each with its number in the history.
+/// Returns the history lines of the calls that created more buckets than they have `add-bucket`
+/// commands, each with its number in the history.
 fn made_text(alloc: Global, scripts: &[Script], entries: &[Entry]) -> Result<Vec<u8>, AllocError>
     requires few { length entries.now ≤ MOST_ENTRIES }
     requires operators { AreOf (length scripts.now) entries.now }
@@ -125,7 +126,7 @@ fn made_text(alloc: Global, scripts: &[Script], entries: &[Entry]) -> Result<Vec
 
 /// Returns the history lines of the calls that [`check_made`] counts, followed by `notes`.
 ///
-/// Without `no_make` it returns no bytes. Fails if memory runs out.
+/// Without `no_make`, returns no bytes. Fails only if memory runs out.
 pub fn made_notes(
     alloc: Global,
     no_make: bool,

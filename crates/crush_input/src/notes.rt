@@ -1,4 +1,4 @@
-//! The notes of a run: the lines of standard error below its one line.
+//! Writes the notes of a run: the lines that follow the first line on standard error.
 
 ghost use Rattle.std.specs.Prelude.{◌≡◌, ◌≤◌, List, [], IfErr, IfOk, false, is_some, length, true};
 ghost use Rattle.crush_model.specs.Stands.{Stands};
@@ -28,10 +28,10 @@ use crush_units::limits::LONGEST_JOB;
 use std::alloc::{AllocError, Global};
 use std::io;
 
-/// Checks, if `strict` is set, that no call was refused.
+/// With `strict`, checks that no call was refused.
 ///
-/// Fails with [`RunFault::Refused`], which has the number of refused calls, if there are any.
-/// Without `strict` it always succeeds.
+/// If calls were refused, fails with [`RunFault::Refused`], which has their number. Without
+/// `strict`, the function always succeeds.
 pub fn check_strict(strict: bool, entries: &[Entry]) -> Result<(), RunFault>
     requires { length entries.now ≤ MOST_ENTRIES }
     ensures strict { IsStrict strict entries.now result }
@@ -50,19 +50,20 @@ pub fn check_strict(strict: bool, entries: &[Entry]) -> Result<(), RunFault>
 /// The calls of a run, and the map before them.
 #[derive(Clone, Copy)]
 pub struct History<'a> {
-    /// The map before the first call, needed with `explain` to find the reasons of refusals.
+    /// The map before the first call. With `explain`, it is needed to find the reasons of refusals.
     pub opening: &'a Option<CrushMap<Global>>,
-    /// The scripts that the calls are from.
+    /// The scripts from which the calls come.
     pub scripts: &'a [Script],
-    /// The calls with their replies, in the order of the history.
+    /// The calls with their replies, in the order in which they were made.
     pub entries: &'a [Entry],
 }
 
-/// Returns the notes of a run's history: the lines of refused calls, followed by the notes on
-/// weights in the map's text that aren't the sum.
+/// Returns the notes on a run's history: the lines of its refused calls, followed by the notes on
+/// bucket weights in the map's text that aren't sums.
 ///
-/// The lines of refused calls have reasons with `explain`, and no reasons in a strict run without
-/// it; otherwise there are none. Fails if memory runs out.
+/// With `explain`, the lines of refused calls have reasons. In a strict run without `explain`, they
+/// have no reasons. In any other run, there are no lines of refused calls. Fails only if memory
+/// runs out.
 pub fn history_notes(
     alloc: Global,
     mode: Mode,
@@ -83,8 +84,8 @@ pub fn history_notes(
     Ok(lines)
 }
 
-/// Returns the lines of refused calls: with reasons if `explain` is set, without reasons in any
-/// other strict run, and no lines otherwise.
+/// Returns the lines of the refused calls, with reasons if `explain` is set. Without `explain`, a
+/// strict run gets the lines without reasons, and any other run gets no lines.
 fn refused_notes(
     alloc: Global,
     mode: Mode,
@@ -133,8 +134,9 @@ fn reasons_of(
     explained_job(alloc, lines, opening, history.scripts, history.entries)
 }
 
-/// Returns the notes on bucket weights in a job's text that aren't the sum, after a warning line if
-/// the map's text has carriage returns and no line feed; empty without `explain`.
+/// Returns the notes on bucket weights in a job's text that aren't sums. If the map's text has
+/// carriage returns and no line feed, a warning line comes first. Without `explain`, returns
+/// nothing.
 fn weight_notes(
     alloc: Global,
     explain: bool,
@@ -212,8 +214,8 @@ fn unread_text(alloc: Global, name: &str, error: &io::Error) -> Result<Vec<u8>, 
     Ok(text)
 }
 
-/// Returns the note of a file that can't be opened, read or replaced: its name and the system's
-/// reason; empty without `explain`.
+/// Returns the note about a file that can't be opened, read or replaced. It has the file's name and
+/// the system's reason. Without `explain`, returns nothing.
 pub fn file_notes(
     alloc: Global,
     explain: bool,
@@ -252,8 +254,9 @@ fn job_prefix(bytes: &[u8]) -> &[u8]
     bytes.split_at(LONGEST_JOB).0
 }
 
-/// Returns the notes on a fault of a job; empty without `explain`. If the job is too long, a prefix
-/// of its bytes is enough, since this fault has no place.
+/// Returns the notes on a fault of a job. Without `explain`, returns nothing. If the job is too
+/// long, only its first 16 MiB are used: the note of this fault is a sentence that shows no part of
+/// the job.
 fn place_notes(
     alloc: Global,
     explain: bool,
@@ -273,8 +276,8 @@ fn place_notes(
     Ok(Vec::new(alloc))
 }
 
-/// Returns the fault of a run whose bytes aren't a job, with its notes. The fault is out of memory
-/// also if there is no memory for the notes.
+/// Returns the fault of a run whose bytes aren't a job, with the notes on the fault. If there is no
+/// memory for the notes, the returned fault is that memory ran out.
 pub(crate) fn stopped_by(
     alloc: Global,
     explain: bool,

@@ -1,4 +1,4 @@
-//! Which file each line of a job comes from.
+//! Finds the file from which each line of a job comes.
 
 ghost use Rattle.std.specs.Prelude.{◌≡◌, map as each};
 ghost use Rattle.crush_reasons.specs.Place.{origin_data};
@@ -10,16 +10,16 @@ use crush_options::Options;
 use crush_reasons::{Locates, Origin};
 use std::alloc::Global;
 
-/// The files of a job: the file that it begins with, and those whose scripts follow.
+/// The files of a job: the file with which the job begins, and the files whose scripts follow.
 #[derive(Drop)]
 pub struct Origins<'a> {
-    /// The name of the first file; empty if notes aren't to name it.
+    /// The name of the first file. It is empty if notes don't name this file.
     pub(crate) first: &'a [u8],
     pub(crate) spans: Vec<ScriptSpan<'a>>,
 }
 
 impl Origins<'_> {
-    /// Returns the origins of a job that is one file, which notes don't name.
+    /// Returns the origins for a job that comes from one file, whose name isn't shown in notes.
     pub fn none(alloc: Global) -> Origins<'static>
         ensures { origin_of result ≡ no_origin }
     {
@@ -67,8 +67,8 @@ impl<'a> ScriptSpan<'a> {
     }
 }
 
-/// Returns the name of the job's file, as notes show it: empty if the job is read from standard
-/// input, or if no scripts follow it.
+/// Returns the name of the job's file, as notes show it. It is empty if the job is read from
+/// standard input, or if no scripts of other files follow.
 pub(crate) fn first_name(options: &Options) -> &[u8]
     ensures { result.now ≡ first_name options.now.file options.now.scripts.items }
 {

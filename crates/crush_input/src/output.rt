@@ -1,4 +1,4 @@
-//! What a run prints, with the other map that this needs.
+//! What a run prints, and the map of `--since` or `--to`, which the run may need for this.
 
 ghost use Rattle.std.specs.Prelude.{◌≡◌, IfErr, IfOk, []};
 ghost use Rattle.crush_input.specs.Notes.{AreNotesOfSecondMap};
@@ -13,52 +13,52 @@ use crush_options::{ChangeTree, Mode, OutputSpec, Since, Target, TreePartSpec};
 use std::alloc::{AllocError, Global};
 use std::random::RandomSource;
 
-/// The old map, since which changes are printed, and the items whose changes are printed.
+/// The map of `--since`, for a list of what has changed since this map.
 #[derive(Drop)]
 pub struct OldMap {
     pub map: CrushMap<Global>,
-    /// Whether items of both maps are matched by name instead of by id.
+    /// Whether the items of both maps are matched by their names and not by their ids.
     pub by_name: bool,
-    /// The name of the item whose changes are printed, with the changes of all items that are or
-    /// were below it; `None` for all items.
+    /// The name of an item. Only the changes of this item, and of all items that are or were below
+    /// it, are printed. `None` for the changes of all items.
     pub under: Option<String>,
 }
 
-/// The old map, since which changes are printed as a tree, and the part of this tree that is
-/// printed.
+/// The map of `--since`, for a tree of what has changed since this map, and the part of this tree
+/// that is printed.
 #[derive(Drop)]
 pub struct OldTree {
     pub map: CrushMap<Global>,
     pub part: TreePartSpec,
 }
 
-/// The map that commands are to lead to, and how they are found and printed.
+/// The map of `--to`, which a plan leads to, and how the plan is found and printed.
 #[derive(Drop)]
 pub struct TargetMap {
     pub map: CrushMap<Global>,
-    /// Whether the commands are printed as Ceph's own.
+    /// Whether the commands are printed as Ceph's own commands.
     pub as_ceph: bool,
-    /// Whether buckets of both maps are matched by name and type alone, and not by id.
+    /// Whether the buckets of both maps are matched only by their names, and not by their ids.
     pub by_name: bool,
-    /// The name of the item that commands are for, with all items that are below it or shall be;
-    /// `None` for all items.
+    /// The name of an item. The plan is limited to this item and to all items that are below it in
+    /// either map. `None` for a plan of all items.
     pub under: Option<String>,
 }
 
-/// What is printed about the map after the scripts have run.
+/// What is printed after the scripts have run.
 #[derive(Drop)]
 pub enum Output {
     /// The text of the map.
     Map,
     /// The tree of the map, or a part of it.
     Tree(TreePartSpec),
-    /// What has changed since this old map, item by item.
+    /// What has changed since this old map, as a list of items.
     Since(OldMap),
-    /// What has changed since this old map, as a tree, or a part of it.
+    /// What has changed since this old map, as a tree or a part of a tree.
     Changes(OldTree),
-    /// The commands that changed the map, as Ceph's own.
+    /// The commands of the scripts that changed the map, as Ceph's own commands.
     AsCeph,
-    /// The commands that lead from the map to this wanted map.
+    /// The commands of a plan that lead from the map to this wanted map.
     To(TargetMap),
 }
 
@@ -177,11 +177,12 @@ fn target_of<H: AllocGlobal + RandomSource, F: Opens>(
     }
 }
 
-/// Returns what a run prints, and reads the other map for it if the command line names one.
+/// Returns what a run prints. If the command line names a second map (`--since` or `--to`), reads
+/// that map.
 ///
-/// Fails with [`RunFault::SecondMap`] if the other map's file can't be opened or read, is too long or
-/// isn't a map. With `explain`, notes say where the map's flaw is, or why its file can't be read.
-/// Fails with [`RunFault::Memory`], without notes, if memory runs out.
+/// Fails with [`RunFault::SecondMap`] if the second map's file can't be opened or read, is too
+/// long, or isn't a map. With `explain`, notes then say where the map's fault is, or why its file
+/// can't be read. Fails with [`RunFault::Memory`], without notes, if memory runs out.
 pub fn output_of<H: AllocGlobal + RandomSource, F: Opens>(
     rt: &H,
     files: &F,

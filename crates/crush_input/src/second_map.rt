@@ -1,4 +1,4 @@
-//! Reads the other map of a command line: that of `--since` or of `--to`.
+//! Reads the second map of a command line: the map of `--since` or of `--to`.
 
 ghost use Rattle.std.specs.Prelude.{◌≡◌, ◌≤◌, ℕ, Bool, List, Option, Some, IfOk, IfErr, IfSome, length};
 ghost use Rattle.crush_text.specs.Flaw.{IsFlawOrOutOfMemory};
@@ -65,7 +65,7 @@ fn stopped_at(
     }
 }
 
-/// Parses the text of another map, which may be no longer than a job.
+/// Parses the text of the second map, which may be as long as a job.
 fn map_of<H: AllocGlobal + RandomSource>(
     rt: &H,
     explain: bool,

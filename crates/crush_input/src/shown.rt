@@ -1,4 +1,4 @@
-//! Names from the command line, as messages show them.
+//! Writes names from the command line in the form in which messages show them.
 
 ghost use Rattle.std.specs.Prelude.{map};
 ghost use Rattle.crush_units.specs.Writes.{Writes};
@@ -8,8 +8,8 @@ use crush_reasons::shown_byte;
 use crush_units::{WriteFault, put};
 use std::io::Write;
 
-/// Writes the bytes of a name to `out`, each as [`shown_byte`] shows it. If this fails, a prefix of
-/// these bytes that isn't the whole has been written.
+/// Writes the bytes of a name to `out`, each as [`shown_byte`] shows it. If writing fails, a proper
+/// prefix of these bytes has been written.
 pub(crate) fn put_shown<W: Write>(name: &[u8], out: &mut W) -> Result<(), WriteFault>
     ensures { Writes result (W.contents out.old) (W.contents out.new) (map shown_byte name.now) }
 {

@@ -1,16 +1,17 @@
 //! The numbers that a run reports.
 
-/// What a run did.
+/// What a run has done.
 #[derive(Clone, Copy, Debug, PartialEq, Eq)]
 pub struct Summary {
-    /// The number of bucket weights in the map's text that weren't the sum, and were replaced.
+    /// The number of bucket weights in the map's text that weren't sums, and were replaced by sums.
     pub adjusted: u32,
-    /// The number of calls that were answered.
+    /// The number of calls that got a reply.
     pub calls: u32,
     /// The number of calls that changed the map.
     pub changes: u32,
-    /// Whether the status is 6 instead of 0. True only with `--exit-code`, and if something has
-    /// changed since the map of `--since`, or the plan for `--to` has a command or a difference,
-    /// or, with any other output, a call changed the map.
+    /// Whether the status is 6 instead of 0. This is true only with `--exit-code`, and only if
+    /// there is something to report. With `--since`, something has changed since the old map. With
+    /// `--to`, the plan has an edit, or leaves a difference. With any other output, a call has
+    /// changed the map.
     pub differs: bool,
 }

@@ -1,4 +1,5 @@
-//! Reads the files of a verb that are maps. They have no scripts, and some have to be whole.
+//! Reads the map files of a verb such as `diff` or `plan`. These files have no scripts, and some of
+//! them must be complete.
 
 ghost use Rattle.std.specs.Prelude.{◌≡◌, ◌≤◌, ◌<◌, ◌^◌, ◌++◌, ℕ, List, [], Option, Some, IfErr, IfOk, IfSome, false, length, slice_index, true};
 ghost use Rattle.crush_text.specs.Flaw.{IsFlawOrOutOfMemory};
@@ -36,10 +37,10 @@ const LONG_REASON: &[u8] = b"  the file of a map has at most 16777216 bytes\n";
 
 const SCRIPT_REASON: &[u8] = b"  scripts are files of their own here: crushedit apply MAP SCRIPT\n";
 
-/// Which map of a verb a file has.
+/// Which map of a verb's command line a file contains.
 #[derive(Clone, Copy, Debug, PartialEq, Eq)]
 pub enum VerbMap {
-    /// The map from which the run begins: MAP, or NEW of `diff`.
+    /// The map with which the run begins: MAP, or NEW of `diff`.
     First,
     /// The map OLD of `diff`.
     Old,
@@ -47,12 +48,13 @@ pub enum VerbMap {
     Wanted,
 }
 
-/// Why the file of a verb has no map as the verb needs it.
+/// Why a file doesn't contain a map that the verb can use.
 #[derive(Clone, Copy, Debug, PartialEq, Eq)]
 pub enum VerbMapFault {
-    /// The text has this flaw. It is never out of memory.
+    /// The text has this fault. The fault is never that memory ran out.
     Text(TextFault),
-    /// The text doesn't end in the line `# end crush map`, and any other flaw is in its last line.
+    /// The text seems to be cut: it doesn't end in the line `# end crush map`, and if it has
+    /// another fault, that fault is in its last line.
     Cut,
     /// The file has more than 16,777,216 bytes.
     TooLong,
@@ -61,12 +63,12 @@ pub enum VerbMapFault {
     Memory,
 }
 
-/// A verb's map that was not read, and why.
+/// A verb's map that could not be used, and why.
 #[derive(Debug, Drop)]
 pub struct VerbMapRefusal {
     pub map: VerbMap,
     pub fault: VerbMapFault,
-    /// The lines of standard error below its one line.
+    /// The lines that follow the first line on standard error.
     pub notes: Vec<u8>,
 }
 
@@ -109,7 +111,7 @@ fn is_cut_at(maps: MapForm, bytes: &[u8], place: usize) -> bool
     is_cut(maps, bytes) && line_feeds(rest) == 0
 }
 
-/// Checks the end of a text that is the text of a map.
+/// Checks whether the text of a map ends as it must, and fails if the text seems to be cut.
 fn check_end(maps: MapForm, bytes: &[u8]) -> Result<(), VerbMapFault>
     ensures whole { IfOk result (λ _. is_cut maps bytes.now ≡ false) }
     ensures cut { IfErr result (λ fault. (fault ≡ VerbMapFault.Cut)
@@ -121,7 +123,8 @@ fn check_end(maps: MapForm, bytes: &[u8]) -> Result<(), VerbMapFault>
     Ok(())
 }
 
-/// Returns the fault of a text that has this flaw, or for which memory ran out.
+/// Returns the reason why a text with this fault can't be used. There are three possible reasons:
+/// the text has the fault, the text seems to be cut, or memory ran out.
 fn fault_of_flaw(maps: MapForm, bytes: &[u8], fault: TextFault) -> VerbMapFault
     requires few { length bytes.now ≤ LONGEST_JOB }
     requires flaw { IsFlawOrOutOfMemory bytes.now fault }
@@ -136,7 +139,7 @@ fn fault_of_flaw(maps: MapForm, bytes: &[u8], fault: TextFault) -> VerbMapFault
     VerbMapFault::Text(fault)
 }
 
-/// Parses the text of a map, and returns why the verb can't use it.
+/// Parses the text of a map. If the verb can't use it, fails with the reason.
 fn check_text<H: AllocGlobal + RandomSource>(
     rt: &H,
     maps: MapForm,
@@ -157,14 +160,15 @@ fn check_text<H: AllocGlobal + RandomSource>(
     }
 }
 
-/// Returns the byte at a place, or 0 if the place is behind the last byte.
+/// Returns the byte at a place, or 0 if the text ends before this place.
 fn byte_at(bytes: &[u8], place: usize) -> u8
     ensures { result ≡ slice_index bytes.now place }
 {
     if place < bytes.len() { bytes[place] } else { 0 }
 }
 
-/// Whether a line begins with `%` at the place of this flaw, as the head of a script does.
+/// Whether the fault is at a `%` at the beginning of a line. This is so if a script follows the
+/// map.
 fn begins_script(bytes: &[u8], fault: TextFault) -> bool
     ensures { result ≡ begins_script bytes.now fault }
 {
@@ -239,7 +243,7 @@ fn memory_refusal(alloc: Global, map: VerbMap) -> VerbMapRefusal
     }
 }
 
-/// The refusal of a file that couldn't be opened or read.
+/// Returns the [`VerbMapRefusal`] for a file that couldn't be opened or read.
 fn aborted_refusal(alloc: Global, map: VerbMap, aborted: Aborted) -> VerbMapRefusal
     ensures map { result.map ≡ map }
     ensures fault { (maps : MapForm) (all : Option (List ℕ))
@@ -259,8 +263,8 @@ fn aborted_refusal(alloc: Global, map: VerbMap, aborted: Aborted) -> VerbMapRefu
     }
 }
 
-/// The refusal of bytes with this fault. It is out of memory also if there is no memory for the
-/// notes.
+/// Returns the [`VerbMapRefusal`] for bytes with this fault. If there is no memory for its notes,
+/// the fault in it is that memory ran out.
 fn text_refusal(
     alloc: Global,
     map: VerbMap,
@@ -281,7 +285,7 @@ fn text_refusal(
     }
 }
 
-/// Returns the bytes of a verb's map as they are, or why the verb can't use them.
+/// Returns the bytes of a verb's map unchanged. If the verb can't use them, fails with the reason.
 fn checked_map<H: AllocGlobal + RandomSource>(
     rt: &H,
     maps: MapForm,
@@ -304,12 +308,13 @@ fn checked_map<H: AllocGlobal + RandomSource>(
     }
 }
 
-/// Reads the file of a verb's map, and checks that it is one: the text of a map without scripts,
-/// which has at most 16,777,216 bytes, and is whole if `maps` says so.
+/// Reads the file of a verb's map, and checks that its text is the text of a map without scripts.
+/// The text may have at most 16,777,216 bytes, and it must be complete if `maps` says so.
 ///
 /// Returns the bytes of the file. Fails if the file can't be opened or read, if its text has a
-/// flaw, or if it counts as cut. Then the notes say where and why; they call the file `shown`, or
-/// don't name it if `shown` is empty. The note of a file that can't be read names it in any case.
+/// fault, or if the text seems to be cut. The notes then say where the fault is, and why it is one.
+/// They use the name `shown` for the file, or no name if `shown` is empty. A note about a file that
+/// can't be read always has the file's name.
 pub fn read_verb_map<H: AllocGlobal + RandomSource, F: Opens>(
     rt: &H,
     files: &F,
@@ -390,7 +395,7 @@ fn write_refusal<E: Write>(refusal: &VerbMapRefusal, err: &mut E) -> Result<(), 
     put(err, refusal.notes.as_slice())
 }
 
-/// Writes to `err` which map was not read and why, and returns the status of the program.
+/// Writes to `err` which map could not be used and why, and returns the status of the program.
 pub fn report_verb_map<E: Write>(refusal: &VerbMapRefusal, err: &mut E) -> ReportOutcome
     ensures status { result.status ≡ verb_map_status refusal.now.fault }
     ensures writes { Writes result.written (E.contents err.old) (E.contents err.new)

@@ -1,4 +1,4 @@
-//! The words of a command line that the report of its run needs.
+//! What the report on standard error needs to know of the command line.
 
 ghost use Rattle.std.specs.Prelude.{◌≡◌, [], Bool, unwrap_or};
 ghost use Rattle.crush_options.specs.OutputFlags.{name_text, flags_by};
@@ -6,21 +6,22 @@ ghost use Rattle.crush_input.specs.Words.{no_words, words_data, words_of};
 
 use crush_options::{Options, OutputSpec};
 
-/// The words of a command line that the report of its run needs.
+/// What the report on standard error needs to know of the command line: whether `--explain` is
+/// given, and the names after `--under`, `--down-to` and `--class`.
 #[derive(Clone, Copy, Debug)]
 pub struct Words<'a> {
-    /// Whether a reason is printed below the one line of standard error (`--explain`).
+    /// Whether a reason is printed after the first line on standard error (`--explain`).
     pub explain: bool,
-    /// The name that `--under` gives; empty if it isn't given.
+    /// The name after `--under`. It is empty if `--under` isn't given.
     pub under: &'a str,
-    /// The name that `--down-to` gives; empty if it isn't given.
+    /// The name after `--down-to`. It is empty if `--down-to` isn't given.
     pub down_to: &'a str,
-    /// The name that `--class` gives; empty if it isn't given.
+    /// The name after `--class`. It is empty if `--class` isn't given.
     pub class: &'a str,
 }
 
 impl<'a> Words<'a> {
-    /// Returns the words of a report without reasons and without names.
+    /// Returns the values for a report without reasons and without names.
     pub fn none() -> Words<'a>
         ensures { words_data result ≡ no_words }
     {
@@ -32,7 +33,7 @@ impl<'a> Words<'a> {
         }
     }
 
-    /// Returns the words of the command line that has these options.
+    /// Returns what the report needs to know of a command line with these options.
     pub fn of(options: &'a Options) -> Words<'a>
         ensures { words_data result ≡ words_of options.now }
     {

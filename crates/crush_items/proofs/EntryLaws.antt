@@ -21,7 +21,7 @@ use Rattle.crush_items.specs.ItemData.{ItemData, row_item, item_of, own_class_id
 use Rattle.crush_items.specs.Items.{node_class_ids}
 use Rattle.crush_items.specs.Items.{node_view}
 
--- the entries of the items of both
+-- the entries of two joined lists of items are the entries of the first list, followed by those of the second
 pub entries-join : (p : Option ℕ) (n : Option (List ℕ)) (a b : Items) → entries_of p n (join a b) ≡ entries_of p n a ++ entries_of p n b
 entries-join p n none b = refl
 entries-join p n (device d rest) b = ap (λ (l : List EntryData). device_entry p n d ∷ l) (entries-join p n rest b)
@@ -29,7 +29,7 @@ entries-join p n (bucket h w m k rest) b =
     ap (λ (l : List EntryData). bucket_entry p n h w ∷ (entries_of (Some h.id) (Some h.name) k ++ l)) (entries-join p n rest b)
     ∙ ap (λ (l : List EntryData). bucket_entry p n h w ∷ l) (sym (append_assoc (entries_of (Some h.id) (Some h.name) k) (entries_of p n rest) (entries_of p n b)))
 
--- one item more
+-- the entries of the first i + 1 nodes are the entries of the first i nodes, followed by those of node i
 pub entries-more : {A : _} (p : Option ℕ) (n : Option (List ℕ)) (ns : List (Node A)) (i : ℕ) (x : Node A) → i < length ns → x ≡ get_or ns i x
     → entries_of p n (items_of (take (i + 1) ns)) ≡ entries_of p n (items_of (take i ns)) ++ entries_of p n (items_of (x ∷ []))
 entries-more p n ns i x lt is = ap (entries_of p n) (items_of-taken ns i x lt is) ∙ entries-join p n (items_of (take i ns)) (items_of (x ∷ []))
@@ -38,7 +38,7 @@ entries-more p n ns i x lt is = ap (entries_of p n) (items_of-taken ns i x lt is
 abbrev pub node_entry : {A : _} → Option ℕ → Option (List ℕ) → Node A → EntryData
 node_entry p n x = record { item = record { view = node_view p x; holder = n }; class_ids = node_class_ids x }
 
--- a bucket's entries are its own and those of its items
+-- the entries of a bucket are its own entry, followed by the entries of its items
 pub bucket_entered : {A : _} (p : Option ℕ) (n : Option (List ℕ)) (x : Node A) (b : _) (k : Items) (d : BucketData) → x ≡ Bucket b → d ≡ b.value → k ≡ d.kids
     → node_entry p n x ∷ entries_of (Some d.header.id) (Some d.header.name) k ≡ entries_of p n (items_of (x ∷ []))
 bucket_entered p n x b k d at same kids_are =
@@ -48,13 +48,13 @@ bucket_entered p n x b k d at same kids_are =
     ∙ ap (λ (l : List EntryData). node_entry p n (Bucket b) ∷ l) (sym (append-nil (entries_of (Some b.value.header.id) (Some b.value.header.name) b.value.kids)))
     ∙ ap (λ y. entries_of p n (items_of (y ∷ []))) (sym at)
 
--- first the unplaced devices and then the roots
+-- the entries of a forest are the entries of its unplaced devices, followed by those of its roots
 pub forest_entries : (f : ForestData) (old one two : List EntryData) (u r : Items) → old ≡ [] → one ≡ old ++ entries_of None None u → two ≡ one ++ entries_of None None r → u ≡ f.unplaced → r ≡ f.roots → two ≡ entries_of None None (all_items f)
 forest_entries f old one two u r begun first second is_u is_r =
     second ∙ ap (λ (l : List EntryData). l ++ entries_of None None r) (first ∙ ap (λ (l : List EntryData). l ++ entries_of None None u) begun) ∙ (λ i. entries_of None None (is_u i) ++ entries_of None None (is_r i))
     ∙ sym (entries-join None None f.unplaced f.roots)
 
--- WHAT THE TABLE SAYS of the id of an entry is the entry
+-- WHAT THE TABLE SAYS about the id of an entry is this entry
 abbrev pub IsTold : List Row → EntryData → Type 0
 IsTold t e = entry_of t e.item.view.id ≡ Some e
 
@@ -74,7 +74,7 @@ entries_told t p n (bucket h w m k rest) above told =
     (ap (option_map (row_entry t (BucketItem h.id))) told.0 ∙ (λ i. Some (record { item = record { view = record { id = BucketItem h.id; kind = h.kind; name = h.name; weight = told.2 i; parent = p; class = None; alg = Some h.alg }; holder = above i }; class_ids = ids i })))
     (All-append (IsTold t) (entries_of (Some h.id) (Some h.name) k) (entries_of p n rest) (entries_told t (Some h.id) (Some h.name) k named told.3) (entries_told t p n rest above told.4))
 
--- and there is one for each id
+-- the sum of a number for the id of each entry; with such sums the entries are counted
 abbrev pub summed : (ItemId → ℕ) → List EntryData → ℕ
 summed n es = sum_by (λ (e : EntryData). n e.item.view.id) es
 
@@ -93,12 +93,12 @@ entries_of_rows n p name (bucket h w m k rest) =
       sum_by-append (λ (r : Row). n r.id) (rows (Some h.id) k) (rows p rest),
     )
 
--- AN ENTRY IN MEMORY has the id of its item
+-- AN ITEM OF THE CODE: its view has the id of its node
 pub view_id : {A : _} (p : Option ℕ) (x : Node A) → (node_view p x).id ≡ node_id x
 view_id p (Device l) = refl
 view_id p (Bucket b) = refl
 
--- what an entry says
+-- the item in the entry that a table has for an id is what the table says about the item with this id
 pub entry_item : (t : List Row) (i : ItemId) → option_map (λ (e : EntryData). e.item) (entry_of t i) ≡ item_of t i
 entry_item t i = by_row (row_of t i) where
   by_row : (o : Option Row) → option_map (λ (e : EntryData). e.item) (option_map (row_entry t i) o) ≡ option_map (row_item t) o
@@ -115,7 +115,7 @@ entry_class_ids t (BucketItem b) = by_row (row_of t (BucketItem b)) refl where
   by_row None e = ap (λ q. option_map_or (λ (r : Row). r.class_ids) q []) (sym e)
   by_row (Some r) e = refl
 
--- what was found of an id is what the table says of it
+-- if the entry that was found for an id is the entry of the table, then the item that was found is the item of the table
 pub said : {X : Type 0} (t : List Row) (i : ItemId) (see : X → EntryData) (found : Option X) (one : Option ItemData) → one ≡ option_map (λ x. (see x).item) found → option_map see found ≡ entry_of t i → one ≡ item_of t i
 said {X} t i see found one is entry = is ∙ by_found found ∙ ap (option_map (λ (e : EntryData). e.item)) entry ∙ entry_item t i where
   by_found : (o : Option X) → option_map (λ x. (see x).item) o ≡ option_map (λ (e : EntryData). e.item) (option_map see o)

@@ -40,13 +40,13 @@ All-flat_map : {X Y : Type 0} (P : Y → Type 0) (g : X → List Y) (xs : List X
 All-flat_map P g [] h = All-nil P
 All-flat_map P g (x ∷ xs) h = All-append P (g x) (flat_map g xs) (All-head (λ y. All P (g y)) x xs h) (All-flat_map P g xs (All-tail (λ y. All P (g y)) x xs h))
 
--- in whatever order the nodes are, their entries are told
+-- in whatever order the nodes are, each of their entries is what the table says about its id (`IsTold`)
 refs_told : {A : _} {X : Type 0} (see : X → Node A) (t : List Row) (ns : List (Node A)) (refs : List X) → IsPermutation ns (map see refs) → Told t None (items_of ns) → All (IsTold t) (flat_map (λ x. top_entries (see x)) refs)
 refs_told see t ns refs same told =
     All-flat_map (IsTold t) (λ x. top_entries (see x)) refs
     (All-unmap (λ node. All (IsTold t) (top_entries node)) see refs (All-permutation (λ node. All (IsTold t) (top_entries node)) ns (map see refs) same (nodes_told t ns told)))
 
--- and their sums are the same
+-- a sum over the entries of all nodes is the sum of the sums over the entries of each node
 flat_summed : {X : Type 0} (n : ItemId → ℕ) (g : X → List EntryData) (xs : List X) → summed n (flat_map g xs) ≡ sum_by (λ x. summed n (g x)) xs
 flat_summed n g [] = refl
 flat_summed n g (x ∷ xs) =
@@ -73,7 +73,7 @@ refs_summed see n ns refs same =
     flat_summed n (λ x. top_entries (see x)) refs ∙ sym (sum_by-map (λ node. summed n (top_entries node)) see refs)
     ∙ sum_by-IsPermutation (λ node. summed n (top_entries node)) ns (map see refs) same ∙ nodes_summed n ns
 
--- THE WALK: first the roots and then the unplaced devices
+-- THE WALK: the entries of the roots, followed by the entries of the unplaced devices
 pub walked_entries : {A : _} {X : Type 0} (see : X → Node A) (f : ForestData) (t : List Row) (roots unplaced : List (Node A)) (rs us : List X) (start one two : List EntryData)
     → items_of roots ≡ f.roots → items_of unplaced ≡ f.unplaced → Stands f t → IsPermutation roots (map see rs) → IsPermutation unplaced (map see us)
     → start ≡ [] → one ≡ start ++ flat_map (λ x. top_entries (see x)) rs → two ≡ one ++ flat_map (λ x. top_entries (see x)) us → HasEntries t two
@@ -99,7 +99,7 @@ walked_entries see f t roots unplaced rs us start one two are_roots are_unplaced
       );
     }
 
--- THEIR NUMBER: a table has few rows
+-- THE NUMBER OF ENTRIES is small, because a table has few rows
 ones : {X : Type 0} (xs : List X) → sum_by (λ x. 1) xs ≡ length xs
 ones [] = refl
 ones (x ∷ xs) = omega (arith, ones xs, sum_by-cons (λ y. 1) x xs)

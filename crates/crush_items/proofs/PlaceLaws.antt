@@ -25,7 +25,7 @@ use Rattle.crush_items.specs.Items.{HasEntries, entry_id}
 use Rattle.crush_items.specs.declared.by_id.Place.{Place}
 use Rattle.crush_items.proofs.EntryLaws.{IsTold, summed}
 
--- WHAT IS THERE of the elements of a list
+-- what an element of a list is mapped to satisfies P, if the element is mapped to anything
 abbrev pub Holds : {X Y : Type 0} → (Y → Type 0) → (X → Option Y) → X → Type 0
 Holds P h x = IfSome (h x) P
 
@@ -54,7 +54,7 @@ sum_there {X} {Y} f h (x ∷ xs) = step (h x) ∙ ap (λ m. option_map_or f (h x
   step None = omega arith
   step (Some y) = sum_by-cons f y (filter_map h xs)
 
--- PLACES in the order of the entries
+-- PLACES in the order of the entries: each place has its entry's position and key
 get_behind : {X : Type 0} (before : List X) (x : X) (rest : List X) → slice_get (before ++ x ∷ rest) (length before) ≡ Some x
 get_behind [] x rest = refl
 get_behind (y ∷ before) x rest = get_behind before x rest
@@ -77,7 +77,7 @@ places_list all before (e ∷ es) at is n =
     ap (λ o. cons_option o (filter_map (entry_at all) (places_from (at + 1) es))) (here all before e es at is n)
     ∙ ap (λ (l : List EntryData). e ∷ l) (places_list all (before ++ e ∷ []) es (at + 1) (is ∙ sym (append_assoc before (e ∷ []) es)) (omega (arith, n, length-append before (e ∷ []))))
 
--- BY ID: so they are once they are sorted
+-- BY ID: after the places are sorted by their keys, they are in the order of the ids
 pub sorted_by_id : (t : List Row) (es : List EntryData) (ps qs : List Place) → HasEntries t es → ps ≡ places_from 0 es → IsPermutation ps qs → IsNonDecreasingBy (λ (p : Place). p.key) qs → AreById t es qs
 sorted_by_id t es ps qs has are same up =
     let listed : filter_map (entry_at es) ps ≡ es = ap (filter_map (entry_at es)) are ∙ places_list es [] es 0 refl refl in
@@ -92,7 +92,7 @@ sorted_by_id t es ps qs has are same up =
       rising = up;
     }
 
--- A SEARCH: two ids with one key are one
+-- A SEARCH: two short ids that have the same key are equal
 same_key : (i j : ItemId) → IsShort i → IsShort j → id_key i ≡ id_key j → i ≡ j
 same_key (DeviceItem d) (DeviceItem e) a b h = ap DeviceItem (omega (arith, h))
 same_key (BucketItem b) (BucketItem c) x y h = ap BucketItem (omega (arith, h))
@@ -116,7 +116,7 @@ entry_short t i e rows found = by_row (row_of t i) refl found where
   by_row None is f = absurd cc
   by_row (Some r) is f = row_short t i r rows is
 
--- what is found has the entry of the id
+-- if a place has the key of an id, then the entry at this place is the entry that the table has for the id
 pub found_here : (t : List Row) (es : List EntryData) (ps : List Place) (i : ItemId) (at : ℕ) (d : Place) → Lawful t → AreById t es ps → at < length ps → (get_or ps at d).key ≡ id_key i → IsShort i
     → Some (entry_at es (get_or ps at d)) ≡ option_map Some (entry_of t i)
 found_here t es ps i at d lawful by_id lt key short = by_entry (entry_at es (get_or ps at d)) (by_id.placed at d lt) (there_all (IsTold t) (entry_at es) ps by_id.lists.told at d lt) where
@@ -127,7 +127,7 @@ found_here t es ps i at d lawful by_id lt key short = by_entry (entry_at es (get
       let same : entry_id e ≡ i = same_key (entry_id e) i (entry_short t (entry_id e) e lawful.rows told) short (one ∙ key) in
       ap (option_map Some) (sym told ∙ ap (entry_of t) same)
 
--- and an id that no key is of isn't in the table
+-- if no place has the key of an id, then no entry has this id
 none_there : (es : List EntryData) (ps : List Place) (i : ItemId) → All (IsPlaceIn es) ps → ((j : ℕ) (d : Place) → j < length ps → (get_or ps j d).key ≡ id_key i → ⊥)
     → sum_by (λ e. one_if (same_id (entry_id e) i)) (filter_map (entry_at es) ps) ≡ 0
 none_there es [] i placed other = refl
@@ -156,11 +156,11 @@ found_nowhere t es ps i k at by_id key parted =
     (leb_tells at j)) in
     ap (λ o. option_map Some (option_map (row_entry t i) o)) (sym (row_of-absent t i (sym (by_id.lists.ids (λ j. one_if (same_id j i))) ∙ none)))
 
--- what a search finds has the key
+-- the place that a search finds has the key that was searched for
 pub found_key : (ps : List Place) (k at : ℕ) (d : Place) → ((d : Place) → nat_cmp (get_or ps at d).key k ≡ Equal) → (get_or ps at d).key ≡ k
 found_key ps k at d equal = ranked _ k _ (sym (equal d))
 
--- one place more
+-- one more entry adds one place at the end
 places_more : (at : ℕ) (es : List EntryData) (e : EntryData) → places_from at (es ++ e ∷ []) ≡ places_from at es ++ place (at + length es) e ∷ []
 places_more at [] e = ap (λ n. place n e ∷ []) (let same : at ≡ at + 0 = omega arith in same)
 places_more at (x ∷ es) e =

@@ -1,4 +1,4 @@
--- What a table says of the items of a forest that stands for it.
+-- What a table says about the items of a forest that represents the table.
 use Rattle.std.proofs.Common.{◌≡◌, ℕ, zero, suc, ◌+◌, ◌≤◌, false, List, [], ◌∷◌, ◌++◌, length, refl, ap, sym, ◌∙◌, arith, ⊎_elim, eq-eqb, length-append}
 use Rattle.std.specs.Prelude.{flat_map, All, Option, Some, None, ◌==◌, if◌then◌else◌}
 use Rattle.std.specs.Option.{option_or}
@@ -21,7 +21,7 @@ use Rattle.crush_model.proofs.Weighs.{All-found}
 use Rattle.crush_nodes.specs.Search.{kids_in}
 use Rattle.crush_tree.proofs.ReadLemmas.Items.{ids_of, kids_in-kids}
 
--- each item has its row, and each bucket its items and its stored weight as its sum
+-- the table has a row for each item, and for each bucket it has the bucket's items in their order, and the bucket's stored weight as its sum
 abbrev pub Told : List Row → Option ℕ → Items → Type 0
 Told t p none = Unit {0}
 Told t p (device d rest) = (row_of t (Device d.id) ≡ Some (device_row p d)) × Told t p rest
@@ -33,75 +33,75 @@ root_ids none = []
 root_ids (device d rest) = root_ids rest
 root_ids (bucket h w m k rest) = h.id ∷ root_ids rest
 
--- no bucket below another is a root
+-- no bucket that is below another bucket is a root
 no_root_below : (b : ℕ) (n : Items) → flat_map root_number (rows (Some b) n) ≡ []
 no_root_below b none = refl
 no_root_below b (device d rest) = no_root_below b rest
 no_root_below b (bucket h w m k rest) = flat_map-append root_number (rows (Some h.id) k) (rows (Some b) rest) ∙ (λ i. no_root_below h.id k i ++ no_root_below b rest i)
 
--- the roots are the buckets that stand side by side at the top
+-- the roots among the rows of these items are the buckets among the items themselves, not those below them
 pub root_numbers_are : (n : Items) → flat_map root_number (rows None n) ≡ root_ids n
 root_numbers_are none = refl
 root_numbers_are (device d rest) = root_numbers_are rest
 root_numbers_are (bucket h w m k rest) = ap (λ (l : List ℕ). h.id ∷ l) (flat_map-append root_number (rows (Some h.id) k) (rows None rest) ∙ (λ i. no_root_below h.id k i ++ root_numbers_are rest i))
 
--- which are those of the second items if the first are only devices
+-- if the first of two joined lists of items has only devices, then the roots of both are the roots of the second
 pub root_ids-join : (a b : Items) → OnlyDevices a → root_ids (join a b) ≡ root_ids b
 root_ids-join none b only = refl
 root_ids-join (device d a) b only = root_ids-join a b only
 root_ids-join (bucket h w m k a) b only = absurd only
 
--- how deep items are at most
+-- the number of buckets among items and below them (`size_of`) is at most the number of rows
 pub size_le_rows : (p : Option ℕ) (n : Items) → size_of n ≤ length (rows p n)
 size_le_rows p none = omega arith
 size_le_rows p (device d rest) = omega (arith, size_le_rows p rest)
 size_le_rows p (bucket h w m k rest) = omega (arith, size_le_rows (Some h.id) k, size_le_rows p rest, length-append (rows (Some h.id) k) (rows p rest))
 
--- the second items are no more than both
+-- the second of two joined lists of items has at most as many buckets (`size_of`) as both together
 pub size_of-join : (a b : Items) → size_of b ≤ size_of (join a b)
 size_of-join none b = omega arith
 size_of-join (device d a) b = size_of-join a b
 size_of-join (bucket h w m k a) b = omega (arith, size_of-join a b)
 
--- what a table says of both it says of the second
+-- what a table says about two joined lists of items, it also says about the second list
 pub told_join : (t : List Row) (p : Option ℕ) (a b : Items) → Told t p (join a b) → Told t p b
 told_join t p none b told = told
 told_join t p (device d a) b told = told_join t p a b told.1
 told_join t p (bucket h w m k a) b told = told_join t p a b told.4
 
--- A FOREST THAT STANDS FOR A TABLE
+-- A FOREST THAT REPRESENTS A TABLE
 not_this : (x b : ℕ) → one_if (x == b) ≡ 0 → (x == b) ≡ false
 not_this x b zero_hits = ⊎_elim (λ q. absurd (let one : one_if (x == b) ≡ 1 = ap one_if q.0 in omega arith)) (λ q. q.0) (eqb_tells x b)
 
--- a bucket that isn't among items has none there
+-- a bucket that isn't among the items has no items there
 kids_in_none : (b : ℕ) (n : Items) → buckets b n ≡ 0 → kids_in b n ≡ None
 kids_in_none b none h = refl
 kids_in_none b (device d rest) h = kids_in_none b rest h
 kids_in_none b (bucket x w m k rest) h =
     ap (λ z. if z then Some k else option_or (kids_in b k) (kids_in b rest)) (not_this x.id b (omega arith)) ∙ (λ i. option_or (kids_in_none b k (omega arith) i) (kids_in_none b rest (omega arith) i))
 
--- and one that has some is among them
+-- a bucket that has items there is among the items
 kids_in_some : (b : ℕ) (n k : Items) → kids_in b n ≡ Some k → 1 ≤ buckets b n
 kids_in_some b n k found = some (buckets b n) (λ e. let none_found : kids_in b n ≡ None = kids_in_none b n e in absurd cc) where
   some : (m : ℕ) → (m ≡ 0 → ⊥) → 1 ≤ m
   some zero not_zero = absurd (not_zero refl)
   some (suc m) not_zero = omega arith
 
--- of both lists, so of the first
+-- a property of all elements of two lists is a property of the elements of the first list
 All_left : {X : Type 0} (P : X → Type 0) (xs ys : List X) → All P (xs ++ ys) → All P xs
 All_left P [] ys h = All-nil P
 All_left P (x ∷ xs) ys h = All-cons P x xs (All-head P x (xs ++ ys) h) (All_left P xs ys (All-tail P x (xs ++ ys) h))
 
--- and of the second
+-- and of the elements of the second list
 All_right : {X : Type 0} (P : X → Type 0) (xs ys : List X) → All P (xs ++ ys) → All P ys
 All_right P [] ys h = h
 All_right P (x ∷ xs) ys h = All_right P xs ys (All-tail P x (xs ++ ys) h)
 
--- a row is the one of its id
+-- looking up the row's id in the table finds this row
 abbrev IsFound : List Row → Row → Type 0
 IsFound t r = row_of t r.id ≡ Some r
 
--- if the rows, the weights and the items of buckets are in the table, then the table says all this of the items
+-- if the table has the items' rows, and the stored weights and the items of their buckets, then it says all of this about the items (`Told`)
 told_from : (t : List Row) (p : Option ℕ) (n : Items) → All (IsFound t) (rows p n) → ((b : ℕ) → buckets b n ≤ 1) → ((b : ℕ) → 1 ≤ buckets b n → stored_weight b n ≡ sum_below t b)
     → ((b : ℕ) (k : Items) → kids_in b n ≡ Some k → kids t b ≡ ids_of k) → Told t p n
 told_from t p none found once stored are = tt
@@ -134,7 +134,7 @@ told_from t p (bucket h w m k rest) found once stored are =
       told_from t p rest (All_right (IsFound t) (rows (Some h.id) k) (rows p rest) others) (λ b. omega (arith, once b)) rest_stored rest_are,
     )
 
--- so the table for which a forest stands says this of the forest's items
+-- so a table says this about the items of a forest that represents the table
 pub stands_told : (f : ForestData) (t : List Row) → Stands f t → Told t None (all_items f)
 stands_told f t s =
     let ids = (stands_lawful f t s).ids in

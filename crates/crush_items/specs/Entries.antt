@@ -1,4 +1,4 @@
--- What a map says of its items by their ids, each with the bucket that holds it.
+-- What a map says about its items: an entry for each item, with the bucket that holds the item.
 use Rattle.std.specs.Prelude.{ℕ, List, [], ◌∷◌, ◌++◌, Option, Some}
 use Rattle.std.specs.Option.{option_map}
 use Rattle.crush_units.specs.declared.id.ItemId.{ItemId}
@@ -7,19 +7,19 @@ use Rattle.crush_model.specs.Table.{Row, row_of}
 use Rattle.crush_nodes.specs.Views.{device_view, bucket_view}
 use Rattle.crush_items.specs.ItemData.{ItemData, row_item, own_class_ids}
 
--- an item with its class ids
+-- an item with the name of its bucket and with its class ids
 pub record EntryData : Type 0 where
   pub item : ItemData
   pub class_ids : List ShadowData
 
--- the entry of an id
+-- the entry that a table has for an id, if the table has the row r for this id
 abbrev pub row_entry : List Row → ItemId → Row → EntryData
 row_entry t i r = record { item = row_item t r; class_ids = own_class_ids t i }
 
 abbrev pub entry_of : List Row → ItemId → Option EntryData
 entry_of t i = option_map (row_entry t i) (row_of t i)
 
--- those of items as plain data, which stand below the parent p of the name n, an item before what is below it
+-- the entries of plain items (`Items`) that are in the bucket p, whose name is n. An item's entry comes before the entries of the items below it
 abbrev pub device_entry : Option ℕ → Option (List ℕ) → LeafData → EntryData
 device_entry p n d = record { item = record { view = device_view p d; holder = n }; class_ids = [] }
 

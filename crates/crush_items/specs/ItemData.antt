@@ -1,4 +1,4 @@
--- What a table says of an item, as it is compared with what another says.
+-- What a table says about an item, in the form in which two tables are compared.
 use Rattle.std.specs.Prelude.{ℕ, List, [], Option, option_and_then}
 use Rattle.std.specs.Option.{option_map, option_map_or}
 use Rattle.crush_units.specs.declared.id.ItemId.{ItemId}
@@ -7,12 +7,12 @@ use Rattle.crush_model.specs.Items.{ShadowData}
 use Rattle.crush_model.specs.Table.{Row, row_of, name_of}
 use Rattle.crush_nodes.specs.Views.{ViewData, row_view}
 
--- its columns, a bucket with its sum as its weight; and the name of the bucket that holds it
+-- what a table says about an item (`ViewData`: id, type, name, weight, parent, class and algorithm), and the name of the bucket that holds the item. The weight of a bucket is its sum
 pub record ItemData : Type 0 where
   pub view : ViewData
   pub holder : Option (List ℕ)
 
--- an item with the name of the bucket that holds it
+-- what a table says about an item, with the name of the item's bucket added
 abbrev pub with_holder : List Row → ViewData → ItemData
 with_holder t v = record { view = v; holder = option_and_then (λ p. name_of t (Bucket p)) v.parent }
 
@@ -22,7 +22,7 @@ row_item t r = with_holder t (row_view t r)
 abbrev pub item_of : List Row → ItemId → Option ItemData
 item_of t i = option_map (row_item t) (row_of t i)
 
--- a bucket's class ids
+-- a bucket's class ids; none for a device
 abbrev pub own_class_ids : List Row → ItemId → List ShadowData
 own_class_ids t (Device d) = []
 own_class_ids t (Bucket b) = option_map_or (λ (r : Row). r.class_ids) (row_of t (Bucket b)) []

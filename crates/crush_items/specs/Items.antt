@@ -1,4 +1,4 @@
--- How a list of a map's items is seen as plain data, and which items a table has.
+-- How contracts describe the items of a list as plain data, and when a list has the items of a table.
 use Rattle.std.specs.Prelude.{◌≡◌, ℕ, List, [], Option, Some, All}
 use Rattle.std.specs.List.{sum_by}
 use Rattle.std.specs.Option.{option_map}
@@ -18,16 +18,16 @@ abbrev pub node_view : {A : _} → Option ℕ → Node A → ViewData
 node_view p (Device l) = device_view p (leaf_data l)
 node_view p (Bucket b) = bucket_view p b.value.header b.value.weight
 
--- the class ids of a bucket; none of a device
+-- the class ids of a bucket; none for a device
 abbrev pub node_class_ids : {A : _} → Node A → List ShadowData
 node_class_ids (Device l) = []
 node_class_ids (Bucket b) = b.value.header.class_ids
 
--- an item as a step of the tree: its depth, and what is said of it
+-- an item as a step of the tree: its depth, and what the map says about it (`ViewData`)
 abbrev pub item_step : {A : _} → Item A → WalkStepData
 item_step x = record { depth = x.depth; item = node_view x.parent x.node.now }
 
--- an item as an entry: what is said of it, the name of the bucket that holds it, and its class ids
+-- an item as an entry: what the map says about it (`ViewData`), the name of the bucket that holds it, and its class ids
 abbrev pub item_entry : {A : _} → Item A → EntryData
 item_entry x = record { item = record { view = node_view x.parent x.node.now; holder = option_map (λ n. n.now) x.holder }; class_ids = node_class_ids x.node.now }
 
@@ -35,7 +35,7 @@ item_entry x = record { item = record { view = node_view x.parent x.node.now; ho
 abbrev pub entry_id : EntryData → ItemId
 entry_id e = e.item.view.id
 
--- ENTRIES OF A TABLE: each is what the table says of its id, and there is one for each row: whatever number each id has, the sum over the entries is the sum over the rows
+-- ENTRIES OF A TABLE: each entry is what the table says about the entry's id, and there is one entry for each row. (This is said by sums: if each id is given a number, then the numbers have the same sum over the entries as over the rows.)
 pub record HasEntries (t : List Row) (es : List EntryData) : Type 0 where
   pub told : All (λ e. entry_of t (entry_id e) ≡ Some e) es
   pub ids : (n : ItemId → ℕ) → sum_by (λ e. n (entry_id e)) es ≡ sum_by (λ (r : Row). n r.id) t

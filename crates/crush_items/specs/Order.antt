@@ -24,7 +24,7 @@ abbrev pub id_number : ItemId → ℕ
 id_number (Device d) = d
 id_number (Bucket b) = b
 
--- the number of a root, as a list: a bucket that no bucket holds; nothing for any other row
+-- the number of the row's bucket, as a list, if the row is a root: a bucket that no bucket holds; nothing for any other row
 abbrev pub root_number : Row → List ℕ
 root_number r = if is_some r.parent then [] else bucket_ids r.id
 

@@ -1,4 +1,4 @@
--- How an item that was looked up is seen as plain data.
+-- How contracts describe a `Seen`: what a map says about an item, as plain data.
 use Rattle.std.specs.Option.{option_map}
 use Rattle.crush_nodes.specs.SeenView.{view_data}
 use Rattle.crush_items.specs.ItemData.{ItemData}

@@ -12,11 +12,11 @@ use crate::items::{Item, Items};
 use crush_units::ItemId;
 use std::alloc::{AllocError, Allocator, Global};
 
-/// A position in a list of items, with the key of the item at this position.
+/// A position in a list of items ([`Items::all`]), with the key of the item at this position.
 ///
-/// The key of a bucket is the distance of its id from 0, and the key of a device is 2^32 more than
-/// its number. So ascending keys are ids in the order in which they are printed: buckets from -1
-/// downward, and then devices upward.
+/// The key of a bucket is the distance of its id from 0. The key of a device is its number plus
+/// 2^32. So ascending keys give the order in which ids are printed: first the buckets from -1
+/// downward, and then the devices by ascending id.
 #[derive(Clone, Copy, Debug, PartialEq, Eq)]
 pub struct Place {
     pub key: u64,
@@ -24,15 +24,15 @@ pub struct Place {
     pub at: u32,
 }
 
-/// The places of all items of a map, by ascending keys.
+/// The places of all items of a map, sorted by ascending keys.
 #[derive(Drop)]
 pub struct ById {
     pub places: Vec<Place>,
 }
 
 impl<'a, A: Allocator> Items<'a, A> {
-    /// Returns the places of the items by ascending keys. It sorts the places once. An `Err` says
-    /// that memory ran out.
+    /// Returns the places of the items, sorted by ascending keys. The method sorts the places once,
+    /// and fails only if memory runs out.
     pub fn by_id(&self, alloc: Global) -> Result<ById, AllocError>
         requires few { length self.now.all.items < 2 ^ 32 }
         ensures { IfOk result (λ by_id. (t : List Row)
@@ -46,8 +46,8 @@ impl<'a, A: Allocator> Items<'a, A> {
 }
 
 impl ById {
-    /// Returns the place of the item with this id, or `None` if the map has no such item. It is a
-    /// binary search.
+    /// Returns the place of the item with this id, or `None` if the map has no such item. The
+    /// method makes a binary search.
     pub fn find(&self, id: ItemId) -> Option<Place>
         ensures key { IfSome result (λ place. place.key ≡ id_key id) }
         ensures entry { (t : List Row) (es : List EntryData) → Lawful t
@@ -62,7 +62,7 @@ impl ById {
     }
 }
 
-/// Returns the key of an id, as [`Place`] has it.
+/// Returns the key of an id, as [`Place`] defines it.
 fn key_of(id: ItemId) -> u64
     ensures key { result ≡ id_key id }
     ensures short { IsShort id }
@@ -73,7 +73,7 @@ fn key_of(id: ItemId) -> u64
     }
 }
 
-/// Returns the places of the items, in the order of the items.
+/// Returns a place for each item, in the order of the items.
 fn places_of<A: Allocator>(alloc: Global, items: &[Item<'_, A>]) -> Result<Vec<Place>, AllocError>
     requires few { length items.now < 2 ^ 32 }
     ensures { IfOk result (λ places. places.items ≡ places_from 0 (each item_entry items.now)) }

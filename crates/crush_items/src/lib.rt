@@ -1,13 +1,14 @@
-//! The items of a map as one list, which one walk of the map's tree makes.
+//! Lists the items of a map, in one walk of the map's tree.
 //!
 //! [`Items::of`] returns all items of a map in the order of its tree, each with its depth, its
-//! parent and its parent's name. A position in this list, counted from 0, stands for an item:
-//! [`Items::seen`] and [`Items::class_ids`] return what the map has of the item at a position, and
-//! [`Items::run`] returns the positions of this item and all items below it. [`Items::by_id`] makes
-//! a list that is sorted by id, in which [`ById::find`] finds the position of an item.
+//! parent and its parent's name. The other functions refer to an item by its position in this list,
+//! counted from 0. [`Items::seen`] and [`Items::class_ids`] return what the map says about the item
+//! at a position, and [`Items::run`] returns the positions of this item and of all items below it.
+//! [`Items::by_id`] sorts the positions by the ids of their items, and [`ById::find`] then finds
+//! the position of an item by its id.
 //!
-//! No call searches the map itself, and no call goes from an item up to its root: a walk visits
-//! each item once, also in a map of deeply nested buckets.
+//! No function here searches the map itself or climbs from an item to its root. The list is made in
+//! one walk, which visits each item once, even if buckets are nested deeply.
 #![tactic(auto)]
 
 mod by_id;

@@ -1,11 +1,11 @@
-//! What a map has of an item.
+//! What a map says about an item.
 
 use crush_tree::View;
 
-/// An item as a map has it.
+/// What a map says about one item.
 #[derive(Clone, Copy, Debug)]
 pub struct Seen<'a> {
     pub view: View<'a>,
-    /// The name of the bucket that holds it.
+    /// The name of the bucket that holds the item; `None` for a root and for an unplaced device.
     pub holder: Option<&'a str>,
 }

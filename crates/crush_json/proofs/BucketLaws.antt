@@ -1,4 +1,4 @@
--- Buckets in order, and a search among them.
+-- Buckets in the order of their ids, and the search for a bucket among them.
 use Rattle.std.proofs.Common.{◌≡◌, ℕ, zero, suc, ◌+◌, ◌<◌, ◌≤◌, ◌==◌, false, true, List, [], ◌∷◌, ◌++◌, length, get_or, map, ap, sym, subst, ◌∙◌, refl, arith, ⊎_elim, Less, Equal, Greater}
 use Rattle.std.specs.Prelude.{All, Bool, None}
 use Rattle.std.specs.List.{sum_by}
@@ -45,7 +45,7 @@ no_hits see b (x ∷ xs) others =
     let no : one_if ((see x).header.id == b) ≡ 0 = ⊎_elim (λ q. absurd (All-head (λ x. (see x).header.id ≡ b → ⊥) x xs others q.1)) (λ q. ap one_if q.0) (eqb_tells (see x).header.id b) in
     omega (arith, no, no_hits see b xs (All-tail (λ x. (see x).header.id ≡ b → ⊥) x xs others), sum_by-cons (λ x. one_if ((see x).header.id == b)) x xs)
 
--- a bucket that isn't among those of the forest isn't in the table
+-- if a bucket isn't among the buckets of the forest, then it isn't in the table
 not_there : (t : List Row) (b : ℕ) → rows_of_id (Bucket b) t ≡ 0 → false ≡ is_there t (Bucket b)
 not_there t b none_has = by_test (is_there t (Bucket b)) refl where
   by_test : (z : Bool) → is_there t (Bucket b) ≡ z → false ≡ is_there t (Bucket b)
@@ -64,7 +64,7 @@ are_buckets see f t found sorted are same up stands = record {
   rising = up;
 }
 
--- THE SEARCH finds the bucket's items
+-- THE SEARCH for a bucket finds the items that the table has in the bucket
 told_at : {X : Type 0} (P : X → Type 0) (xs : List X) (i : ℕ) (d : X) → All P xs → i < length xs → P (get_or xs i d)
 told_at P [] i d all lt = absurd (omega (arith, lt))
 told_at P (x ∷ xs) zero d all lt = All-head P x xs all
@@ -85,7 +85,7 @@ all_other : {X : Type 0} (key : X → ℕ) (b : ℕ) (xs : List X) → ((j : ℕ
 all_other key b [] other = All-nil (λ x. key x ≡ b → ⊥)
 all_other key b (x ∷ xs) other = All-cons (λ x. key x ≡ b → ⊥) x xs (other 0 x (omega arith)) (all_other key b xs (λ j d lt. other (suc j) d (omega (arith, lt))))
 
--- and where it finds none, the bucket has none
+-- if the search finds no bucket, then the table has no items in the bucket
 pub found_none : {X : Type 0} (see : X → BucketData) (t : List Row) (xs : List X) (b k at : ℕ) → AreBuckets see t xs → k ≡ b
     → (IsNonDecreasingBy (λ y. ordering_index (nat_cmp (see y).header.id k)) xs → IsPartitionPoint (λ y. nat_cmp (see y).header.id k ≡ Less) (λ y. nat_cmp (see y).header.id k ≡ Greater) xs at)
     → [] ≡ kids t b

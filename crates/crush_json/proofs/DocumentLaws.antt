@@ -8,12 +8,12 @@ use Rattle.serde_json.specs.Written.{members_outline}
 use Rattle.crush_json.specs.Document.{document_of, with_history}
 use Rattle.crush_json.specs.Tokens.{history_tokens_if, tokens_of}
 
--- a history stands before the other members
+-- if there is a history, its tokens come before those of the other members
 history_before : (h : Option Data) (ms : Members) → members_tokens (members_outline (with_history h ms)) ≡ history_tokens_if h ++ members_tokens (members_outline ms)
 history_before None ms = refl
 history_before (Some h) ms = refl
 
--- the opening, the value, and the closing brace
+-- the tokens of a document: the opening brace, the history, the value, and the closing brace
 told : (name : List ℕ) (h : Option Data) (d : Data) → (begin_object ∷ (history_tokens_if h ++ key name ∷ [])) ++ (tokens_of d ++ end_object ∷ []) ≡ tokens_of (document_of name h d)
 told name h d =
     ap (λ (l : List Token). begin_object ∷ l)

@@ -1,4 +1,4 @@
--- The entries of a history, one more.
+-- The entries of a history that grows by one entry.
 use Rattle.std.proofs.Common.{◌≡◌, ℕ, ◌+◌, ◌<◌, List, [], ◌∷◌, ◌++◌, length, get_or, take, refl, sym, ap, ◌∙◌, append-nil, arith}
 use Rattle.std.specs.Prelude.{slice_index_or}
 use Rattle.std.proofs.lemmas.List.{take_more, length-take-le}
@@ -17,7 +17,7 @@ entries-push names n (f ∷ h) e =
     ap (λ (l : List Data). entry_document n (slice_index_or names f.operator []) f ∷ l)
     (entries-push names (n + 1) h e ∙ ap (λ m. entry_documents names (n + 1) h ++ entry_document m (slice_index_or names e.operator []) e ∷ []) (omega arith))
 
--- the tokens up to one place and those of the entry there
+-- the tokens of the entries before an index, followed by those of the entry at this index
 pub entries-more : (names : List (List ℕ)) (h : List EntryData) (i : ℕ) (e : EntryData) → i < length h → e ≡ get_or h i e
     → tokens_of_all (entry_documents names 1 (take (i + 1) h)) ≡ tokens_of_all (entry_documents names 1 (take i h)) ++ tokens_of (entry_document (i + 1) (slice_index_or names e.operator []) e)
 entries-more names h i e lt is =
@@ -28,7 +28,7 @@ entries-more names h i e lt is =
     ∙ ap (λ (l : List Token). tokens_of_all (entry_documents names 1 (take i h)) ++ l) (append-nil _)
     ∙ ap (λ m. tokens_of_all (entry_documents names 1 (take i h)) ++ tokens_of (entry_document m (slice_index_or names e.operator []) e)) (omega (arith, long))
 
--- none yet
+-- a history without entries has no tokens of entries
 pub no_entries : (names : List (List ℕ)) → ◌≡◌ {A = List Token} [] (tokens_of_all (entry_documents names 1 []))
 unfolding entry_documents
 no_entries names = refl

@@ -1,4 +1,4 @@
--- The documents of a forest's devices and buckets are those of the tables for which it stands.
+-- The values for a forest's devices and buckets are those of each table that the forest represents.
 use Rattle.std.proofs.Common.{◌≡◌, ℕ, ◌+◌, ◌<◌, ◌==◌, List, [], ◌∷◌, ◌++◌, length, get_or, take, map, refl, ap, sym, subst, ◌∙◌, arith}
 use Rattle.std.specs.Prelude.{All, Option, Some, None, flat_map}
 use Rattle.std.specs.List.{sum_by}
@@ -36,18 +36,18 @@ use Rattle.crush_json.specs.Ids.{bucket_numbers}
 use Rattle.crush_json.specs.ItemDocuments.{item_ids, leaf_document, own_document, placed_documents}
 use Rattle.crush_json.specs.MapDocument.{bucket_document, bucket_documents, buckets_at, device_document, device_documents, item_document, item_documents, of_view}
 
--- each element's document is what is told of its number
+-- if the value for each element is the value for its number, then the values for the elements are the values for their numbers
 documented : {X : Type 0} (number : X → ℕ) (doc : X → Data) (told : ℕ → List Data) (xs : List X) → All (λ x. told (number x) ≡ doc x ∷ []) xs → map doc xs ≡ flat_map told (map number xs)
 documented number doc told [] h = refl
 documented number doc told (x ∷ xs) h =
     ap (λ (l : List Data). doc x ∷ l) (documented number doc told xs (All-tail (λ x. told (number x) ≡ doc x ∷ []) x xs h))
     ∙ ap (λ (l : List Data). l ++ flat_map told (map number xs)) (sym (All-head (λ x. told (number x) ≡ doc x ∷ []) x xs h))
 
--- what is told of an item that has a row
+-- the value for an item that has a row
 row_told : (t : List Row) (r : Row) (told : ViewData → Data) → row_of t r.id ≡ Some r → of_view t r.id told ≡ told (row_view t r) ∷ []
 row_told t r told found = ap (λ (o : Option Row). option_map_or (λ v. told v ∷ []) (option_map (row_view t) o) []) found
 
--- DEVICES: no document has the bucket that holds the item
+-- DEVICES: the value for a device doesn't depend on the bucket that holds the device
 same_leaf : (p : Option ℕ) (d : LeafData) → device_document (device_view p d) ≡ leaf_document d
 unfolding device_document
 same_leaf p d = refl
@@ -72,7 +72,7 @@ leaves_listed t p none told = All-nil (IsListed t)
 leaves_listed t p (device d rest) told = All-cons (IsListed t) d (leaves rest) (row_told t (device_row p d) device_document told.0 ∙ ap (λ (e : Data). e ∷ []) (same_leaf p d)) (leaves_listed t p rest told.1)
 leaves_listed t p (bucket h w m k rest) told = All-append (IsListed t) (leaves k) (leaves rest) (leaves_listed t (Some h.id) k told.3) (leaves_listed t p rest told.4)
 
--- so the sorted devices have the table's documents
+-- so the values for the sorted devices are those for the table's devices
 pub devices_documented : {X : Type 0} (see : X → LeafData) (f : ForestData) (t : List Row) (found sorted : List X) → map see found ≡ leaves (all_items f) → IsPermutation found sorted → IsNonDecreasingBy (λ x. (see x).id) sorted → Stands f t
     → map (λ x. leaf_document (see x)) sorted ≡ device_documents t
 unfolding device_documents
@@ -82,7 +82,7 @@ devices_documented see f t found sorted are same up stands =
     (All-permutation (λ x. IsListed t (see x)) found sorted same (All-unmap (IsListed t) see found (subst (All (IsListed t)) (sym are) (leaves_listed t None (all_items f) (stands_told f t stands)))))
     ∙ ap (flat_map told) (devices_numbered see f t found sorted are same up stands)
 
--- THE ITEMS OF A BUCKET, one more
+-- THE ITEMS OF A BUCKET, in two lists
 placed-join : (place : ℕ) (a b : Items) → placed_documents place (join a b) ≡ placed_documents place a ++ placed_documents (place + count a) b
 placed-join place none b = ap (λ m. placed_documents m b) (omega arith)
 placed-join place (device d rest) b =
@@ -102,7 +102,7 @@ placed-more ns i x lt is =
     ∙ ap (λ m. placed_documents 0 (items_of (take i ns)) ++ placed_documents m (items_of (x ∷ []))) (omega (arith, long))
     ∙ ap (λ (l : List Data). placed_documents 0 (items_of (take i ns)) ++ l) (placed-one i x)
 
--- what the table says of the items side by side
+-- the values for the items of one bucket are those of the table
 items_told : (t : List Row) (p : Option ℕ) (place : ℕ) (n : Items) → Told t p n → item_documents t place (ids_of n) ≡ placed_documents place n
 unfolding item_documents
 items_told t p place none told = refl
@@ -111,7 +111,7 @@ items_told t p place (device d rest) told =
 items_told t p place (bucket h w m k rest) told =
     (λ i. (row_told t (bucket_row p h) (item_document place) told.0 ∙ ap (λ z. item_document place (bucket_view p h z) ∷ []) told.2 ∙ ap (λ (e : Data). e ∷ []) (same_item place p h w)) i ++ items_told t p (place + 1) rest told.4 i)
 
--- BUCKETS: what is true of each bucket of which the table says this
+-- BUCKETS: P holds for each bucket about which the table says the following
 abbrev OfBuckets : List Row → (BucketData → Type 0) → Type 0
 OfBuckets t P = (p : Option ℕ) (h : HeaderData) (w m : ℕ) (k : Items) → row_of t (BucketItem h.id) ≡ Some (bucket_row p h) → kids t h.id ≡ ids_of k → sum_below t h.id ≡ w → Told t (Some h.id) k → P (record { header = h; weight = w; capacity = m; kids = k })
 
@@ -124,7 +124,7 @@ among t P each p (bucket h w m k rest) told =
     (All-append P (buckets_among k) (own ∷ []) (among t P each (Some h.id) k told.3) (All-cons P own [] (each p h w m k told.0 told.1 told.2 told.3) (All-nil P)))
     (among t P each p rest told.4)
 
--- its document, and its items
+-- the value for a bucket, with its items, is the one that the table gives
 abbrev pub IsOwn : SettingData → List Row → BucketData → Type 0
 IsOwn s t b = buckets_at s t b.header.id ≡ own_document s b ∷ []
 
@@ -147,7 +147,7 @@ ids_are (bucket h w m k rest) = ap (λ z. BucketItem h.id ∷ z) (ids_are rest)
 items_owned : (t : List Row) → OfBuckets t (HasItems t)
 items_owned t p h w m k row are sum told = are ∙ ids_are k
 
--- no device is a bucket
+-- a list of devices has no buckets
 no_buckets : (n : Items) → OnlyDevices n → buckets_among n ≡ []
 no_buckets none only = refl
 no_buckets (device d rest) only = no_buckets rest only
@@ -161,7 +161,7 @@ among-join (bucket h w m k a) b only = absurd only
 pub all_among : (f : ForestData) (r : Items) → OnlyDevices f.unplaced → r ≡ f.roots → buckets_among r ≡ buckets_among (all_items f)
 all_among f r only are = ap buckets_among are ∙ sym (among-join f.unplaced f.roots only)
 
--- THE NUMBERS of the buckets are those of the table's rows
+-- THE IDS of the forest's buckets are those of the table's rows
 numbers_among : (b : ℕ) (p : Option ℕ) (n : Items) → times b (map bucket_id (buckets_among n)) ≡ times b (flat_map (λ (r : Row). bucket_ids r.id) (rows p n))
 numbers_among b p none = refl
 numbers_among b p (device d rest) = numbers_among b p rest
@@ -194,7 +194,7 @@ buckets_numbered see f t found sorted are same up stands =
     ∙ ascending_same (map bucket_id (buckets_among (all_items f))) (flat_map (λ (r : Row). bucket_ids r.id) (rows_of f)) (λ b. numbers_among b None (all_items f))
     ∙ ascending-reordered (λ (r : Row). bucket_ids r.id) (rows_of f) t stands.same.rows
 
--- so the sorted buckets have the table's documents
+-- so the values for the sorted buckets are those for the table's buckets
 pub buckets_documented : {X : Type 0} (see : X → BucketData) (s : SettingData) (f : ForestData) (t : List Row) (found sorted : List X) → map see found ≡ buckets_among (all_items f) → IsPermutation found sorted → IsNonDecreasingBy (λ x. (see x).header.id) sorted → Stands f t
     → map (λ x. own_document s (see x)) sorted ≡ bucket_documents s t
 unfolding bucket_documents

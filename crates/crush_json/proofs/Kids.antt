@@ -1,4 +1,4 @@
--- A bucket that isn't there has no items.
+-- If a table doesn't have a bucket, the table has no items in this bucket.
 use Rattle.std.proofs.Common.{◌≡◌, ℕ, true, false, List, [], ◌∷◌, map, ap, sym, subst, ◌∙◌, refl, ⊎_elim}
 use Rattle.std.specs.Prelude.{All, IfSome, Option, None, Some, if◌then◌else◌, filter}
 use Rattle.std.proofs.lemmas.Bool.Decides.{eqb_tells}

@@ -1,4 +1,4 @@
--- A reply is told by the words that its line has.
+-- The text of a reply has the same words as the reply in its history line.
 use Rattle.std.proofs.Common.{◌++◌, refl, sym, append_assoc}
 use Rattle.std.specs.Prelude.{codes, decimal}
 use Rattle.crush_edits.specs.Refusal.{refusal_name, refusal_error}

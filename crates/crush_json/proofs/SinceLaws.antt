@@ -36,7 +36,7 @@ use Rattle.crush_json.specs.TreeDocument.{type_word}
 use Rattle.crush_json.specs.Values.{list, natural, text_if, whole_if}
 use Rattle.crush_json.proofs.TreeLaws.{rest_of, text_before}
 
--- members that may not be there
+-- the tokens of members that may be missing
 ids_before : (i : ItemId) (xs : List ShadowData) (ms : Members) → rest_of (with_class_ids i xs ms) ≡ class_ids_tokens_if i xs ++ rest_of ms
 ids_before (Device d) xs ms = refl
 ids_before (Bucket b) xs ms = refl
@@ -49,7 +49,7 @@ seen_before : (name : List ℕ) (s : SettingData) (o : Option EntryData) (ms : M
 seen_before name s None ms = refl
 seen_before name s (Some e) ms = refl
 
--- an item as a map has it
+-- the tokens of what a map says about an item
 pub seen_told : (s : SettingData) (e : EntryData)
     → begin_object ∷ (text_tokens_if (codes "alg") (option_map alg_text e.item.view.alg) ++ (text_tokens_if (codes "class") e.item.view.class ++ (class_ids_tokens_if e.item.view.id e.class_ids
     ++ (member_tokens (codes "name") (string e.item.view.name) ++ (text_tokens_if (codes "parent") e.item.holder
@@ -69,7 +69,7 @@ seen_told s e =
     ∙ ap (λ (l : List Token). alg ++ l) (sym (text_before (codes "class") e.item.view.class numbered))
     ∙ sym (text_before (codes "alg") (option_map alg_text e.item.view.alg) (text_if (codes "class") e.item.view.class numbered)))
 
--- a pair: the id of its item, what it is, and what it was
+-- the tokens of a pair: the id of its item, what the item is, and what it was
 pub pair_told : (s p : SettingData) (e : EntryPair)
     → begin_object ∷ (whole_tokens_if (codes "id") (option_map item_number (pair_id e)) ++ (seen_tokens_if (codes "is") p e.after ++ (seen_tokens_if (codes "was") s e.before ++ end_object ∷ [])))
     ≡ tokens_of (pair_document s p e)
@@ -82,7 +82,7 @@ pair_told s p e =
     ∙ ap (λ (l : List Token). id ++ l) (sym (seen_before (codes "is") p e.after was))
     ∙ sym (whole_before (codes "id") (option_map item_number (pair_id e)) (seen_if (codes "is") p e.after was)))
 
--- what a list of items has at a position
+-- the tokens of the item that a list of items has at a position, if it has one there
 pub seen_at : (name : List ℕ) (s : SettingData) (o : Option EntryData) (x : ItemData) (ids : List ShadowData) → Some x ≡ option_map (λ (e : EntryData). e.item) o → ids ≡ option_map_or (λ (e : EntryData). e.class_ids) o []
     → member_tokens name (seen_document s (seen_entry x ids)) ≡ seen_tokens_if name s o
 seen_at name s None x ids is are = absurd cc
@@ -94,7 +94,7 @@ pub not_seen_at : (name : List ℕ) (s : SettingData) (o : Option EntryData) →
 not_seen_at name s None is = refl
 not_seen_at name s (Some e) is = absurd cc
 
--- THE ID of the pair of an id, if anything differs, is this id
+-- THE ID: if the two maps differ at an id, then the pair that belongs to this id has an item with this id
 none_differs : (t u : List Row) (i : ItemId) → row_of t i ≡ None → row_of u i ≡ None → is_some (id_difference Changes t u i) ≡ true → ⊥
 none_differs t u i a b h =
     let no : false ≡ true = (λ j. is_some (difference_by_ids Changes (option_map (row_item t) (sym a j)) (option_map (row_item u) (sym b j)) (same_class_ids t u i))) ∙ h in
@@ -118,7 +118,7 @@ same_if : (b : Bool) (x y : Data) → (b ≡ true → x ≡ y) → ◌≡◌ {A 
 same_if true x y same = ap (λ (d : Data). d ∷ []) (same refl)
 same_if false x y same = refl
 
--- so the pair of an id has the document of the id
+-- so the value for the pair is the value for the change of the id
 pair_is : (old new : PlainMap) (i : ItemId) → pair_change Ids old.setting new.setting (id_entries old.table new.table i) ≡ change_at old new i
 pair_is old new i =
     let e : EntryPair = id_entries old.table new.table i in
@@ -130,7 +130,7 @@ pairs_are : (old new : PlainMap) (ids : List ItemId) → flat_map (λ i. pair_ch
 pairs_are old new [] = refl
 pairs_are old new (i ∷ ids) = (λ j. pair_is old new i j ++ pairs_are old new ids j)
 
--- CHANGES: the pairs of ids have the documents of these ids
+-- CHANGES: the values for the pairs that belong to these ids are the values for the changes of these ids
 pub changes_of_ids : {A B : Type 0} (both : Comparison A B) (old new : PlainMap) (ids : List ItemId) → both.identity ≡ Ids → both.old.map.now.setting ≡ old.setting → both.new.map.now.setting ≡ new.setting
     → map (pair_entries both) both.pairs.items ≡ map (id_entries old.table new.table) ids → pair_changes both ≡ changes_at old new ids
 changes_of_ids both old new ids by was is are =
@@ -148,11 +148,11 @@ pub part_told : (i : ItemId) (old new : PlainMap)
 unfolding since_document change_documents
 part_told i old new = refl
 
--- what stands behind the items
+-- the tokens of the members after the items
 last_before : (old new : PlainMap) (ms : Members) → rest_of (with_last old new ms) ≡ last_since_tokens old new ++ rest_of ms
 last_before old new ms = sym (append_assoc (member_tokens (codes "rules") (list (rule_change_documents old new))) _ (rest_of ms))
 
--- the whole
+-- the tokens of the whole value
 pub whole_told : (old new : PlainMap)
     → begin_object ∷ (member_tokens (codes "classes") (list (class_change_documents old new)) ++ (member_tokens (codes "counts") (counts_document (tally_of old.table new.table (all_ids old.table new.table)))
     ++ (member_tokens (codes "items") (list (change_documents None old new)) ++ (last_since_tokens old new ++ end_object ∷ []))))
@@ -163,7 +163,7 @@ whole_told old new =
     ++ (member_tokens (codes "items") (list (change_documents None old new)) ++ l))))
     (sym (last_before old new no_members))
 
--- a rule that takes nothing
+-- the tokens of the value for a step of a rule that takes nothing any more
 pub takes_nothing_told : (rule bucket : List ℕ) (class : Option (List ℕ))
     → begin_object ∷ (member_tokens (codes "bucket") (string bucket) ++ (member_tokens (codes "change") (string (codes "takes nothing")) ++ (text_tokens_if (codes "class") class ++ (member_tokens (codes "name") (string rule) ++ end_object ∷ []))))
     ≡ tokens_of (takes_nothing_document rule bucket class)

@@ -14,21 +14,21 @@ use Rattle.crush_json.specs.Tokens.{children_tokens, item_tokens, member_tokens,
 use Rattle.crush_json.specs.TreeDocument.{item_members, node_document, with_children}
 use Rattle.crush_json.specs.Values.{natural, text_if}
 
--- of members, with the closing brace
+-- the tokens of members, and of the closing brace
 abbrev pub rest_of : Members → List Token
 rest_of ms = members_tokens (members_outline ms)
 
--- a text that may not be there
+-- the tokens of a text that may be missing
 pub text_before : (name : List ℕ) (o : Option (List ℕ)) (ms : Members) → rest_of (text_if name o ms) ≡ text_tokens_if name o ++ rest_of ms
 text_before name None ms = refl
 text_before name (Some text) ms = refl
 
--- the ids of a bucket's items
+-- the tokens of the ids of a bucket's items
 children_before : (t : List Row) (i : ItemId) (ms : Members) → rest_of (with_children t i ms) ≡ children_tokens t i ++ rest_of ms
 children_before t (Device d) ms = refl
 children_before t (Bucket b) ms = refl
 
--- a node
+-- the tokens of a node
 pub node_told : (s : SettingData) (t : List Row) (depth : ℕ) (v : ViewData)
     → begin_object ∷ (children_tokens t v.id ++ (member_tokens (codes "depth") (natural depth) ++ (text_tokens_if (codes "device_class") v.class ++ (item_tokens s v ++ end_object ∷ []))))
     ≡ tokens_of (node_document s t depth v)
@@ -39,7 +39,7 @@ node_told s t depth v =
     (ap (λ (l : List Token). children_tokens t v.id ++ (member_tokens (codes "depth") (natural depth) ++ l)) (sym (text_before (codes "device_class") v.class (item_members s v)))
     ∙ sym (children_before t v.id (member (codes "depth") (natural depth) below)))
 
--- what is told where a test holds, and where it doesn't
+-- the tokens of a value that is written only if a test is true
 pub told_if : (b : Bool) (d : Data) → b ≡ true → tokens_of d ≡ tokens_of_all (if b then d ∷ [] else [])
 told_if true d holds = sym (append-nil (tokens_of d))
 told_if false d holds = absurd cc

@@ -14,23 +14,23 @@ use Rattle.json.proofs.Printed.Floats.{IsNumber-plain}
 use Rattle.crush_units.specs.Weight.{digit}
 use Rattle.crush_units.specs.ExactWeight.{exact_parts, exact_text}
 
--- each byte behind the point is a digit
+-- each byte after the point is a digit
 digit_is : (n : ℕ) → digit_value (digit n) < 10
 digit_is n = let v = digit_value_digit (digit n) (omega arith, omega arith) in omega (arith, v)
 
--- the six digits behind the point
+-- the six digits after the point
 abbrev six : ℕ → List ℕ
 six h = digit (h / 100000) ∷ digit (h / 10000) ∷ digit (h / 1000) ∷ digit (h / 100) ∷ digit (h / 10) ∷ digit h ∷ []
 
 six_digits : (h : ℕ) → AllDigits 10 (six h)
 six_digits h = (digit_is (h / 100000), (digit_is (h / 10000), (digit_is (h / 1000), (digit_is (h / 100), (digit_is (h / 10), (digit_is h, tt))))))
 
--- no 0 stands before the whole part
+-- the whole part doesn't begin with 0, unless it is 0
 no_zero : (n : ℕ) → n < 2 ^ 64 → slice_index (decimal n) 0 ≡ 48 → length (decimal n) ≡ 1
 no_zero zero small is = ap length (decimal_digit 0 (omega arith))
 no_zero (suc n) small is = absurd (omega (arith, first_decimal (suc n) (omega arith) small, is))
 
--- a whole part, a point and six digits
+-- the parts of the number: a whole part, a point and six digits
 unfoldable parts : ℕ → ℕ → Parts
 parts whole h = record {
   whole = decimal whole;

@@ -1,4 +1,4 @@
--- The decimal text of a whole number is a number of JSON, also from 2^64 on.
+-- The decimal text of a whole number is a number of JSON, even if the number is 2^64 or greater.
 use Rattle.std.proofs.Common.{◌≡◌, refl, ℕ, zero, suc, ◌+◌, ◌%◌, ◌^◌, ◌<◌, ◌≤◌, false, cond, ◌==◌, List, [], ◌∷◌, length, length-append, drop, get_or, Some, option_and_then, decimal, ap, ◌∙◌, arith}
 use Rattle.std.proofs.lemmas.Bool.{ne_eqb, le-leb, and_from}
 use Rattle.std.proofs.Math.ListN.{get_or-append}
@@ -24,7 +24,7 @@ whole_digits (d ∷ ds) first all = (
   ne_eqb d 45 (λ e. omega arith),
 )
 
--- its first digit isn't 0
+-- the first digit of a number that is greater than 0 isn't 0
 first_digit : (n : ℕ) → 0 < n → n < 10 ^ 64 → 48 < get_or (decimal n) 0 0
 first_digit n some small =
     (decimal_by_steps_wide (λ m ds. (0 < length ds) × (0 < m → 48 < get_or ds 0 0)) (λ m l. (omega arith, λ a. omega arith))

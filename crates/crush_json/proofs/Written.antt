@@ -9,12 +9,12 @@ use Rattle.crush_json.specs.Document.{document_text}
 use Rattle.crush_json.specs.Tokens.{tokens_of}
 use Rattle.crush_json.proofs.Listed.{printed}
 
--- it isn't empty
+-- the text of a document isn't empty
 pub some_text : (d : Data) → 0 < length (document_text d)
 unfolding document_text
 some_text d = omega (arith, length-append (compact_text d) (codes "\n"))
 
--- what is printed of a document's tokens, and a line feed
+-- the text of a document is the text that is printed for its tokens, and a line feed
 pub line_written : (d : Data) (text : List ℕ) (start tokens : List Token) → start ≡ [] → tokens ≡ start ++ tokens_of d → text ≡ print tokens ++ codes "\n" → text ≡ document_text d
 unfolding document_text
 line_written d text start tokens none are is =

@@ -1,4 +1,4 @@
--- What two maps have of an item as a value, with the members of each object by name.
+-- The differences between two maps as JSON values: what each map says about an item. The members of each object are sorted by name.
 use Rattle.std.specs.Prelude.{ℕ, List, [], ◌∷◌, Option, Some, None, codes, flat_map, is_some, if◌then◌else◌}
 use Rattle.std.specs.Option.{option_map}
 use Rattle.crush_units.specs.declared.id.ItemId.{ItemId}
@@ -17,31 +17,31 @@ use Rattle.crush_json.specs.ClassIds.{class_ids_document}
 use Rattle.crush_json.specs.TreeDocument.{type_word}
 use Rattle.crush_json.specs.Values.{natural, whole, text_if}
 
--- members with a bucket's class ids before them; a device has none
+-- these members with the class ids of a bucket before them. A device has no class ids, so nothing comes before its members
 abbrev pub with_class_ids : ItemId → List ShadowData → Members → Members
 with_class_ids (Device d) xs ms = ms
 with_class_ids (Bucket b) xs ms = member (codes "class_ids") (class_ids_document xs) ms
 
--- an item as a map has it: of a bucket the algorithm, the class ids and as its weight its sum; the name of the bucket that holds the item, if one does
+-- what a map says about an item. For a bucket, this includes its algorithm and its class ids, and its weight is the sum of its devices. If a bucket holds the item, the value has the name of that bucket
 unfoldable pub seen_document : SettingData → EntryData → Data
 seen_document s e =
     object (text_if (codes "alg") (option_map alg_text e.item.view.alg) (text_if (codes "class") e.item.view.class (with_class_ids e.item.view.id e.class_ids
     (member (codes "name") (string e.item.view.name) (text_if (codes "parent") e.item.holder (member (codes "type") (string (type_word s e.item.view.id e.item.view.kind))
     (member (codes "weight") (natural e.item.view.weight) no_members)))))))
 
--- members with that before them, if the map has the item
+-- if the map has the item, these members with what the map says about the item before them; otherwise only these members
 abbrev pub seen_if : List ℕ → SettingData → Option EntryData → Members → Members
 seen_if name s None ms = ms
 seen_if name s (Some e) ms = member name (seen_document s e) ms
 
--- an item: its id, what it is in the new map, and what it was in the old map
+-- the value for an item: its id, what the new map says about it, and what the old map says about it
 unfoldable pub change_document : SettingData → SettingData → ItemId → EntryPair → Data
 change_document s p i e = object (member (codes "id") (whole (item_number i)) (seen_if (codes "is") p e.after (seen_if (codes "was") s e.before no_members)))
 
--- CHANGE of an id: nothing if both maps say the same of it
+-- CHANGE of the item with this id, as a list; an empty list if both maps say the same about the item
 abbrev pub change_at : PlainMap → PlainMap → ItemId → List Data
 change_at old new i = if is_some (id_difference Changes old.table new.table i) then change_document old.setting new.setting i (id_entries old.table new.table i) ∷ [] else []
 
--- the changes of these ids
+-- the changes of the items with these ids
 abbrev pub changes_at : PlainMap → PlainMap → List ItemId → List Data
 changes_at old new ids = flat_map (change_at old new) ids

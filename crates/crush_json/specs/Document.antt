@@ -1,14 +1,14 @@
--- What is written for programs: one value on one line, with the history where it is asked for.
+-- The documents that are written for programs: one value on one line, with the history if it is requested.
 use Rattle.std.specs.Prelude.{ℕ, List, ◌++◌, Option, Some, None, codes}
 use Rattle.serde_json.specs.Data.{Data, object, Members, member, no_members}
 use Rattle.serde_json.specs.Written.{compact_text}
 
--- members with the history before them, where there is one
+-- if there is a history, these members with the history before them; otherwise only these members
 abbrev pub with_history : Option Data → Members → Members
 with_history None ms = ms
 with_history (Some h) ms = member (codes "history") h ms
 
--- an object of one value at its name, with the history before it
+-- an object with one value under its name. If there is a history, it comes before the value
 abbrev pub document_of : List ℕ → Option Data → Data → Data
 document_of name history told = object (with_history history (member name told no_members))
 
@@ -16,10 +16,10 @@ document_of name history told = object (with_history history (member name told n
 unfoldable pub document : Option Data → Data → Data
 document history map = document_of (codes "map") history map
 
--- `{"history":H,"tree":T}`
+-- `{"history":H,"tree":T}`, or without a history `{"tree":T}`
 unfoldable pub document_of_tree : Option Data → Data → Data
 document_of_tree history tree = document_of (codes "tree") history tree
 
--- the bytes: the value without a space, and a line feed
+-- the bytes of a document: the value without spaces, and a line feed
 unfoldable pub document_text : Data → List ℕ
 document_text d = compact_text d ++ codes "\n"

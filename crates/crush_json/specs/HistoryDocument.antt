@@ -1,4 +1,4 @@
--- A history as a value: an object for each entry, with what its line shows.
+-- A history as a JSON value: an object for each entry. The object has everything that the entry's history line shows.
 use Rattle.std.specs.Prelude.{◌≡◌, ℕ, ◌+◌, List, [], ◌∷◌, ◌++◌, Option, Some, None, codes, decimal, slice_index_or}
 use Rattle.crush_model.specs.Count.{one_if}
 use Rattle.crush_edits.specs.declared.refusal.Refusal.{Refusal}
@@ -10,11 +10,11 @@ use Rattle.crush_history.specs.HistoryText.{call_text, digit_of, line_end}
 use Rattle.serde_json.specs.Data.{Data, string, object, Members, member, no_members}
 use Rattle.crush_json.specs.Values.{natural, list, text_if}
 
--- a refusal's name and its error
+-- the name and the error number of a refusal
 abbrev pub refusal_words : Refusal → List ℕ
 refusal_words r = refusal_name r ++ codes " " ++ decimal (refusal_error r)
 
--- A REPLY as it stands in its line, behind ` = `
+-- A REPLY as text, in the form that it has in its history line after ` = `
 unfoldable pub reply_text : Reply → List ℕ
 reply_text (Done d) = codes "done changed " ++ digit_of d.changed ++ codes " made " ++ decimal d.made
 reply_text (Dones d) = codes "dones " ++ decimal d.edits ++ codes " changed " ++ decimal d.changed ++ codes " made " ++ decimal d.made
@@ -22,27 +22,27 @@ reply_text (Refused r) = codes "refused " ++ refusal_words r
 reply_text (BatchRefused index r) = codes "refused at " ++ decimal index ++ codes " " ++ refusal_words r
 reply_text (Stale n) = codes "refused Stale 11 changes " ++ decimal n
 
--- the last members of an entry: its number, its operator, of a refusal the name, and the reply
+-- the last members of an entry: its number, its operator, the name of the refusal if there is one, and the reply
 abbrev pub last_members : ℕ → List ℕ → Option (List ℕ) → List ℕ → Members
 last_members number operator refusal reply =
     member (codes "number") (natural number) (member (codes "operator") (string operator) (text_if (codes "refusal") refusal (member (codes "reply") (string reply) no_members)))
 
--- of what was made: how many edits changed the map, and how many buckets were made
+-- the object of an entry whose call succeeded: how many of its edits changed the map, and how many buckets were created
 abbrev pub made_document : ℕ → List ℕ → List ℕ → ℕ → ℕ → List ℕ → Data
 made_document number operator call changed made reply =
     object (member (codes "call") (string call) (member (codes "changed") (natural changed) (member (codes "made") (natural made) (last_members number operator None reply))))
 
--- of what was refused: the error, and the refusal's name
+-- the members of an entry whose call was refused: the error number, and the name of the refusal
 abbrev pub refused_members : ℕ → List ℕ → List ℕ → Refusal → List ℕ → Members
 refused_members number operator call r reply =
     member (codes "call") (string call) (member (codes "errno") (natural (refusal_error r)) (last_members number operator (Some (refusal_name r)) reply))
 
--- of a guarded batch that came too late: how many changes there are
+-- the object of an entry with a guarded batch that was refused because the history had another number of changes than the batch names: how many changes there are, and the error number 11
 abbrev pub stale_document : ℕ → List ℕ → List ℕ → ℕ → List ℕ → Data
 stale_document number operator call changes reply =
     object (member (codes "call") (string call) (member (codes "changes") (natural changes) (member (codes "errno") (natural 11) (last_members number operator (Some (codes "Stale")) reply))))
 
--- an entry, by its number, its operator's name and its call as text
+-- the object of an entry that has this number, this operator's name, and this call as text
 unfoldable pub answered_document : ℕ → List ℕ → List ℕ → Reply → Data
 answered_document number operator call (Done d) = made_document number operator call (one_if d.changed) d.made (reply_text (Done d))
 answered_document number operator call (Dones d) = made_document number operator call d.changed d.made (reply_text (Dones d))
@@ -54,15 +54,15 @@ answered_document number operator call (Stale n) = stale_document number operato
 abbrev pub entry_document : ℕ → List ℕ → EntryData → Data
 entry_document number operator e = answered_document number operator (call_text e.call) e.reply
 
--- entries, from a number on, given the operators' names
+-- the objects of entries. The first entry has the number `number`, and `names` are the names of the operators
 unfoldable pub entry_documents : List (List ℕ) → ℕ → List EntryData → List Data
 entry_documents names number [] = []
 entry_documents names number (e ∷ h) = entry_document number (slice_index_or names e.operator []) e ∷ entry_documents names (number + 1) h
 
--- HISTORY DOCUMENT: entries, which count from 1
+-- HISTORY DOCUMENT: the list of the entries' objects; the first entry has the number 1
 unfoldable pub history_document : List (List ℕ) → List EntryData → Data
 history_document names h = list (entry_documents names 1 h)
 
--- a reply is told as the line of the entry tells it
+-- the law: the text of a reply has the same words as the reply in its history line
 abbrev pub RepliesAreOfLines : Type 0
 RepliesAreOfLines = (r : Reply) → line_end r ≡ codes " = " ++ reply_text r ++ codes "\n"

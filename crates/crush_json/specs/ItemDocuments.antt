@@ -1,4 +1,4 @@
--- The documents of items as plain data, without a table, and what a table says of buckets in order.
+-- The values for items as plain data, without a table; and when a list of buckets agrees with a table.
 use Rattle.std.specs.Prelude.{◌≡◌, ℕ, ◌+◌, List, [], ◌∷◌, None, All}
 use Rattle.std.specs.List.Sorted.{IsNonDecreasingBy}
 use Rattle.crush_units.specs.declared.id.ItemId.{ItemId}
@@ -11,27 +11,27 @@ use Rattle.crush_print.specs.MapText.{kind_text}
 use Rattle.serde_json.specs.Data.{Data}
 use Rattle.crush_json.specs.MapDocument.{bucket_document, device_document, item_document}
 
--- a device
+-- the value for a device
 abbrev pub leaf_document : LeafData → Data
 leaf_document d = device_document (device_view None d)
 
--- the items of a bucket, but not those below them. The first has this position
+-- the values for the items of a bucket, but not for the items below these. The first item has the position `place`
 abbrev pub placed_documents : ℕ → Items → List Data
 placed_documents place none = []
 placed_documents place (device d rest) = item_document place (device_view None d) ∷ placed_documents (place + 1) rest
 placed_documents place (bucket h w m below rest) = item_document place (bucket_view None h w) ∷ placed_documents (place + 1) rest
 
--- a bucket with its items
+-- the value for a bucket with its items
 abbrev pub own_document : SettingData → BucketData → Data
 own_document s b = bucket_document (kind_text s b.header.kind) (placed_documents 0 b.kids) (bucket_view None b.header b.weight)
 
--- the ids of items side by side
+-- the ids of items that one bucket holds
 abbrev pub item_ids : Items → List ItemId
 item_ids none = []
 item_ids (device d rest) = Device d.id ∷ item_ids rest
 item_ids (bucket h w m below rest) = Bucket h.id ∷ item_ids rest
 
--- THE BUCKETS of a table, from -1 downward: each has its items in the table, and a bucket that isn't among them has none
+-- THE BUCKETS of a table, from the id -1 downward. Each bucket of the list has the items that it has in the table. A bucket that isn't in the list has no items in the table
 pub record AreBuckets {X : Type 0} (see : X → BucketData) (t : List Row) (xs : List X) : Type 0 where
   pub items : All (λ x. kids t (see x).header.id ≡ item_ids (see x).kids) xs
   pub others : (b : ℕ) → All (λ x. (see x).header.id ≡ b → ⊥) xs → kids t b ≡ []

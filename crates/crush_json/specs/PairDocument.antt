@@ -1,4 +1,4 @@
--- The document of a pair of what two maps have of an item, which says the item's id itself.
+-- The value for a pair, which has what two maps say about an item. The id in the value comes from the pair itself.
 use Rattle.std.specs.Prelude.{ℕ, List, [], ◌∷◌, Option, Some, None, codes, flat_map, is_some, if◌then◌else◌, map}
 use Rattle.std.specs.Option.{option_map}
 use Rattle.crush_units.specs.declared.id.ItemId.{ItemId}
@@ -20,7 +20,7 @@ use Rattle.crush_json.specs.ClassIds.{class_ids_document}
 use Rattle.crush_json.specs.Tokens.{member_tokens}
 use Rattle.crush_json.specs.Values.{whole_if}
 
--- the id of what the new map has, or of what the old map had
+-- the id of the item in the new map; the id of the item in the old map if the new map doesn't have the item
 abbrev pub either_id : Option ItemData → Option ItemData → Option ItemId
 either_id before (Some b) = Some b.view.id
 either_id (Some a) None = Some a.view.id
@@ -29,14 +29,14 @@ either_id None None = None
 abbrev pub pair_id : EntryPair → Option ItemId
 pair_id e = either_id (option_map (λ (x : EntryData). x.item) e.before) (option_map (λ (x : EntryData). x.item) e.after)
 
--- a pair, and nothing if both maps say the same of its item
+-- the value for a pair, and this value as a list. The list is empty if both maps say the same about the pair's item
 unfoldable pub pair_document : SettingData → SettingData → EntryPair → Data
 pair_document s p e = object (whole_if (codes "id") (option_map item_number (pair_id e)) (seen_if (codes "is") p e.after (seen_if (codes "was") s e.before no_members)))
 
 abbrev pub pair_change : Identity → SettingData → SettingData → EntryPair → List Data
 pair_change by s p e = if is_some (pair_difference by Changes s p e) then pair_document s p e ∷ [] else []
 
--- the pairs of a comparison
+-- the values for all pairs of a comparison in which something differs
 abbrev pub pair_changes : {A B : _} → Comparison A B → List Data
 pair_changes both = flat_map (λ p. pair_change both.identity both.old.map.now.setting both.new.map.now.setting (pair_entries both p)) both.pairs.items
 
@@ -44,12 +44,12 @@ pair_changes both = flat_map (λ p. pair_change both.identity both.old.map.now.s
 abbrev pub seen_entry : ItemData → List ShadowData → EntryData
 seen_entry x ids = record { item = x; class_ids = ids }
 
--- TOKENS: of a bucket's class ids; none of a device
+-- TOKENS of a bucket's class ids; none for a device
 abbrev pub class_ids_tokens_if : ItemId → List ShadowData → List Token
 class_ids_tokens_if (Device d) xs = []
 class_ids_tokens_if (Bucket b) xs = member_tokens (codes "class_ids") (class_ids_document xs)
 
--- of an item as a map has it, if it has it
+-- the tokens of what a map says about an item; none if the map doesn't have the item
 abbrev pub seen_tokens_if : List ℕ → SettingData → Option EntryData → List Token
 seen_tokens_if name s None = []
 seen_tokens_if name s (Some e) = member_tokens name (seen_document s e)

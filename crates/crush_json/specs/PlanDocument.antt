@@ -1,4 +1,4 @@
--- A plan as a value: its edits as the commands that a monitor takes, with the members of each object by name.
+-- A plan as a JSON value: its edits as the commands that a monitor takes. The members of each object are sorted by name.
 use Rattle.std.specs.Prelude.{ℕ, ◌==◌, true, List, [], ◌∷◌, ◌++◌, Option, Some, None, if◌then◌else◌, codes, map}
 use Rattle.std.specs.Str.Lossy.{utf8_lossy}
 use Rattle.crush_units.specs.ExactWeight.{exact_text}
@@ -12,7 +12,7 @@ use Rattle.serde_json.specs.Data.{Data, boolean, string, object, member, no_memb
 use Rattle.serde_json.specs.Written.{outline}
 use Rattle.crush_json.specs.Values.{natural, list}
 
--- members: of a value, of a text, and of a weight as a decimal in exact form
+-- these members with a member before them that has this value; the same with a text as the value; and the member with a weight, which is an exact decimal number
 abbrev pub told : List ℕ → Data → json.Members → json.Members
 told name d ms = json.member name (outline d) ms
 
@@ -22,18 +22,18 @@ text name s ms = told name (string s) ms
 abbrev pub weight : ℕ → json.Members
 weight w = json.member (codes "weight") (json.number (exact_text w)) json.no_members
 
--- the pairs of a location, `TYPE=NAME` each
+-- the pairs of a location, each as a text `TYPE=NAME`
 abbrev pub pair_word : Pair → List ℕ
 pair_word p = p.kind ++ codes "=" ++ p.name
 
 abbrev pub pair_values : List Pair → List Data
 pair_values at = map (λ p. string (pair_word p)) at
 
--- one name, as the list that a command asks for
+-- one name as a list, because Ceph's command takes a list of names
 abbrev pub one_name : List ℕ → Data
 one_name name = list (string name ∷ [])
 
--- COMMANDS: a device with its weight and its location, an item with its location, two texts, a name with a weight, and a name
+-- COMMANDS as values. Each of the following definitions is for a command with other arguments
 unfoldable pub placing : List ℕ → ℕ → ℕ → List Pair → json.Json
 placing prefix device w at =
     json.object (told (codes "args") (list (pair_values at)) (told (codes "id") (natural device) (text (codes "prefix") prefix (weight w))))
@@ -68,7 +68,7 @@ classing name class =
 unfoldable pub declassing : List ℕ → json.Json
 declassing name = json.object (told (codes "ids") (one_name name) (text (codes "prefix") (codes "osd crush rm-device-class") json.no_members))
 
--- AN EDIT as the command of it
+-- AN EDIT as the value for its command
 abbrev pub command : Edit → json.Json
 command (Insert device name w at) = placing (codes "osd crush add") device w at
 command (CreateOrMove device name w at) = placing (codes "osd crush create-or-move") device w at
@@ -88,7 +88,7 @@ abbrev pub all_of : List json.Json → json.Items
 all_of [] = json.no_items
 all_of (j ∷ js) = json.item j (all_of js)
 
--- LINES of a text, without their line feeds; what stands behind the last line feed is one too, where there is anything
+-- LINES of a text, without their line feeds. If the text has bytes after its last line feed, these bytes are the last line
 abbrev pub last_line : List ℕ → List (List ℕ)
 last_line [] = []
 last_line (b ∷ line) = (b ∷ line) ∷ []
@@ -100,28 +100,28 @@ lines_behind line (b ∷ bs) = if b == 10 then line ∷ lines_behind [] bs else 
 unfoldable pub lines : List ℕ → List (List ℕ)
 lines bytes = lines_behind [] bytes
 
--- a line as text: what is no UTF-8 of it as U+FFFD
+-- a line as text, in which U+FFFD replaces the bytes that aren't UTF-8
 abbrev pub line_value : List ℕ → Data
 line_value line = string (utf8_lossy line)
 
 unfoldable pub stays_document : List ℕ → Data
 stays_document rest = list (map line_value (lines rest))
 
--- members with the history before them, where there is one
+-- if there is a history, these members with the history before them; otherwise only these members
 abbrev pub behind_history : Option Data → json.Members → json.Members
 behind_history None ms = ms
 behind_history (Some h) ms = told (codes "history") h ms
 
--- how many buckets that both maps have by their names have other class ids, and how many have another id
+-- how many buckets have different ids in the two maps, and how many have different class ids. The buckets are matched by their names
 unfoldable pub aside_document : ℕ → ℕ → Data
 aside_document ids class_ids = object (member (codes "class_ids") (natural class_ids) (member (codes "ids") (natural ids) no_members))
 
--- PLAN DOCUMENT: the counts of ids that differ, the commands of edits, and what stays, with the history before the commands
+-- PLAN DOCUMENT: the numbers of buckets whose ids or class ids differ, the history if there is one, the commands of the edits, and the differences that remain
 unfoldable pub plan_document : Option Data → List Edit → List ℕ → ℕ → ℕ → json.Json
 plan_document history edits rest ids class_ids =
     json.object (told (codes "aside") (aside_document ids class_ids) (behind_history history (json.member (codes "plan") (json.array (all_of (map command edits)))
     (told (codes "stays") (stays_document rest) json.no_members))))
 
--- the bytes: the value without a space, and a line feed
+-- the bytes of the document: the value without spaces, and a line feed
 unfoldable pub plan_document_text : json.Json → List ℕ
 plan_document_text j = print (json_tokens j) ++ codes "\n"

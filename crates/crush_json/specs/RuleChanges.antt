@@ -1,4 +1,4 @@
--- What differs in the rules and in the classes of two maps as values, with the members of each object by name.
+-- What differs in the rules and in the classes of two maps as JSON values. The members of each object are sorted by name.
 use Rattle.std.specs.Prelude.{ℕ, List, Option, codes, map}
 use Rattle.crush_compare.specs.declared.identity.Identity.TheVariants.{Ids}
 use Rattle.crush_since.specs.Classes.{ClassChangeData, class_changes}
@@ -8,15 +8,15 @@ use Rattle.crush_since.specs.Since.{PlainMap}
 use Rattle.serde_json.specs.Data.{Data, boolean, string, object, member, no_members}
 use Rattle.crush_json.specs.Values.{natural, text_if}
 
--- a rule that differs: in which way, and its name
+-- the value for a rule that differs: in which way it differs, and its name
 unfoldable pub named_rule_document : List ℕ → List ℕ → Data
 named_rule_document change name = object (member (codes "change") (string change) (member (codes "name") (string name) no_members))
 
--- another order of the rules, which has no name
+-- the value which says that the rules are in another order. It has no name of a rule
 unfoldable pub order_document : Data
 order_document = object (member (codes "change") (string (codes "other order")) no_members)
 
--- a rule that takes nothing: the bucket and the class that one of its steps takes, and its name
+-- the value for a step of a rule that takes nothing any more: the name of the rule, and the bucket and the class that the step takes
 unfoldable pub takes_nothing_document : List ℕ → List ℕ → Option (List ℕ) → Data
 takes_nothing_document rule bucket class =
     object (member (codes "bucket") (string bucket) (member (codes "change") (string (codes "takes nothing")) (text_if (codes "class") class (member (codes "name") (string rule) no_members))))
@@ -28,15 +28,15 @@ rule_change_document (rule_gone name) = named_rule_document (codes "gone") name
 rule_change_document rules_in_other_order = order_document
 rule_change_document (rule_takes_nothing rule bucket class) = takes_nothing_document rule bucket class
 
--- RULES: those that differ, or that they are in another order, and then each step that takes nothing. A bucket is the same by its id
+-- RULES: the values for the rules that differ, or one value which says that the rules are in another order; then a value for each step that takes nothing any more. Buckets are compared by their ids
 unfoldable pub rule_change_documents : PlainMap → PlainMap → List Data
 rule_change_documents old new = map rule_change_document (rule_changes Ids old new)
 
--- a class: what its devices weigh, its name, whether a rule of the new map takes it, and what its devices weighed
+-- the value for a class that has changed: its name, the total weights of its devices in both maps, and whether a rule of the new map takes the class
 unfoldable pub class_change_document : ClassChangeData → Data
 class_change_document x =
     object (member (codes "is") (natural x.is) (member (codes "name") (string x.name) (member (codes "taken") (boolean x.is_taken) (member (codes "was") (natural x.was) no_members))))
 
--- CLASSES whose devices weigh another sum, or that are new though no rule takes them, by name in ascending order
+-- CLASSES whose devices have another total weight in the new map, and classes that are new and that no rule takes. They are in the order of their names
 unfoldable pub class_change_documents : PlainMap → PlainMap → List Data
 class_change_documents old new = map class_change_document (class_changes old.table new.table new.setting.rules)

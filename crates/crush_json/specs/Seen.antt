@@ -1,4 +1,4 @@
--- How what documents are made of is seen as plain data.
+-- The arguments of the functions that write documents, as plain data.
 use Rattle.std.specs.Prelude.{ℕ, ◌<◌, ◌^◌, List, String, map, length}
 use Rattle.std.specs.declared.alloc.Global.{Global}
 use Rattle.serde_json.specs.Data.{Data, Members}
@@ -10,15 +10,15 @@ use Rattle.crush_json.specs.HistoryDocument.{history_document}
 use Rattle.crush_json.specs.Values.{natural}
 use Rattle.crush_json.specs.declared.history.History.{History}
 
--- numbers by their names
+-- numbers with their names, as members
 abbrev pub number_members : List (String Global × ℕ) → Members
 number_members es = members_of (map (λ e. (e.0, natural e.1)) es)
 
--- a history
+-- the value for a history
 abbrev pub history_data : History → Data
 history_data h = history_document (names_of (scripts_data h.scripts.now)) h.entries.now
 
--- there are fewer than 2^32 entries, so that each has a number, and each is of one of the scripts
+-- there are fewer than 2^32 entries, so that each entry has a number, and the operator of each entry has a script
 pub record IsHistory (h : History) : Type 0 where
   pub few : length h.entries.now < 2 ^ 32
   pub operators : AreOf (length h.scripts.now) h.entries.now

@@ -1,4 +1,4 @@
--- What has changed from one map to another as a value, with the members of each object by name.
+-- What has changed from one map to another as a JSON value. The members of each object are sorted by name.
 use Rattle.std.specs.Prelude.{ℕ, Bool, not, List, [], ◌∷◌, Option, Some, None, codes}
 use Rattle.std.specs.Cmp.Lexicographic.{pointwise}
 use Rattle.crush_units.specs.declared.id.ItemId.{ItemId}
@@ -15,36 +15,36 @@ use Rattle.crush_json.specs.Document.{document_of}
 use Rattle.crush_json.specs.RuleChanges.{class_change_documents, rule_change_documents}
 use Rattle.crush_json.specs.Values.{natural, list}
 
--- the ids of both maps, or of the items of a part: an item and all items below it in either map
+-- the ids of all items of both maps; if a part is given, only the ids of the part's item and of all items below it in either map
 abbrev pub ids_of : Option ItemId → List Row → List Row → List ItemId
 ids_of None t u = all_ids t u
 ids_of (Some i) t u = part_ids t u i
 
--- the items of which the maps say different things, in the order of their ids
+-- the values for the items about which the two maps say different things, in the order of the items' ids
 unfoldable pub change_documents : Option ItemId → PlainMap → PlainMap → List Data
 change_documents under old new = changes_at old new (ids_of under old.table new.table)
 
--- how many items differ, and in which way
+-- how many items differ in each way
 unfoldable pub counts_document : Tally → Data
 counts_document n =
     object (member (codes "class") (natural n.reclassed) (member (codes "made") (natural n.made) (member (codes "moved") (natural n.moved)
     (member (codes "removed") (natural n.removed) (member (codes "renamed") (natural n.renamed) (member (codes "weight") (natural n.reweighed) no_members))))))
 
--- whether both differ
+-- the value which says whether two parts of the settings differ
 abbrev pub differ : Bool → Data
 differ same = boolean (not same)
 
--- what all placed devices weighed, and weigh
+-- the total weights of all placed devices: first the weight in the old map, and then the weight in the new map
 abbrev pub totals_document : ℕ → ℕ → Data
 totals_document before after = list (natural before ∷ natural after ∷ [])
 
--- members with those of the settings and of the totals before them
+-- these members with four members before them: for the rules, the total weights, the tunables and the types
 abbrev pub with_last : PlainMap → PlainMap → Members → Members
 with_last old new ms =
     member (codes "rules") (list (rule_change_documents old new)) (member (codes "total") (totals_document (total old.table) (total new.table))
     (member (codes "tunables") (differ (pointwise same_tunable old.setting.tunables new.setting.tunables)) (member (codes "types") (differ (same_kinds old.setting new.setting)) ms)))
 
--- SINCE DOCUMENT: the items; of the whole maps also which classes differ, how many items differ, which rules differ, the totals, and whether tunables and types differ
+-- SINCE DOCUMENT: the items that differ. For whole maps, the document also has the classes and the rules that differ, how many items differ in each way, the total weights, and whether the tunables and the types differ
 unfoldable pub since_document : Option ItemId → PlainMap → PlainMap → Data
 since_document None old new =
     object (member (codes "classes") (list (class_change_documents old new)) (member (codes "counts") (counts_document (tally_of old.table new.table (all_ids old.table new.table)))

@@ -1,4 +1,4 @@
--- The tokens of what has changed, as a writer takes them.
+-- The tokens of what has changed, as a writer writes them.
 use Rattle.std.specs.Prelude.{List, ◌++◌, codes}
 use Rattle.std.specs.Cmp.Lexicographic.{pointwise}
 use Rattle.crush_model.specs.Table.{total}
@@ -10,7 +10,7 @@ use Rattle.crush_json.specs.SinceDocument.{differ, totals_document}
 use Rattle.crush_json.specs.Tokens.{member_tokens}
 use Rattle.crush_json.specs.Values.{list}
 
--- of what is told of the settings and the totals
+-- the tokens of the members for the rules, the total weights, the tunables and the types
 abbrev pub last_since_tokens : PlainMap → PlainMap → List Token
 last_since_tokens old new =
     member_tokens (codes "rules") (list (rule_change_documents old new)) ++ (member_tokens (codes "total") (totals_document (total old.table) (total new.table))

@@ -1,10 +1,10 @@
--- Values of JSON, as documents are made of them.
+-- The JSON values from which documents are built.
 use Rattle.std.specs.Prelude.{ℕ, ℤ, List, Option, Some, None}
 use Rattle.serde_json.specs.Data.{Data, number, unsigned, string, array, Members, member}
 use Rattle.serde_json.specs.Find.{of_integer}
 use Rattle.serde_json.specs.View.{items_of}
 
--- a number that isn't below 0, and any whole number
+-- the value for a natural number, and the value for any whole number
 abbrev pub natural : ℕ → Data
 natural n = number (unsigned n)
 
@@ -15,7 +15,7 @@ whole z = number (of_integer z)
 abbrev pub list : List Data → Data
 list ds = array (items_of ds)
 
--- members with a text or a number before them, where there is one
+-- if there is a text or a number, these members with this text or number before them; otherwise only these members
 abbrev pub text_if : List ℕ → Option (List ℕ) → Members → Members
 text_if key None ms = ms
 text_if key (Some text) ms = member key (string text) ms

@@ -20,7 +20,7 @@ use crush_tree::{Bucket, Node, View};
 use crush_units::Alg;
 use std::alloc::{AllocError, Allocator};
 
-/// Writes the list of these buckets, each with its items.
+/// Writes a list of these buckets, each with its items.
 pub(crate) fn push_buckets<A: Allocator>(
     setting: &Setting,
     buckets: &[&Bucket<A>],
@@ -81,7 +81,7 @@ fn push_view<A: Allocator>(
     out.end_object()
 }
 
-/// Returns the name of the algorithm; empty if there is none.
+/// Returns the name of the algorithm. Returns an empty text if there is no algorithm.
 fn alg_name(alg: Option<Alg>) -> &'static str
     ensures { result.now ≡ option_map_or alg_text alg [] }
 {
@@ -91,7 +91,7 @@ fn alg_name(alg: Option<Alg>) -> &'static str
     }
 }
 
-/// Writes the item's name and its type.
+/// Writes the item's name and the name of its type.
 fn push_kind(setting: &Setting, item: &View<'_>, out: &mut Document) -> Result<(), AllocError>
     ensures { OnOk result (out.new ≡ out.old
         ++ (member_tokens (codes "name") (string (view_data item.now).name)

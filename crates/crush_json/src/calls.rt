@@ -1,4 +1,4 @@
-//! Calls as text: the commands of a history's line.
+//! Prints a call as text: the call's commands, in the form that they have in a line of the history.
 
 ghost use Rattle.std.specs.Prelude.{◌≡◌, ◌++◌, codes, IfOk, OnOk, string_bytes};
 ghost use Rattle.crush_history.specs.HistoryText.{call_text, edit_text, edits_text, guard_text, one_name, pair_text, pairs_text, rest_text, two_names, name_and_weight};

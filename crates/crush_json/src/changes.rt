@@ -1,4 +1,4 @@
-//! Writes what two maps have of each item as JSON values.
+//! Writes the differences between two maps as JSON values: what each map says about an item.
 
 ghost use Rattle.std.specs.Prelude.{◌≡◌, ◌++◌, OnOk, flat_map, is_some, map as each, option_and_then};
 ghost use Rattle.std.specs.List.{slice_get};
@@ -71,7 +71,7 @@ fn push_pair<A: Allocator, B: Allocator>(
     }
 }
 
-/// Whether the two maps say different things of the item of this pair.
+/// Whether the two maps say different things about the item of this pair.
 fn differs<A: Allocator, B: Allocator>(both: &Comparison<'_, A, B>, pair: Pair) -> bool
     ensures { result ≡ is_some (pair_difference both.now.identity Changes
         both.now.old.map.now.setting both.now.new.map.now.setting (pair_entries both.now pair)) }
@@ -95,7 +95,7 @@ fn push_change<A: Allocator, B: Allocator>(
     out.end_object()
 }
 
-/// Returns the id of the item of this pair.
+/// Returns the id of the item of this pair as a number.
 fn number_of<A: Allocator, B: Allocator>(both: &Comparison<'_, A, B>, pair: Pair) -> Option<i32>
     ensures { result ≡ option_map item_number (pair_id (pair_entries both.now pair)) }
 {
@@ -117,7 +117,7 @@ fn number_of_either(before: &Option<Seen<'_>>, after: &Option<Seen<'_>>) -> Opti
     }
 }
 
-/// Writes the item at this position as a member, or nothing if there is no position.
+/// If there is a position, writes the item at this position as a member. Otherwise writes nothing.
 fn push_at_if<A: Allocator>(
     name: &str,
     items: &Items<'_, A>,
@@ -180,7 +180,8 @@ fn alg_name(alg: Option<Alg>) -> Option<&'static str>
     }
 }
 
-/// Writes the class ids of a bucket as a member, or nothing for a device.
+/// If the item is a bucket, writes its class ids as a member. If the item is a device, writes
+/// nothing.
 fn push_class_ids_if<A: Allocator>(
     id: ItemId,
     class_ids: &[ShadowId<A>],

@@ -1,4 +1,4 @@
-//! Writes what differs in the classes of two maps as JSON values.
+//! Writes as JSON values what differs in the classes of two maps.
 
 ghost use Rattle.std.specs.Prelude.{◌≡◌, ◌<◌, ◌++◌, List, OnOk, flat_map, get_or, length};
 ghost use Rattle.crush_model.specs.Stands.{Stands};
@@ -14,8 +14,8 @@ use crush_map::CrushMap;
 use crush_since::{ClassChange, class_changes};
 use std::alloc::{AllocError, Allocator, Global};
 
-/// Writes a list with an object for each class whose devices weigh another sum in the new map, and
-/// for each class that is new though no rule takes it.
+/// Writes a list with an object for each class whose devices have another total weight in the new
+/// map, and for each class that is new and that no rule takes.
 pub(crate) fn push_class_changes<A: Allocator, B: Allocator>(
     alloc: Global,
     old: &CrushMap<A>,

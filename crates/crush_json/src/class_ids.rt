@@ -10,7 +10,7 @@ use crush_tree::ShadowId;
 use crush_units::ItemId;
 use std::alloc::{AllocError, Allocator};
 
-/// Writes the list of these class ids.
+/// Writes a list of these class ids.
 pub(crate) fn push_class_ids<A: Allocator>(
     ids: &[ShadowId<A>],
     out: &mut Document,

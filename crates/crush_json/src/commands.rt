@@ -1,4 +1,4 @@
-//! Edits as the commands that a monitor takes.
+//! Writes edits as JSON values, in the form in which a Ceph monitor takes commands.
 
 ghost use Rattle.std.specs.Prelude.{◌≡◌, ◌++◌, codes, IfOk, OnOk, flat_map, string_bytes};
 ghost use Rattle.json.specs.Tree.{json_tokens};
@@ -12,7 +12,7 @@ use crush_map::{Edit, Location, Pair};
 use crush_units::{DeviceId, Name, Weight};
 use std::alloc::{AllocError, Global};
 
-/// With the keys of Ceph's own table of commands.
+/// Writes the edit as a command, with the keys of Ceph's own table of commands.
 pub(crate) fn push_command(alloc: Global, edit: &Edit, out: &mut Document) -> Result<(), AllocError>
     ensures { OnOk result (out.new ≡ out.old ++ json_tokens (command edit.now)) }
 {
@@ -87,7 +87,8 @@ fn push_moving(
     out.end_object()
 }
 
-/// `yes_i_really_mean_it` also where one bucket shares a parent with the other.
+/// Writes a swap of two buckets. The command always has `yes_i_really_mean_it`, even if the two
+/// buckets are in the same bucket.
 fn push_swapping(a: &Name<Global>, b: &Name<Global>, out: &mut Document) -> Result<(), AllocError>
     ensures { OnOk result (out.new ≡ out.old ++ json_tokens (swapping a.now b.now)) }
 {
@@ -210,7 +211,7 @@ fn push_pair(alloc: Global, pair: &Pair, out: &mut Document) -> Result<(), Alloc
     out.push_text(word.as_str())
 }
 
-/// A pair as `TYPE=NAME`.
+/// Returns the pair as text, in the form `TYPE=NAME`.
 fn pair_word(alloc: Global, pair: &Pair) -> Result<String, AllocError>
     ensures { IfOk result (λ word. string_bytes word ≡ pair_word pair.now) }
 {

@@ -12,7 +12,7 @@ use crate::document::Document;
 use crush_tree::{Leaf, View};
 use std::alloc::{AllocError, Allocator};
 
-/// Writes the list of these devices.
+/// Writes a list of these devices.
 pub(crate) fn push_devices<A: Allocator>(
     devices: &[&Leaf<A>],
     out: &mut Document,

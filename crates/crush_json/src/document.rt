@@ -1,4 +1,4 @@
-//! A text of JSON that grows token by token.
+//! A text of JSON that is built token by token.
 
 ghost use Rattle.std.specs.Prelude.{◌≡◌, ◌++◌, ◌∷◌, [], IfOk, OnOk};
 ghost use Rattle.std.specs.Option.{option_map};
@@ -15,7 +15,8 @@ use json::Writer;
 use std::alloc::{AllocError, Global};
 use std::marker::Model;
 
-/// The writer places commas and colons, the caller closes what it opened; contracts see the tokens.
+/// A JSON text. Its writer places the commas and colons. The caller must end each object and array
+/// that it has begun. Contracts describe the text by its tokens.
 #[derive(Drop)]
 pub(crate) struct Document {
     writer: Writer<Global>,
@@ -35,7 +36,7 @@ impl Model for Document {
 }
 
 impl Document {
-    /// With memory for so many bytes.
+    /// Returns an empty document with memory for `capacity` bytes.
     pub(crate) fn new(alloc: Global, capacity: usize) -> Result<Document, AllocError>
         ensures { IfOk result (λ document. document ≡ []) }
     {
@@ -74,7 +75,7 @@ impl Document {
         self.writer.end_array()
     }
 
-    /// The value of the member follows.
+    /// Writes the name of a member. The caller writes its value next.
     pub(crate) fn key(&mut self, name: &str) -> Result<(), AllocError>
         ensures { OnOk result (self.new ≡ self.old ++ key name.now ∷ []) }
     {
@@ -106,7 +107,7 @@ impl Document {
         self.writer.u64(number)
     }
 
-    /// A number that may be 2^64 or greater.
+    /// Writes a member whose value is a number. The number may be 2^64 or greater.
     pub(crate) fn large(&mut self, name: &str, number: u128) -> Result<(), AllocError>
         ensures { OnOk result (self.new ≡ self.old ++ member_tokens name.now (natural number)) }
     {
@@ -116,7 +117,7 @@ impl Document {
         self.writer.number(text)
     }
 
-    /// In an array, as `push_id` and `push_text`.
+    /// Writes a number as an element of an array.
     pub(crate) fn push_natural(&mut self, number: u64) -> Result<(), AllocError>
         ensures { OnOk result (self.new ≡ self.old ++ tokens_of (natural number)) }
     {
@@ -159,7 +160,8 @@ impl Document {
         self.writer.boolean(holds)
     }
 
-    /// A decimal of six places in exact form: 1.0 is 65536 units.
+    /// Writes a weight in exact form: as a decimal number with six digits after the point. A weight
+    /// of 65536 units is 1.000000.
     pub(crate) fn weight(&mut self, weight: Weight) -> Result<(), AllocError>
         ensures { OnOk result (self.new ≡ self.old ++ weight_tokens weight) }
     {

@@ -1,4 +1,4 @@
-//! A history as a value.
+//! Writes a history as a JSON value.
 
 ghost use Rattle.std.specs.Prelude.{◌≡◌, ◌++◌, ◌<◌, [], Some, codes, IfSome, OnOk, length, slice_index_or};
 ghost use Rattle.std.specs.Option.{option_map};
@@ -19,23 +19,23 @@ use crush_edits::{Done, Refusal};
 use crush_history::{Entry, Reply, Script};
 use std::alloc::{AllocError, Global};
 
-/// The calls that were made of a map, with what they were answered.
+/// A history: the calls that were made on a map, each with its reply.
 #[derive(Clone, Copy)]
 pub struct History<'a> {
-    /// The scripts of the operators.
+    /// The scripts from which the calls come, one script for each operator.
     pub scripts: &'a [Script],
     pub entries: &'a [Entry],
 }
 
-/// The law that replies have the words of their lines.
+/// The law that a document and a history line have the same words for a reply.
 pub fn replies_are_of_lines()
     ensures { RepliesAreOfLines }
 {}
 
-/// What an entry says, but for what its reply counts.
+/// The parts of an entry that are written, except for the counts in its reply.
 #[derive(Clone, Copy)]
 struct Reported<'a> {
-    /// From 1.
+    /// The number of the entry in the history, from 1.
     number: u32,
     operator: &'a str,
     call: &'a str,
@@ -200,7 +200,8 @@ fn push_refusal(
     push_last(reported, Some(refusal.name()), out)
 }
 
-/// A guarded batch that came too late; 11 is EAGAIN.
+/// Writes an entry for a guarded batch that was refused because the history had another number of
+/// changes than the batch names. The error number of such an entry is 11 (EAGAIN).
 fn push_stale(reported: &Reported<'_>, changes: u32, out: &mut Document) -> Result<(), AllocError>
     ensures { OnOk result (out.new ≡ out.old ++ tokens_of (stale_document reported.now.number
         reported.now.operator.now reported.now.call.now changes reported.now.reply.now)) }

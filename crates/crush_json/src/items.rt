@@ -1,4 +1,4 @@
-//! The devices and the buckets of a map, in the order in which its document has them.
+//! Lists the devices and the buckets of a map in the order in which documents have them.
 
 ghost use Rattle.std.specs.Prelude.{◌≡◌, [], ◌∷◌, ◌++◌, List, IfOk, OnOk, map as each};
 ghost use Rattle.crush_nodes.specs.Seen.{items_of, leaf_data, node_id};
@@ -13,8 +13,8 @@ use crush_tree::{Bucket, Forest, Leaf, Node};
 use crush_units::BucketId;
 use std::alloc::{AllocError, Allocator, Global};
 
-/// Returns all devices of the forest, by ascending id. An `Err` says that memory ran out. It sorts
-/// the devices.
+/// Returns all devices of the forest, by ascending id. Takes the time to sort the devices. Fails
+/// only if memory runs out.
 pub(crate) fn devices_in_order<A: Allocator>(
     alloc: Global,
     forest: &Forest<A>,
@@ -29,7 +29,7 @@ pub(crate) fn devices_in_order<A: Allocator>(
     Ok(devices)
 }
 
-/// Appends to `found` the devices among the nodes and below them, at any depth.
+/// Appends to `found` all devices that are among the nodes or below them, at any depth.
 fn find_devices<'a, A: Allocator>(
     nodes: &'a [Node<A>],
     found: &mut Vec<&'a Leaf<A>>,
@@ -49,8 +49,8 @@ fn find_devices<'a, A: Allocator>(
     Ok(())
 }
 
-/// Returns all buckets of the forest, from the one nearest to -1 downward. An `Err` says that
-/// memory ran out. It sorts the buckets.
+/// Returns all buckets of the forest. The bucket whose id is nearest to -1 comes first. Takes the
+/// time to sort the buckets. Fails only if memory runs out.
 pub(crate) fn buckets_in_order<A: Allocator>(
     alloc: Global,
     forest: &Forest<A>,
@@ -67,7 +67,7 @@ pub(crate) fn buckets_in_order<A: Allocator>(
     Ok(buckets)
 }
 
-/// Returns the buckets among the nodes and below them.
+/// Returns the buckets that are among the nodes or below them, at any depth.
 fn buckets_below<A: Allocator>(
     alloc: Global,
     nodes: &[Node<A>],
@@ -104,8 +104,9 @@ fn find_buckets<'a, A: Allocator>(
     }
 }
 
-/// Returns the items of the bucket that has this id, in their order. There are none if no bucket
-/// has the id. The buckets are those that [`buckets_in_order`] returns, in which it searches.
+/// Returns the items of the bucket with this id, in their order. If no bucket has the id, returns
+/// no items. `buckets` must be sorted as [`buckets_in_order`] sorts them, because this function
+/// makes a binary search.
 pub(crate) fn children_of<'a, A: Allocator>(
     buckets: &[&'a Bucket<A>],
     id: BucketId,

@@ -1,4 +1,4 @@
-//! The types of a map.
+//! Writes the types of a map as JSON values.
 
 ghost use Rattle.std.specs.Prelude.{◌≡◌, ◌++◌, OnOk, IfOk, flat_map};
 ghost use Rattle.indexmap.specs.IndexMap.{keys};
@@ -13,7 +13,7 @@ use crush_units::{Name, TypeId};
 use indexmap::IndexMap;
 use std::alloc::{AllocError, Global};
 
-/// By ascending number.
+/// Writes a list of the types, by ascending number.
 pub(crate) fn push_kinds(
     alloc: Global,
     setting: &Setting,
@@ -61,7 +61,7 @@ fn numbers_of(alloc: Global, kinds: &IndexMap<TypeId, Name<Global>>) -> Result<V
     kinds.keys().map(|number| number.number()).collect(alloc)
 }
 
-/// Empty where the setting has none.
+/// Returns the name of the type. Returns an empty text if the setting doesn't have the type.
 #[tactic(auto, unfolding(crush_print::specs::MapText::kind_text))]
 pub(crate) fn kind_name(setting: &Setting, number: TypeId) -> &str
     ensures { result.now ≡ kind_text setting.now number }

@@ -1,7 +1,10 @@
-//! A map, its tree, its history, what has changed and a plan as JSON, each one value on one line,
-//! with the keys of Ceph's own output; `specs/` says which value. Weights are in units, of which
-//! 65536 are 1.0, except in plans. Each text is laid out in the given memory, token by token,
-//! before anything is written.
+//! Writes JSON documents: a map, its tree, what has changed since another map, or a plan, each with
+//! or without a history.
+//!
+//! A document is one JSON value on one line. If Ceph prints the same data, the document has Ceph's
+//! keys. `specs/` defines the value of each document. A weight is a whole number of units, of which
+//! 65536 are 1.0. Only the commands of a plan have weights as decimal numbers. Each text is created
+//! in memory, token by token, before any of it is written.
 #![tactic(auto)]
 
 mod buckets;

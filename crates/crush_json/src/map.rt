@@ -18,7 +18,7 @@ use crate::tunables::push_tunables;
 use crush_map::CrushMap;
 use std::alloc::{AllocError, Allocator, Global};
 
-/// Writes the map as `crushtool --dump` of Ceph does, with the members of each object by name.
+/// Writes the map as Ceph's `crushtool --dump` does. The members of each object are sorted by name.
 pub(crate) fn push_map<A: Allocator>(
     alloc: Global,
     map: &CrushMap<A>,
@@ -33,7 +33,7 @@ pub(crate) fn push_map<A: Allocator>(
     out.end_object()
 }
 
-/// Writes the members of the map that are its buckets and its devices.
+/// Writes two members of the map's object: the map's buckets and devices.
 fn push_items<A: Allocator>(
     alloc: Global,
     map: &CrushMap<A>,
@@ -51,7 +51,7 @@ fn push_items<A: Allocator>(
     push_devices(devices.as_slice(), out)
 }
 
-/// Writes the members of the map that are its rules, tunables and types.
+/// Writes three members of the map's object: the map's rules, tunables and types.
 fn push_setting<A: Allocator>(
     alloc: Global,
     map: &CrushMap<A>,

@@ -1,4 +1,4 @@
-//! Replies as text.
+//! Prints a reply as text.
 
 ghost use Rattle.std.specs.Prelude.{◌≡◌, IfOk, string_bytes};
 ghost use Rattle.crush_history.specs.HistoryText.{digit_of};

@@ -1,4 +1,4 @@
-//! Writes what differs in the rules of two maps as JSON values.
+//! Writes as JSON values what differs in the rules of two maps.
 
 ghost use Rattle.std.specs.Prelude.{◌≡◌, ◌<◌, ◌++◌, List, OnOk, codes, flat_map, get_or, length};
 ghost use Rattle.std.specs.Option.{option_map};
@@ -16,8 +16,11 @@ use crush_map::CrushMap;
 use crush_since::{RuleChange, rule_changes};
 use std::alloc::{AllocError, Allocator, Global};
 
-/// Writes a list with an object for each rule that differs, or one that says that the rules are in
-/// another order, and then an object for each step of a rule that takes nothing.
+/// Writes a list with an object for each rule that differs. If only the order of the rules differs,
+/// the list has one object instead, which says so. After these objects, the list has an object for
+/// each step of a rule of the new map that takes nothing any more. This means that the devices
+/// which the step takes had a total weight above 0 in the old map, and have the total weight 0 in
+/// the new map.
 pub(crate) fn push_rule_changes<A: Allocator, B: Allocator>(
     alloc: Global,
     old: &CrushMap<A>,

@@ -1,4 +1,4 @@
-//! The rules of a map.
+//! Writes the rules of a map as JSON values.
 
 ghost use Rattle.std.specs.Prelude.{◌≡◌, ◌++◌, ◌==◌, List, IfOk, OnOk, codes, find, flat_map, map as each};
 ghost use Rattle.std.specs.Option.{option_map};
@@ -17,7 +17,7 @@ use crush_map::{CrushMap, KeptRule, KeptStep};
 use crush_units::Name;
 use std::alloc::{AllocError, Allocator, Global};
 
-/// By ascending id.
+/// Writes a list of the rules, by ascending id.
 pub(crate) fn push_rules<A: Allocator>(
     alloc: Global,
     map: &CrushMap<A>,
@@ -141,7 +141,8 @@ fn push_each_step<A: Allocator>(
     Ok(())
 }
 
-/// Ceph's number of what a rule serves, or the word where it has none.
+/// Writes the kind of pools that a rule serves: Ceph's number for this kind, or the name of the
+/// kind if Ceph has no number for it.
 #[tactic(auto, unfolding(crate::specs::RuleDocument::served))]
 fn push_served(kind: &Name<Global>, out: &mut Document) -> Result<(), AllocError>
     ensures { OnOk result (out.new ≡ out.old ++ member_tokens (codes "type") (served kind.now)) }

@@ -1,4 +1,4 @@
-//! What has changed between two maps, as a value.
+//! Writes what has changed between two maps as a JSON value.
 
 ghost use Rattle.std.specs.Prelude.{◌≡◌, ◌++◌, List, OnOk, None, Some, codes};
 ghost use Rattle.crush_model.specs.Stands.{Stands};
@@ -21,7 +21,8 @@ use crush_since::{Tally, same_kinds, same_tunables};
 use crush_units::ItemId;
 use std::alloc::{AllocError, Allocator, Global};
 
-/// Of a part the items alone.
+/// Writes an object with all that has changed. If `under` is an item, the object has only the
+/// changes of this item and of the items below it.
 pub(crate) fn push_since<A: Allocator, B: Allocator>(
     alloc: Global,
     old: &CrushMap<A>,
@@ -148,7 +149,8 @@ fn push_rules<A: Allocator, B: Allocator>(
     push_rule_changes(alloc, old, new, out)
 }
 
-/// Before and after.
+/// Writes the total weights of both maps, first the total weight before and then the total weight
+/// after.
 fn push_totals(before: u64, after: u64, out: &mut Document) -> Result<(), AllocError>
     ensures { OnOk result (out.new ≡ out.old
         ++ member_tokens (codes "total") (totals_document before after)) }

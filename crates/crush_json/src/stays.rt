@@ -1,4 +1,4 @@
-//! What stays of a plan, line by line.
+//! Writes the differences that remain after a plan as a JSON list, with one text for each line.
 
 ghost use Rattle.std.specs.Prelude.{◌≡◌, ℕ, List, ◌∷◌, ◌++◌, OnOk, map as each};
 ghost use Rattle.crush_json.specs.PlanDocument.{last_line, line_value, lines, lines_behind, stays_document};
@@ -7,7 +7,7 @@ ghost use Rattle.crush_json.specs.Tokens.{tokens_of, tokens_of_all};
 use crate::document::Document;
 use std::alloc::{AllocError, Global};
 
-/// Bytes that aren't UTF-8 are replaced.
+/// Writes the list of the lines of `rest`. Bytes that aren't UTF-8 are replaced.
 pub(crate) fn push_stays(alloc: Global, rest: &[u8], out: &mut Document) -> Result<(), AllocError>
     ensures { OnOk result (out.new ≡ out.old ++ tokens_of (stays_document rest.now)) }
 {

@@ -1,4 +1,4 @@
-//! The steps of a rule.
+//! Writes the steps of a rule as JSON values.
 
 ghost use Rattle.std.specs.Prelude.{◌≡◌, ◌++◌, List, Some, codes, IfOk, OnOk, map as each, string_bytes};
 ghost use Rattle.std.specs.Option.{option_map};
@@ -58,7 +58,8 @@ fn push_take<A: Allocator>(
     out.end_object()
 }
 
-/// The name that the bucket has now, and behind `~` the class.
+/// Returns the name that the bucket has in this map. If the step takes a class, `~` and the class
+/// follow the name.
 fn taken_name<A: Allocator>(
     alloc: Global,
     map: &CrushMap<A>,

@@ -19,9 +19,10 @@ use crush_tree::{Bucket, Node, View};
 use crush_units::{ItemId, TypeId};
 use std::alloc::{AllocError, Allocator};
 
-/// Writes the tree of these steps. The buckets are all those of the map, in the order in which
-/// [`buckets_in_order`](crate::items::buckets_in_order) returns them: a node has all items of its
-/// bucket as its children, also those that have no step.
+/// Writes the tree of these steps, which are the steps of a walk through the map's tree. `buckets`
+/// are all buckets of the map, in the order in which
+/// [`buckets_in_order`](crate::items::buckets_in_order) returns them. The children of a node are
+/// all items of its bucket, even the items that are not among the steps.
 #[tactic(auto, unfolding(crate::specs::TreeDocument::tree_document))]
 pub(crate) fn push_tree<A: Allocator>(
     setting: &Setting,
@@ -41,7 +42,8 @@ pub(crate) fn push_tree<A: Allocator>(
     out.end_object()
 }
 
-/// Writes the list of the steps whose items are stray, or of all others.
+/// Writes a list of the steps whose items are stray if `stray` is true, and otherwise a list of the
+/// other steps.
 fn push_nodes<A: Allocator>(
     setting: &Setting,
     buckets: &[&Bucket<A>],
@@ -105,7 +107,7 @@ fn is_among(stray: bool, item: &View<'_>) -> bool
     }
 }
 
-/// Whether the item is a device that no bucket holds.
+/// Whether the item is stray, which means that it is a device that no bucket holds.
 fn is_stray(item: &View<'_>) -> bool
     ensures { result ≡ is_stray (view_data item.now) }
 {
@@ -182,7 +184,7 @@ fn push_item(setting: &Setting, item: &View<'_>, out: &mut Document) -> Result<(
     out.natural("weight", item.weight.units() as u64)
 }
 
-/// Returns the name of a type. If the setting doesn't have the type, returns `osd` for a device, and
+/// Returns the name of a type. If the setting doesn't have the type, returns `osd` for a device and
 /// an empty text for a bucket.
 pub(crate) fn type_name(setting: &Setting, id: ItemId, kind: TypeId) -> &str
     ensures { result.now ≡ type_word setting.now id kind }

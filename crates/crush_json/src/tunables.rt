@@ -1,4 +1,4 @@
-//! The tunables of a map, in the order of their names.
+//! Writes the tunables of a map as JSON values, in the order of their names.
 
 ghost use Rattle.std.specs.Prelude.{◌≡◌, ◌++◌, IfOk, OnOk, flat_map, map as each, string_bytes};
 ghost use Rattle.crush_edits.specs.SettingSeen.{tunable_data};

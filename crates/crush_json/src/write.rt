@@ -1,4 +1,4 @@
-//! Documents, written.
+//! Writes documents. Each document is created in memory before it is written.
 
 ghost use Rattle.std.specs.Prelude.{◌≡◌, ◌≤◌, ◌^◌, ◌++◌, ◌∷◌, [], List, Err, codes, IfOk, IfSome, OnOk};
 ghost use Rattle.json.specs.Print.{print};
@@ -25,14 +25,15 @@ use crush_units::{WriteFault, put};
 use std::alloc::{AllocError, Allocator, Global};
 use std::io::Write;
 
-/// In bytes.
+/// How many bytes a typical device adds to the document.
 const USUAL_DEVICE: usize = 84;
 
 const USUAL_BUCKET: usize = 192;
 
-/// Writes `{"history":H,"map":M}` and a line feed, or without a history `{"map":M}`: the map as
-/// `crushtool --dump` tells it, and an object for each entry of the history. A rule that takes a
-/// class of a bucket has as `item` the bucket's id for the class, if it has one.
+/// Writes `{"history":H,"map":M}` and a line feed. If there is no history, writes `{"map":M}` and a
+/// line feed. H has an object for each entry of the history. M is the map as `crushtool --dump`
+/// prints it. If a step of a rule takes a class of a bucket, the step's `item` is the id that the
+/// bucket has for the class. If the bucket has no such id, the step has no `item`.
 pub fn write_map_document<A: Allocator, W: Write>(
     alloc: Global,
     map: &CrushMap<A>,
@@ -109,7 +110,7 @@ fn line_of(document: Document) -> Result<Vec<u8>, AllocError>
     Ok(text)
 }
 
-/// No text has more.
+/// Returns `count`, or 2^32 if `count` is greater. No document has more items or edits than that.
 fn bounded(count: usize) -> usize
     ensures { result ≤ 2 ^ 32 }
 {

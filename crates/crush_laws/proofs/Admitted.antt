@@ -1,4 +1,4 @@
--- A word that has the form that is due at its place, in a line that ends lawfully, has no fault.
+-- Proves that a word has no fault if it has the form that is due at its place and its line ends lawfully. A draft (`Draft`) is what the lines so far have built. A form (`Form`) says which words the rest of a line must have. A state (`State`) is a place in the text: between two lines, or in a line with the form of its rest.
 use Rattle.std.proofs.Common.{◌≡◌, ℕ, ◌<◌, ◌≤◌, ◌⊎◌, Bool, true, false, List, [], ◌∷◌, Option, Some, None, Ok, refl, sym, ap, subst, ◌∙◌, arith, inl, inr}
 use Rattle.std.proofs.lemmas.Bool.{and_from, and_right, or_from, or_right, not_from_true, le-leb, lt-ltb, lt-leb, eq-eqb}
 use Rattle.std.proofs.lemmas.Bool.Decides.{nat_tests}
@@ -42,74 +42,74 @@ use Rattle.crush_text.specs.declared.expected.Expected.{Expected}
 use Rattle.crush_text.specs.declared.expected.Optional.TheVariants.{Nothing}
 use Rattle.crush_text.specs.declared.expected.Optional.{Optional}
 
--- none of the tests holds
+-- none of the tests of a list holds
 abbrev pub Pass : List Test → Type 0
 Pass [] = Unit {0}
 Pass ((f when b) ∷ ts) = (b ≡ false) × Pass ts
 
--- if no test holds, then the result is the value
+-- if no test of the list holds, then the result of `unless` is the value v
 pub all_pass : {A : Type 0} (ts : List Test) (v : A) → Pass ts → unless ts v ≡ Ok v
 all_pass [] v h = refl
 all_pass ((f when true) ∷ ts) v h = let no = h.0 in absurd cc
 all_pass ((f when false) ∷ ts) v h = all_pass ts v h.1
 
--- a word for which none holds is right
+-- a word is right if no test of its faults holds for it
 pub passed : (d : Draft) (r : Role) (w : List ℕ) → Pass (word_tests d r w) → IsRight d r w
 passed d r w h = (word_right d r w (value d r w) (all_pass (word_tests d r w) (value d r w) h)).0
 
--- THE FORMS of words
--- digits aren't a brace
+-- THE FORMS of words: braces, names and numbers
+-- a word of digits isn't a brace
 pub digits_no_brace : (w : List ℕ) → are_digits 10 w ≡ true → is_brace_word w ≡ false
 digits_no_brace w h = no_brace (are_digits 10) w refl refl h
 
--- nor is a name
+-- a name isn't a brace
 pub name_no_brace : (w : List ℕ) → IsName w → is_brace_word w ≡ false
 name_no_brace w h = no_brace are_name_bytes w refl refl h.allowed
 
--- digits of a value in its range are a number
+-- digits whose value is in the range are a number
 pub number_in : (most : ℕ) (w : List ℕ) → are_digits 10 w ≡ true → digits_value 10 w ≤ most → is_number most w ≡ true
 number_in most w digits le = and_from _ _ digits (le-leb _ _ le)
 
--- a number
+-- a number in its range is right where a number is due
 pub right_number : (d : Draft) (most : ℕ) (w : List ℕ) → is_number most w ≡ true → IsRight d (number most) w
 right_number d most w h = passed d (number most) w (no_brace (is_number most) w refl refl h, (not_from_true _ h, tt))
 
--- a name, where the form allows any word
+-- a name is right where any word is due
 pub right_any : (d : Draft) (e : Expected) (w : List ℕ) → IsName w → IsRight d (any_word e) w
 right_any d e w form = passed d (any_word e) w (name_no_brace w form, tt)
 
--- a word of the grammar
+-- the due word of the grammar is right
 pub right_key : (d : Draft) (k w : List ℕ) → w ≡ k → IsRight d (key k) w
 right_key d k w h = passed d (key k) w (not_from_true _ ((bytes_eq-Decides w k).1 h), tt)
 
--- a word that isn't reserved opens a bucket
+-- a word that isn't reserved opens a bucket of the type with this name
 pub opens : (d : Draft) (w : List ℕ) (k : ℕ) → is_reserved w ≡ false → kind_of_word d w ≡ k → opened d w ≡ statement_kinds.Bucket k
 opens d w k h e = let n = no_key w h in rw (n.tunable, n.device, n.kind, n.rule) (ap (λ (x : ℕ). statement_kinds.Bucket x) e)
 
--- an item that is found is named so
+-- a name by which a closed item is found is the name of an item
 found_named : (p : Pending) (o : Option ItemId) (i : ItemId) → option_and_then (closed_item p) o ≡ Some i → is_some o ≡ true
 found_named p None i e = absurd (let no : (let x : Option ItemId = None in x) ≡ Some i = e in cc)
 found_named p (Some j) i e = refl
 
--- a weight with which the table is lawful is one for its item
+-- if the table is lawful with a weight for an item, then the item may have this weight
 weight_fits : (d : Draft) (i : ItemId) (b w : ℕ) → d.pending ≡ is_filling b → is_there d.table i ≡ true → IsMap (with_next_item d i (Some w)) → is_weight_for i (Ok w) ≡ true
 weight_fits d (Device n) b w p there m = le-leb w HEAVIEST_DEVICE (light_device d b n w p there m)
 weight_fits d (Bucket x) b w p there m = refl
 
--- a name of a bucket is one of an item
+-- the name of a bucket is the name of an item
 bucket_found : (o : Option ItemId) (b : ℕ) → option_and_then number_of o ≡ Some b → is_some o ≡ true
 bucket_found None b e = absurd (let no : (let x : Option ℕ = None in x) ≡ Some b = e in cc)
 bucket_found (Some i) b e = refl
 
--- LINES that end lawfully
--- some words end the line so
+-- LINES that end lawfully: each of their words is right
+-- there are words with which the line ends lawfully
 abbrev pub Possible : Draft → Form → Type 0
 Possible d (done p) = IsLawfulDraft p.draft × IsLawfulMode p.draft p.mode
 Possible d (word r more) = (w : List ℕ) × IsFor d r w × Possible d (more (value d r w))
 Possible d (optional k f g) = Possible d f ⊎ Possible d g
 Possible d (ahead k f g) = Possible d f ⊎ Possible d g
 
--- each word of such a line is right
+-- each word of a line that ends lawfully is right
 abbrev pub Rightly : Draft → Form → Type 0
 Rightly d (done p) = Unit {0}
 Rightly d (word r more) = (w : List ℕ) → IsFor d r w → Possible d (more (value d r w)) → IsRight d r w × Rightly d (more (value d r w))
@@ -117,17 +117,17 @@ Rightly d (optional k f g) = Rightly d f × Rightly d g
 Rightly d (ahead k f g) = Rightly d f × Rightly d g
 
 module _ (d : Draft) (m : IsMap d) where
-  -- an item's weight
+  -- the weight of an item is right
   right_weight : (i : ItemId) (b : ℕ) (w : List ℕ) → d.pending ≡ is_filling b → is_there d.table i ≡ true → IsFor d (weight i) w → IsMap (with_next_item d i (Some (units w))) → IsRight d (weight i) w
   right_weight i b w p there h l =
       let fit : is_weight_for i (weight_of_text w) ≡ true = ap (is_weight_for i) h ∙ weight_fits d i b (units w) p there l in
       passed d (weight i) w (no_brace (λ x. is_weight_for i (weight_of_text x)) w refl refl fit, (not_from_true _ fit, (is_light (with_next_item d i (Some (units w))).table l.lawful, tt)))
 
-  -- the name of an item
+  -- a word that is the name of a free item isn't a brace
   item_name : (x : List ℕ) → IsFree d x → is_brace_word x ≡ false
   item_name x fx = name_no_brace x (item_form d.table x m.lawful.rows (found_named d.pending (id_named d.table x) (item_of d x) fx.0))
 
-  -- the line of an item
+  -- each word of an item's line is right
   right_item : (any : Bool) → Stage (filling any) d → Rightly d (item_line d)
   right_item any s = (
     λ x fx px. (
@@ -137,12 +137,12 @@ module _ (d : Draft) (m : IsMap d) where
     λ x fx px. (passed d lone_item x (item_name x fx, (not_from_true _ (ap is_some fx.0), (fx.1, (is_light (with_next_item d (item_of d x) None).table px.0.map.lawful, tt)))), tt),
   )
 
-  -- a word that says whether an item or the end follows
+  -- a word is right that says whether an item or the end follows
   right_item_or_end : (any : Bool) (k : Optional) (w : List ℕ) → IsFor d (item_or_end any k) w → IsRight d (item_or_end any k) w
   right_item_or_end any k w (inl e) = subst (IsRight d (item_or_end any k)) (sym e) (passed d (item_or_end any k) (codes "item") (refl, (refl, tt)))
   right_item_or_end any k w (inr e) = subst (IsRight d (item_or_end any k)) (sym e) (passed d (item_or_end any k) (codes "}") (refl, (refl, tt)))
 
-  -- an algorithm
+  -- the name of an algorithm is right
   right_alg : (w : List ℕ) → IsFor d algorithm w → IsRight d algorithm w
   right_alg w (a, e) = subst (IsRight d algorithm) (sym e) (by_alg a)
     where
@@ -151,11 +151,11 @@ module _ (d : Draft) (m : IsMap d) where
       by_alg Straw2 = passed d algorithm (alg_text Straw2) (refl, (refl, tt))
       by_alg Linked = passed d algorithm (alg_text Linked) (refl, (refl, tt))
 
-  -- and the words after it
+  -- the words after the algorithm are right
   right_alg_line : Rightly d (alg_line d)
   right_alg_line = λ a fa pa. (right_alg a fa, (λ h fh ph. (right_key d (codes "hash") h fh, λ z fz pz. (right_number d 0 z fz, tt)), tt))
 
-  -- an id that is in its range and free
+  -- an id that is in its range and free is right
   right_negative : (w : List ℕ) → IsFor d bucket_id w → 0 < digits_value 10 (drop 1 w) → digits_value 10 (drop 1 w) ≤ FARTHEST_BUCKET_ID → has_bucket_id d (digits_value 10 (drop 1 w)) ≡ false → IsRight d bucket_id w
   right_negative w h some most free =
       let minus : (slice_index w 0 == 45) ≡ true = eq-eqb _ _ h.0 in
@@ -164,11 +164,11 @@ module _ (d : Draft) (m : IsMap d) where
         (not_from_true _ (and_from _ _ (and_from _ _ minus (number_in FARTHEST_BUCKET_ID (drop 1 w) h.1 most)) (lt-ltb 0 (digits_value 10 (drop 1 w)) some)), (free, tt)),
       )
 
-  -- an id
+  -- the id of a bucket is right
   right_id : (w : List ℕ) (s : Stage begun d) → IsFor d bucket_id w → IsPending d.setting d.table (pending_with_id (is_begun s.0 s.1) (digits_value 10 (drop 1 w))) → IsRight d bucket_id w
   right_id w s h l = right_negative w h l.1.some l.1.most (or_from _ _ l.1.free (ap (λ (q : Pending). has_pending_id q (digits_value 10 (drop 1 w))) s.2))
 
-  -- and the words before it
+  -- the words of the id's line are right
   right_id_line : Stage begun d → Rightly d (id_line d)
   right_id_line s = λ a fa pa. (
     right_key d (codes "{") a fa,
@@ -185,7 +185,7 @@ module _ (d : Draft) (m : IsMap d) where
       let can = subst (λ (q : Pending). IsPending d.setting d.table (pending_with_class_id q new)) s.4 l.pending in
       class_free d.table s.2 s.3 new can.1
 
-  -- a class id
+  -- each word of a class id's line is right
   right_class_id : Stage numbered d → Rightly d (class_id_line d)
   right_class_id s = λ w fw pw. (
     let id : ℕ = digits_value 10 (drop 1 w) in
@@ -202,7 +202,7 @@ module _ (d : Draft) (m : IsMap d) where
     ),
   )
 
-  -- a word that says whether a class id or the algorithm follows
+  -- a word is right that says whether a class id or the algorithm follows
   right_id_or_alg : (s : Stage numbered d) (w : List ℕ) → IsFor d id_or_alg w → Possible d (id_or_alg_line d (bytes_eq w (codes "id"))) → IsRight d id_or_alg w
   right_id_or_alg s w (inl e) p =
       let q : Possible d (class_id_line d) = subst (λ (x : List ℕ). Possible d (id_or_alg_line d (bytes_eq x (codes "id")))) e p in
@@ -211,7 +211,7 @@ module _ (d : Draft) (m : IsMap d) where
       subst (IsRight d id_or_alg) (sym e) (passed d id_or_alg (codes "id") (refl, (few, tt)))
   right_id_or_alg s w (inr e) p = subst (IsRight d id_or_alg) (sym e) (passed d id_or_alg (codes "alg") (refl, (refl, tt)))
 
-  -- one of these
+  -- each word of a class id's line or of the algorithm's line is right
   right_numbered : (k : Optional) → Stage numbered d → Rightly d (line_forms d k numbered)
   right_numbered k s = λ w fw pw. (right_id_or_alg s w fw pw, by_it (bytes_eq w (codes "id")))
     where
@@ -219,11 +219,11 @@ module _ (d : Draft) (m : IsMap d) where
       by_it true = right_class_id s
       by_it false = right_alg_line
 
-  -- a name that no item has
+  -- a name that no item has is right as a new name
   right_name : (w : List ℕ) → IsName w → has_name d w ≡ false → IsRight d new_name w
   right_name w form free = passed d new_name w (name_no_brace w form, (free, tt))
 
-  -- the name of a bucket
+  -- the name of a new bucket is right
   right_bucket : d.pending ≡ nothing → (k : ℕ) → Rightly d (bucket_line d k)
   right_bucket idle k = λ x fx px. (right_name x px.0.pending.form (or_from _ _ px.0.pending.free (ap (λ (q : Pending). has_pending_name q x) idle)), tt)
 
@@ -232,7 +232,7 @@ module _ (d : Draft) (m : IsMap d) where
   device_built idle n x (inl h) = device_free d n x (Some h.2.0) idle h.2.2.0.map
   device_built idle n x (inr h) = device_free d n x None idle h.0.map
 
-  -- the line of a device
+  -- each word of a device's line is right
   right_device : d.pending ≡ nothing → Rightly d (device_line d)
   right_device idle = λ n fn pn. (
     let f = device_built idle (digits_value 10 n) pn.0 pn.2 in
@@ -245,14 +245,14 @@ module _ (d : Draft) (m : IsMap d) where
         ),
   )
 
-  -- a tunable
+  -- each word of a tunable's line is right
   right_tunable : Rightly d (tunable_line d)
   right_tunable = λ x fx px. (
     let f = tunable_free d x (digits_value 10 px.0) px.2.0.map in passed d tunable_name x (name_no_brace x f.tunable.name, (f.name, tt)),
     λ n fn pn. (right_number d LARGEST_TUNABLE n fn, tt),
   )
 
-  -- a type
+  -- each word of a type's line is right
   right_type : Rightly d (type_line d)
   right_type = λ n fn pn. (
     let f = kind_free d (digits_value 10 n) pn.0 pn.2.0.map in
@@ -270,7 +270,7 @@ module _ (d : Draft) (m : IsMap d) where
           by_it true e = refl
           by_it false e = let some : 0 < n = grind (arith, nat_tests) in let no = f some in absurd cc
 
-  -- if a rule's head ends lawfully, then the rule is free, with some sizes
+  -- if a rule's head ends lawfully, then the rule was free before it, with some sizes
   abbrev Headed : List ℕ → ℕ → List ℕ → Type 0
   Headed x n k = (least : Option ℕ) × (most : Option ℕ) × RuleFree d (new_rule x n k least most)
 
@@ -282,7 +282,7 @@ module _ (d : Draft) (m : IsMap d) where
   head_built x n k (inl h) = max_built x n k (Some (digits_value 10 h.2.0)) h.2.2
   head_built x n k (inr h) = max_built x n k None h
 
-  -- one of two words
+  -- the word `id` or `ruleset` of a rule is right
   right_rule_id_key : (w : List ℕ) → IsFor d rule_id_key w → IsRight d rule_id_key w
   right_rule_id_key w (inl e) = subst (IsRight d rule_id_key) (sym e) (passed d rule_id_key (codes "id") (refl, tt))
   right_rule_id_key w (inr e) = subst (IsRight d rule_id_key) (sym e) (passed d rule_id_key (codes "ruleset") (refl, tt))
@@ -290,7 +290,7 @@ module _ (d : Draft) (m : IsMap d) where
   right_max : (x : List ℕ) (n : ℕ) (k : List ℕ) (least : Option ℕ) → Rightly d (max_size d x n k least)
   right_max x n k least = (λ e fe pe. (right_key d (codes "max_size") e fe, λ u fu pu. (right_number d LARGEST_RULE_NUMBER u fu, tt)), tt)
 
-  -- a rule's head
+  -- each word of a rule's head is right
   right_rule : Rightly d (rule_line d)
   right_rule = λ x fx px. (
     let f = (head_built x (digits_value 10 px.2.2.0) px.2.2.2.2.0 px.2.2.2.2.2).2 in passed d rule_name x (name_no_brace x f.rule.name, (f.name, tt)),
@@ -321,14 +321,14 @@ module _ (d : Draft) (m : IsMap d) where
     step_built (sets x) h = (set x (digits_value 10 h.0), step_free d r (set x (digits_value 10 h.0)) h.2.1)
     step_built emits h = (emit, step_free d r emit h.1)
 
-    -- a word that says whether a step or the end follows
+    -- a word is right that says whether a step or the end of the rule follows
     right_step_or_end : (k : Optional) (w : List ℕ) → IsFor d (step_or_end (length r.steps) k) w → Possible d (step_or_brace d r (bytes_eq w (codes "step"))) → IsRight d (step_or_end (length r.steps) k) w
     right_step_or_end k w (inl e) p =
         let q : Possible d (step_or_brace d r true) = subst (λ (x : List ℕ). Possible d (step_or_brace d r (bytes_eq x (codes "step")))) e p in
         subst (IsRight d (step_or_end (length r.steps) k)) (sym e) (passed d (step_or_end (length r.steps) k) (codes "step") (refl, ((step_built (step_said q.0) q.2).1.few, tt)))
     right_step_or_end k w (inr e) p = subst (IsRight d (step_or_end (length r.steps) k)) (sym e) (passed d (step_or_end (length r.steps) k) (codes "}") (refl, (refl, tt)))
 
-    -- a step's first word
+    -- the first word of a step is right
     right_step_word : (w : List ℕ) → IsFor d step_word w → IsRight d step_word w
     right_step_word w (inl e) = subst (IsRight d step_word) (sym e) (passed d step_word (codes "take") (refl, (refl, tt)))
     right_step_word w (inr (inl e)) = subst (IsRight d step_word) (sym e) (passed d step_word (codes "choose") (refl, (refl, tt)))
@@ -342,12 +342,12 @@ module _ (d : Draft) (m : IsMap d) where
         other true e = let no : true ≡ false = sym h ∙ ap (λ (x : List ℕ). starts_with nat_eq x (codes "set_")) ((bytes_eq-Decides w _).0 e) in absurd cc
         other false e = e
 
-    -- firstn or indep
+    -- the word `firstn` or `indep` is right
     right_order : (w : List ℕ) → IsFor d step_order w → IsRight d step_order w
     right_order w (inl e) = subst (IsRight d step_order) (sym e) (passed d step_order (codes "firstn") (refl, tt))
     right_order w (inr e) = subst (IsRight d step_order) (sym e) (passed d step_order (codes "indep") (refl, tt))
 
-    -- a bucket that a step takes
+    -- the name of a bucket that a step takes is right
     right_taken : (w : List ℕ) → IsFor d taken_bucket w → IsRight d taken_bucket w
     right_taken w h =
         let found : is_some (item_named d w) ≡ true = bucket_found (item_named d w) (bucket_of_word d w) h in
@@ -357,11 +357,11 @@ module _ (d : Draft) (m : IsMap d) where
         named None e = e
         named (Some i) e = refl
 
-    -- a type that a step names
+    -- the name of a type in a step is right
     right_kind : (w : List ℕ) → is_some (kind_number d.setting w) ≡ true → IsRight d step_type w
     right_kind w known = passed d step_type w (name_no_brace w (kind_form d.setting.kinds w m.fits.setting.kinds known), (not_from_true _ known, tt))
 
-    -- a step
+    -- each word of a step is right
     right_step : (w : StepWord) → Rightly d (step_behind d r w)
     right_step takes = λ b fb pb. (right_taken b fb, (λ k fk pk. (right_key d (codes "class") k fk, λ c fc pc. (right_any d _ c (step_free d r (take (bucket_of_word d b) (Some c)) pc.1).step, tt)), tt))
     right_step (chooses leaf) = λ o fo po. (
@@ -377,7 +377,7 @@ module _ (d : Draft) (m : IsMap d) where
     right_step (sets x) = λ n fn pn. (right_number d LARGEST_RULE_NUMBER n fn, tt)
     right_step emits = tt
 
-    -- a step, or the end
+    -- each word of a step's line or of the end of the rule is right
     right_ruled : (k : Optional) → Rightly d (line_forms d k (ruled r))
     right_ruled k = λ w fw pw. (right_step_or_end k w fw pw, by_it (bytes_eq w (codes "step")))
       where
@@ -385,29 +385,29 @@ module _ (d : Draft) (m : IsMap d) where
         by_it true = λ w fw pw. (right_step_word w fw, right_step (step_said w))
         by_it false = tt
 
-  -- a statement by its first word
+  -- the first word of a statement is right
   abbrev Opened : Bool → List ℕ → Type 0
   Opened late w = Possible d (statement d (value d (opening late Nothing) w)) → IsRight d (opening late Nothing) w × Rightly d (statement d (value d (opening late Nothing) w))
 
-  -- of a tunable
+  -- the first word of a tunable's line is right
   opened_tunable : Opened false (codes "tunable")
   opened_tunable = λ p. let f = tunable_free d p.0 (digits_value 10 p.2.0) p.2.2.0.map in (passed d (opening false Nothing) (codes "tunable") (refl, (refl, (refl, (f.few, tt)))), right_tunable)
 
-  -- of a device
+  -- the first word of a device's line is right
   opened_device : d.pending ≡ nothing → Opened false (codes "device")
   opened_device idle = λ p. let f = device_built idle (digits_value 10 p.0) p.2.0 p.2.2 in (passed d (opening false Nothing) (codes "device") (refl, (refl, (refl, (f.few, tt)))), right_device idle)
 
-  -- of a type
+  -- the first word of a type's line is right
   opened_type : Opened false (codes "type")
   opened_type = λ p. let f = kind_free d (digits_value 10 p.0) p.2.0 p.2.2.0.map in (passed d (opening false Nothing) (codes "type") (refl, (refl, (refl, (f.few, tt)))), right_type)
 
-  -- of a rule
+  -- the first word of a rule is right
   opened_rule : (late : Bool) → Opened late (codes "rule")
   opened_rule late = λ p.
       let f = (head_built p.0 (digits_value 10 p.2.2.2.0) p.2.2.2.2.2.0 p.2.2.2.2.2.2).2 in
       (passed d (opening late Nothing) (codes "rule") (and_right late false refl, (refl, (refl, (f.few, tt)))), right_rule)
 
-  -- of a bucket
+  -- the first word of a bucket is right
   opened_bucket : d.pending ≡ nothing → (late : Bool) (w : List ℕ) → 0 < kind_of_word d w → Opened late w
   opened_bucket idle late w some =
       let t = type_named d.setting.kinds w m.fits.setting.kinds some in
@@ -423,7 +423,7 @@ module _ (d : Draft) (m : IsMap d) where
         right_bucket idle (kind_of_word d w),
       ))
 
-  -- so it is of each
+  -- each word of any statement is right
   right_statement : (late : Bool) → d.pending ≡ nothing → Rightly d (word (opening late Nothing) (statement d))
   right_statement late idle = λ w h. by_word late w h
     where
@@ -437,7 +437,7 @@ module _ (d : Draft) (m : IsMap d) where
       by_word late w (inr (inl e)) = subst (Opened late) (sym e) (opened_rule late)
       by_word late w (inr (inr some)) = opened_bucket idle late w some
 
-  -- each line
+  -- each word of each line that ends lawfully is right
   pub right_lines : (mode : Mode) (k : Optional) → Stage mode d → Rightly d (line_forms d k mode)
   right_lines first k s = λ w fw pw. let h = right_statement false s w fw pw in (opening_right d false Nothing k w h.0, h.1)
   right_lines second k s = λ w fw pw. let h = right_statement true s w fw pw in (opening_right d true Nothing k w h.0, h.1)

@@ -1,4 +1,4 @@
--- What a draft has before a line, as far as the table and the setting with that line determine it.
+-- Proves that if the table and the setting are lawful after a line, then what the line declares was free before the line.
 use Rattle.std.proofs.Common.{◌≡◌, ℕ, ◌+◌, ◌<◌, ◌≤◌, Bool, true, false, List, [], ◌∷◌, ◌++◌, Option, Some, length, refl, sym, ap, subst, ◌∙◌, arith}
 use Rattle.std.proofs.lemmas.Bool.{le-ltb, lt-leb, eq-eqb}
 use Rattle.std.proofs.lemmas.List.{length-append, map-append}
@@ -32,13 +32,13 @@ use Rattle.crush_builder.proofs.RowSteps.{new_device}
 use Rattle.crush_text.specs.Grammar.{with_step}
 use Rattle.crush_text.specs.Document.{IsMap}
 
--- one more that passes a test
+-- one more element that passes a test adds 1 to the count
 pub count_last : {X : Type 0} (p : X → Bool) (xs : List X) (y : X) → p y ≡ true → count_by p (xs ++ y ∷ []) ≡ count_by p xs + 1
 count_last p xs y h =
     let one : one_if (p y) ≡ 1 = ap one_if h in
     omega (arith, one, sum_by-append (λ x. one_if (p x)) xs (y ∷ []), sum_by-cons (λ x. one_if (p x)) y [])
 
--- none passes a test
+-- if the count of elements that pass a test is 0, no element passes
 pub any_none : {X : Type 0} (p : X → Bool) (xs : List X) → count_by p xs ≡ 0 → list_any p xs ≡ false
 any_none p [] h = refl
 any_none p (x ∷ xs) h = by_test (p x) refl (any_none p xs)
@@ -47,11 +47,11 @@ any_none p (x ∷ xs) h = by_test (p x) refl (any_none p xs)
     by_test true e ih = let one : one_if (p x) ≡ 1 = ap one_if e in absurd (omega (arith, h, one, sum_by-cons (λ y. one_if (p y)) x xs))
     by_test false e ih = rw e (ih (omega (arith, h, sum_by-cons (λ y. one_if (p y)) x xs)))
 
--- so it is where at most one does with one more that does
+-- if at most one element passes a test and the last element passes, no element before it passes
 pub none_before : {X : Type 0} (p : X → Bool) (xs : List X) (y : X) → p y ≡ true → count_by p (xs ++ y ∷ []) ≤ 1 → count_by p xs ≡ 0
 none_before p xs y h one = omega (arith, one, count_last p xs y h)
 
--- a name that no row has
+-- a name that no row has is not the name of an item
 pub unnamed : (t : List Row) (n : List ℕ) → count_by (λ (r : Row). bytes_eq r.name n) t ≡ 0 → is_named t n ≡ false
 unnamed [] n h = refl
 unnamed (r ∷ t) n h = by_test (bytes_eq r.name n) refl (unnamed t n)
@@ -60,14 +60,14 @@ unnamed (r ∷ t) n h = by_test (bytes_eq r.name n) refl (unnamed t n)
     by_test true e ih = let one : one_if (bytes_eq r.name n) ≡ 1 = ap one_if e in absurd (omega (arith, h, one, sum_by-cons (λ (x : Row). one_if (bytes_eq x.name n)) r t))
     by_test false e ih = rw e (ih (omega (arith, h, sum_by-cons (λ (x : Row). one_if (bytes_eq x.name n)) r t)))
 
--- before a type
+-- what holds before the line of a type: the type's number and name are free, and there is room for it
 pub record KindFree (d : Draft) (n : ℕ) (x : List ℕ) : Type 0 where
   pub number : has_kind_number d.setting n ≡ false
   pub name : has_kind_name d.setting x ≡ false
   pub few : is_full_of_kinds d ≡ false
   pub kind : IsKind (record { number = n; name = x })
 
--- the last of all
+-- what holds for all elements holds for the last
 pub last_of : {X : Type 0} (P : X → Type 0) (xs : List X) (y : X) → All P (xs ++ y ∷ []) → P y
 last_of P [] y h = All-head P y [] h
 last_of P (x ∷ xs) y h = last_of P xs y (All-tail P x (xs ++ y ∷ []) h)
@@ -83,7 +83,7 @@ kind_free d n x m =
       kind = last_of IsKind d.setting.kinds kind m.fits.setting.kinds;
     }
 
--- before a tunable
+-- what holds before the line of a tunable: its name is free, and there is room for it
 pub record TunableFree (d : Draft) (x : List ℕ) (v : ℕ) : Type 0 where
   pub name : has_tunable d.setting x ≡ false
   pub few : is_full_of_tunables d ≡ false
@@ -99,7 +99,7 @@ tunable_free d x v m =
       tunable = last_of IsTunable d.setting.tunables new m.fits.setting.tunables;
     }
 
--- before a rule
+-- what holds before the lines of a rule: its name and id are free, and there is room for it
 pub record RuleFree (d : Draft) (r : RuleData) : Type 0 where
   pub name : has_rule_name d.setting r.name ≡ false
   pub id : has_rule_id d.setting r.id ≡ false
@@ -115,7 +115,7 @@ rule_free d r m = record {
   rule = last_of (IsRule (add_rule d r).setting) d.setting.rules r m.fits.setting.rules;
 }
 
--- before its last step
+-- what holds before the last step of a rule: there is room for it, and it has the form of a step
 pub record StepFree (d : Draft) (r : RuleData) (s : StepData) : Type 0 where
   pub few : nat_le MOST_STEPS (length r.steps) ≡ false
   pub step : IsStep (add_rule d (with_step r s)).setting s
@@ -128,7 +128,7 @@ step_free d r s m =
       step = last_of (IsStep (add_rule d (with_step r s)).setting) r.steps s f.rule.steps;
     }
 
--- before a class id
+-- what holds before the line of a class id: the id and the class are free, and there is room for it
 pub record ClassFree (t : List Row) (b : ℕ) (cs : List ShadowData) (c : ShadowData) : Type 0 where
   pub few : nat_le MOST_CLASS_IDS (length cs) ≡ false
   pub form : IsShadowId c
@@ -136,7 +136,7 @@ pub record ClassFree (t : List Row) (b : ℕ) (cs : List ShadowData) (c : Shadow
   pub other : member c.id (own_ids b cs) ≡ false
   pub class : list_any (λ (x : ShadowData). bytes_eq x.class c.class) cs ≡ false
 
--- what is among others is any of them
+-- a number is a member of a list if it is equal to an element
 member_any : (k : ℕ) (xs : List ℕ) → member k xs ≡ list_any (λ u. u == k) xs
 member_any k [] = refl
 member_any k (x ∷ xs) = ap (λ b. (x == k) || b) (member_any k xs)
@@ -164,12 +164,12 @@ kind_form (x ∷ kinds) k all some = by_test (bytes_eq x.name k) refl some (kind
     by_test true e some ih = subst IsName ((bytes_eq-Decides x.name k).0 e) (All-head IsKind x kinds all).name
     by_test false e some ih = ih some
 
--- what the name of a type of buckets is: a name, and none of the grammar's words
+-- the name of a type of buckets is a name, and it isn't one of the grammar's words
 pub record NamesType (k : List ℕ) : Type 0 where
   pub form : IsName k
   pub free : is_reserved k ≡ false
 
--- a name that has a number other than 0 is one
+-- the name of a type whose number isn't 0 is the name of a type of buckets
 pub type_named : (kinds : List KindData) (k : List ℕ) → All IsKind kinds → 0 < unwrap_or (option_map (λ (x : KindData). x.number) (find (λ (x : KindData). bytes_eq x.name k) kinds)) 0 → NamesType k
 type_named [] k all some = absurd (omega arith)
 type_named (x ∷ kinds) k all some = by_test (bytes_eq x.name k) refl some (type_named kinds k (All-tail IsKind x kinds all))
@@ -182,7 +182,7 @@ type_named (x ∷ kinds) k all some = by_test (bytes_eq x.name k) refl some (typ
         record { form = subst IsName same kind.name; free = ap is_reserved (sym same) ∙ kind.free some }
     by_test false e some ih = ih some
 
--- what the rows of a lawful table are called are names
+-- the names in the rows of a lawful table have the form of names
 pub item_form : (t : List Row) (n : List ℕ) → All IsRow t → is_named t n ≡ true → IsName n
 item_form [] n all e = absurd cc
 item_form (r ∷ t) n all e = by_test (bytes_eq r.name n) refl e (item_form t n (All-tail IsRow r t all))
@@ -191,13 +191,13 @@ item_form (r ∷ t) n all e = by_test (bytes_eq r.name n) refl e (item_form t n 
     by_test true h e ih = subst IsName ((bytes_eq-Decides r.name n).0 h) (All-head IsRow r t all).name
     by_test false h e ih = ih e
 
--- a name of an item is free
+-- the name of the last row is free before this row's line
 name_free : (d : Draft) (r : Row) → d.pending ≡ nothing → Lawful (d.table ++ r ∷ []) → has_name d r.name ≡ false
 name_free d r idle l =
     let none : is_named d.table r.name ≡ false = unnamed d.table r.name (none_before (λ (x : Row). bytes_eq x.name r.name) d.table r (bytes_itself r.name) (l.names r.name)) in
     ap (λ (b : Bool). b || has_pending_name d.pending r.name) none ∙ ap (λ (p : Pending). has_pending_name p r.name) idle
 
--- before a device
+-- what holds before the line of a device: its number and its name are free, and there is room for it
 pub record DeviceFree (d : Draft) (n : ℕ) (x : List ℕ) : Type 0 where
   pub number : is_there d.table (Device n) ≡ false
   pub name : has_name d x ≡ false
@@ -220,32 +220,32 @@ device_free_by d n r is idle l =
       form = row.name;
     }
 
--- and so is a device's
+-- the device of a device's line is free before this line
 pub device_free : (d : Draft) (n : ℕ) (x : List ℕ) (class : Option (List ℕ)) → d.pending ≡ nothing → IsMap (with_device d n x class) → DeviceFree d n x
 device_free d n x class idle m = device_free_by d n (new_device n x class) refl idle m.lawful
 
--- whose class has the form of a name
+-- the class of a device's line has the form of a name
 pub class_form : (d : Draft) (n : ℕ) (x c : List ℕ) → IsMap (with_device d n x (Some c)) → IsName c
 class_form d n x c m =
     let row = last_of IsRow d.table (new_device n x (Some c)) m.lawful.rows in
     let own : IsDeviceRow n (new_device n x (Some c)) = row.form in
     own.class
 
--- a lawful table isn't too heavy
+-- no bucket of a lawful table weighs more than it may
 light_item : (t : List Row) → Lawful t → (i : ItemId) → is_over t i ≡ false
 light_item t l (Device n) = refl
 light_item t l (Bucket b) = le-ltb HEAVIEST_BUCKET (sum_below t b) (l.sums b)
 
--- no row of a lawful table is over its bound
+-- no row of a lawful table is the row of a bucket that weighs more than it may
 light_rows : (t us : List Row) → Lawful t → list_any (λ (r : Row). is_over t r.id) us ≡ false
 light_rows t [] l = refl
 light_rows t (r ∷ us) l = rw (light_item t l r.id) (light_rows t us l)
 
--- nor is the total
+-- the total weight of a lawful table is within its bound
 pub is_light : (t : List Row) → Lawful t → is_too_heavy t ≡ false
 is_light t l = rw (light_rows t t l) (le-ltb HEAVIEST_MAP (total t) l.total)
 
--- a device whose row is lawful with a weight may weigh that
+-- if the row of a device with a weight is lawful, then the device may have this weight
 row_light : (n b w : ℕ) (t : List Row) → All IsRow (map (placed_row b w) (filter (λ (r : Row). same_id r.id (Device n)) t)) → is_there t (Device n) ≡ true → w ≤ HEAVIEST_DEVICE
 row_light n b w [] all there = absurd cc
 row_light n b w (r ∷ t) all there = by_id (same_id r.id (Device n)) refl all there (row_light n b w t)
@@ -261,7 +261,7 @@ row_light n b w (r ∷ t) all there = by_id (same_id r.id (Device n)) refl all t
     by_id true e all there ih = of_row (same_id_equal r.id (Device n) e) (All-head IsRow (placed_row b w r) (map (placed_row b w) (filter (λ (x : Row). same_id x.id (Device n)) t)) all)
     by_id false e all there ih = ih all there
 
--- so if the table with a device in the bucket that is being filled is lawful, then the device may have that weight
+-- if the table with a device in the bucket that is being filled is lawful, then the device may have that weight
 pub light_device : (d : Draft) (b n w : ℕ) → d.pending ≡ filling b → is_there d.table (Device n) ≡ true → IsMap (with_next_item d (Device n) (Some w)) → w ≤ HEAVIEST_DEVICE
 light_device d b n w p there m =
     let l : Lawful (put_below b (Device n) w d.table) = subst (λ (q : Pending). Lawful (table_with_item q (Device n) w d.table)) p m.lawful in

@@ -1,4 +1,4 @@
--- Where the words of the printed buckets lead: from the devices and the types to the whole table.
+-- Proves that the words of the printed buckets lead from a table with only the devices to the whole table.
 use Rattle.std.proofs.Common.{◌≡◌, ℕ, ◌+◌, Bool, true, false, List, [], ◌∷◌, ◌++◌, Option, Some, None, refl, sym, ap, subst, ◌∙◌, arith}
 use Rattle.std.proofs.lemmas.Bool.{eqb-true}
 use Rattle.std.proofs.lemmas.List.Elements.{All-nil, All-weaker}
@@ -31,7 +31,7 @@ use Rattle.crush_laws.proofs.BuiltParts.{whole_kids, IsRead, both_ways, read_ope
 use Rattle.crush_laws.proofs.BuiltHeads.{built, HasKinds, read_draft, front_leads}
 use Rattle.crush_laws.proofs.BuiltItems.{items_lead}
 
--- the printed buckets are due: their types have their printed names, no rule was read, no bucket is open, no weight was
+-- the state in which the printed buckets are due: the types have their printed names, no rule was read, no bucket is open, no weight was
 -- adjusted, and the table has the devices, each in no bucket
 pub record BucketsAreDue (s : SettingData) (t : List Row) (d : Draft) : Type 0 where
   pub setting : IsSetting d.setting
@@ -41,7 +41,7 @@ pub record BucketsAreDue (s : SettingData) (t : List Row) (d : Draft) : Type 0 w
   pub adjusted : d.adjusted ≡ 0
   pub table : Same (part_of is_device_id (λ _. false) t) d.table
 
--- their words lead to the same table and the same setting, and no weight is adjusted
+-- the words of the buckets lead to a table and a setting that are the same as t and s, and no weight is adjusted
 pub record BucketsLead (form : WeightForm) (s : SettingData) (t : List Row) (late : Bool) (d : Draft) (others : List (List ℕ)) : Type 0 where
   pub last : Draft
   pub behind : Bool
@@ -52,11 +52,11 @@ pub record BucketsLead (form : WeightForm) (s : SettingData) (t : List Row) (lat
   pub lawful : IsLawfulDraft last
   pub goes : Goes (between (at (idle late) d)) (flat_map (whole_words form s t) (root_order t)) others (between (at (idle behind) last))
 
--- THE BUCKETS ARE BUILT wherever they are due
+-- THE BUCKETS ARE BUILT by their words, whenever they are due
 abbrev pub BucketsAreBuilt : Type 0
 BucketsAreBuilt = (form : WeightForm) (s : SettingData) (t : List Row) → Lawful t → (late : Bool) (d : Draft) (others : List (List ℕ)) → BucketsAreDue s t d → BucketsLead form s t late d others
 
--- ONE BUCKET: its words lead to the table with it and its items
+-- ONE BUCKET: its words lead to the table that also has this bucket and its items in it
 record BucketLeads (s : SettingData) (t : List Row) (seen : ℕ → Bool) (b : ℕ) (late : Bool) (u : List Row) (words others : List (List ℕ)) : Type 0 where
   items : ItemId → Bool
   places : ItemId → Bool
@@ -64,7 +64,7 @@ record BucketLeads (s : SettingData) (t : List Row) (seen : ℕ → Bool) (b : �
   read : IsRead t (add seen b) (add seen b) items places (whole_kids t (add seen b)) table
   goes : Goes (between (at (idle late) (built s u nothing))) words others (between (at second (built s table nothing)))
 
--- the row of an item that is there
+-- an item that is in a table has a row
 row_there : (o : Option Row) → is_some o ≡ true → (x : Row) × (o ≡ Some x)
 row_there None h = absurd (let no : false ≡ true = h in cc)
 row_there (Some x) h = (x, refl)
@@ -98,7 +98,7 @@ module _ (form : WeightForm) (s : SettingData) (names : ℕ → List ℕ) (t : L
             (read_draft s names t l h (add seen b) (add seen b) (with_one q (Bucket b)) filled.places (whole_kids t (add seen b)) filled.table read nothing tt)));
       }
 
-  -- ALL BUCKETS, each after the buckets among its items
+  -- ALL BUCKETS: each bucket is printed after the buckets among its items
   record RestLeads (late : Bool) (u : List Row) (words others : List (List ℕ)) : Type 0 where
     table : List Row
     behind : Bool
@@ -155,7 +155,7 @@ module _ (form : WeightForm) (s : SettingData) (names : ℕ → List ℕ) (t : L
           let own : one_if (seen j) ≡ 0 = ap one_if k in
           omega (arith, all, own, e)
 
--- THE BUCKETS ARE BUILT
+-- THE BUCKETS ARE BUILT by their words
 pub buckets_are_built : BucketsAreBuilt
 buckets_are_built form s t l late d others due =
     let kinds : HasKinds d.setting (kind_text s) t = record { setting = due.setting; unruled = due.unruled; kinds = due.kinds } in

@@ -1,4 +1,4 @@
--- The printed lines of devices build the part of the table that has the devices, each in no bucket.
+-- Proves that the printed lines of devices build the part of the table that has the devices, each without a parent.
 use Rattle.std.proofs.Common.{◌≡◌, ℕ, ◌+◌, ◌<◌, ◌≤◌, ◌^◌, Bool, true, false, List, [], ◌∷◌, ◌++◌, Option, Some, None, refl, sym, ap, subst, ◌∙◌, arith, eq-eqb, ⊎_elim}
 use Rattle.std.proofs.lemmas.Bool.{ne_eqb}
 use Rattle.std.proofs.lemmas.Bool.Decides.{nat_tests, eqb_tells}
@@ -40,7 +40,7 @@ use Rattle.crush_laws.specs.Admitted.{IsLawfulDraft}
 use Rattle.crush_laws.proofs.BuiltLines.{Goes, device_goes}
 use Rattle.crush_laws.proofs.BuiltEach.{quiet, quiet_map, quiet_lawful, Led, EachLeads, each_goes, Avoids, avoids_both, avoids_all, none_before, All-split, tuned}
 
--- HOW OFTEN a device's number is printed: as often as it has a row
+-- HOW OFTEN a device's number is printed: as often as the table has a row for the device
 own_number : (d : ℕ) (i : ItemId) → times d (device_number i) ≡ one_if (same_id i (Device d))
 own_number d (Device x) = omega (arith, sum_by-cons (λ y. one_if (y == d)) x [])
 own_number d (Bucket b) = refl
@@ -51,7 +51,7 @@ device_times d t =
     times-ascending d (flat_map (λ (r : Row). device_number r.id) t) ∙ sum_by-flat_map (λ y. one_if (y == d)) (λ (r : Row). device_number r.id) t
     ∙ sum_by-agree (λ (r : Row). times d (device_number r.id)) (λ (r : Row). one_if (same_id r.id (Device d))) (λ r. own_number d r.id) t
 
--- the devices among these numbers
+-- the test whether an item is a device with one of these numbers
 abbrev pub is_seen : List ℕ → ItemId → Bool
 is_seen ns (Device d) = nat_lt 0 (times d ns)
 is_seen ns (Bucket b) = false
@@ -79,14 +79,14 @@ seen_more ns x (Device d) = ⊎_elim
     count : times d (ns ++ x ∷ []) ≡ times d ns + one_if (x == d)
     count = omega (arith, sum_by-append (λ y. one_if (y == d)) ns (x ∷ []), sum_by-cons (λ y. one_if (y == d)) x [])
 
--- none is where it will be
+-- no item already has its final parent
 abbrev pub nowhere : ItemId → Bool
 nowhere i = false
 
 no_closed : (t : List Row) (l : Lawful t) (q : ItemId → Bool) → IsClosed t l q nowhere
 no_closed t l q i p a b e = absurd (let no : false ≡ true = b in cc)
 
--- their rows, each bare
+-- the row of a device, without its parent and its weight
 abbrev pub bare_rows : Option Row → List Row
 bare_rows None = []
 bare_rows (Some r) = bare r ∷ []
@@ -169,7 +169,7 @@ module _ (tunables : List TunableData) (t : List Row) (l : Lawful t) where
     pub devices_go : Seen [] → Led (Seen (device_numbers t)) (seen_state []) (flat_map (λ d. words_of t (Device d) device_words) (device_numbers t)) others (seen_state (device_numbers t))
     devices_go seen = each_goes (λ d. words_of t (Device d) device_words) seen_state Seen (device_numbers t) others device_leads [] (device_numbers t) refl seen
 
-  -- at first there is none
+  -- before the first line no device was read
   none_seen : (i : ItemId) → is_seen [] i ≡ false
   none_seen (Device d) = refl
   none_seen (Bucket b) = refl
@@ -181,7 +181,7 @@ module _ (tunables : List TunableData) (t : List Row) (l : Lawful t) where
   pub seen_nothing : IsMap (quiet (tuned tunables) []) → Seen []
   seen_nothing m = record { map = m; rows = subst (λ rs. IsReordered rs []) (sym (no_part t)) IsReordered.nothing }
 
-  -- and at last there are all
+  -- after the last line all devices were read
   part_alike : (p q : ItemId → Bool) (rs : List Row) → All (λ (r : Row). p r.id ≡ q r.id) rs → part_of p nowhere rs ≡ part_of q nowhere rs
   part_alike p q [] a = refl
   part_alike p q (r ∷ rs) a = λ k. if All-head (λ (x : Row). p x.id ≡ q x.id) r rs a k then bare r ∷ part_alike p q rs (All-tail (λ (x : Row). p x.id ≡ q x.id) r rs a) k else part_alike p q rs (All-tail (λ (x : Row). p x.id ≡ q x.id) r rs a) k
@@ -200,7 +200,7 @@ module _ (tunables : List TunableData) (t : List Row) (l : Lawful t) where
       own front r rest e =
           omega (arith, ap (count_by (λ (x : Row). same_id x.id r.id)) e, sum_by-append (λ (x : Row). one_if (same_id x.id r.id)) front (r ∷ rest), sum_by-cons (λ (x : Row). one_if (same_id x.id r.id)) r rest, ap one_if (same_id_refl r.id))
 
-  -- none of them is in a bucket
+  -- none of these devices has a parent
   bare_part : (q : ItemId → Bool) (rs : List Row) → All (λ (r : Row). r.parent ≡ None) (part_of q nowhere rs)
   bare_part q [] = All-nil (λ (r : Row). r.parent ≡ None)
   bare_part q (r ∷ rs) = by_test (q r.id) (bare_part q rs)
@@ -215,7 +215,7 @@ module _ (tunables : List TunableData) (t : List Row) (l : Lawful t) where
       ap (λ p. map (λ (x : Row). x.id) (if is_parent b p then r ∷ filter (λ (x : Row). is_parent b x.parent) rs else filter (λ (x : Row). is_parent b x.parent) rs)) (All-head (λ (x : Row). x.parent ≡ None) r rs a)
       ∙ no_kids b rs (All-tail (λ (x : Row). x.parent ≡ None) r rs a)
 
-  -- THE DEVICES THAT ARE BUILT are those of the table
+  -- THE DEVICES THAT ARE BUILT are the devices of the table
   pub devices_same : Seen (device_numbers t) → Same (part_of is_device_id (λ _. false) t) (seen_rows t (device_numbers t))
   devices_same seen =
       let rows : IsReordered (part_of is_device_id nowhere t) (seen_rows t (device_numbers t)) = subst (λ rs. IsReordered rs (seen_rows t (device_numbers t))) (part_alike (is_seen (device_numbers t)) is_device_id t all_seen) seen.rows in

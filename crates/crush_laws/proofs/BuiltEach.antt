@@ -1,4 +1,4 @@
--- The words of several lines lead from one draft to the next if those of each line do, and what is built in this way part by part.
+-- Proves that the words of several lines lead from one draft to the next if the words of each line do; and that tunables are built in this way. A draft (`Draft`) is what the lines so far have built. A form (`Form`) says which words the rest of a line must have. A state (`State`) is a place in the text: between two lines, or in a line with the form of its rest.
 use Rattle.std.proofs.Common.{◌≡◌, ℕ, ◌<◌, ◌≤◌, Bool, true, false, List, [], ◌∷◌, ◌++◌, length, refl, sym, ap, subst, ◌∙◌, append_assoc, append-nil, length-append, arith}
 use Rattle.std.proofs.lemmas.Bool.Decides.{nat_tests}
 use Rattle.std.proofs.lemmas.List.Elements.{All-nil, All-cons, All-head, All-tail}
@@ -24,7 +24,7 @@ use Rattle.crush_laws.proofs.Lawful.{map_with_tunable}
 use Rattle.crush_laws.proofs.BuiltLines.{plain, Goes, goes_both, tunable_goes}
 use Rattle.crush_laws.proofs.LeftOut.{forget}
 
--- a map between two statements, in which no weight was adjusted
+-- the draft between two statements, if no weight was adjusted
 abbrev pub quiet : SettingData → List Row → Draft
 quiet s t = record { setting = s; table = t; pending = nothing; adjusted = 0 }
 
@@ -34,7 +34,7 @@ quiet_map s t l f = record { lawful = l; fits = f }
 pub quiet_lawful : (s : SettingData) (t : List Row) → IsMap (quiet s t) → IsLawfulDraft (quiet s t)
 quiet_lawful s t m = record { map = m; pending = tt }
 
--- WHAT LEADS ON: something holds of the elements so far, and the words of each lead to the next
+-- WHAT LEADS ON: a property holds for the elements so far, and the words of each further element lead to the next state
 pub record Led (I : Type 0) (s : State) (ws others : List (List ℕ)) (m : State) : Type 0 where
   pub holds : I
   pub goes : Goes s ws others m
@@ -50,7 +50,7 @@ module _ {X : Type 0} (words : X → List (List ℕ)) (state : List X → State)
       let r = each_goes step (front ++ x ∷ []) rest (append_assoc front (x ∷ []) rest ∙ e) k.holds in
       record { holds = r.holds; goes = goes_both (state front) (words x) (flat_map words rest) others (state (front ++ x ∷ [])) (state all) k.goes r.goes }
 
--- WORDS THAT DON'T BEGIN with a key
+-- WORDS THAT DON'T BEGIN with a given key
 abbrev pub Avoids : List ℕ → List (List ℕ) → Type 0
 Avoids k ws = begins_with_key k (plain ws) ≡ false
 
@@ -62,7 +62,7 @@ pub avoids_all : {X : Type 0} (k : List ℕ) (words : X → List (List ℕ)) (xs
 avoids_all k words [] h = refl
 avoids_all k words (x ∷ xs) h = avoids_both k (words x) (flat_map words xs) (h x) (avoids_all k words xs h)
 
--- ELEMENTS THAT ARE THERE ONCE: before one of them there is none of its kind
+-- ELEMENTS THAT EXIST ONCE: no element of the same kind comes before one of them
 pub none_before : {X : Type 0} (p : X → Bool) (front : List X) (x : X) (rest all : List X) → front ++ x ∷ rest ≡ all → count_by p all ≤ 1 → p x ≡ true → count_by p front ≡ 0
 none_before p front x rest all e once h =
     let one : one_if (p x) ≡ 1 = ap one_if h in
@@ -85,7 +85,7 @@ pub All-split : {X : Type 0} (P : X → Type 0) (all : List X) → ((front : Lis
 All-split P all each front [] e = All-nil P
 All-split P all each front (x ∷ rest) e = All-cons P x rest (each front x rest e) (All-split P all each (front ++ x ∷ []) rest (append_assoc front (x ∷ []) rest ∙ e))
 
--- TUNABLES lead from the empty map to one with them
+-- TUNABLES: their words lead from the empty map to the map that has them
 abbrev pub tuned : List TunableData → SettingData
 tuned ks = record { kinds = []; tunables = ks; rules = [] }
 

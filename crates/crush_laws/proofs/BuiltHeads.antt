@@ -1,4 +1,4 @@
--- The first lines of a printed bucket are read: its type and name, its id, its class ids, and its algorithm.
+-- Proves that the first lines of a printed bucket are read: its type and name, its id, its class ids, and its algorithm.
 use Rattle.std.proofs.Common.{◌≡◌, ℕ, ◌<◌, ◌≤◌, Bool, true, false, List, [], ◌∷◌, ◌++◌, Option, Some, None, refl, sym, ap, subst, ◌∙◌, append_assoc, append-nil, length-append, arith}
 use Rattle.std.proofs.lemmas.Bool.{and_parts}
 use Rattle.std.proofs.lemmas.Bool.Decides.{nat_tests}
@@ -44,17 +44,17 @@ use Rattle.crush_laws.proofs.Allowed.{type_named}
 use Rattle.crush_laws.proofs.BuiltLines.{Goes, goes_both, idle, head_goes, class_id_goes, alg_goes}
 use Rattle.crush_laws.proofs.BuiltParts.{whole_kids, open_kids, IsRead, read_closed, read_more, read_lawful, read_row, fresh, unplaced, read_opened}
 
--- what is built if no weight was adjusted
+-- the draft that is built if no weight was adjusted
 abbrev pub built : SettingData → List Row → Pending → Draft
 built s u p = record { setting = s; table = u; pending = p; adjusted = 0 }
 
--- the setting has the types of the table's buckets under these names, and no rules
+-- the setting has the types of the table's buckets, with the names that `names` gives, and it has no rules
 pub record HasKinds (s : SettingData) (names : ℕ → List ℕ) (t : List Row) : Type 0 where
   pub setting : IsSetting s
   pub unruled : s.rules ≡ []
   pub kinds : (b : ℕ) (x : Row) → row_of t (Bucket b) ≡ Some x → kind_number s (names x.kind) ≡ Some x.kind
 
--- the form of a bucket's row
+-- the row of a bucket in a lawful table has the form of a bucket's row
 pub bucket_form : (t : List Row) → Lawful t → (b : ℕ) (x : Row) → row_of t (Bucket b) ≡ Some x → IsBucketRow b x
 bucket_form t l b x e = let row = All-row IsRow t l.rows (Bucket b) x e in subst (λ (i : ItemId). IsRowOf i x) (row_id (Bucket b) t x e) row.form
 
@@ -88,11 +88,11 @@ module _ (s : SettingData) (names : ℕ → List ℕ) (t : List Row) (l : Lawful
     taken = subst (λ (rs : List RuleData). All (IsThere u) (flat_map (λ (r : RuleData). flat_map bucket_taken r.steps) rs)) (sym h.unruled) (All-nil (IsThere u));
   }
 
-  -- and what is built is lawful
+  -- the draft that is built is lawful
   pub read_draft : (seen there : ℕ → Bool) (q P : ItemId → Bool) (items : ℕ → List ItemId) (u : List Row) → IsRead t seen there q P items u → (p : Pending) → IsPending s u p → IsLawfulDraft (built s u p)
   read_draft seen there q P items u r p k = record { map = record { lawful = read_lawful t l seen there q P items u r; fits = fits_part q P u r.rows }; pending = k }
 
--- if all class ids can be in the table, then so can a prefix of them
+-- if the table can have all class ids of a bucket, it can have a prefix of them
 pub front_number : (u : List Row) (b : ℕ) (xs ys : List ShadowData) → CanNumber u b (xs ++ ys) → CanNumber u b xs
 front_number u b xs ys n = record {
   some = n.some;
@@ -112,7 +112,7 @@ front_number u b xs ys n = record {
   few = let v = n.few in omega (arith, v, length-append xs ys);
 }
 
--- each class id is among the ids
+-- each class id is in the list of class ids
 pub own_count : (cs : List ShadowData) → All (λ (c : ShadowData). 1 ≤ count_by (λ x. x == c.id) (map (λ (y : ShadowData). y.id) cs)) cs
 own_count [] = All-nil (λ (c : ShadowData). 1 ≤ count_by (λ x. x == c.id) [])
 own_count (c ∷ cs) = All-cons (λ (y : ShadowData). 1 ≤ count_by (λ x. x == y.id) (map (λ (z : ShadowData). z.id) (c ∷ cs))) c cs
@@ -123,7 +123,7 @@ own_count (c ∷ cs) = All-cons (λ (y : ShadowData). 1 ≤ count_by (λ x. x ==
     itself : (n : ℕ) → (n == n) ≡ true
     itself n = grind arith
 
--- CLASS IDS, one by one
+-- CLASS IDS are read one after the other
 module _ (s : SettingData) (u : List Row) (k : ℕ) (x : List ℕ) (b : ℕ) (lawful : (p : Pending) → IsPending s u p → IsLawfulDraft (built s u p)) (can : CanBegin s u k x) where
   class_ids_go : (ds cs : List ShadowData) (others : List (List ℕ)) → CanNumber u b (ds ++ cs)
       → Goes (between (at numbered (built s u (is_numbered k x b ds)))) (flat_map class_id_words cs) others (between (at numbered (built s u (is_numbered k x b (ds ++ cs)))))
@@ -142,7 +142,7 @@ module _ (s : SettingData) (u : List Row) (k : ℕ) (x : List ℕ) (b : ℕ) (la
       right [] ys a = a
       right (y ∷ xs) ys a = right xs ys (All-tail IsShadowId y (xs ++ ys) a)
 
--- A BUCKET'S FIRST LINES
+-- A BUCKET'S FIRST LINES are read
 module _ (s : SettingData) (names : ℕ → List ℕ) (t : List Row) (l : Lawful t) (h : HasKinds s names t) (b : ℕ) (x : Row) (found : row_of t (Bucket b) ≡ Some x)
     (seen : ℕ → Bool) (q P : ItemId → Bool) (u : List Row) (r : IsRead t seen seen q P (whole_kids t seen) u) (new : seen b ≡ false) where
   form : IsBucketRow b x
@@ -199,7 +199,7 @@ module _ (s : SettingData) (names : ℕ → List ℕ) (t : List Row) (l : Lawful
   lawful_with : (p : Pending) → IsPending s u p → IsLawfulDraft (built s u p)
   lawful_with p k = read_draft s names t l h seen seen q P (whole_kids t seen) u r p k
 
-  -- its type and name, and its id
+  -- the words of the bucket's type, name and id are read
   head_leads : (late : Bool) (others : List (List ℕ)) → Goes (between (at (idle late) (built s u nothing))) (head_words (names x.kind) x.name x.id) others (between (at numbered (built s u (is_numbered x.kind x.name b []))))
   head_leads late others =
       let f = form in
@@ -212,7 +212,7 @@ module _ (s : SettingData) (names : ℕ → List ℕ) (t : List Row) (l : Lawful
       (head_goes late (built s u nothing) x.kind (names x.kind) x.name b others some (opens (built s u nothing) (names x.kind) x.kind named.free is) (let v = f.most in omega (arith, v))
       (lawful_with (begun x.kind x.name) can_begin) (lawful_with (is_numbered x.kind x.name b []) (can_begin, front_number u b [] x.class_ids can)))
 
-  -- its algorithm: now its row is there
+  -- the word of the bucket's algorithm is read. After this line the table has the bucket's row
   root_there : row_of (u ++ bare x ∷ []) (Bucket b) ≡ Some (bare x)
   root_there = read_row t l seen (add seen b) (with_one q (Bucket b)) P (open_kids t seen b []) (u ++ bare x ∷ []) opened_read (Bucket b) x found (with_one-it q (Bucket b)) (unplaced t l b x found seen q P u r new)
 
@@ -239,7 +239,7 @@ module _ (s : SettingData) (names : ℕ → List ℕ) (t : List Row) (l : Lawful
           (subst (λ (d : Draft). Goes (between (at numbered (built s u (is_numbered x.kind x.name b x.class_ids)))) (codes "alg" ∷ alg_text a ∷ codes "hash" ∷ codes "0" ∷ []) others (between (at (filling false) d))) is
           (alg_goes (built s u (is_numbered x.kind x.name b x.class_ids)) a others (subst IsLawfulDraft (sym is) open_lawful)))
 
-  -- so the first lines lead into the empty bucket
+  -- the first lines lead to the state in which the bucket is open and has no items
   pub front_leads : (late : Bool) (others : List (List ℕ))
       → Goes (between (at (idle late) (built s u nothing))) ((head_words (names x.kind) x.name x.id ++ flat_map class_id_words x.class_ids) ++ choice_words x) others (between (at (filling false) (built s (u ++ bare x ∷ []) (is_filling b))))
   front_leads late others =

@@ -1,4 +1,4 @@
--- The items of a printed bucket are read, one by one.
+-- Proves that the items of a printed bucket are read, one after the other.
 use Rattle.std.proofs.Common.{◌≡◌, ℕ, ◌+◌, ◌<◌, ◌≤◌, ◌^◌, Bool, true, false, List, [], ◌∷◌, ◌++◌, Option, Some, None, refl, sym, ap, subst, ◌∙◌, append_assoc, append-nil, arith}
 use Rattle.std.proofs.lemmas.Bool.{eqb-true}
 use Rattle.std.proofs.lemmas.List.Elements.{All-nil, All-cons, All-head, All-tail, All-weaker, All-push}
@@ -35,7 +35,7 @@ use Rattle.crush_laws.proofs.BuiltLines.{Goes, goes_both, item_goes}
 use Rattle.crush_laws.proofs.BuiltParts.{open_kids, IsRead, both_ways, read_closed, read_lawful, read_row, read_put}
 use Rattle.crush_laws.proofs.BuiltHeads.{built, HasKinds, read_draft}
 
--- where none is counted, each is another
+-- if the count of elements that pass a test is 0, the test is false for each element
 none_counted : {X : Type 0} (p : X → Bool) (xs : List X) → count_by p xs ≡ 0 → All (λ x. p x ≡ false) xs
 none_counted p [] h = All-nil (λ x. p x ≡ false)
 none_counted p (x ∷ xs) h = by_test (p x) refl (none_counted p xs)
@@ -47,12 +47,12 @@ none_counted p (x ∷ xs) h = by_test (p x) refl (none_counted p xs)
     by_test true e rest = absurd (let one : one_if (p x) ≡ 1 = ap one_if e in omega (arith, count, one, h))
     by_test false e rest = All-cons (λ y. p y ≡ false) x xs e (rest (omega (arith, count, h)))
 
--- the row of an item in a bucket
+-- an item with a parent has a row with this parent
 in_bucket : (o : Option Row) (b : ℕ) → option_and_then (λ (y : Row). y.parent) o ≡ Some b → (y : Row) × (o ≡ Some y) × (y.parent ≡ Some b)
 in_bucket None b e = absurd (let no : ◌≡◌ {A = Option ℕ} None (Some b) = e in cc)
 in_bucket (Some y) b e = (y, refl, e)
 
--- what is said of a row that is put: its weight
+-- the weight that the item's line has is the weight of its row
 weight_kept : (t : List Row) (i : ItemId) (y : Row) → IsRowOf i y → y.id ≡ i → (if is_device_id y.id then item_weight t i y.weight else 0) ≡ y.weight
 weight_kept t (Device d) y f e = λ k. if is_device_id (e k) then y.weight else 0
 weight_kept t (Bucket j) y f e = (λ k. if is_device_id (e k) then sum_below t j else 0) ∙ sym f.weight
@@ -70,7 +70,7 @@ or_true false = refl
 
 module _ (form : WeightForm) (s : SettingData) (names : ℕ → List ℕ) (t : List Row) (l : Lawful t) (h : HasKinds s names t) (b : ℕ) (x : Row) (found : row_of t (Bucket b) ≡ Some x)
     (seen : ℕ → Bool) (new : seen b ≡ false) (ready : (j : ℕ) → parent_of t (Bucket j) ≡ Some b → seen j ≡ true) (q : ItemId → Bool) where
-  -- the open bucket is in no other one, and what is built is lawful
+  -- the open bucket has no parent, and the draft that is built is lawful
   pub filling_draft : (P : ItemId → Bool) (ds : List ItemId) (u : List Row) → IsRead t seen (add seen b) q P (open_kids t seen b ds) u → IsLawfulDraft (built s u (is_filling b))
   filling_draft P ds u r =
       let row = read_row t l seen (add seen b) q P (open_kids t seen b ds) u r (Bucket b) x found (open_there P ds u r) (by_it (P (Bucket b)) refl) in
@@ -83,7 +83,7 @@ module _ (form : WeightForm) (s : SettingData) (names : ℕ → List ℕ) (t : L
       by_it true e = absurd (both_ways (seen b) (r.done b e) new)
       by_it false e = e
 
-  -- none of its items is the bucket itself
+  -- no item of the bucket is the bucket itself
   other_item : (i : ItemId) → parent_of t i ≡ Some b → same_id (Bucket b) i ≡ false
   other_item (Device d) e = refl
   other_item (Bucket j) e = by_it (b == j) refl
@@ -92,7 +92,7 @@ module _ (form : WeightForm) (s : SettingData) (names : ℕ → List ℕ) (t : L
       by_it true k = absurd (both_ways (seen b) (ap seen (eqb-true b j k) ∙ ready j e) new)
       by_it false k = k
 
-  -- AN ITEM
+  -- AN ITEM of the bucket is read
   module _ (P : ItemId → Bool) (ds : List ItemId) (u : List Row) (r : IsRead t seen (add seen b) q P (open_kids t seen b ds) u) (i : ItemId) (y : Row) (found_it : row_of t i ≡ Some y) (in_it : y.parent ≡ Some b) (free : P i ≡ false) where
     placed_in : parent_of t i ≡ Some b
     placed_in = ap (option_and_then (λ (z : Row). z.parent)) found_it ∙ in_it
@@ -135,7 +135,7 @@ module _ (form : WeightForm) (s : SettingData) (names : ℕ → List ℕ) (t : L
     pub item_read : IsRead t seen (add seen b) q (with_one P i) (open_kids t seen b (ds ++ i ∷ [])) (without_row i u ++ y ∷ [])
     item_read = read_put t l b i y found_it in_it seen q P ds u r (r.buckets b ∙ (λ k. seen b || itself b k) ∙ or_true (seen b)) is_in free (λ j e. ready j (ap (parent_of t) (sym e) ∙ placed_in))
 
-    -- its line leads on
+    -- the words of the item's line lead to the table in which the bucket has this item
     pub item_leads : (any : Bool) (others : List (List ℕ)) → Goes (between (at (filling any) (built s u (is_filling b)))) (kid_words form t i) others (between (at (filling true) (built s (without_row i u ++ y ∷ []) (is_filling b))))
     item_leads any others =
         let is = with_item-is in
@@ -144,7 +144,7 @@ module _ (form : WeightForm) (s : SettingData) (names : ℕ → List ℕ) (t : L
         (item_goes form any (built s u (is_filling b)) i y.name (item_weight t i y.weight) others named (ap (λ (o : Option Row). is_some (option_and_then (λ (z : Row). z.parent) o)) row_there) (weighs_little t l i y row_form)
         (subst IsLawfulDraft (sym is) (filling_draft (with_one P i) (ds ++ i ∷ []) (without_row i u ++ y ∷ []) item_read))))
 
--- THE OPEN BUCKET IS FILLED: all its items are in it
+-- THE OPEN BUCKET IS FILLED: after the words of all items, the bucket has all its items
 pub record IsFilled (s : SettingData) (t : List Row) (seen : ℕ → Bool) (b : ℕ) (q : ItemId → Bool) (any : Bool) (u : List Row) (words others : List (List ℕ)) : Type 0 where
   pub some : Bool
   pub places : ItemId → Bool

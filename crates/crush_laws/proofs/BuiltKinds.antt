@@ -1,4 +1,4 @@
--- A setting with its types in the order of their numbers, and how their printed lines build it.
+-- Proves that the printed lines of the types build the setting with its types in the order of their numbers.
 use Rattle.std.proofs.Common.{◌≡◌, ℕ, ◌<◌, ◌≤◌, ◌^◌, Bool, true, false, List, [], ◌∷◌, ◌++◌, length, Some, refl, sym, ap, subst, ◌∙◌, arith, eq-eqb}
 use Rattle.std.proofs.lemmas.Bool.{or_parts}
 use Rattle.std.proofs.lemmas.List.Elements.{All-head, All-tail}
@@ -23,7 +23,7 @@ use Rattle.crush_laws.proofs.Lawful.{map_with_kind}
 use Rattle.crush_laws.proofs.BuiltLines.{Goes, kind_goes}
 use Rattle.crush_laws.proofs.BuiltEach.{quiet, quiet_lawful, Led, EachLeads, each_goes, new_at, has_room, shorter, All-at, All-split}
 
--- NUMBERS IN ORDER are the same numbers
+-- NUMBERS IN ORDER: sorting a list of numbers keeps the same numbers
 put_reordered : (n : ℕ) (xs : List ℕ) → IsReordered (n ∷ xs) (put_in n xs)
 put_reordered n [] = reordered-refl (n ∷ [])
 put_reordered n (x ∷ xs) = by_test (nat_le n x) (put_reordered n xs)
@@ -56,7 +56,7 @@ module _ (s : SettingData) (f : IsSetting s) where
   named_again [] a = refl
   named_again (k ∷ ks) a = λ i. All-head (λ (x : KindData). printed_kind s x.number ≡ x) k ks a i ∷ named_again ks (All-tail (λ (x : KindData). printed_kind s x.number ≡ x) k ks a) i
 
-  -- THE TYPES IN ORDER are the same types
+  -- THE TYPES IN ORDER are the same types as those of the setting
   pub kinds_reordered : IsReordered s.kinds (in_order s).kinds
   unfolding kind_numbers
   kinds_reordered = subst (λ ks. IsReordered ks (in_order s).kinds) (named_again s.kinds own_kinds) (reordered-map (printed_kind s) (ascending_reordered (map (λ (k : KindData). k.number) s.kinds)))
@@ -64,7 +64,7 @@ module _ (s : SettingData) (f : IsSetting s) where
   pub ordered_number : (n : List ℕ) → kind_number (in_order s) n ≡ kind_number s n
   ordered_number n = ap (option_map (λ (k : KindData). k.number)) (sym (reordered-find (λ (k : KindData). bytes_eq k.name n) kinds_reordered (f.names n)))
 
--- TYPES lead from a map without types to one with them
+-- TYPES: their words lead from a map without types to the map that has them
 abbrev pub kinded : List TunableData → List KindData → SettingData
 kinded tunables ks = record { kinds = ks; tunables = tunables; rules = [] }
 
@@ -93,7 +93,7 @@ module _ (tunables : List TunableData) (u : List Row) where
     all_kinds_go : KindedMap [] → Led (KindedMap all) (kinded_state []) (flat_map own_words all) others (kinded_state all)
     all_kinds_go m = each_goes own_words kinded_state KindedMap all others kind_leads [] all refl m
 
--- THE PRINTED TYPES of a setting lead so
+-- THE PRINTED TYPES of a setting lead to the map that has these types
 pub kinds_go : (s : SettingData) (u : List Row) (others : List (List ℕ)) → IsSetting s → IsMap (quiet (kinded s.tunables []) u)
     → Led (IsMap (quiet (kinded s.tunables (in_order s).kinds) u)) (between (at first (quiet (kinded s.tunables []) u))) (flat_map (λ n. kind_words n (kind_text s n)) (kind_numbers s)) others (between (at first (quiet (kinded s.tunables (in_order s).kinds) u)))
 kinds_go s u others f m =

@@ -1,4 +1,4 @@
--- The words of each printed line lead from one draft to the next, if what the line builds is lawful.
+-- Proves that the words of each printed line lead from one draft to the next, if what the line builds is lawful. A draft (`Draft`) is what the lines so far have built. A form (`Form`) says which words the rest of a line must have. A state (`State`) is a place in the text: between two lines, or in a line with the form of its rest.
 use Rattle.std.proofs.Common.{◌≡◌, ℕ, ◌<◌, ◌≤◌, ◌^◌, Bool, true, false, List, [], ◌∷◌, ◌++◌, length, Option, Some, None, Ok, refl, sym, ap, subst, ◌∙◌, append_assoc, append-nil, arith, inl, inr}
 use Rattle.std.proofs.lemmas.Bool.Decides.{nat_tests}
 use Rattle.std.proofs.lemmas.Bool.{ne_eqb}
@@ -38,21 +38,21 @@ use Rattle.crush_text.specs.declared.expected.Expected.TheVariants as expect
 use Rattle.crush_text.specs.declared.expected.Optional.TheVariants.{Class}
 use Rattle.crush_laws.proofs.LeftOut.{forget, word_so, whole_so}
 
--- words of these texts, each with the place 0
+-- the words that have these texts and the place 0
 abbrev pub plain : List (List ℕ) → List Word
 plain ts = map (λ (t : List ℕ). record { place = 0; text = t }) ts
 
--- WORDS LEAD from one state to another, if these other words follow; which optional part the last line has left out doesn't matter
+-- WORDS LEAD from one state to another if other given words follow. Which optional part the last line has left out doesn't matter
 abbrev pub Goes : State → List (List ℕ) → List (List ℕ) → State → Type 0
 Goes s [] others m = forget s ≡ forget m
 Goes s (w ∷ ws) others m = (u : State) × WordLeads s w (plain (ws ++ others)) u × IsLawfulState u × Goes u ws others m
 
--- words lead on from two states that differ only in what was left out
+-- two states that differ only in the part that was left out have the same words that lead on
 goes_so : (s m : State) (ts others : List (List ℕ)) (n : State) → forget s ≡ forget m → Goes m ts others n → Goes s ts others n
 goes_so s m [] others n is h = is ∙ h
 goes_so s m (w ∷ ts) others n is h = (h.0, word_so s m w (plain (ts ++ others)) h.0 is h.1, h.2, h.3)
 
--- one way after another
+-- if words lead from s to m, and further words lead from m to n, then all these words lead from s to n
 pub goes_both : (s : State) (a b others : List (List ℕ)) (m n : State) → Goes s a (b ++ others) m → Goes m b others n → Goes s (a ++ b) others n
 goes_both s [] b others m n f g = goes_so s m b others n f g
 goes_both s (w ∷ a) b others m n f g = (f.0, subst (λ l. WordLeads s w (plain l) f.0) (sym (append_assoc a b others)) f.1, f.2, goes_both f.0 a b others m n f.3 g)
@@ -94,7 +94,7 @@ pub plain_texts : (ts : List (List ℕ)) → texts (plain ts) ≡ ts
 plain_texts [] = refl
 plain_texts (t ∷ ts) = ap (λ l. t ∷ l) (plain_texts ts)
 
--- what leads to the end builds the draft there
+-- words that lead to the end of a text build the draft there
 pub goes_build : (s : State) (ts : List (List ℕ)) (ws : List Word) (m : State) (d : Draft) → texts ws ≡ ts → Goes s ts [] m → IsWhole m d → Build s ws d
 goes_build s [] [] m d e f w = whole_so s m d f w
 goes_build s [] (v ∷ ws) m d e f w = absurd cc
@@ -105,7 +105,7 @@ goes_build s (t ∷ ts) (v ∷ ws) m d e f w =
     let rest : texts (plain (ts ++ [])) ≡ texts ws = plain_texts (ts ++ []) ∙ append-nil ts ∙ sym tail in
     (f.0, subst (λ x. WordLeads s x ws f.0) (sym head) (leads_alike s t (plain (ts ++ [])) ws f.0 rest f.1), f.2, goes_build f.0 ts ws m d tail f.3 w)
 
--- THE NUMBERS in them
+-- THE NUMBERS: the digits of a printed number are read as this number
 digit_byte : (d : ℕ) → 48 ≤ d → d ≤ 57 → is_ascii_digit d ≡ true
 digit_byte d lo hi = grind (arith, nat_tests)
 
@@ -130,7 +130,7 @@ decimal_number most n le h =
     let small : nat_le n most ≡ true = grind (arith, nat_tests) in
     rw (decimal_digits n h, decimal_value n h, small) refl
 
--- LINES. A tunable's
+-- LINES: the words of a tunable's line lead on
 pub tunable_goes : (d : Draft) (x : List ℕ) (n : ℕ) (others : List (List ℕ)) → n ≤ LARGEST_TUNABLE → IsLawfulDraft (with_tunable d x n)
     → Goes (between (at first d)) (codes "tunable" ∷ x ∷ decimal n ∷ []) others (between (at first (with_tunable d x n)))
 tunable_goes d x n others le l = (
@@ -145,7 +145,7 @@ tunable_goes d x n others le l = (
   ),
 )
 
--- a type's
+-- the words of a type's line lead on
 pub kind_goes : (d : Draft) (n : ℕ) (x : List ℕ) (others : List (List ℕ)) → n < 10 ^ 10 → IsLawfulDraft (with_kind d n x)
     → Goes (between (at first d)) (codes "type" ∷ decimal n ∷ x ∷ []) others (between (at first (with_kind d n x)))
 kind_goes d n x others le l = (
@@ -160,11 +160,11 @@ kind_goes d n x others le l = (
   ),
 )
 
--- the class after a device's name
+-- the form that is due after a device's name
 abbrev class_form : Draft → ℕ → List ℕ → Form
 class_form d n x = word (key (codes "class")) (λ _. word (any_word expect.Class) (λ c. done (at first (with_device d n x (Some c)))))
 
--- a device's line, after which no class follows
+-- the words of a device's line lead on, if `class` isn't the next word
 pub device_goes : (d : Draft) (n : ℕ) (x : List ℕ) (class : Option (List ℕ)) (others : List (List ℕ)) → n < 10 ^ 10 → begins_with_key (codes "class") (plain others) ≡ false → IsLawfulDraft (with_device d n x class)
     → Goes (between (at first d)) (codes "device" ∷ decimal n ∷ x ∷ class_words class) others (between (at first (with_device d n x class)))
 device_goes d n x None others le other l = (
@@ -200,11 +200,11 @@ device_goes d n x (Some c) others le other l = (
   ),
 )
 
--- between two statements, before the first bucket or rule or after one
+-- the mode between two statements; the argument says whether a bucket or a rule has come before
 abbrev pub idle : Bool → Mode
 idle late = if late then second else first
 
--- a bucket's type, its name and its id
+-- the words of a bucket's type, name and id lead on
 pub opens_bucket : (late : Bool) (d : Draft) (k : ℕ) (kind : List ℕ) (rest : List Word) → 0 < kind_of_word d kind → opened d kind ≡ statement_kinds.Bucket k → WordLeads (between (at (idle late) d)) kind rest (amid d (bucket_line d k))
 opens_bucket true d k kind rest some is = (inr (inr some), ap (λ o. arrive d rest (statement d o)) (sym is))
 opens_bucket false d k kind rest some is = (inr (inr some), ap (λ o. arrive d rest (statement d o)) (sym is))
@@ -234,7 +234,7 @@ head_goes late d k kind x b others some is le l m = (
   ),
 )
 
--- a class id's
+-- the words of a class id's line lead on
 pub class_id_goes : (d : Draft) (b : ℕ) (class : List ℕ) (others : List (List ℕ)) → b < 10 ^ 10 → IsLawfulDraft (with_class_id d b class)
     → Goes (between (at numbered d)) (codes "id" ∷ (45 ∷ decimal b) ∷ codes "class" ∷ class ∷ []) others (between (at numbered (with_class_id d b class)))
 class_id_goes d b class others le l = (
@@ -254,11 +254,11 @@ class_id_goes d b class others le l = (
   ),
 )
 
--- the hash after a bucket's algorithm
+-- the form that is due after a bucket's algorithm, for the hash
 abbrev hash_form : Draft → Alg → Form
 hash_form d a = word (key (codes "hash")) (λ _. word (number 0) (λ _. done (at (filling false) (with_alg d a))))
 
--- a bucket's algorithm and its hash
+-- the words of a bucket's algorithm and hash lead on
 pub alg_goes : (d : Draft) (a : Alg) (others : List (List ℕ)) → IsLawfulDraft (with_alg d a)
     → Goes (between (at numbered d)) (codes "alg" ∷ alg_text a ∷ codes "hash" ∷ codes "0" ∷ []) others (between (at (filling false) (with_alg d a)))
 alg_goes d a others l = (
@@ -283,7 +283,7 @@ formed_again : (form : WeightForm) (w : ℕ) → w < 2 ^ 32 → weight_of_text (
 formed_again Rounded w light = read_again w light
 formed_again Exact w light = exact_read_again w light
 
--- an item's, with its weight
+-- the words of an item's line with its weight lead on
 pub item_goes : (form : WeightForm) (any : Bool) (d : Draft) (i : ItemId) (x : List ℕ) (w : ℕ) (others : List (List ℕ)) → item_named d x ≡ Some i → is_placed d.table i ≡ false → w < 2 ^ 32 → IsLawfulDraft (with_next_item d i (Some w))
     → Goes (between (at (filling any) d)) (codes "item" ∷ x ∷ codes "weight" ∷ weight_in form w ∷ []) others (between (at (filling true) (with_next_item d i (Some w))))
 item_goes form any d i x w others named free light l =
@@ -305,6 +305,6 @@ item_goes form any d i x w others named free light l =
       ),
     )
 
--- a bucket's closing brace
+-- the closing brace of a bucket leads on
 pub end_goes : (any : Bool) (d : Draft) (others : List (List ℕ)) → IsLawfulDraft (with_end d) → Goes (between (at (filling any) d)) (codes "}" ∷ []) others (between (at second (with_end d)))
 end_goes any d others l = (between (at second (with_end d)), (inr refl, refl), (l, tt), refl)

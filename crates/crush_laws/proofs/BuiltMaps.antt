@@ -1,4 +1,4 @@
--- The printed text of a map is the text of that map.
+-- Proves that the printed text of a map is the text of that map.
 use Rattle.std.proofs.Common.{◌≡◌, ℕ, Bool, true, false, List, [], ◌∷◌, ◌++◌, Option, Some, None, refl, sym, ap, subst, ◌∙◌, arith}
 use Rattle.std.proofs.lemmas.List.{append-nil}
 use Rattle.std.proofs.lemmas.List.Elements.{All-head, All-tail}
@@ -35,7 +35,7 @@ use Rattle.crush_laws.proofs.BuiltKinds.{found_at, ordered_number, kinded, kinds
 use Rattle.crush_laws.proofs.BuiltBuckets.{BucketsAreDue, BucketsLead, BucketsAreBuilt}
 use Rattle.crush_laws.proofs.BuiltWholeRules.{rules_go, behind}
 
--- what holds of all holds of what is found
+-- what holds for all elements holds for the element that a search finds
 found_has : {X : Type 0} (P : X → Type 0) (p : X → Bool) (xs : List X) (x : X) → All P xs → find p xs ≡ Some x → P x
 found_has P p [] x a e = absurd (let none : ◌≡◌ {A = Option _} None (Some x) = e in cc)
 found_has P p (y ∷ xs) x a e = by_test (p y) e (found_has P p xs x (All-tail P y xs a))
@@ -82,7 +82,7 @@ module _ (form : WeightForm) (s : SettingData) (t : List Row) (l : Lawful t) (f 
           let some = is.kind_some in
           ap (λ n. bytes_eq n (codes "class")) (kind_text-is s r.kind k) ∙ free_name k.kind.name (kind.free (omega (arith, number, some)))
 
-  -- AFTER THE BUCKETS come the rules
+  -- AFTER THE BUCKETS come the words of the rules
   abbrev rules_behind : List (List ℕ)
   rules_behind = flat_map (rule_words t) s.rules ++ []
 
@@ -101,7 +101,7 @@ module _ (form : WeightForm) (s : SettingData) (t : List Row) (l : Lawful t) (f 
       (avoids_both (codes "class") (flat_map (whole_words form s t) (root_order t)) rules_behind (avoids_all (codes "class") (whole_words form s t) (root_order t) bucket_avoids)
       (avoids_both (codes "class") (flat_map (rule_words t) s.rules) [] (avoids_all (codes "class") (rule_words t) s.rules (λ r. refl)) refl))
 
-  -- BEFORE THE BUCKETS: tunables, devices and types
+  -- BEFORE THE BUCKETS come the words of tunables, devices and types
   abbrev due : Draft
   due = quiet (kinded s.tunables (in_order s).kinds) (seen_rows t (device_numbers t))
 
@@ -133,12 +133,12 @@ module _ (form : WeightForm) (s : SettingData) (t : List Row) (l : Lawful t) (f 
         };
       }
 
-  -- the text may end there
+  -- the text may end after the last statement
   may_end : (b : Bool) → takes_statement (idle b) ≡ true
   may_end true = refl
   may_end false = refl
 
-  -- THE WHOLE MAP is read back if its buckets are built, whatever text without words follows it
+  -- THE WHOLE MAP is read back if its buckets are built, also if bytes without words follow its text
   read_as : (rest : List ℕ) → Holds rest [] → BucketsLead form s t false due rules_behind → IsTextOf (map_text form s t ++ rest) (in_order s) t
   read_as rest none b =
       let u = b.last.table in
@@ -163,10 +163,10 @@ module _ (form : WeightForm) (s : SettingData) (t : List Row) (l : Lawful t) (f 
   pub map_read_back : BucketsAreBuilt → (rest : List ℕ) → Holds rest [] → IsTextOf (map_text form s t ++ rest) (in_order s) t
   map_read_back built rest none = read_as rest none (built form s t l false due rules_behind before.ready)
 
--- the printed text is read in this way if its buckets are built
+-- the printed text is read in the order of the types' numbers if its buckets are built
 pub types_are_read_in_order : BucketsAreBuilt → TypesAreReadInOrder
 types_are_read_in_order built form s t l f = subst (λ bytes. IsTextOf bytes (in_order s) t) (append-nil (map_text form s t)) (map_read_back form s t l f built [] holds_nothing)
 
--- and so it is if comments follow it
+-- the same holds if comment lines follow the printed text
 pub comments_behind : BucketsAreBuilt → (form : WeightForm) (s : SettingData) (t : List Row) (comments : List ℕ) → Lawful t → Fits s t → AreCommentLines comments → IsTextOf (map_text form s t ++ comments) (in_order s) t
 comments_behind built form s t comments l f are = map_read_back form s t l f built comments (comment_lines-hold comments are)

@@ -1,4 +1,4 @@
--- The table while the printed buckets are read: which rows it has, and which of them already have their final place.
+-- The table while the printed buckets are read: which rows it has, and which of its items already have their final parent.
 use Rattle.std.proofs.Common.{◌≡◌, ℕ, ◌≤◌, Bool, true, false, List, [], ◌∷◌, ◌++◌, Option, Some, None, refl, sym, ap, subst, ◌∙◌, append-nil, arith}
 use Rattle.std.proofs.lemmas.Bool.{or_parts, eqb-true}
 use Rattle.std.proofs.lemmas.List.Elements.{All-head, All-tail, All-weaker}
@@ -27,16 +27,16 @@ use Rattle.crush_print.proofs.PartSteps.{with_one, IsClosed, kids-put}
 use Rattle.crush_print.proofs.PartRows.{rows_lawful, rows_found, rows_more, rows_put}
 use Rattle.crush_print.proofs.PrintedOrder.{add}
 
--- the items of the buckets that were read
+-- the items that each bucket has, if the buckets in `seen` were read and no bucket is open
 abbrev pub whole_kids : List Row → (ℕ → Bool) → ℕ → List ItemId
 whole_kids t seen c = if seen c then kids t c else []
 
--- and these of one that is open
+-- the items that each bucket has, if one more bucket is open and has some of its items
 abbrev pub open_kids : List Row → (ℕ → Bool) → ℕ → List ItemId → ℕ → List ItemId
 open_kids t seen b ds c = if b == c then ds else whole_kids t seen c
 
--- the table u has the items of q, of which those of P are where they will be: all items of the buckets that were seen, and
--- some of those of the buckets that are there
+-- the table u has the items for which q is true. Those for which P is true have their final parent: all items of the buckets that were read (`seen`), and
+-- some items of the other buckets that the table has (`there`)
 pub record IsRead (t : List Row) (seen there : ℕ → Bool) (q P : ItemId → Bool) (items : ℕ → List ItemId) (u : List Row) : Type 0 where
   pub devices : (i : ItemId) → is_device_id i ≡ true → q i ≡ true
   pub buckets : (j : ℕ) → q (Bucket j) ≡ there j
@@ -46,11 +46,11 @@ pub record IsRead (t : List Row) (seen there : ℕ → Bool) (q P : ItemId → B
   pub rows : IsReordered (part_of q P t) u
   pub kids : (c : ℕ) → kids u c ≡ items c
 
--- no test is both true and false
+-- no test has two results
 pub both_ways : (b : Bool) → b ≡ true → b ≡ false → ⊥
 both_ways b e f = let no : true ≡ false = sym e ∙ f in cc
 
--- what is true of one is true of either
+-- if the second of two tests is true, then one of the two is true
 or_right : (a b : Bool) → b ≡ true → (a || b) ≡ true
 or_right true b h = refl
 or_right false b h = h
@@ -67,7 +67,7 @@ module _ (t : List Row) (l : Lawful t) (seen there : ℕ → Bool) (q P : ItemId
       by_it true k = r.buckets p ∙ k
       by_it false k = absurd (both_ways (P i) h (r.loose i p k e))
 
-  -- each item that is where it will be has its bucket there, also beside one item more
+  -- if an item has its final parent, then the table has this parent
   pub read_closed : IsClosed t l q P
   read_closed i p a h e = held p i h e
 
@@ -78,13 +78,13 @@ module _ (t : List Row) (l : Lawful t) (seen there : ℕ → Bool) (q P : ItemId
   pub read_lawful : Lawful u
   read_lawful = rows_lawful t l q P read_closed u r.rows
 
-  -- the row of an item that is there in no bucket
+  -- the row of an item that is in the table without a parent
   pub read_row : (i : ItemId) (x : Row) → row_of t i ≡ Some x → q i ≡ true → P i ≡ false → row_of u i ≡ Some (bare x)
   read_row i x found a h =
       let none : P x.id ≡ false = ap P (row_id i t x found) ∙ h in
       rows_found t l q P read_closed u r.rows i ∙ (λ k. if a k then option_map (shown P) (found k) else None) ∙ ap (λ b. Some (if b then x else bare x)) none
 
--- A BUCKET IS OPENED
+-- A BUCKET IS OPENED: its row is appended to the table
 module _ (t : List Row) (l : Lawful t) (b : ℕ) (x : Row) (found : row_of t (Bucket b) ≡ Some x) (seen : ℕ → Bool) (q P : ItemId → Bool) (u : List Row) (r : IsRead t seen seen q P (whole_kids t seen) u) (new : seen b ≡ false) where
   pub fresh : q (Bucket b) ≡ false
   fresh = r.buckets b ∙ new
@@ -114,7 +114,7 @@ module _ (t : List Row) (l : Lawful t) (b : ℕ) (x : Row) (found : row_of t (Bu
     kids = λ c. kids-append u (bare x ∷ []) c ∙ append-nil (kids u c) ∙ r.kids c ∙ empty c;
   }
 
--- AN ITEM IS PUT into the open bucket
+-- AN ITEM IS PUT into the open bucket: it gets its final parent
 module _ (t : List Row) (l : Lawful t) (b : ℕ) (i : ItemId) (x : Row) (found : row_of t i ≡ Some x) (in_it : x.parent ≡ Some b) (seen : ℕ → Bool) (q P : ItemId → Bool) (ds : List ItemId) (u : List Row) (r : IsRead t seen (add seen b) q P (open_kids t seen b ds) u)
     (open_there : q (Bucket b) ≡ true) (there : q i ≡ true) (free : P i ≡ false) (ready : (j : ℕ) → i ≡ Bucket j → seen j ≡ true) where
   placed_in : parent_of t i ≡ Some b
@@ -175,7 +175,7 @@ module _ (t : List Row) (l : Lawful t) (b : ℕ) (i : ItemId) (x : Row) (found :
     kids = put_kids;
   }
 
--- THE BUCKET IS CLOSED: what holds of its items holds of each item in it
+-- THE BUCKET IS CLOSED: what holds for all items in its list holds for each item whose parent it is
 kid_among : (Q : ItemId → Type 0) (u : List Row) (b : ℕ) (i : ItemId) → All Q (kids u b) → parent_of u i ≡ Some b → Q i
 kid_among Q [] b i a e = absurd (let no : ◌≡◌ {A = Option ℕ} None (Some b) = e in cc)
 kid_among Q (r ∷ u) b i a e = by_id (same_id r.id i) (is_parent b r.parent) refl refl e a (λ x y. kid_among Q u b i x y)
@@ -210,7 +210,7 @@ module _ (t : List Row) (b : ℕ) (seen : ℕ → Bool) (q P : ItemId → Bool) 
     items c v true k m = (λ j. if m j then kids t b else whole_kids t seen c) ∙ ap (kids t) (eqb-true b c m) ∙ sym ((λ j. if seen c || m j then kids t c else []) ∙ (λ j. if or_right (seen c) true refl j then kids t c else []))
     items c v false k m = (λ j. if m j then kids t b else whole_kids t seen c) ∙ sym ((λ j. if seen c || m j then kids t c else []) ∙ (λ j. if or_none (seen c) j then kids t c else []))
 
--- each item is in its bucket once
+-- each item is in its parent's list once
 pub kids_once : (t : List Row) → Lawful t → (b : ℕ) (i : ItemId) → count_by (λ (j : ItemId). same_id j i) (kids t b) ≤ 1
 kids_once t l b i = omega (
   arith,
@@ -219,7 +219,7 @@ kids_once t l b i = omega (
   sum_by-filter_le (λ (r : Row). is_parent b r.parent) (λ (r : Row). one_if (same_id r.id i)) t,
 )
 
--- AT FIRST the devices are there, in no bucket
+-- AT FIRST the table has the devices, without parents
 pub first_read : (t u : List Row) → Same (part_of is_device_id (λ _. false) t) u → IsRead t (λ _. false) (λ _. false) is_device_id (λ _. false) (whole_kids t (λ _. false)) u
 first_read t u same = record {
   devices = λ i h. h;
@@ -238,7 +238,7 @@ first_read t u same = record {
       by_it true h = h
       by_it false h = h
 
--- AT LAST all is where it will be
+-- AT LAST each item has its final parent
 weighs_none : (i : ItemId) (x : Row) → IsRowOf i x → x.parent ≡ None → x.weight ≡ 0
 weighs_none (Device d) x f e = f.unplaced e
 weighs_none (Bucket b) x f e = f.weight

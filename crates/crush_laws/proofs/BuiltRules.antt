@@ -1,4 +1,4 @@
--- The words of each printed line of a rule lead on, if the map may have the rule as far as it is read.
+-- Proves that the words of each printed line of a rule lead on, if the map may have the rule as far as it was read.
 use Rattle.std.proofs.Common.{◌≡◌, ℕ, suc, ◌<◌, ◌≤◌, ◌^◌, Bool, true, false, List, [], ◌∷◌, ◌++◌, length, Option, Some, None, refl, sym, ap, subst, ◌∙◌, arith, inl, inr}
 use Rattle.std.proofs.lemmas.Bool.{ne_eqb}
 use Rattle.std.proofs.lemmas.Slice.Eq.{bytes_eq-Decides}
@@ -26,7 +26,7 @@ use Rattle.crush_text.specs.declared.expected.Expected.TheVariants as expect
 use Rattle.crush_text.specs.declared.expected.Optional.TheVariants.{Class}
 use Rattle.crush_laws.proofs.LeftOut.{forget}
 
--- SIZES
+-- SIZES: the words of the sizes lead on
 abbrev most_form : Draft → List ℕ → ℕ → List ℕ → Option ℕ → Form
 most_form d x n k least = word (key (codes "max_size")) (λ _. word (number LARGEST_RULE_NUMBER) (λ v. done (at (ruled (new_rule x n k least (Some v))) d)))
 
@@ -64,7 +64,7 @@ least_goes d x n k (Some v) rest h other l = (
   (arrive d (plain rest) (max_size d x n k (Some v)), (decimal_number LARGEST_RULE_NUMBER v h (omega (arith, h)), ap (λ y. arrive d (plain rest) (max_size d x n k (Some y))) (sym (decimal_value v (omega (arith, h))))), l, refl),
 )
 
--- THE HEAD
+-- THE HEAD: the words of a rule's head lead on
 abbrev type_form : Draft → List ℕ → ℕ → Form
 type_form d x n = word (key (codes "type")) (λ _. word (any_word expect.RuleType) (λ k. sizes d x n k))
 
@@ -77,7 +77,7 @@ sizes_lawful : (d : Draft) (x : List ℕ) (n : ℕ) (k : List ℕ) (least : Opti
 sizes_lawful d x n k None rest other l = subst IsLawfulState (sym (ap (λ b. if b then amid d (least_form d x n k) else arrive d (plain rest) (max_size d x n k None)) other)) l
 sizes_lawful d x n k (Some v) rest other l = tt
 
--- a rule's name, its id, the word for its kind, and its sizes, after which no other size follows
+-- the words of a rule's name, id, kind and sizes lead on, if no other size follows
 pub rule_head_goes : (late : Bool) (d : Draft) (x : List ℕ) (n : ℕ) (k : List ℕ) (least most : Option ℕ) (others : List (List ℕ)) → n < 10 ^ 10 → IfSome least (λ v. v ≤ LARGEST_RULE_NUMBER) → IfSome most (λ v. v ≤ LARGEST_RULE_NUMBER)
     → begins_with_key (codes "min_size") (plain others) ≡ false → begins_with_key (codes "max_size") (plain others) ≡ false → IsLawfulState (between (at (ruled (new_rule x n k least most)) d))
     → Goes (between (at (idle late) d)) (codes "rule" ∷ x ∷ codes "{" ∷ codes "id" ∷ decimal n ∷ codes "type" ∷ k ∷ (size_words (codes "min_size") least ++ size_words (codes "max_size") most)) others (between (at (ruled (new_rule x n k least most)) d))
@@ -130,7 +130,7 @@ rule_head_goes late d x n k least most others le hl hm other another l =
       ),
     )
 
--- STEPS
+-- STEPS: the words of each kind of step lead on
 pub take_goes : (d : Draft) (r : RuleData) (x : List ℕ) (b : ℕ) (class : Option (List ℕ)) (others : List (List ℕ)) → complete_bucket_named d x ≡ Some b → begins_with_key (codes "class") (plain others) ≡ false
     → IsLawfulState (between (at (ruled (with_step r (take b class))) d))
     → Goes (between (at (ruled r) d)) (codes "step" ∷ codes "take" ∷ x ∷ class_words class) others (between (at (ruled (with_step r (take b class))) d))
@@ -177,7 +177,7 @@ take_goes d r x b (Some c) others named other l =
       ),
     )
 
--- a count is read as itself
+-- a printed count is read as the same count
 no_sign : (ds : List ℕ) → 0 < length ds → AllDigits 10 ds → (slice_index ds 0 == 45) ≡ false
 no_sign [] some h = absurd (omega (arith, some))
 no_sign (c ∷ ds) some h = let r = digit_from_value c h.0 in ne_eqb c 45 (λ e. omega (arith, r.0, e))
@@ -232,7 +232,7 @@ choose_goes d r true firstn count kind others h l =
 choose_goes d r false firstn count kind others h l =
     (amid d (word step_word (step_behind d r)), (inl refl, refl), tt, (amid d (choose_step d r false), (inr (inl refl), refl), tt, order_goes d r false firstn count kind others h l))
 
--- a word that begins with `set_` is none of the other steps'
+-- a word that begins with `set_` isn't the first word of another kind of step
 differ : (w k : List ℕ) → starts_with nat_eq w (codes "set_") ≡ true → starts_with nat_eq k (codes "set_") ≡ false → bytes_eq w k ≡ false
 differ w k h g = by_test (bytes_eq w k) refl
   where
@@ -261,6 +261,6 @@ pub emit_goes : (d : Draft) (r : RuleData) (others : List (List ℕ)) → IsLawf
 emit_goes d r others l =
     (amid d (word step_word (step_behind d r)), (inl refl, refl), tt, (between (at (ruled (with_step r emit)) d), (inr (inr (inr (inl refl))), refl), l, refl))
 
--- the rule's closing brace
+-- the closing brace of a rule leads on
 pub rule_end_goes : (d : Draft) (r : RuleData) (others : List (List ℕ)) → IsLawfulDraft (add_rule d r) → Goes (between (at (ruled r) d)) (codes "}" ∷ []) others (between (at second (add_rule d r)))
 rule_end_goes d r others l = (between (at second (add_rule d r)), (inr refl, refl), (l, tt), refl)

@@ -1,4 +1,4 @@
--- The printed lines of rules lead from a map without rules to one with them. A bucket that a rule takes is found by its printed name.
+-- Proves that the printed lines of rules lead from a map without rules to the map that has them. A bucket that a rule takes is found by its printed name.
 use Rattle.std.proofs.Common.{◌≡◌, ℕ, ◌<◌, ◌^◌, Bool, true, false, List, [], ◌∷◌, ◌++◌, length, Some, refl, sym, ap, subst, ◌∙◌, arith, eq-eqb}
 use Rattle.std.proofs.lemmas.List.Concat.{flat_map-append}
 use Rattle.std.proofs.lemmas.List.Elements.{All-head, All-weaker}
@@ -40,12 +40,12 @@ step_avoids t k h (choose leaf firstn count kind) = h
 step_avoids t k h (set name value) = h
 step_avoids t k h emit = h
 
--- what holds of all parts together holds of each
+-- what holds for the parts of all elements holds for the parts of each element
 part_at : {X : Type 0} (P : ℕ → Type 0) (g : X → List ℕ) (front : List X) (x : X) (rest all : List X) → front ++ x ∷ rest ≡ all → All P (flat_map g all) → All P (g x)
 part_at P g front x rest all e a =
     All-left P (g x) (flat_map g rest) (All-right P (flat_map g front) (flat_map g (x ∷ rest)) (subst (All P) (flat_map-append g front (x ∷ rest)) (subst (λ xs. All P (flat_map g xs)) (sym e) a)))
 
--- after a rule, buckets and rules may follow
+-- whether a bucket or a rule has come before
 abbrev pub behind : Bool → List RuleData → Bool
 behind late [] = late
 behind late (r ∷ rs) = true
@@ -58,7 +58,7 @@ module _ (s : SettingData) (t u : List Row) (l : Lawful t) (f : Fits s t) (built
   abbrev pub ruled_setting : List RuleData → SettingData
   ruled_setting rs = record (in_order s) { rules = rs }
 
-  -- a bucket that is there is there again, and found by its printed name
+  -- a bucket of the table t is also in the table u, and it is found by its printed name
   there_again : (b : ℕ) → IsThere t b → IsThere u b
   there_again b h = sym (ap is_some (row_of-same t u same.rows l.ids (Bucket b))) ∙ h
 
@@ -68,14 +68,14 @@ module _ (s : SettingData) (t u : List Row) (l : Lawful t) (f : Fits s t) (built
       let found : id_named u (bucket_name t b) ≡ Some (Bucket b) = ap (id_named u) n.2 ∙ found_by_name u (Bucket b) n.0 built.names (sym (row_of-same t u same.rows l.ids (Bucket b)) ∙ n.1) in
       ap (λ o. option_and_then number_of (option_and_then (closed_item nothing) o)) found
 
-  -- a step keeps its form
+  -- a step has the form `IsStep` also in the setting with these rules
   step_again : (rs : List RuleData) (x : StepData) → IsStep s x → IsStep (ruled_setting rs) x
   step_again rs (take b class) h = h
   step_again rs (choose leaf firstn count kind) h = let fits = f.setting in record { range = h.range; known = ap is_some (ordered_number s fits kind) ∙ h.known }
   step_again rs (set name value) h = h
   step_again rs emit h = h
 
-  -- STEPS lead from a rule to that with them
+  -- STEPS: their words lead from a rule to the rule that also has these steps
   module _ (rs : List RuleData) (m : IsMap (quiet (ruled_setting rs) u)) (r : RuleData) (form : IsRule s r) (there : All (IsThere t) (taken_by r)) (others : List (List ℕ)) (free : Avoids (codes "class") others) where
     abbrev so_far : List StepData → RuleData
     so_far xs = record r { steps = xs }
@@ -108,7 +108,7 @@ module _ (s : SettingData) (t u : List Row) (l : Lawful t) (f : Fits s t) (built
     pub steps_go : StepsFit [] → Led (StepsFit r.steps) (step_state []) (flat_map (step_words t) r.steps) others (step_state r.steps)
     steps_go can = each_goes (step_words t) step_state StepsFit r.steps others step_leads [] r.steps refl can
 
-  -- RULES lead from a map to that with them
+  -- RULES: their words lead from a map to the map that also has these rules
   module _ (late : Bool) (others : List (List ℕ)) where
     abbrev rule_state : List RuleData → State
     rule_state rs = between (at (idle (behind late rs)) (quiet (ruled_setting rs) u))

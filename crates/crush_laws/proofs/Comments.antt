@@ -1,4 +1,4 @@
--- Comment lines have no words, and several comment lines one after the other are comment lines.
+-- Proves that comment lines have no words, and that several comment lines one after the other are comment lines.
 use Rattle.std.proofs.Common.{◌≡◌, ℕ, ◌+◌, Bool, true, false, not, ◌==◌, List, [], ◌∷◌, ◌++◌, refl, ap, sym, ◌∙◌, rules, tests}
 use Rattle.std.proofs.lemmas.Bool.{and_parts}
 use Rattle.std.specs.List.{list_all}
@@ -7,7 +7,7 @@ use Rattle.crush_units.proofs.Printed.{Holds}
 use Rattle.crush_units.proofs.Split.{opens, inside, closes, at_end}
 use Rattle.crush_laws.specs.ReadingBack.{are_comments, AreCommentLines}
 
--- they have no words, wherever they begin
+-- bytes that are comment lines have no words, at whatever place they begin
 no_words : (begun : Bool) (bytes : List ℕ) (p : ℕ) → are_comments begun bytes ≡ true → (q : ℕ) × (words_in begun p bytes ≡ stopped (ended q))
 no_words begun [] p h = (p, at_end begun p)
 no_words false (b ∷ bs) p h =
@@ -27,7 +27,7 @@ comment_lines-hold bytes h = record {
   ends = λ p. ((no_words false bytes p h).0, ap (λ (t : Text). t.stop) (no_words false bytes p h).1);
 }
 
--- a part of a line, before the rest
+-- bytes without a line feed within a comment line don't change whether the bytes are comment lines
 pub within : (part rest : List ℕ) → list_all (λ b. not (b == 10)) part ≡ true → are_comments true (part ++ rest) ≡ are_comments true rest
 within [] rest h = refl
 within (b ∷ part) rest h =

@@ -1,4 +1,4 @@
--- A bucket before its row is in the table: what the table with that row says of the bucket's first lines.
+-- Proves that if the table with a bucket's row is lawful, then the first lines of this bucket could be read before the row was appended.
 use Rattle.std.proofs.Common.{◌≡◌, ℕ, ◌+◌, ◌≤◌, false, List, [], ◌∷◌, ◌++◌, refl, ap, ◌∙◌, arith}
 use Rattle.std.proofs.lemmas.Bool.{and_from, lt-ltb, eq-eqb}
 use Rattle.std.proofs.lemmas.List.Elements.{All-weaker}
@@ -21,27 +21,27 @@ use Rattle.crush_laws.proofs.Allowed.{none_before, last_of, count_last, unnamed}
 use Rattle.crush_laws.proofs.BuiltHeads.{own_count}
 
 module _ (s : SettingData) (t : List Row) (k : ℕ) (x : List ℕ) (b : ℕ) (cs : List ShadowData) (a : Alg) (l : Lawful (t ++ new_bucket k x b cs a ∷ [])) where
-  -- the row by itself
+  -- the row meets `IsRow`
   row : IsRow (new_bucket k x b cs a)
   row = last_of IsRow t (new_bucket k x b cs a) l.rows
 
-  -- as a bucket's
+  -- the row meets `IsBucketRow`
   form : IsBucketRow b (new_bucket k x b cs a)
   form = let r = row in r.form
 
-  -- the ids of the row are in use by no other
+  -- no other row uses the ids of the row
   own_once : (u : ℕ) → times_used u (t ++ new_bucket k x b cs a ∷ []) ≡ times_used u t + count_by (λ v. v == u) (own_ids b cs)
   own_once u = times_used-push u t (new_bucket k x b cs a)
 
-  -- so they are free before it
+  -- the ids are free before the row is appended
   own_free : (u : ℕ) → 1 ≤ count_by (λ v. v == u) (own_ids b cs) → member u (used_ids t) ≡ false
   own_free u some = let none : times_used u t ≡ 0 = omega (arith, some, own_once u, l.used u) in member-count u (used_ids t) ∙ ap (nat_lt 0) none
 
-  -- its number is among them
+  -- the number of the bucket is one of these ids
   pub id_free : member b (used_ids t) ≡ false
   id_free = own_free b (let one : one_if (b == b) ≡ 1 = ap one_if (eq-eqb b b refl) in omega (arith, one, sum_by-cons (λ v. one_if (v == b)) b (map (λ (c : ShadowData). c.id) cs)))
 
-  -- what could be begun
+  -- the bucket could be begun (`CanBegin`)
   pub begin_back : HasKind s (new_bucket k x b cs a) → CanBegin s t k x
   begin_back known =
       let r = row in
@@ -54,7 +54,7 @@ module _ (s : SettingData) (t : List Row) (k : ℕ) (x : List ℕ) (b : ℕ) (cs
         few = omega (arith, l.buckets, count_last is_bucket t (new_bucket k x b cs a) refl);
       }
 
-  -- and numbered
+  -- the bucket could get its id and class ids (`CanNumber`)
   pub number_back : CanNumber t b cs
   number_back =
       let f = form in

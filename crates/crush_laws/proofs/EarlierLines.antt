@@ -1,4 +1,4 @@
--- Lawful backwards: if what is built after a line is lawful, then what was built before it is lawful.
+-- Proves that if what is built after a line is lawful, then what was built before the line is lawful. A draft (`Draft`) is what the lines so far have built. A form (`Form`) says which words the rest of a line must have. A state (`State`) is a place in the text: between two lines, or in a line with the form of its rest.
 use Rattle.std.proofs.Common.{◌≡◌, ℕ, Bool, true, false, List, [], ◌∷◌, ◌++◌, Option, Some, None, refl, sym, ap, subst, inl, inr}
 use Rattle.std.specs.Prelude.{All, bytes_eq, codes, drop}
 use Rattle.std.specs.Str.Parse.{digits_value}
@@ -32,27 +32,27 @@ use Rattle.crush_laws.proofs.Shapes.{IsTied, Shape, is_early, early_opening}
 use Rattle.crush_text.specs.declared.expected.Optional.TheVariants.{Nothing}
 use Rattle.crush_text.specs.declared.expected.Optional.{Optional}
 
--- nothing is pending
+-- a map for which nothing is pending is a lawful draft
 pub idle_draft : (d : Draft) → d.pending ≡ nothing → IsMap d → IsLawfulDraft d
 idle_draft d idle m = record { map = m; pending = subst (IsPending d.setting d.table) (sym idle) tt }
 
 module _ (d : Draft) where
-  -- the types of a device's map are those before it
+  -- a device's line doesn't change the types
   class_kinds : (n : ℕ) (x : List ℕ) → Possible d (device_class d n x) → All IsKind d.setting.kinds
   class_kinds n x (inl h) = h.2.2.0.map.fits.setting.kinds
   class_kinds n x (inr h) = h.0.map.fits.setting.kinds
 
-  -- if a rule's head ends lawfully, then what was built before it is a map
+  -- if a rule's head ends lawfully, then what was built before the head is a map
   max_map : (x : List ℕ) (n : ℕ) (k : List ℕ) (least : Option ℕ) → Possible d (max_size d x n k least) → IsMap d
   max_map x n k least (inl h) = h.2.2.0.map
   max_map x n k least (inr h) = h.0.map
 
-  -- with both sizes or without
+  -- the same for a head with sizes or without
   head_map : (x : List ℕ) (n : ℕ) (k : List ℕ) → Possible d (sizes d x n k) → IsMap d
   head_map x n k (inl h) = max_map x n k (Some (digits_value 10 h.2.0)) h.2.2
   head_map x n k (inr h) = max_map x n k None h
 
-  -- the types of each statement's map begin with those before it
+  -- the types after a statement begin with the types before it
   kinds_before : (o : StatementKind) → Possible d (statement d o) → All IsKind d.setting.kinds
   kinds_before statement_kinds.Tunable p = p.2.2.0.map.fits.setting.kinds
   kinds_before statement_kinds.Type p = All-left IsKind d.setting.kinds (record { number = digits_value 10 p.0; name = p.2.0 } ∷ []) p.2.2.0.map.fits.setting.kinds
@@ -61,7 +61,7 @@ module _ (d : Draft) where
   kinds_before statement_kinds.Rule p = (head_map p.0 (digits_value 10 p.2.2.2.0) p.2.2.2.2.2.0 p.2.2.2.2.2.2).fits.setting.kinds
 
   module _ (tied : IsTied (taken_buckets d.setting) d.table) where
-    -- before a device
+    -- before a device's line, the map is lawful
     device_back : (n : ℕ) (x : List ℕ) (class : Option (List ℕ)) → IsMap (with_device d n x class) → IsMap d
     device_back n x class m =
         let row : Row = new_device n x class in
@@ -70,12 +70,12 @@ module _ (d : Draft) where
           fits = record { setting = m.fits.setting; types = All-left (HasKind d.setting) d.table (row ∷ []) m.fits.types; taken = tied.taken };
         }
 
-    -- with a class or without
+    -- the same for a device with a class or without
     class_back : (n : ℕ) (x : List ℕ) → Possible d (device_class d n x) → IsMap d
     class_back n x (inl h) = device_back n x (Some h.2.0) h.2.2.0.map
     class_back n x (inr h) = device_back n x None h.0.map
 
-    -- before a statement
+    -- before a statement, the map is lawful
     statement_back : (o : StatementKind) → (is_early o ≡ true → IsEarly d) → Possible d (statement d o) → IsMap d
     statement_back statement_kinds.Tunable early p = tunable_back d p.0 (digits_value 10 p.2.0) (early refl) p.2.2.0.map
     statement_back statement_kinds.Type early p = kind_back d (digits_value 10 p.0) p.2.0 (early refl) p.2.2.0.map
@@ -83,18 +83,18 @@ module _ (d : Draft) where
     statement_back (statement_kinds.Bucket k) early p = record { lawful = p.2.0.map.lawful; fits = p.2.0.map.fits }
     statement_back statement_kinds.Rule early p = head_map p.0 (digits_value 10 p.2.2.2.0) p.2.2.2.2.2.0 p.2.2.2.2.2.2
 
-    -- by its first word
+    -- the same for a statement, given its first word
     opening_back : (late : Bool) → (late ≡ false → All IsKind d.setting.kinds → IsEarly d) → Possible d (word (opening late Nothing) (statement d)) → IsMap d
     opening_back late early (w, fw, p) = statement_back (opened d w) (λ is. early_opening d late early w fw is (kinds_before (opened d w) p)) p
 
-    -- before an id
+    -- before a bucket's id, the draft is lawful
     id_back : Shape begun d → Possible d (id_line d) → IsLawfulDraft d
     id_back s p =
         let l = p.2.2.2.0 in
         let both = subst (λ (q : Pending). IsPending d.setting d.table (pending_with_id q (digits_value 10 (drop 1 p.2.2.0)))) s.2 l.pending in
         record { map = record { lawful = l.map.lawful; fits = l.map.fits }; pending = subst (IsPending d.setting d.table) (sym s.2) both.0 }
 
-    -- before a class id
+    -- before a class id, the draft is lawful
     class_id_back : Shape numbered d → Possible d (class_id_line d) → IsLawfulDraft d
     class_id_back s p =
         let l = p.2.2.2.0 in
@@ -102,7 +102,7 @@ module _ (d : Draft) where
         let both = subst (λ (q : Pending). IsPending d.setting d.table (pending_with_class_id q new)) s.4 l.pending in
         record { map = record { lawful = l.map.lawful; fits = l.map.fits }; pending = subst (IsPending d.setting d.table) (sym s.4) (both.0, front_number d.table s.2 s.3 (new ∷ []) both.1) }
 
-    -- before the algorithm
+    -- before the algorithm, the draft is lawful
     rowed_back : (a : Alg) → Shape numbered d → IsMap (with_alg d a) → IsLawfulDraft d
     rowed_back a s m =
         let row : Row = new_bucket s.0 s.1 s.2 s.3 a in
@@ -118,7 +118,7 @@ module _ (d : Draft) where
           pending = subst (IsPending d.setting d.table) (sym s.4) (begin_back d.setting d.table s.0 s.1 s.2 s.3 a l known, number_back d.setting d.table s.0 s.1 s.2 s.3 a l);
         }
 
-    -- with `hash` or without
+    -- the same for an algorithm with `hash` or without
     alg_back : Shape numbered d → Possible d (alg_line d) → IsLawfulDraft d
     alg_back s (a, fa, inl h) = rowed_back _ s h.2.2.0.map
     alg_back s (a, fa, inr h) = rowed_back _ s h.0.map
@@ -127,7 +127,7 @@ module _ (d : Draft) where
     filling_draft : (any : Bool) → Shape (filling any) d → IsMap d → IsLawfulDraft d
     filling_draft any s m = record { map = m; pending = subst (IsPending d.setting d.table) (sym s.1) (s.3 m.lawful) }
 
-    -- before an item
+    -- before an item's line, the map is lawful
     added_back : (any : Bool) (x : List ℕ) (w : Option ℕ) → Shape (filling any) d → IsFree d x → IsMap (with_next_item d (item_of d x) w) → IsMap d
     added_back any x w s fx m =
         let i : ItemId = item_of d x in
@@ -139,12 +139,12 @@ module _ (d : Draft) where
           fits = record { setting = m.fits.setting; types = types_back d.table i s.0 v d.setting tied.loose fx.1 l (subst (All (HasKind d.setting)) is m.fits.types); taken = tied.taken };
         }
 
-    -- with a weight or without
+    -- the same for an item with a weight or without
     item_map : (any : Bool) → Shape (filling any) d → Possible d (item_line d) → IsMap d
     item_map any s (inl (x, fx, h)) = added_back any x (Some (units h.2.0)) s fx h.2.2.0.map
     item_map any s (inr (x, fx, h)) = added_back any x None s fx h.0.map
 
-    -- before a step
+    -- before a step, the map is lawful, and so is the map with the rule that was read so far
     step_before : (r : RuleData) (w : StepWord) → Shape (ruled r) d → Possible d (step_behind d r w) → IsMap d × IsMap (add_rule d r)
     step_before r takes s (b, fb, inl h) = (h.2.2.0.map, step_back d r (take (bucket_of_word d b) (Some h.2.0)) h.2.2.0.map s.1 h.2.2.1)
     step_before r takes s (b, fb, inr h) = (h.0.map, step_back d r (take (bucket_of_word d b) None) h.0.map s.1 h.1)
@@ -152,7 +152,7 @@ module _ (d : Draft) where
     step_before r (sets x) s h = (h.2.0.map, step_back d r (set x (digits_value 10 h.0)) h.2.0.map s.1 h.2.1)
     step_before r emits s h = (h.0.map, step_back d r emit h.0.map s.1 h.1)
 
-    -- before each line
+    -- before each line, the draft and the mode are lawful
     pub line_back : (mode : Mode) (k : Optional) → Shape mode d → Possible d (line_forms d k mode) → IsLawfulDraft d × IsLawfulMode d mode
     line_back first k s p = (idle_draft d s.0 (opening_back false (λ _. s.1) p), tt)
     line_back second k s p = (idle_draft d s (opening_back true (λ e. let no : true ≡ false = e in absurd cc) p), tt)

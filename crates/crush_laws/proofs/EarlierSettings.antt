@@ -1,4 +1,4 @@
--- A setting before its last line: a map with one type, tunable, rule or step more is also a map without it.
+-- Proves that a map with one more type, tunable, rule or step is also a map without it.
 use Rattle.std.proofs.Common.{◌≡◌, ℕ, ◌≤◌, Bool, List, [], ◌∷◌, ◌++◌, length, sym, subst, arith, length-append}
 use Rattle.std.proofs.lemmas.List.Elements.{All-nil, All-weaker}
 use Rattle.std.proofs.lemmas.List.Sums.{sum_by-append}
@@ -17,11 +17,11 @@ use Rattle.crush_text.specs.Document.{IsMap}
 use Rattle.crush_laws.proofs.Allowed.{rule_free}
 use Rattle.crush_laws.proofs.Ruled.{taken_by, CanAdd, map_with_rule}
 
--- of a front no more pass a test
+-- in a prefix of a list, no more elements pass a test than in the whole list
 pub fewer : {X : Type 0} (p : X → Bool) (xs ys : List X) (n : ℕ) → count_by p (xs ++ ys) ≤ n → count_by p xs ≤ n
 fewer p xs ys n h = omega (arith, h, sum_by-append (λ x. one_if (p x)) xs ys)
 
--- nor is it longer
+-- a prefix of a list isn't longer than the whole list
 pub shorter : {X : Type 0} (xs ys : List X) (n : ℕ) → length (xs ++ ys) ≤ n → length xs ≤ n
 shorter xs ys n h = omega (arith, h, length-append xs ys)
 
@@ -30,15 +30,15 @@ pub record IsEarly (d : Draft) : Type 0 where
   pub unruled : d.setting.rules ≡ []
   pub devices : All (λ (r : Row). r.kind ≡ 0) d.table
 
--- there is no rule that could be wrong
+-- if there are no rules, each rule has its form
 no_rules : (s : SettingData) → s.rules ≡ [] → All (IsRule s) s.rules
 no_rules s none = subst (All (IsRule s)) (sym none) (All-nil (IsRule s))
 
--- nor a row of a type that isn't there
+-- if each row is a device's, each row has a type that the setting has
 no_types : (s : SettingData) (t : List Row) → All (λ (r : Row). r.kind ≡ 0) t → All (HasKind s) t
 no_types s t devices = All-weaker (λ (r : Row). r.kind ≡ 0) (HasKind s) (λ r none some. absurd (omega (arith, none, some))) t devices
 
--- before a type
+-- the map without its last type is a map
 pub kind_back : (d : Draft) (n : ℕ) (x : List ℕ) → IsEarly d → IsMap (with_kind d n x) → IsMap d
 kind_back d n x early m =
     let s : SettingData = d.setting in
@@ -65,7 +65,7 @@ kind_back d n x early m =
       };
     }
 
--- before a tunable
+-- the map without its last tunable is a map
 pub tunable_back : (d : Draft) (x : List ℕ) (v : ℕ) → IsEarly d → IsMap (with_tunable d x v) → IsMap d
 tunable_back d x v early m =
     let s : SettingData = d.setting in
@@ -96,7 +96,7 @@ tunable_back d x v early m =
 rule_before : (d : Draft) (r x : RuleData) → IsRule (add_rule d r).setting x → IsRule d.setting x
 rule_before d r x h = rule_kept (add_rule d r).setting d.setting.rules x h
 
--- before a rule, if the buckets that it takes exist
+-- the map without its last rule is a map, if the table has the buckets that its rules take
 pub rule_back : (d : Draft) (r : RuleData) → All (IsThere d.table) (taken_buckets d.setting) → IsMap (add_rule d r) → IsMap d
 rule_back d r taken m =
     let s : SettingData = d.setting in
@@ -123,7 +123,7 @@ rule_back d r taken m =
       };
     }
 
--- before a step
+-- the map whose last rule lacks its last step is a map
 pub step_back : (d : Draft) (r : RuleData) (x : StepData) → IsMap d → All (IsThere d.table) (taken_by r) → IsMap (add_rule d (with_step r x)) → IsMap (add_rule d r)
 step_back d r x map taken m =
     let free = rule_free d (with_step r x) m in

@@ -1,4 +1,4 @@
--- A table before its last line: a table that is lawful with one row more, or with an item put into its bucket, is lawful without that.
+-- Proves that if a table is lawful with one more row, or with one more item in its bucket, then it is lawful without that.
 use Rattle.std.proofs.Common.{◌≡◌, ℕ, ◌+◌, ◌≤◌, Bool, true, false, List, [], ◌∷◌, ◌++◌, Option, Some, None, refl, sym, ap, subst, ◌∙◌, arith}
 use Rattle.std.proofs.lemmas.List.Elements.{All-map, All-filter, All-weaker, filter-append, filter_passes}
 use Rattle.std.proofs.lemmas.List.{append-nil}
@@ -27,8 +27,8 @@ use Rattle.crush_edits.specs.Fits.{HasKind}
 use Rattle.crush_map.specs.WrittenItems.{placed_row, put_below}
 use Rattle.crush_laws.proofs.Allowed.{none_before}
 
--- A ROW MORE
--- without a row of the item nothing goes
+-- A ROW MORE: the table without its last row is lawful
+-- if the table has no row of an item, removing this item's row changes nothing
 without_none : (t : List Row) (i : ItemId) → times i t ≡ 0 → without_row i t ≡ t
 without_none [] i h = refl
 without_none (r ∷ t) i h = by_id (same_id r.id i) (sym (times-cons i r t) ∙ h) (without_none t i)
@@ -37,11 +37,11 @@ without_none (r ∷ t) i h = by_id (same_id r.id i) (sym (times-cons i r t) ∙ 
     by_id true n ih = absurd (omega (arith, n))
     by_id false n ih = ap (λ (u : List Row). r ∷ u) (ih (omega (arith, n)))
 
--- the last row is the only one of its item
+-- no other row has the item of the last row
 pub none_like : (t : List Row) (r : Row) → Lawful (t ++ r ∷ []) → times r.id t ≡ 0
 none_like t r l = none_before (λ (x : Row). same_id x.id r.id) t r (same_id_refl r.id) (l.ids r.id)
 
--- and so the rows without it are those before it
+-- the table without the row of the last row's item is the table without its last row
 without_last : (t : List Row) (r : Row) → Lawful (t ++ r ∷ []) → without_row r.id (t ++ r ∷ []) ≡ t
 without_last t r l =
     filter-append (λ (x : Row). not (same_id x.id r.id)) t (r ∷ [])
@@ -49,7 +49,7 @@ without_last t r l =
     ∙ append-nil (without_row r.id t)
     ∙ without_none t r.id (none_like t r l)
 
--- where each parent is there before it, none is the last row's bucket
+-- if each row's parent comes earlier in the table, then the last row is no row's parent
 stays_there : (t : List Row) (r : Row) (p : ℕ) → times r.id t ≡ 0 → is_there t (Bucket p) ≡ true → not (same_id (Bucket p) r.id) ≡ true
 stays_there t r p none there = by_id (same_id (Bucket p) r.id) refl
   where
@@ -60,7 +60,7 @@ stays_there t r p none there = by_id (same_id (Bucket p) r.id) refl
         let no : true ≡ false = sym there ∙ gone in
         absurd cc
 
--- the parent of another item is there
+-- the parent of any other item stays in the table
 parent_stays : (t : List Row) (r : Row) (i : ItemId) (p : ℕ) → All (HasParent t) t → not (same_id i r.id) ≡ true → parent_of (t ++ r ∷ []) i ≡ Some p → is_there t (Bucket p) ≡ true
 parent_stays t r i p all other e = by_row (is_there t i) (same_id r.id i) refl (same_id_comm r.id i) (parent_there t t all i) (sym (ap (option_and_then (λ (x : Row). x.parent)) (row_of-append t (r ∷ []) i)) ∙ e)
   where
@@ -74,31 +74,31 @@ parent_stays t r i p all other e = by_row (is_there t i) (same_id r.id i) refl (
     by_row false true there is h k = let no : false ≡ true = sym (ap not (sym is)) ∙ other in absurd cc
     by_row false false there is h k = absurd (let no : (let x : Option ℕ = None in x) ≡ Some p = k in cc)
 
--- the table before its last row
+-- the table before its last row is lawful
 pub row_back : (t : List Row) (r : Row) → All (HasParent t) t → Lawful (t ++ r ∷ []) → Lawful t
 row_back t r all l =
     let none = none_like t r l in
     subst Lawful (without_last t r l) (Lawful-only (λ (i : ItemId). not (same_id i r.id)) (t ++ r ∷ []) (λ i p other e. stays_there t r p none (parent_stays t r i p all other e)) l)
 
--- AN ITEM IN ITS BUCKET
--- what is in no bucket weighs nothing
+-- AN ITEM IN ITS BUCKET: the table before the item got its parent is lawful
+-- an item without a parent has weight 0
 abbrev pub IsLoose : Row → Type 0
 IsLoose r = r.parent ≡ None → r.weight ≡ 0
 
--- a root's row without weight that was put into a bucket is the same row without that bucket and weight
+-- if a row without a parent and a weight gets a parent and a weight, and both are removed again, the result is the same row
 out_again : (b w : ℕ) (r : Row) → r.parent ≡ None → r.weight ≡ 0 → bare (placed_row b w r) ≡ r
 out_again b w r root light = λ k. record r { parent = sym root k; weight = sym light k }
 
 module _ (t : List Row) (i : ItemId) (b w : ℕ) where
-  -- the rows of the item
+  -- the row of the item, as a list
   abbrev own : List Row
   own = filter (λ (r : Row). same_id r.id i) t
 
-  -- the rows of the item and the others are all
+  -- the item's row and the other rows are all rows, in another order
   apart : IsReordered (without_row i t ++ own) t
   apart = through (reordered_comm (without_row i t) own) (reordered_split (λ (r : Row). same_id r.id i) t)
 
-  -- no row is added or removed
+  -- giving the item its parent adds and removes no row
   pub times_put : (j : ItemId) → times j (put_below b i w t) ≡ times j t
   times_put j =
       times-append j (without_row i t) (map (placed_row b w) own)
@@ -106,24 +106,24 @@ module _ (t : List Row) (i : ItemId) (b w : ℕ) where
       ∙ sym (times-append j (without_row i t) own)
       ∙ reordered-count (λ (r : Row). same_id r.id j) apart
 
-  -- so what is there is there with the item in its bucket
+  -- an item that was in the table is in the table after the item has got its parent
   pub there_put : (j : ItemId) → is_there t j ≡ true → is_there (put_below b i w t) j ≡ true
   there_put j h = times-is_there (put_below b i w t) j (subst (λ (n : ℕ). 1 ≤ n) (sym (times_put j)) (is_there-times t j h))
 
-  -- all items except this one
+  -- the test that is true for all items except for the item i
   abbrev Others : ItemId → Bool
   Others j = not (same_id j i)
 
-  -- the other rows are as they were
+  -- removing the item from its bucket doesn't change the other rows
   others_back : map (shown Others) (without_row i t) ≡ without_row i t
   others_back = map_same (shown Others) (without_row i t)
       (All-weaker (λ (r : Row). Others r.id ≡ true) (λ (r : Row). shown Others r ≡ r) (λ r h. ap (λ (c : Bool). if c then r else bare r) h) (without_row i t) (filter_passes (λ (r : Row). Others r.id) t))
 
-  -- and so is this one
+  -- removing the item from its bucket gives the item's earlier row
   own_row : (r : Row) → same_id r.id i ≡ true → r.parent ≡ None → r.weight ≡ 0 → shown Others (placed_row b w r) ≡ r
   own_row r is root light = ap (λ (c : Bool). if not c then placed_row b w r else bare (placed_row b w r)) is ∙ out_again b w r root light
 
-  -- so are many
+  -- the same for a list of rows
   map_both : (xs : List Row) → All (λ (r : Row). shown Others (placed_row b w r) ≡ r) xs → map (shown Others) (map (placed_row b w) xs) ≡ xs
   map_both xs h = fused xs ∙ map_same (λ (r : Row). shown Others (placed_row b w r)) xs h
     where
@@ -132,12 +132,12 @@ module _ (t : List Row) (i : ItemId) (b w : ℕ) where
       fused (y ∷ ys) = ap (λ (zs : List Row). shown Others (placed_row b w y) ∷ zs) (fused ys)
 
   module _ (loose : All IsLoose t) (free : is_placed t i ≡ false) (once : Distinct (put_below b i w t)) where
-    -- what has no parent
+    -- an item without a parent has the parent none
     root : (o : Option ℕ) → is_some o ≡ false → o ≡ None
     root None h = refl
     root (Some p) h = absurd (let no : true ≡ false = h in cc)
 
-    -- so the rows of the item are as they were
+    -- the item's row is the earlier row
     own_back : map (shown Others) (map (placed_row b w) own) ≡ own
     own_back =
         let found = All-found t (λ j. subst (λ (n : ℕ). n ≤ 1) (times_put j) (once j)) in
@@ -151,19 +151,19 @@ module _ (t : List Row) (i : ItemId) (b w : ℕ) where
             let none : r.parent ≡ None = ap (option_and_then (λ (x : Row). x.parent)) (sym found) ∙ ap (parent_of t) (same_id_equal r.id i is) ∙ root (parent_of t i) free in
             own_row r is none (light none)
 
-    -- and so are all rows, except for their order
+    -- all rows are the earlier rows, except for their order
     all_back : map (shown Others) (put_below b i w t) ≡ without_row i t ++ own
     all_back = map_append (shown Others) (without_row i t) (map (placed_row b w) own) ∙ (λ k. others_back k ++ own_back k)
 
-    -- what holds of each row when the item is taken out again holds of each row before
+    -- what holds for each row after the item is removed from its bucket again holds for each earlier row
     pub rows_back : (P : Row → Type 0) → All P (map (shown Others) (put_below b i w t)) → All P t
     rows_back P h = reordered-All P apart (subst (All P) all_back h)
 
-  -- the table before an item came into its bucket
+  -- the table before the item got its parent is lawful
   pub item_back : All IsLoose t → is_placed t i ≡ false → Lawful (put_below b i w t) → Lawful t
   item_back loose free l = Lawful-reordered (without_row i t ++ own) t apart (subst Lawful (all_back loose free l.ids) (Lawful-shown Others (put_below b i w t) l))
 
-  -- and its types
+  -- the earlier table's rows have types that the setting has
   pub types_back : (s : SettingData) → All IsLoose t → is_placed t i ≡ false → Lawful (put_below b i w t) → All (HasKind s) (put_below b i w t) → All (HasKind s) t
   types_back s loose free l h =
       let once = l.ids in

@@ -1,4 +1,4 @@
--- The small document that was worked by hand.
+-- Proves that the small document that was worked out by hand is right.
 use Rattle.std.proofs.Common.{refl, inl, inr}
 use Rattle.std.specs.Prelude.{codes}
 use Rattle.crush_laws.specs.Example.{ExampleIsRight}

@@ -1,4 +1,4 @@
--- The lines of a history are comments.
+-- Proves that the lines of a history are comments.
 use Rattle.std.proofs.Common.{◌≡◌, ℕ, zero, suc, ◌+◌, ◌/◌, ◌%◌, ◌<◌, ◌==◌, Bool, true, false, not, List, [], ◌∷◌, ◌++◌, nat_lt, refl, ap, ◌∙◌, append_assoc, arith}
 use Rattle.std.proofs.lemmas.Bool.Decides.{nat_tests}
 use Rattle.std.proofs.lemmas.List.Elements.{All-head, All-tail}
@@ -27,11 +27,11 @@ use Rattle.crush_history.specs.History.{EntryData}
 use Rattle.crush_history.specs.HistoryText.{pair_text, pairs_text, one_name, two_names, name_and_weight, edit_text, edits_text, rest_text, guard_text, call_text, digit_of, line_head, refusal_text, refused_at_text, line_end, line_text, entries_text}
 use Rattle.crush_laws.specs.Written.{IsNamed, IsNamedCall, HistoryLinesAreComments, WhatIsWrittenIsReadBack}
 
--- no byte ends the line
+-- no byte of the text is a line feed
 abbrev pub IsInLine : List ℕ → Type 0
 IsInLine part = list_all (λ b. not (b == 10)) part ≡ true
 
--- two parts, one after the other
+-- two texts without line feeds joined have no line feed
 pub both_in_line : (a b : List ℕ) → IsInLine a → IsInLine b → IsInLine (a ++ b)
 both_in_line a b ha hb = list_all-append (λ x. not (x == 10)) a b ∙ rw (ha, hb) refl
 
@@ -67,7 +67,7 @@ pub number_in_line : (n : ℕ) → IsInLine (decimal n)
 unfolding digits
 number_in_line n = digits_in_line 64 n [] refl
 
--- WEIGHTS
+-- WEIGHTS have no line feed
 digit_in_line : (n : ℕ) → not (digit n == 10) ≡ true
 digit_in_line n = high 48 (n % 10) (omega arith)
 
@@ -80,7 +80,7 @@ weight_in_line w =
     let e = digit_in_line (parts_of w) in
     both_in_line (decimal (parts_of w / 100000)) (46 ∷ digit (parts_of w / 10000) ∷ digit (parts_of w / 1000) ∷ digit (parts_of w / 100) ∷ digit (parts_of w / 10) ∷ digit (parts_of w) ∷ []) (number_in_line (parts_of w / 100000)) (rw (a, b, c, d, e) refl)
 
--- LOCATIONS
+-- LOCATIONS have no line feed
 pair_in_line : (p : Pair) → IsName p.kind → IsName p.name → IsInLine (pair_text p)
 pair_in_line p kind name = both_in_line (codes " " ++ p.kind ++ codes "=") p.name (three_in_line (codes " ") p.kind (codes "=") refl (name_in_line p.kind kind) refl) (name_in_line p.name name)
 
@@ -93,7 +93,7 @@ pairs_in_line (p ∷ l) kinds names =
 location_in_line : (l : List Pair) → IsLocation l → IsInLine (pairs_text l)
 location_in_line l is = pairs_in_line l is.kinds is.names
 
--- EDITS
+-- EDITS have no line feed
 one_in_line : (word n : List ℕ) → IsInLine word → IsName n → IsInLine (one_name word n)
 one_in_line word n h is = three_in_line word (codes " ") n h refl (name_in_line n is)
 
@@ -120,7 +120,7 @@ edit_in_line (Rename from to) is = names_in_line (codes "rename-bucket") from to
 edit_in_line (SetClass n c) is = names_in_line (codes "set-device-class") c n refl is.1 is.0
 edit_in_line (RemoveClass n) is = one_in_line (codes "rm-device-class") n refl is
 
--- CALLS
+-- CALLS have no line feed
 edits_in_line : (es : List Edit) → All IsNamed es → IsInLine (edits_text es)
 edits_in_line [] h = refl
 edits_in_line (e ∷ es) h =
@@ -132,7 +132,7 @@ call_in_line (Batch es) is = both_in_line (codes "begin ; ") (rest_text es) refl
 call_in_line (Guarded seen es) is =
     both_in_line (guard_text seen) (rest_text es) (three_in_line (codes "begin at ") (decimal seen) (codes " ; ") refl (number_in_line seen) refl) (both_in_line (edits_text es) (codes "commit") (edits_in_line es is) refl)
 
--- REPLIES: the line ends after them
+-- REPLIES have one line feed, at their end
 abbrev EndsLine : List ℕ → Type 0
 EndsLine text = (rest : List ℕ) → are_comments true (text ++ rest) ≡ are_comments false rest
 
@@ -187,7 +187,7 @@ reply_ends (Refused r) = ends (codes " = refused ") (refusal_text r) refl (refus
 reply_ends (Stale n) = ends (codes " = refused Stale 11 changes " ++ decimal n) (codes "\n") (both_in_line (codes " = refused Stale 11 changes ") (decimal n) refl (number_in_line n)) line_feed
 reply_ends (BatchRefused i r) = ends (refused_at_text i) (refusal_text r) (three_in_line (codes " = refused at ") (decimal i) (codes " ") refl (number_in_line i) refl) (refusal_ends r)
 
--- LINES
+-- LINES of a history are comment lines
 abbrev IsLine : List ℕ → Type 0
 IsLine text = (rest : List ℕ) → are_comments false (text ++ rest) ≡ are_comments false rest
 
@@ -210,6 +210,6 @@ history_lines_are_comments names number (e ∷ h) ns hs =
     line_is_comment number (slice_index_or names e.operator []) e.call e.reply (operator_in_line names e.operator ns) (All-head (λ (x : EntryData). IsNamedCall x.call) e h hs) (entries_text names (number + 1) h)
     ∙ history_lines_are_comments names (number + 1) h ns (All-tail (λ (x : EntryData). IsNamedCall x.call) e h hs)
 
--- WHAT IS WRITTEN of a run is read as the map
+-- WHAT IS WRITTEN by a run is read back as the map
 pub written_is_read_back : WhatIsWrittenIsReadBack
 written_is_read_back form s t names number h l f ns hs = comments_behind_are_no_matter form s t (entries_text names number h) l f (history_lines_are_comments names number h ns hs)

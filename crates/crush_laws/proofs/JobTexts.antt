@@ -1,4 +1,4 @@
--- The map after the run of a job is lawful, and the output of the run is read back as that map.
+-- Proves that the map after the run of a job is lawful, and that the output of the run is read back as that map.
 use Rattle.std.proofs.Common.{◌≡◌, ℕ, ◌<◌, ◌&&◌, Bool, true, false, cond, List, Option, Some, None, nat_le, refl, arith}
 use Rattle.std.proofs.lemmas.Bool.Decides.{nat_tests}
 use Rattle.std.proofs.lemmas.List.Elements.{All-map, All-weaker}
@@ -28,7 +28,7 @@ use Rattle.crush_laws.proofs.HistoryComments.{written_is_read_back}
 use Rattle.crush_script.specs.ScriptsText.{IsSaidCall, IsSaidScript}
 use Rattle.crush_script.proofs.SaidJobs.{job_said}
 
--- the number of a device's name is a device's id
+-- the number in the name of a device is the id of a device
 device_in_range : (n : List ℕ) (d : ℕ) → device_named n ≡ Some d → d < DEVICE_IDS
 device_in_range n d is = named (bytes_eq (take 4 n) (codes "osd.") && is_plain (drop 4 n)) (digits_value 10 (drop 4 n)) is
   where
@@ -40,7 +40,7 @@ device_in_range n d is = named (bytes_eq (take 4 n) (codes "osd.") && is_plain (
     named true v is = from (nat_le v LAST_DEVICE_ID) v refl is
     named false v is = absurd cc
 
--- what a line says has the forms that the table's laws ask for, and those that the lines of a history do
+-- the calls that a line can express have the forms that the table's laws require and the forms that the lines of a history have
 placing_form : (d : ℕ) (n : List ℕ) (w : ℕ) (l : List Pair) → IsSaidPlacing d n w l → table.IsPlacing d n l
 placing_form d n w l is = record { id = device_in_range n d is.device; name = is.name; at = is.at }
 
@@ -82,7 +82,7 @@ call_named (One e) is = edit_named e is
 call_named (Batch es) is = All-weaker IsSaid IsNamed edit_named es is.0
 call_named (Guarded seen es) is = All-weaker IsSaid IsNamed edit_named es is.0
 
--- a fact of the calls of scripts, from what was read
+-- what holds for each call that a line can express holds for all calls of the scripts
 of_calls_said : (P : Call → Type 0) → ((c : Call) → IsSaidCall c → P c) → (scripts : List ScriptData) → All IsSaidScript scripts → All (λ (x : ScriptData). All P x.calls) scripts
 of_calls_said P each scripts said = All-weaker IsSaidScript (λ (x : ScriptData). All P x.calls) (λ x is. All-weaker IsSaidCall P each x.calls is.calls) scripts said
 
@@ -91,7 +91,7 @@ jobs_stay_lawful bytes job is =
     let read = each_map_is_lawful (map_part bytes) job.setting job.table job.adjusted is.map in
     turns_keep job.setting job.table job.scripts (record { lawful = read.0; fits = read.1 }) (of_calls_said IsCall call_form job.scripts (job_said bytes job is))
 
--- names are names in the history of a job's run
+-- the names of the operators and the names in the calls of a job have the form of names
 pub record JobHistory (job : JobData) : Type 0 where
   pub names : All IsName (names_of job.scripts)
   pub calls : IsNamedHistory (turns job.setting job.table job.scripts)

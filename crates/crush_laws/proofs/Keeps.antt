@@ -1,4 +1,4 @@
--- What each line preserves holds for all that is read, so each document is a map.
+-- Proves that a property which each line preserves holds for all that is read, so each document is a map. A draft (`Draft`) is what the lines so far have built. A form (`Form`) says which words the rest of a line must have. A state (`State`) is a place in the text: between two lines, or in a line with the form of its rest. A progress (`Progress`) is a draft with the mode (`Mode`), which says which lines may come next.
 use Rattle.std.proofs.Common.{◌≡◌, ◌≢◌, ℕ, zero, suc, ◌<◌, ◌≤◌, Bool, true, false, cond, List, [], ◌∷◌, ◌++◌, Option, Some, None, Result, Ok, Err, refl, sym, ap, subst, ◌∙◌, arith, inl, inr}
 use Rattle.std.proofs.lemmas.Bool.{cond_both, and_parts, or_parts, ltb-true, leb-true}
 use Rattle.std.proofs.lemmas.Slice.Eq.{bytes_eq-Decides}
@@ -51,18 +51,18 @@ use Rattle.crush_laws.proofs.LeftOut.{opening_right}
 use Rattle.crush_text.specs.declared.expected.Optional.TheVariants.{Nothing}
 use Rattle.crush_text.specs.declared.expected.Optional.{Optional}
 
--- a word of a text is a brace or a name
+-- a word of a text is either a brace or a name
 abbrev pub IsWord : List ℕ → Type 0
 IsWord w = (is_brace_word w || is_name w) ≡ true
 
--- however a form goes on, what it builds has the property; which optional part it has left out doesn't matter
+-- each draft that a form can build has the property. Which optional part the form has left out doesn't matter
 abbrev Keeps : (Progress → Type 0) → Draft → Form → Type 0
 Keeps P d (done p) = P (passing Nothing p)
 Keeps P d (word r more) = (w : List ℕ) → IsWord w → IsRight d r w → Keeps P d (more (value d r w))
 Keeps P d (optional k f g) = Keeps P d f × Keeps P d g
 Keeps P d (ahead k f g) = Keeps P d f × Keeps P d g
 
--- and so has what was read, and what is built of the rest of a line
+-- the draft so far has the property, and so has each draft that the rest of the line can build
 abbrev pub Has : (Progress → Type 0) → State → Type 0
 Has P (between p) = P (passing Nothing p)
 Has P (amid d f) = Keeps P d f
@@ -80,17 +80,17 @@ module _ (P : Progress → Type 0) (each : (p : Progress) → P (passing Nothing
   goes d (optional key f g) w rest m k formed h = absurd h
   goes d (ahead key f g) w rest m k formed h = absurd h
 
-  -- what a word leads to has it
+  -- the state to which a word leads has the property
   pub next_has : (s : State) (w : List ℕ) (rest : List Word) (m : State) → Has P s → IsWord w → SpellsNext s w rest m → Has P m
   next_has (between p) w rest m k formed h = goes p.draft (next p) w rest m (each p k) formed h
   next_has (amid d f) w rest m k formed h = goes d f w rest m k formed h
 
-  -- all that is spelled has the property
+  -- each state to which spelled words lead has the property
   pub spelled_has : (s : State) (ws others : List Word) (m : State) → Has P s → AreFormed ws → Spell s ws others m → Has P m
   spelled_has s [] others m k formed h = subst (Has P) h k
   spelled_has s (w ∷ ws) others m k formed h = spelled_has h.0 ws others m (next_has s w.text (ws ++ others) h.0 k formed.0 h.1) formed.1 h.2
 
--- WHAT IS KNOWN between two lines: the setting and the table are a map, and of a bucket or a rule that isn't whole what is
+-- WHAT IS KNOWN between two lines: the setting and the table are a map, and the bucket or the rule that isn't complete is what is
 -- pending
 abbrev pub Stage : Mode → Draft → Type 0
 Stage first d = d.pending ≡ nothing
@@ -100,22 +100,22 @@ Stage numbered d = (k : ℕ) × (x : List ℕ) × (b : ℕ) × (cs : List Shadow
 Stage (filling any) d = (b : ℕ) × (d.pending ≡ is_filling b) × IsRoot d.table b
 Stage (ruled r) d = (d.pending ≡ nothing) × CanAdd d r
 
--- so it is
+-- the draft of the progress p has the property `Stage` for the mode of p
 pub record Good (p : Progress) : Type 0 where
   pub map : IsMap p.draft
   pub stage : Stage p.mode p.draft
 
--- what isn't the one is the other
+-- a test that isn't true is false
 pub not_true : (b : Bool) → (b ≡ true → ⊥) → b ≡ false
 not_true true h = absurd (h refl)
 not_true false h = refl
 
--- and the other way round
+-- a test that isn't false is true
 pub not_false : (b : Bool) → (b ≡ false → ⊥) → b ≡ true
 not_false true h = refl
 not_false false h = absurd (h refl)
 
--- a word that is no brace is a name
+-- a word that isn't a brace is a name
 name_of : (w : List ℕ) → IsWord w → is_brace_word w ≡ false → IsName w
 name_of w formed h = tests (nat_lt 0 (length w)) (nat_le (length w) LONGEST_NAME) (are_name_bytes w) refl refl refl (rw h at formed)
   where
@@ -124,11 +124,11 @@ name_of w formed h = tests (nat_lt 0 (length w)) (nat_le (length w) LONGEST_NAME
     tests true false c ha hb hc e = absurd cc
     tests false b c ha hb hc e = absurd cc
 
--- and so it is where it isn't right to be one
+-- a word that must not be a brace is a name
 pub word_name : (w : List ℕ) → IsWord w → (IsBrace w → ⊥) → IsName w
 word_name w formed h = name_of w formed (not_true _ (λ t. h ((brace_tells w).0 t)))
 
--- what is true of no brace
+-- if a test is false for both braces, a word for which it is true isn't a brace
 pub no_brace : (test : List ℕ → Bool) (w : List ℕ) → test (123 ∷ []) ≡ false → test (125 ∷ []) ≡ false → test w ≡ true → is_brace_word w ≡ false
 no_brace test w open_not close_not h = by_tests (bytes_eq w (123 ∷ [])) (bytes_eq w (125 ∷ [])) refl refl
   where
@@ -137,7 +137,7 @@ no_brace test w open_not close_not h = by_tests (bytes_eq w (123 ∷ [])) (bytes
     by_tests false true ha hb = let e : true ≡ false = sym h ∙ ap test ((bytes_eq-Decides w _).0 hb) ∙ close_not in absurd cc
     by_tests false false ha hb = rw (ha, hb) refl
 
--- a number is at most the greatest one
+-- a word that is a number is at most the greatest number
 number_most : (most : ℕ) (w : List ℕ) → (is_number most w ≡ false → ⊥) → digits_value 10 w ≤ most
 number_most most w h = leb-true _ _ (and_parts (are_digits 10 w) (nat_le (digits_value 10 w) most) (not_false _ h)).1
 
@@ -152,7 +152,7 @@ negative w h =
     let digits = and_parts (slice_index w 0 == 45) (is_number FARTHEST_BUCKET_ID (drop 1 w)) parts.0 in
     record { some = ltb-true 0 (digits_value 10 (drop 1 w)) parts.1; most = number_most FARTHEST_BUCKET_ID (drop 1 w) (λ e. let t = digits.1 in absurd cc) }
 
--- a number with a sign is in its range
+-- a number with a minus sign is in the range of counts
 below_zero : (n : ℕ) → n ≤ FARTHEST_COUNT → IsCount (neg_ℤ (pos n))
 below_zero zero le = omega arith
 below_zero (suc n) le = omega (arith, le)
@@ -164,17 +164,17 @@ signed w h = by_it (slice_index w 0 == 45) h
     by_it true k = below_zero (digits_value 10 (drop 1 w)) (number_most FARTHEST_COUNT (drop 1 w) k)
     by_it false k = number_most LARGEST_COUNT w k
 
--- an item that is there is the one of its name
+-- an item that a search by name finds is the item of this name
 pub some_of : (o : Option ItemId) → (o ≡ None → ⊥) → o ≡ Some (unwrap_or o (Device 0))
 some_of None h = absurd (h refl)
 some_of (Some i) h = refl
 
--- what isn't missing is there
+-- an option that isn't none has a value
 pub not_none : {X : Type 0} (o : Option X) → (o ≡ None → ⊥) → is_some o ≡ true
 not_none None h = absurd (h refl)
 not_none (Some x) h = refl
 
--- a bucket that is named is there
+-- a bucket that is found by its name is in the table
 pub bucket_there : (d : Draft) (w : List ℕ) → (complete_bucket_named d w ≡ None → ⊥) → IsThere d.table (bucket_of_word d w)
 bucket_there d w h = by_item (item_named d w) refl h
   where
@@ -183,42 +183,42 @@ bucket_there d w h = by_item (item_named d w) refl h
     by_item (Some (Device x)) e k = absurd (k refl)
     by_item (Some (Bucket b)) e k = (listable d w (Bucket b) e).there
 
--- a weight without a fault may follow its item
+-- the item may have a weight that has no fault
 weight_for : (i : ItemId) (r : Result ℕ WeightFault) → (IsNoWeightOf i r → ⊥) → IsLight i (units_or_none r)
 weight_for i (Err f) a = absurd (a tt)
 weight_for (Device n) (Ok w) a = omega (arith, a)
 weight_for (Bucket c) (Ok w) a = tt
 
--- and so may 1.0
+-- the item may have the weight 1.0
 one_for : (i : ItemId) → IsLight i UNITS_OF_ONE
 one_for (Device n) = omega arith
 one_for (Bucket c) = tt
 
--- a weight's text without a fault has units
+-- a weight's text that has no fault has a value in units
 pub has_units : (i : ItemId) (r : Result ℕ WeightFault) → (IsNoWeightOf i r → ⊥) → r ≡ Ok (units_or_none r)
 has_units i (Ok w) h = refl
 has_units i (Err f) h = absurd (h tt)
 
--- and with them no sum is too large
+-- with this weight no sum of weights is too large
 light_sum : (d : Draft) (i : ItemId) (w : List ℕ) → IsRight d (weight i) w → is_too_heavy (with_next_item d i (Some (units w))).table ≡ true → ⊥
 light_sum d i w r h =
     let is = has_units i (weight_of_text w) (r BadWeight) in
     r SumTooLarge (units w, is, λ no. r BadWeight (subst (λ (x : Result ℕ WeightFault). IsNoWeightOf i x) (sym is) no), h)
 
--- a builder has nothing against a class id
+-- if none of the three tests of a class id holds, the class id has no fault
 clear_of : (a b c : Bool) → a ≡ false → b ≡ false → c ≡ false → first_fault ((build.DuplicateId, a) ∷ ((build.DuplicateName, b) ∷ ((build.TooMany, c) ∷ []))) ≡ None
 clear_of a b c ha hb hc = λ i. first_fault ((build.DuplicateId, ha i) ∷ ((build.DuplicateName, hb i) ∷ ((build.TooMany, hc i) ∷ [])))
 
--- one at most
+-- `one_if` is at most 1
 if_at_most : (b : Bool) → one_if b ≤ 1
 if_at_most true = omega arith
 if_at_most false = omega arith
 
--- words that differ
+-- words whose comparison is false differ
 differs : (w k : List ℕ) → bytes_eq w k ≡ false → w ≢ k
 differs w k other e = let t = (bytes_eq-Decides w k).1 e in absurd cc
 
--- a first word without a fault that begins nothing else begins a bucket
+-- the first word of a statement begins a bucket, if it has no fault and begins no other statement
 pub begins_bucket : (d : Draft) (late : Bool) (w : List ℕ) → IsRight d (opening late Nothing) w → bytes_eq w (codes "tunable") ≡ false → bytes_eq w (codes "device") ≡ false → bytes_eq w (codes "type") ≡ false → bytes_eq w (codes "rule") ≡ false
     → BeginsBucket d w
 begins_bucket d late w r tunable device kind rule =
@@ -233,14 +233,14 @@ begins_bucket d late w r tunable device kind rule =
     (free, not_false _ (λ none. r UnknownType (free, none)))
 
 module _ (d : Draft) (m : IsMap d) where
-  -- a tunable
+  -- the line of a tunable preserves the property
   keeps_tunable : d.pending ≡ nothing → is_full_of_tunables d ≡ false → Keeps Good d (tunable_line d)
   keeps_tunable idle few = λ x fx rx. λ n fn rn. record {
     map = map_with_tunable d x (digits_value 10 n) m (word_name x fx (rx Unexpected)) (number_most LARGEST_TUNABLE n (rn BadNumber)) (not_true _ (rx DuplicateName)) few;
     stage = idle;
   }
 
-  -- a type
+  -- the line of a type preserves the property
   keeps_type : d.pending ≡ nothing → is_full_of_kinds d ≡ false → Keeps Good d (type_line d)
   keeps_type idle few = λ n fn rn. λ x fx rx. record {
     map = map_with_kind d (digits_value 10 n) x m (number_most LAST_TYPE n (rn BadNumber)) (word_name x fx (λ b. rx Unexpected (inl b)))
@@ -248,7 +248,7 @@ module _ (d : Draft) (m : IsMap d) where
     stage = idle;
   }
 
-  -- a device
+  -- the line of a device preserves the property
   keeps_device : d.pending ≡ nothing → is_full_of_devices d ≡ false → Keeps Good d (device_line d)
   keeps_device idle few = λ n fn rn. λ x fx rx. (λ k fk rk. λ c fc rc. made n x (Some c) rn fx rx (word_name c fc (rc Unexpected)), made n x None rn fx rx tt)
     where
@@ -258,7 +258,7 @@ module _ (d : Draft) (m : IsMap d) where
         stage = idle;
       }
 
-  -- the name of a bucket
+  -- the first line of a bucket preserves the property
   keeps_bucket : (k : List ℕ) → is_bucket_kind d.setting (kind_of_word d k) ≡ true → is_full_of_buckets d ≡ false → Keeps Good d (bucket_line d (kind_of_word d k))
   keeps_bucket k known few = λ x fx rx.
       let some = ltb-true 0 (kind_of_word d k) (and_parts (nat_lt 0 (kind_of_word d k)) (list_any (λ (y : KindData). y.number == kind_of_word d k) d.setting.kinds) known).0 in
@@ -279,7 +279,7 @@ module _ (d : Draft) (m : IsMap d) where
         );
       }
 
-  -- its id
+  -- the id of a bucket preserves the property
   keeps_id : Stage begun d → Keeps Good d (id_line d)
   keeps_id s = λ a fa ra. λ c fc rc. λ w fw rw_.
       let id : ℕ = digits_value 10 (drop 1 w) in
@@ -306,7 +306,7 @@ module _ (d : Draft) (m : IsMap d) where
         );
       }
 
-  -- a class id
+  -- the line of a class id preserves the property
   keeps_class_id : Stage numbered d → is_full_of_class_ids d ≡ false → Keeps Good d (class_id_line d)
   keeps_class_id s few = λ w fw rw_. λ k fk rk. λ c fc rc.
       let id : ℕ = digits_value 10 (drop 1 w) in
@@ -325,7 +325,7 @@ module _ (d : Draft) (m : IsMap d) where
         );
       }
 
-  -- its algorithm
+  -- the algorithm of a bucket preserves the property
   made : (a : Alg) → Stage numbered d → Good (at (filling false) (with_alg d a))
   made a s =
       let row : Row = new_bucket s.0 s.1 s.2 s.3 a in
@@ -341,7 +341,7 @@ module _ (d : Draft) (m : IsMap d) where
   keeps_alg : Stage numbered d → Keeps Good d (alg_line d)
   keeps_alg s = λ a fa ra. (λ h fh rh. λ z fz rz. made _ s, made _ s)
 
-  -- one of these
+  -- a class id's line or the algorithm's line preserves the property
   keeps_numbered : (k : Optional) → Stage numbered d → Keeps Good d (line_forms d k numbered)
   keeps_numbered k s = λ w f r. by_it w (bytes_eq w (codes "id")) refl (r TooMany)
     where
@@ -349,7 +349,7 @@ module _ (d : Draft) (m : IsMap d) where
       by_it w true e few = keeps_class_id s (not_true _ (λ t. few ((bytes_eq-Decides w _).0 e, t)))
       by_it w false e few = keeps_alg s
 
-  -- an item, with a weight or without
+  -- the line of an item, with a weight or without, preserves the property
   keeps_item : (any : Bool) → Stage (filling any) d → Keeps Good d (item_line d)
   keeps_item any s = (
     λ x fx rx. λ k fk rk. λ w fw rw_. added x (Some (units w)) (rx UnknownItem) (weight_for (item_of d x) (weight_of_text w) (rw_ BadWeight)) (light_sum d (item_of d x) w rw_),
@@ -359,7 +359,7 @@ module _ (d : Draft) (m : IsMap d) where
       added : (x : List ℕ) (w : Option ℕ) → (item_named d x ≡ None → ⊥) → IsLight (item_of d x) (weight_or_one w) → (is_too_heavy (with_next_item d (item_of d x) w).table ≡ true → ⊥) → Good (at (filling true) (with_next_item d (item_of d x) w))
       added x w there light over = let e = map_with_item d x (item_of d x) w s.0 m s.1 s.2 (some_of (item_named d x) there) light (not_true _ over) in record { map = e.map; stage = (s.0, s.1, e.root) }
 
-  -- an item, or the end
+  -- the line of an item or the end of the bucket preserves the property
   keeps_items : (any : Bool) (k : Optional) → Stage (filling any) d → Keeps Good d (line_forms d k (filling any))
   keeps_items any k s = λ w f r. by_it (bytes_eq w (codes "item"))
     where
@@ -367,7 +367,7 @@ module _ (d : Draft) (m : IsMap d) where
       by_it true = keeps_item any s
       by_it false = record { map = record { lawful = m.lawful; fits = m.fits }; stage = refl }
 
-  -- a rule's head
+  -- the head of a rule preserves the property
   keeps_rule : d.pending ≡ nothing → is_full_of_rules d ≡ false → Keeps Good d (rule_line d)
   keeps_rule idle few = λ x fx rx. λ a fa ra. λ b fb rb. λ n fn rn. λ c fc rc. λ k fk rk.
       let head : (least most : Option ℕ) → IfSome least (λ v. v ≤ LARGEST_RULE_NUMBER) → IfSome most (λ v. v ≤ LARGEST_RULE_NUMBER) → Good (at (ruled (new_rule x (digits_value 10 n) k least most)) d) =
@@ -383,11 +383,11 @@ module _ (d : Draft) (m : IsMap d) where
       )
 
   module _ (r : RuleData) (s : Stage (ruled r) d) where
-    -- with one more step
+    -- the rule with one more step has the property
     longer : (x : StepData) → length r.steps < MOST_STEPS → IsStep d.setting x → All (IsThere d.table) (bucket_taken x) → Good (at (ruled (with_step r x)) d)
     longer x room form there = record { map = m; stage = (s.0, can_step d r x s.1 form room there) }
 
-    -- by its first word
+    -- a step, given its first word, preserves the property
     keeps_step : length r.steps < MOST_STEPS → (w : List ℕ) → IsWord w → IsRight d step_word w → Keeps Good d (step_behind d r (value d step_word w))
     keeps_step room w formed q = by_said (bytes_eq w (codes "take")) (bytes_eq w (codes "choose")) (bytes_eq w (codes "chooseleaf")) (bytes_eq w (codes "emit")) refl refl refl refl
       where
@@ -413,7 +413,7 @@ module _ (d : Draft) (m : IsMap d) where
         by_said false false false true ha hb hc he = longer emit room tt (All-nil (IsThere d.table))
         by_said false false false false ha hb hc he = is_set (not_false _ (λ none. q Unexpected (differs w _ ha, (differs w _ hb, differs w _ hc), differs w _ he, none, λ e. q LeftOut e)))
 
-    -- a step, or the end
+    -- a step or the end of the rule preserves the property
     keeps_ruled : (k : Optional) → Keeps Good d (line_forms d k (ruled r))
     keeps_ruled k = λ w f q. by_it w (bytes_eq w (codes "step")) refl (q TooMany)
       where
@@ -421,7 +421,7 @@ module _ (d : Draft) (m : IsMap d) where
         by_it w true e few = let no : MOST_STEPS ≤ length r.steps → ⊥ = λ le. few ((bytes_eq-Decides w _).0 e, le) in keeps_step (omega (arith, no))
         by_it w false e few = record { map = map_with_rule d r m s.1; stage = s.0 }
 
-  -- a statement by its first word
+  -- a statement, given its first word, preserves the property
   keeps_statement : (late : Bool) → d.pending ≡ nothing → Keeps Good d (word (opening late Nothing) (statement d))
   keeps_statement late idle = λ w f r. by_it w r (bytes_eq w (codes "tunable")) (bytes_eq w (codes "device")) (bytes_eq w (codes "type")) (bytes_eq w (codes "rule")) refl refl refl refl (r TooMany)
     where
@@ -436,7 +436,7 @@ module _ (d : Draft) (m : IsMap d) where
           let opens = begins_bucket d late w r ha hb hc he in
           keeps_bucket w opens.1 (not_true _ (λ t. few (inr (inr (inr (inr (opens, t)))))))
 
-  -- each line
+  -- each line preserves the property
   pub keeps_lines : (mode : Mode) (k : Optional) → Stage mode d → Keeps Good d (line_forms d k mode)
   keeps_lines first k s = λ w f r. keeps_statement false s w f (opening_right d false k Nothing w r)
   keeps_lines second k s = λ w f r. keeps_statement true s w f (opening_right d true k Nothing w r)
@@ -445,7 +445,7 @@ module _ (d : Draft) (m : IsMap d) where
   keeps_lines (filling any) k s = keeps_items any k s
   keeps_lines (ruled r) k s = keeps_ruled r s k
 
--- nothing is there
+-- the empty draft is a map
 pub nothing_there : IsMap empty_draft
 nothing_there = record {
   lawful = Lawful-nil;
@@ -476,7 +476,7 @@ document_lawful t d formed h = by_it h.last h.whole (spelled_has Good (λ p g. k
     by_it (between p) w g = subst IsMap w.0 g.map
     by_it (amid e f) w g = absurd w
 
--- so each map of a text is lawful
+-- each map that has a text is lawful
 pub each_map_is_lawful : EachMapIsLawful
 each_map_is_lawful bytes s t n x =
     let m = document_lawful (words 0 bytes) x.draft (words_are_formed 0 bytes) x.document in

@@ -1,4 +1,4 @@
--- Which words lead on from the end of a line doesn't depend on which optional part the line has left out.
+-- Proves that the optional part which a line has left out doesn't matter to the words that lead on from the end of this line. A draft (`Draft`) is what the lines so far have built. A form (`Form`) says which words the rest of a line must have. A state (`State`) is a place in the text: between two lines, or in a line with the form of its rest.
 use Rattle.std.proofs.Common.{◌≡◌, ℕ, Bool, List, [], ◌∷◌, refl, sym, subst}
 use Rattle.crush_builder.specs.Built.{Draft}
 use Rattle.crush_units.specs.Words.{Word}
@@ -15,12 +15,12 @@ use Rattle.crush_text.specs.Document.{IsWhole}
 use Rattle.crush_laws.specs.Admitted.{LeadsFrom, WordLeads}
 use Rattle.crush_laws.specs.Final.{LeadTo}
 
--- the same state, as if the last line had left out nothing
+-- a state without its note of which optional part the last line has left out
 abbrev pub forget : State → State
 forget (between p) = between (passing Nothing p)
 forget (amid d f) = amid d f
 
--- a word leads on from both
+-- a word that leads on from one of two such modes leads on from the other
 line_so : (d : Draft) (j k : Optional) (m : Mode) (w : List ℕ) (rest : List Word) (u : State) → LeadsFrom d (line_forms d j m) w rest u → LeadsFrom d (line_forms d k m) w rest u
 line_so d j k first w rest u h = h
 line_so d j k second w rest u h = h
@@ -37,7 +37,7 @@ recalls : (s : State) (w : List ℕ) (rest : List Word) (u : State) → WordLead
 recalls (between p) w rest u h = line_so p.draft Nothing p.passed p.mode w rest u h
 recalls (amid d f) w rest u h = h
 
--- and so it does from two states that are otherwise the same
+-- a word that leads on from one of two states that are otherwise the same leads on from the other
 pub word_so : (s m : State) (w : List ℕ) (rest : List Word) (u : State) → forget s ≡ forget m → WordLeads m w rest u → WordLeads s w rest u
 word_so s m w rest u is h = recalls s w rest u (subst (λ (x : State). WordLeads x w rest u) (sym is) (forgets m w rest u h))
 
@@ -49,16 +49,16 @@ whole_recalls : (s : State) (e : Draft) → IsWhole (forget s) e → IsWhole s e
 whole_recalls (between p) e h = h
 whole_recalls (amid d f) e h = h
 
--- the text may end in both or in neither
+-- the text may end in both states or in neither
 pub whole_so : (s m : State) (e : Draft) → forget s ≡ forget m → IsWhole m e → IsWhole s e
 whole_so s m e is h = whole_recalls s e (subst (λ (x : State). IsWhole x e) (sym is) (whole_forgets m e h))
 
--- and all words lead on from both
+-- words that lead on from one of the states lead on from the other
 pub lead_so : (s m : State) (ws : List Word) (e : Draft) → forget s ≡ forget m → LeadTo m ws e → LeadTo s ws e
 lead_so s m [] e is h = whole_so s m e is h
 lead_so s m (w ∷ ws) e is h = (h.0, word_so s m w.text ws h.0 is h.1, h.2)
 
--- THE FIRST WORD of a line is right whatever was left out before
+-- THE FIRST WORD of a line has the same fault, whatever was left out before
 opening_fault : (d : Draft) (late : Bool) (j k : Optional) (w : List ℕ) (f : TextFaultKind) → Holds f d (opening late k) w → Holds f d (opening late j) w
 opening_fault d late j k w Unexpected h = h
 opening_fault d late j k w f h = h

@@ -1,4 +1,4 @@
--- The text of a plan is read as a script of its edits, and the run of this script makes them.
+-- Proves that the text of a plan is read as a script of its edits, and that the run of this script makes these edits.
 use Rattle.std.proofs.Common.{◌≡◌, ℕ, suc, ◌+◌, ◌-◌, ◌<◌, ◌≤◌, ◌&&◌, ◌==◌, Bool, true, false, not, cond, List, [], ◌∷◌, ◌++◌, Option, None, Ok, length, map, take, drop, nat_le, refl, sym, ap, ◌∙◌, subst, arith, rules, tests, append_assoc, append-nil}
 use Rattle.std.specs.Prelude.{All, codes, decimal, flat_map, slice_index}
 use Rattle.std.specs.List.{list_all, onto_first}
@@ -32,13 +32,12 @@ use Rattle.crush_since.specs.Aside.{aside_text}
 use Rattle.crush_plan.specs.Leads.{Leads}
 use Rattle.crush_plan.specs.Part.{IsAllowed}
 use Rattle.crush_plan.specs.Plan.{PlanData, line_count}
-use Rattle.crush_plan.specs.PlanText.{commented, plan_line, plan_text, stay_heading, stay_text}
-use Rattle.crush_plan.specs.declared.text.PlanWords.TheVariants.{Script}
+use Rattle.crush_plan.specs.PlanText.{commented, plan_text, script_line, stay_heading, stay_text}
 use Rattle.crush_laws.specs.Planned.{PlansAreRun, PlansAreScripts}
 use Rattle.crush_laws.proofs.HistoryComments.{IsInLine, both_in_line, edit_in_line, name_in_line, number_in_line}
 use Rattle.crush_laws.proofs.JobTexts.{edit_named}
 
--- LINES: one that ends, before the rest
+-- LINES: a text that begins with a whole line is split after this line
 is_not : (t : Bool) → not t ≡ true → t ≡ false
 is_not false h = refl
 is_not true h = absurd (let no_way : false ≡ true = h in cc)
@@ -51,7 +50,7 @@ lines-ended (b ∷ bs) rest h =
     let no_feed = is_not (b == 10) p.0 in
     rw (no_feed, lines-ended bs rest p.1) refl
 
--- COMMENTS: bytes each line of which begins with `#`, the last of which may not end; the first argument says whether a line has begun
+-- COMMENTS: whether each line of the bytes begins with `#`; the last line may not be complete. The first argument says whether a line has already begun
 abbrev begin_comments : Bool → List ℕ → Bool
 begin_comments begun [] = true
 begin_comments false (b ∷ bs) = b == 35 && begin_comments true bs
@@ -61,7 +60,7 @@ begin_comments true (b ∷ bs) = begin_comments (not (b == 10)) bs
 abbrev IsComment : List ℕ → Type 0
 IsComment line = (rest : List ℕ) × (line ≡ 35 ∷ rest)
 
--- all lines after the first are comments
+-- all lines except for the first are comments
 abbrev AreBehind : List (List ℕ) → Type 0
 AreBehind [] = Unit {0}
 AreBehind (line ∷ rest) = All IsComment rest
@@ -91,7 +90,7 @@ lines_are true (b ∷ bs) h = by_test (b == 10) h (λ begun. lines_are begun bs)
   by_test true h rest = rest false h
   by_test false h rest = begun_line b (lines bs) (rest true h)
 
--- what is told behind `# ` is such, wherever a line has begun
+-- text that is printed with `# ` before each line has this property, whether or not a line has begun
 told_behind : (at_head : Bool) (told more : List ℕ) → ((begun : Bool) → begin_comments begun more ≡ true) → begin_comments (not at_head) (commented at_head told ++ more) ≡ true
 told_behind at_head [] more h = h (not at_head)
 told_behind true (b ∷ told) more h = told_behind (b == 10) told more h
@@ -108,7 +107,7 @@ within (b ∷ part) rest h =
     let k = and_parts (not (b == 10)) (list_all (λ x. not (x == 10)) part) h in
     ap (λ (t : Bool). begin_comments t (part ++ rest)) k.0 ∙ within part rest k.1
 
--- and so is all that follows the edits
+-- everything that follows the edits in the plan's text has this property
 stay_is : (rest more : List ℕ) → ((begun : Bool) → begin_comments begun more ≡ true) → begin_comments false (stay_text rest ++ more) ≡ true
 unfolding stay_heading
 stay_is [] more h = h false
@@ -122,7 +121,7 @@ stay_is (b ∷ rest) more h =
 tail_is : (rest aside : List ℕ) → begin_comments false (stay_text rest ++ commented true aside) ≡ true
 tail_is rest aside = stay_is rest (commented true aside) (λ begun. ap (begin_comments begun) (sym (append-nil (commented true aside))) ∙ told_is begun aside [] (λ b. refl))
 
--- A READER passes over them
+-- A READER finds no words in comment lines
 comment_words : (rest : List ℕ) → line_words (35 ∷ rest) ≡ []
 unfolding words_between_blanks
 comment_words rest = ap words_between_blanks (by_test (slice_index (35 ∷ rest) (length (35 ∷ rest) - 1) == 13)) where
@@ -145,7 +144,7 @@ comments_read (line ∷ ls) n s none all =
     let one = comment_read n s line (All-head IsComment line ls all) in
     rw one (comments_read ls (n + 1) s none (All-tail IsComment line ls all))
 
--- EDITS are calls of the one script
+-- EDITS are read as the calls of the only script
 abbrev state : List ℕ → List ℕ → List Call → ℕ → SectionsData
 state numbers name calls count = record { scripts = (record { name = name; calls = calls }) ∷ []; lines = numbers ∷ []; calls = count; begun = None }
 
@@ -186,15 +185,15 @@ edits_read (e ∷ es) n numbers name calls k rest all room =
     let more : k + 1 + length es ≡ k + length (e ∷ es) = omega arith in
     (others.0, others.1, rw one (others.2 ∙ (λ i. with_lines others.0 (state others.1 name (append_assoc calls (One e ∷ []) (map One es) i) (more i)) rest)))
 
-edits_lines : (es : List Edit) (rest : List ℕ) → All IsSaid es → lines (flat_map (plan_line Script) es ++ rest) ≡ map edit_text es ++ lines rest
+edits_lines : (es : List Edit) (rest : List ℕ) → All IsSaid es → lines (flat_map (script_line) es ++ rest) ≡ map edit_text es ++ lines rest
 edits_lines [] rest all = refl
 edits_lines (e ∷ es) rest all =
-    let others : List ℕ = flat_map (plan_line Script) es in
+    let others : List ℕ = flat_map (script_line) es in
     ap lines (append_assoc (edit_text e ++ 10 ∷ []) others rest ∙ append_assoc (edit_text e) (10 ∷ []) (others ++ rest))
     ∙ lines-ended (edit_text e) (others ++ rest) (edit_in_line e (edit_named e (All-head IsSaid e es all)))
     ∙ ap (λ (ls : List (List ℕ)). edit_text e ∷ ls) (edits_lines es rest (All-tail IsSaid e es all))
 
--- THE SECTION
+-- THE SECTION begins with the operator's line
 operator_word : IsWord (codes "%operator")
 operator_word = record { some = omega arith; bytes = refl }
 
@@ -205,34 +204,33 @@ operator_read n name is =
     let holds = is_name_true name is in
     rw (words, holds) refl
 
--- the line of how many edits there are
+-- the first line of the plan's text, which has the number of edits
 abbrev count_line : ℕ → List ℕ
 count_line count = codes "# " ++ decimal count ++ codes " commands"
 
 module _ (name : List ℕ) (plan : PlanData) (is : IsName name) (said : All IsSaid plan.edits) where
   abbrev section : List ℕ
-  section = codes "%operator " ++ name ++ codes "\n" ++ plan_text Script plan
+  section = codes "%operator " ++ name ++ codes "\n" ++ plan_text plan
 
   abbrev tail : List ℕ
   tail = stay_text plan.rest ++ commented true (aside_text plan.aside)
 
-  plan_lines : lines (plan_text Script plan) ≡ count_line (length plan.edits) ∷ (map edit_text plan.edits ++ lines tail)
+  plan_lines : lines (plan_text plan) ≡ count_line (length plan.edits) ∷ (map edit_text plan.edits ++ lines tail)
   unfolding plan_text ceph_heading
   plan_lines =
       let count : List ℕ = codes "# " ++ decimal (length plan.edits) in
-      let edits : List ℕ = flat_map (plan_line Script) plan.edits in
-      let last : List ℕ = commented true (aside_text plan.aside) in
+      let edits : List ℕ = flat_map (script_line) plan.edits in
       let head : List ℕ = count ++ codes " commands\n" in
       ap lines
-      (append_assoc (head ++ edits) (stay_text plan.rest) last ∙ append_assoc head edits tail
+      (append_assoc head edits tail
       ∙ append_assoc count (codes " commands\n") (edits ++ tail) ∙ sym (append_assoc count (codes " commands") (10 ∷ (edits ++ tail))))
       ∙ lines-ended (count_line (length plan.edits)) (edits ++ tail) (both_in_line count (codes " commands") (both_in_line (codes "# ") (decimal (length plan.edits)) refl (number_in_line (length plan.edits))) refl)
       ∙ ap (λ (ls : List (List ℕ)). count_line (length plan.edits) ∷ ls) (edits_lines plan.edits tail said)
 
   section_lines : lines section ≡ (codes "%operator " ++ name) ∷ (count_line (length plan.edits) ∷ (map edit_text plan.edits ++ lines tail))
   section_lines =
-      ap lines (append_assoc (codes "%operator " ++ name) (10 ∷ []) (plan_text Script plan))
-      ∙ lines-ended (codes "%operator " ++ name) (plan_text Script plan) (both_in_line (codes "%operator ") name refl (name_in_line name is))
+      ap lines (append_assoc (codes "%operator " ++ name) (10 ∷ []) (plan_text plan))
+      ∙ lines-ended (codes "%operator " ++ name) (plan_text plan) (both_in_line (codes "%operator ") name refl (name_in_line name is))
       ∙ ap (λ (ls : List (List ℕ)). (codes "%operator " ++ name) ∷ ls) plan_lines
 
   section_read : (n : ℕ) → length plan.edits ≤ MOST_CALLS → (all : List ℕ) × (with_lines n no_sections (lines section) ≡ Ok (state all name (map One plan.edits) (0 + length plan.edits)))
@@ -246,7 +244,7 @@ module _ (name : List ℕ) (plan : PlanData) (is : IsName name) (said : All IsSa
             ∙ rw (first, second) (edits.2 ∙ comments_read (lines tail) edits.0 (state edits.1 name (map One plan.edits) (0 + length plan.edits)) refl (lines_are false tail (tail_is plan.rest (aside_text plan.aside)))),
       )
 
--- THE MAP'S TEXT before it
+-- THE MAP'S TEXT is separated from the section after it
 cut_behind : (starts : Bool) (text rest : List ℕ) → length_to_section starts text ≡ length text → ends_line starts text ≡ true → begins_section rest ≡ true → length_to_section starts (text ++ rest) ≡ length text
 cut_behind starts [] [] whole ends begins = refl
 cut_behind starts [] (c ∷ cs) whole ends begins = rw (ends, begins) refl
@@ -258,7 +256,7 @@ cut_behind starts (b ∷ bs) rest whole ends begins = at (starts && b == 37) ref
         let below : length_to_section (b == 10) bs + 1 ≡ length (b ∷ bs) = ap (λ (u : Bool). cond u 0 (length_to_section (b == 10) bs + 1)) (sym is) ∙ whole in
         ap (λ (u : Bool). cond u 0 (length_to_section (b == 10) (bs ++ rest) + 1)) is ∙ omega (arith, again (omega (arith, below)))
 
--- the edits of a plan are such that a line says
+-- a line can express each edit of a plan
 leads_said : (old new : List Row) (under : Option (List ℕ)) (s : SettingData) (t : List Row) (es : List Edit) (u : List Row) → Leads (IsAllowed old new under) s t es u → All IsSaid es
 leads_said old new under s t [] u leads = All-nil IsSaid
 leads_said old new under s t (e ∷ es) u leads = All-cons IsSaid e es leads.0.said (leads_said old new under s leads.2 es u leads.4)
@@ -266,7 +264,7 @@ leads_said old new under s t (e ∷ es) u leads = All-cons IsSaid e es leads.0.s
 pub plans_are_scripts : PlansAreScripts
 plans_are_scripts under old new text adjusted name plan map_text last is found room short =
     let said = leads_said old.table new.table under old.setting old.table plan.edits found.goes.table found.goes.leads in
-    let rest : List ℕ = codes "%operator " ++ name ++ codes "\n" ++ plan_text Script plan in
+    let rest : List ℕ = codes "%operator " ++ name ++ codes "\n" ++ plan_text plan in
     let place = cut_behind true text rest (map_texts_have_no_section text old.setting old.table adjusted map_text) last refl in
     let front : map_part (text ++ rest) ≡ text = ap (λ (n : ℕ). take n (text ++ rest)) place ∙ take-append_seam text rest in
     let back : section_part (text ++ rest) ≡ rest = ap (λ (n : ℕ). drop n (text ++ rest)) place ∙ drop-append_seam text rest in
@@ -280,7 +278,7 @@ plans_are_scripts under old new text adjusted name plan map_text last is found r
       scripts = refl;
     }
 
--- RUN: each edit is made on the table to which those before it lead
+-- RUN: each edit is applied to the table to which the edits before it have led
 abbrev IsChange : EntryData → Type 0
 IsChange e = is_change e.reply ≡ true
 

@@ -1,4 +1,4 @@
--- A setting has the same printed text with its types in the order of their numbers.
+-- Proves that a setting has the same printed text as the same setting with its types in the order of their numbers.
 use Rattle.std.proofs.Common.{◌≡◌, ℕ, List, [], ◌∷◌, ◌++◌, refl, sym, ap, ◌∙◌}
 use Rattle.std.specs.Prelude.{map, flat_map, codes, unwrap_or, ◌==◌}
 use Rattle.std.specs.Option.{option_map}
@@ -55,6 +55,6 @@ module _ (form : WeightForm) (s : SettingData) (f : IsSetting s) where
   unfolding map_text
   text_in_order t = λ k. tunables_again k ++ device_section t ++ kinds_again k ++ bucket_section_again t k ++ rules_again t k ++ codes "\n# end crush map\n"
 
--- what is read back of a printed map prints the same text
+-- the map that is read back from a printed map has the same printed text
 pub read_back_prints_alike : ReadBackPrintsAlike
 read_back_prints_alike form s t u l f same = let setting = f.setting in sym (map_text-same form (in_order s) t u l (Same-sym u t same)) ∙ text_in_order form s setting t

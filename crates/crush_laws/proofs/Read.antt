@@ -1,4 +1,4 @@
--- The text of a map spells a lawful document.
+-- Proves that the words of a map's text spell a lawful document.
 use Rattle.std.proofs.Common.{◌≡◌, ◌⊎◌, ℕ, zero, suc, ◌+◌, ◌≤◌, Bool, true, false, List, [], ◌∷◌, ◌++◌, Option, Some, None, refl, sym, ap, subst, ◌∙◌, append-nil, arith, inl, inr}
 use Rattle.std.proofs.lemmas.Bool.{and_parts, leb-true}
 use Rattle.std.proofs.lemmas.List.Elements.{All-nil}
@@ -38,8 +38,8 @@ use Rattle.crush_laws.proofs.Spelled.{lawful_document_is_map}
 use Rattle.crush_laws.proofs.ReadRest.{made, with_rules, SecondsRead, ItemsRead, IdsRead, StepsRead, FirstsRead, Goal, header, none_read, more_id, more_item, more_step, no_firsts, more_first, open_second, NoFirst}
 use Rattle.crush_text.specs.declared.expected.Optional.TheVariants.{Nothing}
 
--- LINE BY LINE, to the end
--- the algorithm that a word names
+-- LINE BY LINE: the lines are read from the first to the last
+-- the algorithm that is found for an algorithm's name is this algorithm
 alg_is : (w : List ℕ) (a : Alg) → w ≡ alg_text a → unwrap_or (alg_of_text w) Straw2 ≡ a
 alg_is w a e = ap (λ (x : List ℕ). unwrap_or (alg_of_text x) Straw2) e ∙ ap (λ (o : Option Alg). unwrap_or o Straw2) (alg_of_text-alg_text a)
 
@@ -179,7 +179,7 @@ parse (suc n) (ruled r) d ws e h = λ idle. by_it (λ m u k. parse n m u h.0 e k
     }
 parse (suc n) second d ws e h = λ idle. open_second true n d ws h.0 e h.1 (λ m u k. parse n m u h.0 e k) idle h.2.0 h.2.1 h.2.2 h.2.3 (λ is. let no : true ≡ false = is in absurd cc) h.2.4 h.3
 
--- THE LAW: what is spelled is a lawful document
+-- THE LAW: the words of a map's text spell a lawful document
 built_is : (e : Draft) → (s : SettingData) (t : List Row) (a : ℕ) → made s t a ≡ e → (s ≡ e.setting) × (t ≡ e.table) × (a ≡ e.adjusted)
 built_is e s t a is = (ap (λ (d : Draft). d.setting) is, ap (λ (d : Draft). d.table) is, ap (λ (d : Draft). d.adjusted) is)
 
@@ -208,6 +208,6 @@ map_is_lawful_document bytes s t n x =
       count = all ∙ is.2 ∙ x.count;
     }
 
--- and the other way round
+-- the texts of maps are exactly the texts whose words spell a lawful document
 pub texts_are_lawful_documents : TextsAreLawfulDocuments
 texts_are_lawful_documents bytes s t n = (map_is_lawful_document bytes s t n, lawful_document_is_map bytes s t n)

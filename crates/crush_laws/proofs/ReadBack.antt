@@ -1,4 +1,4 @@
--- The printed text of a map is read back as that map.
+-- Proves that the printed text of a map is read back as that map.
 use Rattle.std.proofs.Common.{List, ℕ, refl}
 use Rattle.crush_model.specs.Lawful.{Lawful}
 use Rattle.crush_model.specs.Table.{Row}
@@ -14,7 +14,7 @@ use Rattle.crush_laws.proofs.PrintedAgain.{read_back_prints_alike}
 pub in_order_is_the_same : InOrderIsTheSame
 in_order_is_the_same s t f = record { kinds = kinds_reordered s f.setting; tunables = refl; rules = refl }
 
--- the text of the map with its types in order is read as the map
+-- bytes that are the text of the map with its types in order are read as the map
 read_as_it : (bytes : List ℕ) (s : SettingData) (t : List Row) → Lawful t → Fits s t → IsTextOf bytes (in_order s) t → IsReadAs bytes s t
 read_as_it bytes s t l f is = record { setting = in_order s; settings = in_order_is_the_same s t f; map = is; again = λ form. read_back_prints_alike form s t is.table l f is.same }
 

@@ -1,4 +1,4 @@
--- The words that a line reads are those that a production of the grammar spells.
+-- Proves that the words that are read as a line are the words that a production of the grammar spells.
 use Rattle.std.proofs.Common.{◌≡◌, ◌⊎◌, ℕ, Bool, true, false, List, ◌∷◌, Option, Some, None, refl, sym, ap, ◌∙◌, inl, inr}
 use Rattle.std.proofs.lemmas.Slice.Eq.{bytes_eq-Decides}
 use Rattle.std.specs.Prelude.{codes, bytes_eq, unwrap_or, option_and_then, if◌then◌else◌}
@@ -21,11 +21,11 @@ use Rattle.crush_laws.proofs.Keeps.{not_false}
 use Rattle.crush_laws.proofs.LawfulTexts.{is_for}
 use Rattle.crush_laws.proofs.ReadLines.{Line}
 
--- a word and others, as what they are
+-- the first word and the other words of a list may be replaced by equal ones
 pub cons_is : (ws : List (List ℕ)) (w k : List ℕ) (us vs : List (List ℕ)) → ws ≡ w ∷ us → w ≡ k → us ≡ vs → ws ≡ k ∷ vs
 cons_is ws w k us vs e a b = e ∙ (λ i. a i ∷ b i)
 
--- one of two words, if it isn't the first
+-- a word that is one of two words and isn't the first is the second
 pub second_word : (w k l : List ℕ) → bytes_eq w k ≡ false → (w ≡ k) ⊎ (w ≡ l) → w ≡ l
 second_word w k l other (inl e) = absurd (let no : true ≡ false = sym ((bytes_eq-Decides w k).1 e) ∙ other in cc)
 second_word w k l other (inr e) = e
@@ -33,8 +33,8 @@ second_word w k l other (inr e) = e
 pub is_word : (w k : List ℕ) → bytes_eq w k ≡ true → w ≡ k
 is_word w k e = (bytes_eq-Decides w k).0 e
 
--- WHAT STANDS FIRST
--- what was read as a statement, after which the draft is this one
+-- THE FIRST PART of a document: tunables, types and devices
+-- the words were read as a statement of the first part, and `made` says the draft after the statement
 pub record FirstRead (d : Draft) (words v : List (List ℕ)) (q : Progress) (made : First → Draft) : Type 0 where
   pub statement : First
   pub spelled : SpellsFirst statement words v
@@ -78,8 +78,8 @@ read_device d words us v q e h = by_class h.4.4
     }
     by_class (inr c) = record { statement = device (digits_value 10 h.0) h.4.0 None; spelled = (h.0, h.4.1, (not_false _ (h.3 BadNumber), refl), head, c.0); leads = c.1 }
 
--- ITEMS
--- what is found is closed
+-- ITEMS of a bucket
+-- an item that is found, and that isn't the open bucket, is closed
 closed_found : (b : ℕ) (o : Option ItemId) (i : ItemId) → option_and_then (closed_item (is_filling b)) o ≡ Some i → (o ≡ Some i) × (same_id (Bucket b) i ≡ false)
 closed_found b None i e = absurd (let no : (let x : Option ItemId = None in x) ≡ Some i = e in cc)
 closed_found b (Some j) i e = by_it (same_id (Bucket b) j) refl e
@@ -88,14 +88,14 @@ closed_found b (Some j) i e = by_it (same_id (Bucket b) j) refl e
     by_it true k e = absurd (let no : (let x : Option ItemId = None in x) ≡ Some i = e in cc)
     by_it false k e = let is : j ≡ i = cc in (e, ap (same_id (Bucket b)) (sym is) ∙ k)
 
--- an item of a bucket can be listed
+-- a free item can be listed by the open bucket
 pub listable : (d : Draft) (b : ℕ) (x : List ℕ) → d.pending ≡ is_filling b → IsFree d x → (item_of d x ≡ item_in d.table x) × IsListable b d.table x
 listable d b x pending h =
     let found = closed_found b (id_named d.table x) (item_of d x) (ap (λ (p : Pending). option_and_then (closed_item p) (id_named d.table x)) (sym pending) ∙ h.0) in
     let is : item_of d x ≡ item_in d.table x = sym (ap (λ (o : Option ItemId). unwrap_or o (Device 0)) found.0) in
     (is, record { there = found.0 ∙ ap (λ (i : ItemId). Some i) is; closed = ap (same_id (Bucket b)) (sym is) ∙ found.1; once = ap (is_placed d.table) (sym is) ∙ h.1 })
 
--- SIZES
+-- SIZES of a rule
 pub read_most : (d : Draft) (x : List ℕ) (n : ℕ) (k : List ℕ) (least : Option ℕ) (us v : List (List ℕ)) (q : Progress) → Line d (max_size d x n k least) us v q
     → (most : Option ℕ) × SpellsSize (codes "max_size") most us v × (at (ruled (new_rule x n k least most)) d ≡ q)
 read_most d x n k least us v q (inl h) = (

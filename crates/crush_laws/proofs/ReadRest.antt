@@ -1,4 +1,4 @@
--- What the rest of a text spells, and how the line before the rest adds to it.
+-- What the rest of a text spells, and what it spells together with the line before it.
 use Rattle.std.proofs.Common.{◌≡◌, ℕ, ◌+◌, ◌<◌, Bool, true, false, List, [], ◌∷◌, ◌++◌, Option, None, refl, sym, ap, subst, ◌∙◌, append_assoc, append-nil, add_assoc, arith, inl, inr}
 use Rattle.std.proofs.lemmas.Bool.{and_parts, ltb-true}
 use Rattle.std.proofs.lemmas.List.Elements.{All-cons}
@@ -28,22 +28,22 @@ use Rattle.crush_laws.proofs.ReadLines.{Line, Lines, along}
 use Rattle.crush_laws.proofs.ReadParts.{cons_is, is_word, read_sizes, behind_first}
 use Rattle.crush_text.specs.declared.expected.Optional.TheVariants.{Nothing}
 
--- WHAT THE REST OF A TEXT SPELLS
--- with this setting, this table and so many adjustments between two statements
+-- WHAT THE REST OF A TEXT SPELLS, for each place between two lines
+-- the draft between two statements, with this setting, this table and this number of adjusted weights
 abbrev pub made : SettingData → List Row → ℕ → Draft
 made s t a = record { setting = s; table = t; pending = nothing; adjusted = a }
 
 abbrev pub with_rules : SettingData → List RuleData → SettingData
 with_rules s rs = record s { rules = s.rules ++ rs }
 
--- buckets and rules
+-- the rest spells buckets and rules
 pub record SecondsRead (s : SettingData) (t : List Row) (a : ℕ) (ws : List (List ℕ)) (e : Draft) : Type 0 where
   pub seconds : List Second
   pub spelled : SpellsEach SpellsSecond seconds ws []
   pub names : UseNames s.kinds seconds t
   pub whole : made (with_rules s (rules_by s.kinds seconds t)) (with_seconds s.kinds seconds t) (a + adjusted_by s.kinds seconds t) ≡ e
 
--- items of a bucket, and those
+-- the rest spells items of a bucket, followed by buckets and rules
 pub record ItemsRead (b : ℕ) (s : SettingData) (t : List Row) (a : ℕ) (ws : List (List ℕ)) (e : Draft) : Type 0 where
   pub items : List ItemLine
   pub rest : List (List ℕ)
@@ -51,7 +51,7 @@ pub record ItemsRead (b : ℕ) (s : SettingData) (t : List Row) (a : ℕ) (ws : 
   pub names : AreListable b items t
   pub seconds : SecondsRead s (with_items b items t) (a + adjusted_items b items t) rest e
 
--- class ids and the algorithm, and those
+-- the rest spells class ids and the algorithm, followed by what comes after them
 abbrev pub header : ℕ → List ℕ → ℕ → List ShadowData → Alg → Row
 header k x b cs alg = bucket_row None (record { id = b; kind = k; name = x; alg = alg; class_ids = cs })
 
@@ -64,7 +64,7 @@ pub record IdsRead (k : ℕ) (x : List ℕ) (b : ℕ) (cs : List ShadowData) (s 
   pub hash : SpellsHash behind_alg behind_hash
   pub items : ItemsRead b s (t ++ header k x b (cs ++ ids) alg ∷ []) a behind_hash e
 
--- a bucket's id, and those
+-- the rest spells a bucket's id, followed by what comes after it
 pub record BucketRead (k : ℕ) (x : List ℕ) (s : SettingData) (t : List Row) (a : ℕ) (ws : List (List ℕ)) (e : Draft) : Type 0 where
   pub number : ℕ
   pub id : List ℕ
@@ -73,7 +73,7 @@ pub record BucketRead (k : ℕ) (x : List ℕ) (s : SettingData) (t : List Row) 
   pub is : IsBucketNumber number id
   pub ids : IdsRead k x number [] s t a behind e
 
--- steps of a rule, and others
+-- the rest spells steps of a rule, followed by what comes after them
 abbrev pub with_steps : RuleData → List StepData → RuleData
 with_steps r xs = record r { steps = r.steps ++ xs }
 
@@ -84,14 +84,14 @@ pub record StepsRead (r : RuleData) (s : SettingData) (t : List Row) (a : ℕ) (
   pub names : All (TakesBucket t) steps
   pub seconds : SecondsRead (with_rules s (with_steps r (map (step_in t) steps) ∷ [])) t a rest e
 
--- what stands first, and those
+-- the rest spells lines of the first part, followed by buckets and rules
 pub record FirstsRead (ks : List KindData) (ts : List TunableData) (t : List Row) (ws : List (List ℕ)) (e : Draft) : Type 0 where
   pub firsts : List First
   pub more : List (List ℕ)
   pub spelled : SpellsEach SpellsFirst firsts ws more
   pub seconds : SecondsRead (record { kinds = ks ++ flat_map first_kinds firsts; tunables = ts ++ flat_map first_tunables firsts; rules = [] }) (t ++ flat_map first_rows firsts) 0 more e
 
--- after each line
+-- what the rest spells, given the mode after a line
 abbrev pub Goal : Mode → Draft → List (List ℕ) → Draft → Type 0
 Goal first d ws e = d.pending ≡ nothing → d.setting.rules ≡ [] → d.adjusted ≡ 0 → FirstsRead d.setting.kinds d.setting.tunables d.table ws e
 Goal second d ws e = d.pending ≡ nothing → SecondsRead d.setting d.table d.adjusted ws e
@@ -100,8 +100,8 @@ Goal numbered d ws e = (k : ℕ) (x : List ℕ) (b : ℕ) (cs : List ShadowData)
 Goal (filling any) d ws e = (b : ℕ) → d.pending ≡ is_filling b → ItemsRead b d.setting d.table d.adjusted ws e
 Goal (ruled r) d ws e = d.pending ≡ nothing → StepsRead r d.setting d.table d.adjusted ws e
 
--- BUCKETS AND RULES in front of others
--- no more words
+-- BUCKETS AND RULES before other buckets and rules
+-- if there are no more words, the rest is empty
 pub none_read : (d e : Draft) (ws : List (List ℕ)) → ws ≡ [] → d ≡ e → d.pending ≡ nothing → SecondsRead d.setting d.table d.adjusted ws e
 none_read d e ws empty is idle =
     let no_more : d.adjusted + 0 ≡ d.adjusted = omega arith in
@@ -112,7 +112,7 @@ none_read d e ws empty is idle =
       whole = (λ i. made (record d.setting { rules = append-nil d.setting.rules i }) d.table (no_more i)) ∙ (λ i. record d { pending = sym idle i }) ∙ is;
     }
 
--- a bucket more
+-- one more bucket before the rest
 pub more_bucket : (type : List ℕ) (s : SettingData) (t : List Row) (a : ℕ) (ws us : List (List ℕ)) (e : Draft) (x : List ℕ) → 0 < kind_number_in s.kinds type → ws ≡ type ∷ x ∷ us → BucketRead (kind_number_in s.kinds type) x s t a us e → SecondsRead s t a ws e
 more_bucket type s t a ws us e x some head h =
     let b : BucketLines = record { kind = type; name = x; id = h.number; class_ids = h.ids.ids; alg = h.ids.alg; items = h.ids.items.items } in
@@ -140,7 +140,7 @@ more_bucket type s t a ws us e x some head h =
           (sym (add_assoc a (adjusted_items h.number h.ids.items.items (t ++ header (kind_number_in s.kinds type) x h.number h.ids.ids h.ids.alg ∷ [])) (adjusted_by s.kinds rest.seconds (with_items h.number h.ids.items.items (t ++ header (kind_number_in s.kinds type) x h.number h.ids.ids h.ids.alg ∷ [])))) i)) ∙ rest.whole;
     }
 
--- a rule more
+-- one more rule before the rest
 pub record RuleHead (ws us : List (List ℕ)) (x : List ℕ) (n : ℕ) (k : List ℕ) (least most : Option ℕ) : Type 0 where
   pub spelled : (steps : List StepLine) (rest : List (List ℕ)) → SpellsEach SpellsStep steps us (codes "}" ∷ rest) → SpellsRule (record { name = x; id = n; kind = k; min_size = least; max_size = most; steps = steps }) ws rest
 
@@ -158,8 +158,8 @@ more_rule s t a ws us e x n k least most head h =
       whole = (λ i. made (record s { rules = sym (append_assoc s.rules own (rules_by s.kinds rest.seconds t)) i }) (with_seconds s.kinds rest.seconds t) (a + none i)) ∙ rest.whole;
     }
 
--- LINES IN FRONT OF OTHERS
--- a class id more
+-- LINES before other lines
+-- one more class id before the rest
 pub more_id : (k : ℕ) (x : List ℕ) (b : ℕ) (cs : List ShadowData) (c : ShadowData) (s : SettingData) (t : List Row) (a : ℕ) (ws v : List (List ℕ)) (e : Draft) → SpellsClassId c ws v → IdsRead k x b (cs ++ c ∷ []) s t a v e → IdsRead k x b cs s t a ws e
 more_id k x b cs c s t a ws v e spelled h = record {
   ids = c ∷ h.ids;
@@ -171,7 +171,7 @@ more_id k x b cs c s t a ws v e spelled h = record {
   items = subst (λ (l : List ShadowData). ItemsRead b s (t ++ header k x b l h.alg ∷ []) a h.behind_hash e) (append_assoc cs (c ∷ []) h.ids) h.items;
 }
 
--- an item more
+-- one more item before the rest
 pub more_item : (b : ℕ) (i : ItemLine) (s : SettingData) (t : List Row) (a : ℕ) (ws v : List (List ℕ)) (e : Draft) → SpellsItem i ws v → IsListable b t i.name → ItemsRead b s (put_below b (item_in t i.name) (weight_or_one i.weight) t) (a + adjustment t (item_in t i.name) i.weight) v e → ItemsRead b s t a ws e
 more_item b i s t a ws v e spelled names h =
     let u : List Row = put_below b (item_in t i.name) (weight_or_one i.weight) t in
@@ -183,7 +183,7 @@ more_item b i s t a ws v e spelled names h =
       seconds = subst (λ (n : ℕ). SecondsRead s (with_items b h.items u) n h.rest e) (add_assoc a (adjustment t (item_in t i.name) i.weight) (adjusted_items b h.items u)) h.seconds;
     }
 
--- a step more
+-- one more step before the rest
 pub more_step : (r : RuleData) (x : StepLine) (s : SettingData) (t : List Row) (a : ℕ) (ws v : List (List ℕ)) (e : Draft) → SpellsStep x ws v → TakesBucket t x → StepsRead (with_step r (step_in t x)) s t a v e → StepsRead r s t a ws e
 more_step r x s t a ws v e spelled names h = record {
   steps = x ∷ h.steps;
@@ -193,7 +193,7 @@ more_step r x s t a ws v e spelled names h = record {
   seconds = subst (λ (l : List StepData). SecondsRead (with_rules s (record r { steps = l } ∷ [])) t a h.rest e) (append_assoc r.steps (step_in t x ∷ []) (map (step_in t) h.steps)) h.seconds;
 }
 
--- nothing that stands first
+-- the rest has no line of the first part
 pub no_firsts : (d : Draft) (ws : List (List ℕ)) (e : Draft) → d.setting.rules ≡ [] → d.adjusted ≡ 0 → SecondsRead d.setting d.table d.adjusted ws e → FirstsRead d.setting.kinds d.setting.tunables d.table ws e
 no_firsts d ws e rules count h = record {
   firsts = [];
@@ -203,7 +203,7 @@ no_firsts d ws e rules count h = record {
       subst P (λ i. (record { kinds = sym (append-nil d.setting.kinds) i; tunables = sym (append-nil d.setting.tunables) i; rules = rules i }, sym (append-nil d.table) i, count i)) h;
 }
 
--- one more
+-- one more line of the first part before the rest
 pub more_first : (d : Draft) (x : First) (ws v : List (List ℕ)) (e : Draft) → SpellsFirst x ws v → Goal first (behind_first d x) v e → d.pending ≡ nothing → d.setting.rules ≡ [] → d.adjusted ≡ 0 → FirstsRead d.setting.kinds d.setting.tunables d.table ws e
 more_first d (tunable name n) ws v e spelled k idle rules count =
     let h = k idle rules count in
@@ -233,16 +233,16 @@ more_first d (device n name class) ws v e spelled k idle rules count =
       seconds = subst (λ (l : List Row). SecondsRead (record { kinds = d.setting.kinds ++ flat_map first_kinds h.firsts; tunables = d.setting.tunables ++ flat_map first_tunables h.firsts; rules = [] }) l 0 h.more e) (append_assoc d.table one (flat_map first_rows h.firsts)) h.seconds;
     }
 
--- a word that isn't one of those with which what stands first begins
+-- the word begins no line of the first part
 abbrev pub NoFirst : List ℕ → Type 0
 NoFirst w = ComesFirst w → ⊥
 
--- a bucket or a rule by its first word, where what stands behind its line is read
+-- a bucket or a rule, given its first word, if the rest after its first line is read
 pub open_second : (late : Bool) (n : ℕ) (d : Draft) (ws v : List (List ℕ)) (e : Draft) (q : Progress) → ((m : Mode) (u : Draft) → Lines n (at m u) v e → Goal m u v e) → d.pending ≡ nothing
     → (w : List ℕ) (us : List (List ℕ)) → ws ≡ w ∷ us → IsRight d (opening late Nothing) w → (late ≡ false → NoFirst w) → Line d (statement d (opened d w)) us v q → Lines n q v e → SecondsRead d.setting d.table d.adjusted ws e
 open_second late n d ws v e q rest idle w us head right none l lines = by_it (bytes_eq w (codes "tunable")) (bytes_eq w (codes "device")) (bytes_eq w (codes "type")) (bytes_eq w (codes "rule")) refl refl refl refl l
   where
-    -- no word that stands first
+    -- the first word begins no line of the first part
     out : ComesFirst w → ⊥
     out early = by_late late refl
       where

@@ -1,4 +1,4 @@
--- The words that a step reads are those that the grammar spells.
+-- Proves that the words that are read as a step are the words that the grammar spells.
 use Rattle.std.proofs.Common.{◌≡◌, ◌⊎◌, ℕ, Bool, true, false, List, ◌∷◌, Option, Some, None, refl, sym, ap, ◌∙◌, inl, inr}
 use Rattle.std.proofs.lemmas.Slice.Eq.{bytes_eq-Decides}
 use Rattle.std.specs.Prelude.{codes, bytes_eq, cond, unwrap_or, nat_eq, option_and_then}
@@ -28,7 +28,7 @@ use Rattle.crush_laws.proofs.ReadParts.{cons_is, is_word}
 use Rattle.crush_text.specs.declared.expected.Optional.TheVariants.{Class}
 use Rattle.crush_text.specs.declared.expected.Expected.TheVariants as expect
 
--- what was read as a step, after which the rule goes on
+-- the words were read as a step, after which the rule goes on
 pub record StepRead (d : Draft) (r : RuleData) (words v : List (List ℕ)) (q : Progress) : Type 0 where
   pub step : StepLine
   pub spelled : SpellsStep step words v
@@ -64,7 +64,7 @@ module _ (d : Draft) (r : RuleData) (idle : d.pending ≡ nothing) where
       }
       by_class (inr c) = record { step = takes h.0 None; spelled = (h.1, head, c.0); names = known; leads = ap (λ (b : ℕ). at (ruled (with_step r (take b None))) d) (sym is) ∙ c.1 }
 
-  -- the order as a word
+  -- the word for the order is `firstn` or `indep`
   ordered : (o : List ℕ) → (o ≡ codes "firstn") ⊎ (o ≡ codes "indep") → (firstn : Bool) × (bytes_eq o (codes "firstn") ≡ firstn) × (o ≡ order_word firstn)
   ordered o (inl e) = (true, ap (λ (w : List ℕ). bytes_eq w (codes "firstn")) e, e)
   ordered o (inr e) = (false, ap (λ (w : List ℕ). bytes_eq w (codes "firstn")) e, e)
@@ -94,7 +94,7 @@ module _ (d : Draft) (r : RuleData) (idle : d.pending ≡ nothing) where
     leads = h.4.1;
   }
 
-  -- a step by its first word
+  -- a step is read, given its first word
   pub read_step : (words us v : List (List ℕ)) (w : List ℕ) (q : Progress) → words ≡ codes "step" ∷ w ∷ us → IsRight d step_word w → Line d (step_behind d r (value d step_word w)) us v q → StepRead d r words v q
   read_step words us v w q e right h = by_said (bytes_eq w (codes "take")) (bytes_eq w (codes "choose")) (bytes_eq w (codes "chooseleaf")) (bytes_eq w (codes "emit")) refl refl refl refl h
     where

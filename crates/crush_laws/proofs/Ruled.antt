@@ -1,4 +1,4 @@
--- A rule that is read line by line: if the map may have the rule with a line, then it may have the rule without that line.
+-- Lemmas about a rule that is read line by line: if the map may have the rule with a line, then it may have the rule without that line.
 use Rattle.std.proofs.Common.{◌≡◌, ℕ, ◌<◌, ◌≤◌, false, List, [], ◌∷◌, ◌++◌, Option, length, sym, subst, arith, length-append}
 use Rattle.std.proofs.lemmas.Bool.{eqb-true}
 use Rattle.std.proofs.lemmas.Grind.{flat_map-append}
@@ -21,7 +21,7 @@ use Rattle.crush_text.specs.Document.{IsMap}
 abbrev pub taken_by : RuleData → List ℕ
 taken_by r = flat_map bucket_taken r.steps
 
--- WHAT A RULE has to be to be the map's next one
+-- WHAT A RULE must meet so that the map can have it as its next rule
 pub record CanAdd (d : Draft) (r : RuleData) : Type 0 where
   pub rule : IsRule d.setting r
   pub name : has_rule_name d.setting r.name ≡ false
@@ -29,7 +29,7 @@ pub record CanAdd (d : Draft) (r : RuleData) : Type 0 where
   pub few : is_full_of_rules d ≡ false
   pub taken : All (IsThere d.table) (taken_by r)
 
--- the map with the rule
+-- the map with the rule is lawful
 pub map_with_rule : (d : Draft) (r : RuleData) → IsMap d → CanAdd d r → IsMap (add_rule d r)
 map_with_rule d r m c =
     let s : SettingData = d.setting in
@@ -57,7 +57,7 @@ map_with_rule d r m c =
       };
     }
 
--- a rule's head
+-- a rule with only its head can be added
 pub can_begin : (d : Draft) (x : List ℕ) (n : ℕ) (k : List ℕ) (least most : Option ℕ) → IsName x → n ≤ LARGEST_RULE_NUMBER → IsName k → IfSome least (λ v. v ≤ LARGEST_RULE_NUMBER) → IfSome most (λ v. v ≤ LARGEST_RULE_NUMBER) → has_rule_name d.setting x ≡ false → has_rule_id d.setting n ≡ false → is_full_of_rules d ≡ false → CanAdd d (new_rule x n k least most)
 can_begin d x n k least most form small kind low high name id few = record {
   rule = record { name = form; id = small; kind = kind; min_size = low; max_size = high; few = omega arith; steps = All-nil (IsStep d.setting) };
@@ -67,7 +67,7 @@ can_begin d x n k least most form small kind low high name id few = record {
   taken = All-nil (IsThere d.table);
 }
 
--- one more step
+-- a rule with one more step can be added
 pub can_step : (d : Draft) (r : RuleData) (s : StepData) → CanAdd d r → IsStep d.setting s → length r.steps < MOST_STEPS → All (IsThere d.table) (bucket_taken s) → CanAdd d (with_step r s)
 can_step d r s c form room there = record {
   rule = record {

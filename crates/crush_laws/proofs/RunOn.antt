@@ -1,4 +1,4 @@
--- The printed text of a map, and the output of a run, are jobs again when sections of scripts are appended.
+-- Proves that the printed text of a map, and the output of a run, become jobs if sections of scripts are appended.
 use Rattle.std.proofs.Common.{◌≡◌, ℕ, ◌==◌, Bool, true, false, not, List, [], ◌∷◌, ◌++◌, refl, ap, ◌∙◌, arith}
 use Rattle.std.specs.Prelude.{codes}
 use Rattle.std.proofs.lemmas.Bool.{and_parts}
@@ -17,7 +17,7 @@ use Rattle.crush_laws.proofs.HistoryComments.{history_lines_are_comments}
 use Rattle.crush_laws.proofs.JobTexts.{job_history, job_texts_are_read_back}
 use Rattle.crush_laws.proofs.ReadBack.{comments_behind_are_no_matter}
 
--- a text that is read as a map, and whose last line ends
+-- a text that is read as a map, and whose last line ends, has the property `RunsOn`
 runs_on : (bytes : List ℕ) (s : SettingData) (t : List Row) → IsReadAs bytes s t → ends_line true bytes ≡ true → RunsOn bytes s t
 runs_on bytes s t read last = record { read = read; job = λ scripts are short. jobs_are_read_back bytes read.setting read.map.table 0 scripts read.map.text last are short }
 
@@ -25,12 +25,12 @@ ends_behind : (starts : Bool) (front rest : List ℕ) → ends_line starts (fron
 ends_behind starts [] rest = refl
 ends_behind starts (b ∷ bs) rest = ends_behind (b == 10) bs rest
 
--- the last line of a printed map ends
+-- the last line of a printed map ends with a line feed
 map_ends : (form : WeightForm) (s : SettingData) (t : List Row) → ends_line true (map_text form s t) ≡ true
 unfolding map_text
 map_ends form s t = ends_behind true (tunable_section s ++ device_section t ++ kind_section s ++ bucket_section form s t ++ rule_section s t) (codes "\n# end crush map\n")
 
--- and that of comments
+-- the last line of comment lines ends with a line feed
 comments_end : (begun : Bool) (bytes : List ℕ) → are_comments begun bytes ≡ true → ends_line (not begun) bytes ≡ true
 comments_end begun [] h = h
 comments_end false (b ∷ bs) h =

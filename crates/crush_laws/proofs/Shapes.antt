@@ -1,4 +1,4 @@
--- What the words of a text preserve by their forms alone, whether or not the map is lawful.
+-- Proves that the words of a text preserve some properties by their forms alone, whether or not the map is lawful. A draft (`Draft`) is what the lines so far have built. A form (`Form`) says which words the rest of a line must have. A state (`State`) is a place in the text: between two lines, or in a line with the form of its rest. A progress (`Progress`) is a draft with the mode (`Mode`), which says which lines may come next.
 use Rattle.std.proofs.Common.{◌≡◌, ℕ, Bool, true, false, List, [], ◌∷◌, ◌++◌, Option, Some, None, refl, sym, ap, subst, ◌∙◌, arith, inl, inr}
 use Rattle.std.proofs.lemmas.Grind.{flat_map-append}
 use Rattle.std.proofs.lemmas.List.Elements.{All-nil, All-cons, All-push, All-append, All-filter, All-map, All-weaker}
@@ -42,13 +42,13 @@ use Rattle.crush_laws.proofs.EarlierBuckets.{id_free}
 use Rattle.crush_text.specs.declared.expected.Optional.TheVariants.{Nothing}
 use Rattle.crush_text.specs.declared.expected.Optional.{Optional}
 
--- parents and the buckets that rules take are there, and what is in no bucket weighs nothing
+-- the table has all parents and all buckets that rules take (us), and each item without a parent has weight 0
 pub record IsTied (us : List ℕ) (t : List Row) : Type 0 where
   pub parents : All (HasParent t) t
   pub loose : All IsLoose t
   pub taken : All (IsThere t) us
 
--- a parent that is there is there among more rows
+-- a parent that is in a table is also in a table with more rows
 parent_kept : (t u : List Row) → ((i : ItemId) → is_there t i ≡ true → is_there u i ≡ true) → (r : Row) → HasParent t r → HasParent u r
 parent_kept t u more r h = by_parent r.parent h
   where
@@ -56,7 +56,7 @@ parent_kept t u more r h = by_parent r.parent h
     by_parent None k = k
     by_parent (Some p) k = more (Bucket p) k
 
--- with a row more, in no bucket
+-- the same with one more row, which has no parent
 tied_push : (us : List ℕ) (t : List Row) (r : Row) → r.parent ≡ None → r.weight ≡ 0 → IsTied us t → IsTied us (t ++ r ∷ [])
 tied_push us t r root light h =
     let u : List Row = t ++ r ∷ [] in
@@ -66,11 +66,11 @@ tied_push us t r root light h =
       taken = All-weaker (IsThere t) (IsThere u) (λ b. is_there-append t (r ∷ []) (Bucket b)) us h.taken;
     }
 
--- the last row is there
+-- the table has the item of its last row
 last_there : (t : List Row) (r : Row) (i : ItemId) → same_id r.id i ≡ true → is_there (t ++ r ∷ []) i ≡ true
 last_there t r i e = let one : one_if (same_id r.id i) ≡ 1 = ap one_if e in times-is_there (t ++ r ∷ []) i (omega (arith, one, times-append i t (r ∷ []), times-cons i r []))
 
--- with an item in a bucket that is there
+-- the same after an item has got a parent that the table has
 tied_put : (us : List ℕ) (t : List Row) (i : ItemId) (b w : ℕ) → is_there t (Bucket b) ≡ true → IsTied us t → IsTied us (put_below b i w t)
 tied_put us t i b w there h =
     let u : List Row = put_below b i w t in
@@ -84,7 +84,7 @@ tied_put us t i b w there h =
       taken = All-weaker (IsThere t) (IsThere u) (λ c. there_put t i b w (Bucket c)) us h.taken;
     }
 
--- with a rule whose buckets are there
+-- the same with one more rule, if the table has the buckets that the rule takes
 tied_rule : (d : Draft) (r : RuleData) → All (IsThere d.table) (taken_by r) → IsTied (taken_buckets d.setting) d.table → IsTied (taken_buckets (add_rule d r).setting) d.table
 tied_rule d r there h = record {
   parents = h.parents;
@@ -93,8 +93,8 @@ tied_rule d r there h = record {
       (All-append (IsThere d.table) (taken_buckets d.setting) (taken_by r ++ []) h.taken (All-append (IsThere d.table) (taken_by r) [] there (All-nil (IsThere d.table))));
 }
 
--- WHAT IS KNOWN between two lines: what is pending goes with the line that may come. Where the types are some that a map may have,
--- none of them is called as a statement begins, and so no bucket and no rule stands before a type; where the table is lawful the
+-- WHAT IS KNOWN between two lines: what is pending fits the line that may come. If the types are types that a map may have,
+-- none of their names is a word that begins a statement, and so no bucket and no rule comes before a type. If the table is lawful, the
 -- bucket that is being filled is a root
 abbrev pub Shape : Mode → Draft → Type 0
 Shape first d = (d.pending ≡ nothing) × (All IsKind d.setting.kinds → IsEarly d)
@@ -104,19 +104,19 @@ Shape numbered d = (k : ℕ) × (x : List ℕ) × (b : ℕ) × (cs : List Shadow
 Shape (filling any) d = (b : ℕ) × (d.pending ≡ is_filling b) × (is_there d.table (Bucket b) ≡ true) × (Lawful d.table → IsRoot d.table b)
 Shape (ruled r) d = (d.pending ≡ nothing) × All (IsThere d.table) (taken_by r)
 
--- so it is
+-- the draft of the progress p has the shape that the mode of p requires
 pub record IsShaped (p : Progress) : Type 0 where
   pub tied : IsTied (taken_buckets p.draft.setting) p.draft.table
   pub stage : Shape p.mode p.draft
 
--- however a line goes on, what it builds has the shape; which optional part it has left out doesn't matter
+-- each draft that the rest of a line can build has the shape. Which optional part was left out doesn't matter
 abbrev pub Shapes : Draft → Form → Type 0
 Shapes d (done p) = IsShaped (passing Nothing p)
 Shapes d (word r more) = (w : List ℕ) → IsFor d r w → Shapes d (more (value d r w))
 Shapes d (optional k f g) = Shapes d f × Shapes d g
 Shapes d (ahead k f g) = Shapes d f × Shapes d g
 
--- the lines that stand before buckets and rules
+-- the statements that come before buckets and rules
 abbrev pub is_early : StatementKind → Bool
 is_early statement_kinds.Tunable = true
 is_early statement_kinds.Type = true
@@ -124,7 +124,7 @@ is_early statement_kinds.Device = true
 is_early (statement_kinds.Bucket k) = false
 is_early statement_kinds.Rule = false
 
--- where such a line may come, or else a type is called as no type may be
+-- if a line of the first part comes after a bucket or a rule, then a type has a name that no type may have
 pub early_opening : (d : Draft) (late : Bool) → (late ≡ false → All IsKind d.setting.kinds → IsEarly d) → (w : List ℕ) → IsFor d (opening late Nothing) w
     → is_early (opened d w) ≡ true → All IsKind d.setting.kinds → IsEarly d
 early_opening d late h w (inl e) is kinds = h e.0 kinds
@@ -136,18 +136,18 @@ early_opening d late h w (inr (inr some)) is kinds =
     absurd cc
 
 module _ (d : Draft) (tied : IsTied (taken_buckets d.setting) d.table) where
-  -- a tunable
+  -- the line of a tunable preserves the shape
   shapes_tunable : d.pending ≡ nothing → (All IsKind d.setting.kinds → IsEarly d) → Shapes d (tunable_line d)
   shapes_tunable idle early = λ x fx n fn. record { tied = record { parents = tied.parents; loose = tied.loose; taken = tied.taken }; stage = (idle, λ all. let e = early all in record { unruled = e.unruled; devices = e.devices }) }
 
-  -- a type
+  -- the line of a type preserves the shape
   shapes_type : d.pending ≡ nothing → (All IsKind d.setting.kinds → IsEarly d) → Shapes d (type_line d)
   shapes_type idle early = λ n fn x fx. record {
     tied = record { parents = tied.parents; loose = tied.loose; taken = tied.taken };
     stage = (idle, λ all. let e = early (All-left IsKind d.setting.kinds (record { number = digits_value 10 n; name = x } ∷ []) all) in record { unruled = e.unruled; devices = e.devices });
   }
 
-  -- a device
+  -- the line of a device preserves the shape
   shapes_device : d.pending ≡ nothing → (All IsKind d.setting.kinds → IsEarly d) → Shapes d (device_line d)
   shapes_device idle early = λ n fn x fx. (λ k fk c fc. made n x (Some c), made n x None)
     where
@@ -157,11 +157,11 @@ module _ (d : Draft) (tied : IsTied (taken_buckets d.setting) d.table) where
         stage = (idle, λ all. let e = early all in record { unruled = e.unruled; devices = All-push (λ (r : Row). r.kind ≡ 0) d.table (new_device (digits_value 10 n) x class) e.devices refl });
       }
 
-  -- a bucket's first words
+  -- the first words of a bucket preserve the shape
   shapes_bucket : (k : ℕ) → Shapes d (bucket_line d k)
   shapes_bucket k = λ x fx. record { tied = record { parents = tied.parents; loose = tied.loose; taken = tied.taken }; stage = (k, x, refl) }
 
-  -- a rule's head
+  -- the head of a rule preserves the shape
   shapes_rule : d.pending ≡ nothing → Shapes d (rule_line d)
   shapes_rule idle = λ x fx a fa b fb n fn c fc k fk. (
     λ e fe u fu. (λ g fg v fv. head x n k (Some (digits_value 10 u)) (Some (digits_value 10 v)), head x n k (Some (digits_value 10 u)) None),
@@ -171,7 +171,7 @@ module _ (d : Draft) (tied : IsTied (taken_buckets d.setting) d.table) where
       head : (x n k : List ℕ) (least most : Option ℕ) → IsShaped (at (ruled (new_rule x (digits_value 10 n) k least most)) d)
       head x n k least most = record { tied = tied; stage = (idle, All-nil (IsThere d.table)) }
 
-  -- a statement by its first word
+  -- a statement, given its first word, preserves the shape
   shapes_statement : (o : StatementKind) → d.pending ≡ nothing → (is_early o ≡ true → All IsKind d.setting.kinds → IsEarly d) → Shapes d (statement d o)
   shapes_statement statement_kinds.Tunable idle early = shapes_tunable idle (early refl)
   shapes_statement statement_kinds.Type idle early = shapes_type idle (early refl)
@@ -179,20 +179,20 @@ module _ (d : Draft) (tied : IsTied (taken_buckets d.setting) d.table) where
   shapes_statement (statement_kinds.Bucket k) idle early = shapes_bucket k
   shapes_statement statement_kinds.Rule idle early = shapes_rule idle
 
-  -- the id
+  -- the id of a bucket preserves the shape
   shapes_id : Shape begun d → Shapes d (id_line d)
   shapes_id s = λ a fa c fc w fw. record {
     tied = record { parents = tied.parents; loose = tied.loose; taken = tied.taken };
     stage = (s.0, s.1, digits_value 10 (drop 1 w), [], ap (λ (q : Pending). pending_with_id q (digits_value 10 (drop 1 w))) s.2);
   }
 
-  -- a class id
+  -- the line of a class id preserves the shape
   shapes_class_id : Shape numbered d → Shapes d (class_id_line d)
   shapes_class_id s = λ w fw k fk c fc.
       let new : ShadowData = record { id = digits_value 10 (drop 1 w); class = c } in
       record { tied = record { parents = tied.parents; loose = tied.loose; taken = tied.taken }; stage = (s.0, s.1, s.2, s.3 ++ new ∷ [], ap (λ (q : Pending). pending_with_class_id q new) s.4) }
 
-  -- the algorithm puts the bucket's row last
+  -- the algorithm appends the bucket's row to the table
   rowed : (a : Alg) → Shape numbered d → IsShaped (at (filling false) (with_alg d a))
   rowed a s =
       let row : Row = new_bucket s.0 s.1 s.2 s.3 a in
@@ -207,11 +207,11 @@ module _ (d : Draft) (tied : IsTied (taken_buckets d.setting) d.table) where
         );
       }
 
-  -- with `hash` or without
+  -- an algorithm with `hash` or without preserves the shape
   shapes_alg : Shape numbered d → Shapes d (alg_line d)
   shapes_alg s = λ a fa. (λ h fh z fz. rowed _ s, rowed _ s)
 
-  -- an item
+  -- the line of an item preserves the shape
   shapes_item : (any : Bool) → Shape (filling any) d → Shapes d (item_line d)
   shapes_item any s = (λ x fx k fk w fw. added x fx (Some (units w)), λ x fx. added x fx None)
     where
@@ -231,7 +231,7 @@ module _ (d : Draft) (tied : IsTied (taken_buckets d.setting) d.table) where
             );
           }
 
-  -- a step more
+  -- one more step preserves the shape
   stepped : (r : RuleData) (x : StepData) → Shape (ruled r) d → All (IsThere d.table) (bucket_taken x) → IsShaped (at (ruled (with_step r x)) d)
   stepped r x s there = record {
     tied = tied;
@@ -242,7 +242,7 @@ module _ (d : Draft) (tied : IsTied (taken_buckets d.setting) d.table) where
     );
   }
 
-  -- by its first word
+  -- a step, given its first word, preserves the shape
   shapes_step : (r : RuleData) (w : StepWord) → Shape (ruled r) d → Shapes d (step_behind d r w)
   shapes_step r takes s = λ b fb. (λ k fk c fc. stepped r (take (bucket_of_word d b) (Some c)) s (taken b fb), stepped r (take (bucket_of_word d b) None) s (taken b fb))
     where
@@ -252,7 +252,7 @@ module _ (d : Draft) (tied : IsTied (taken_buckets d.setting) d.table) where
   shapes_step r (sets x) s = λ n fn. stepped r (set x (digits_value 10 n)) s (All-nil (IsThere d.table))
   shapes_step r emits s = stepped r emit s (All-nil (IsThere d.table))
 
-  -- each line
+  -- each line preserves the shape
   pub shapes_lines : (mode : Mode) (k : Optional) → Shape mode d → Shapes d (line_forms d k mode)
   shapes_lines first k s = λ w fw. shapes_statement (opened d w) s.0 (early_opening d false (λ _. s.1) w fw)
   shapes_lines second k s = λ w fw. shapes_statement (opened d w) s (early_opening d true (λ e. let no : true ≡ false = e in absurd cc) w fw)

@@ -1,4 +1,4 @@
--- A text that spells a lawful document is the text of its map.
+-- Proves that a text whose words spell a lawful document is the text of the document's map.
 use Rattle.std.proofs.Common.{◌≡◌, ℕ, ◌+◌, Bool, true, false, List, [], ◌∷◌, ◌++◌, refl, sym, subst, ◌∙◌, append_assoc, append-nil, add_assoc, arith}
 use Rattle.std.specs.Prelude.{All, flat_map}
 use Rattle.crush_model.specs.Table.{Row}
@@ -23,7 +23,7 @@ use Rattle.crush_laws.proofs.SpelledBuckets.{bucket_leads}
 use Rattle.crush_laws.proofs.SpelledRules.{rule_leads}
 
 module _ (ks : List KindData) (kinds : All IsKind ks) (ts : List TunableData) (e : Draft) where
-  -- a bucket or a rule, after the lines of the first part or after other buckets and rules
+  -- the words of a bucket or a rule lead on, after the first part or after other buckets and rules
   second_leads : (late : Bool) (x : Second) (rs : List RuleData) (t : List Row) (a : ℕ) (ws rest : List (List ℕ)) → SpellsSecond x ws rest → UsesNames ks x t
       → LeadTo (between (at second (draft ks ts (rs ++ rules_in t x) (with_second ks x t) (a + adjusted_in ks x t)))) (plain rest) e → LeadTo (between (at (idle late) (draft ks ts rs t a))) (plain ws) e
   second_leads late (bucket b) rs t a ws rest h uses k =
@@ -33,13 +33,13 @@ module _ (ks : List KindData) (kinds : All IsKind ks) (ts : List TunableData) (e
       let none : a + 0 ≡ a = omega arith in
       rule_leads ks ts rs t a e late r ws rest h uses (subst (λ (v : ℕ). LeadTo (between (at second (draft ks ts (rs ++ rules_in t (rule r)) t v))) (plain rest) e) none k)
 
-  -- none of them begins with `class`
+  -- the words of no bucket and no rule begin with `class`
   seconds_begin : (xs : List Second) (t : List Row) (ws : List (List ℕ)) → SpellsEach SpellsSecond xs ws [] → UseNames ks xs t → NoClass ws
   seconds_begin [] t ws h uses = subst NoClass (sym h) refl
   seconds_begin (bucket b ∷ xs) t ws h uses = subst NoClass (sym h.1.head) (no_key b.kind (type_named ks b.kind kinds uses.0.0).free).class
   seconds_begin (rule r ∷ xs) t ws h uses = subst NoClass (sym h.1.head) refl
 
-  -- all of them
+  -- the words of all buckets and rules lead on
   seconds_lead : (late : Bool) (xs : List Second) (rs : List RuleData) (t : List Row) (a : ℕ) (ws : List (List ℕ)) → SpellsEach SpellsSecond xs ws [] → UseNames ks xs t
       → draft ks ts (rs ++ rules_by ks xs t) (with_seconds ks xs t) (a + adjusted_by ks xs t) ≡ e → LeadTo (between (at (idle late) (draft ks ts rs t a))) (plain ws) e
   seconds_lead late [] rs t a ws h uses is = subst (λ (v : List (List ℕ)). LeadTo (between (at (idle late) (draft ks ts rs t a))) (plain v) e) (sym h) (whole late)
@@ -57,11 +57,11 @@ module _ (ks : List KindData) (kinds : All IsKind ks) (ts : List TunableData) (e
       λ i. draft ks ts (append_assoc rs (rules_in t x) (rules_by ks xs u) i) (with_seconds ks xs u) (add_assoc a (adjusted_in ks x t) (adjusted_by ks xs u) i) in
       second_leads late x rs t a ws h.0 h.1 uses.0 (seconds_lead true xs (rs ++ rules_in t x) u n h.0 h.2 uses.1 (same ∙ is))
 
--- what all of them build
+-- the draft that a document builds
 abbrev built : Document → Draft
 built doc = draft (kinds_of doc) (flat_map first_tunables doc.first) (rules_by (kinds_of doc) doc.second (devices_of doc)) (table_of doc) (adjusted doc)
 
--- the words of a document lead there
+-- the words of a document lead to this draft
 document_leads : (doc : Document) (ws : List (List ℕ)) → Spells ws doc → LawfulDocument doc → LeadTo start (plain ws) (built doc)
 document_leads doc ws h l =
     let ks : List KindData = kinds_of doc in

@@ -1,4 +1,4 @@
--- The words of a bucket lead to the draft that the document says.
+-- Proves that the words of a bucket lead to the draft that the document means.
 use Rattle.std.proofs.Common.{◌≡◌, ℕ, ◌+◌, ◌<◌, Bool, true, false, List, [], ◌∷◌, ◌++◌, Option, Some, None, Ok, refl, sym, ap, subst, ◌∙◌, append_assoc, append-nil, add_assoc, arith, inl, inr}
 use Rattle.std.proofs.lemmas.Bool.{and_parts, eqb-true}
 use Rattle.std.specs.Prelude.{codes, drop, unwrap_or, slice_index, ◌==◌, ◌&&◌, option_and_then, if◌then◌else◌}
@@ -34,7 +34,7 @@ use Rattle.crush_laws.proofs.SpelledLines.{words_lead, lacking, draft}
 use Rattle.crush_text.specs.declared.expected.Optional.TheVariants.{Hash, Weight}
 use Rattle.crush_laws.proofs.LeftOut.{lead_so}
 
--- THE FORM of a bucket's number
+-- THE FORM of a bucket's id: `-` and digits
 negative : (n : ℕ) (w : List ℕ) → IsBucketNumber n w → (slice_index w 0 ≡ 45) × (are_digits 10 (drop 1 w) ≡ true)
 negative n w h =
     let all = and_parts ((slice_index w 0 == 45) && is_number FARTHEST_BUCKET_ID (drop 1 w)) _ h.0 in
@@ -42,12 +42,12 @@ negative n w h =
     (eqb-true _ _ two.0, (and_parts (are_digits 10 (drop 1 w)) _ two.1).0)
 
 module _ (ks : List KindData) (ts : List TunableData) (rs : List RuleData) (e : Draft) where
-  -- a draft in the middle of a bucket
+  -- the draft in the middle of a bucket
   abbrev amid_bucket : List Row → ℕ → Pending → Draft
   amid_bucket t a p = record { setting = record { kinds = ks; tunables = ts; rules = rs }; table = t; pending = p; adjusted = a }
 
-  -- ITEMS
-  -- an item that can be listed is one that is there, closed and in no bucket
+  -- ITEMS of a bucket lead on
+  -- an item that can be listed is in the table, is closed and has no parent
   found : (t : List Row) (a b : ℕ) (x : List ℕ) → IsListable b t x → item_named (amid_bucket t a (is_filling b)) x ≡ Some (item_in t x)
   found t a b x h = ap (option_and_then (closed_item (is_filling b))) h.there ∙ ap (λ c. if c then None else Some (item_in t x)) h.closed
 
@@ -57,7 +57,7 @@ module _ (ks : List KindData) (ts : List TunableData) (rs : List RuleData) (e : 
   free : (t : List Row) (a b : ℕ) (x : List ℕ) → IsListable b t x → IsFree (amid_bucket t a (is_filling b)) x
   free t a b x h = let is = found_item t a b x h in (found t a b x h ∙ ap (λ (i : ItemId). Some i) (sym is), ap (is_placed t) is ∙ h.once)
 
-  -- one item: the word after an item without a weight isn't `weight`
+  -- one item leads on: if the item has no weight, the word after it isn't `weight`
   item_leads : (any : Bool) (b : ℕ) (x : List ℕ) (w : Option ℕ) (t : List Row) (a : ℕ) (ws rest : List (List ℕ)) → SpellsWeighed x w ws rest → begins_with_key (codes "weight") (plain rest) ≡ false → IsListable b t x
       → LeadTo (between (at (filling true) (with_next_item (amid_bucket t a (is_filling b)) (item_in t x) w))) (plain rest) e → LeadTo (between (at (filling any) (amid_bucket t a (is_filling b)))) (plain ws) e
   item_leads any b x None t a ws rest h other l k =
@@ -76,7 +76,7 @@ module _ (ks : List KindData) (ts : List TunableData) (rs : List RuleData) (e : 
       (subst (λ (i : ItemId). LeadTo (between (at (filling true) (with_next_item d i (Some (units h.0))))) (plain rest) e) (sym (found_item t a b x l))
       (subst (λ (v : ℕ). LeadTo (between (at (filling true) (with_next_item d (item_in t x) (Some v)))) (plain rest) e) (sym is) k)))
 
-  -- what stands where items may isn't another word
+  -- the words at a place for items begin with `item` or with the closing brace
   abbrev Begins : List ℕ → List (List ℕ) → Type 0
   Begins k ws = begins_with_key k (plain ws) ≡ false
 
@@ -88,7 +88,7 @@ module _ (ks : List KindData) (ts : List TunableData) (rs : List RuleData) (e : 
   items_begin [] ws rest P all end h = subst P (sym h) end
   items_begin (i ∷ is) ws rest P all end h = item_begins i.weight i.name ws h.0 P all h.1
 
-  -- all items, and the brace
+  -- the words of all items and the closing brace lead on
   items_lead : (any : Bool) (b : ℕ) (is : List ItemLine) (t : List Row) (a : ℕ) (ws rest : List (List ℕ)) → SpellsEach SpellsItem is ws (codes "}" ∷ rest) → AreListable b is t
       → LeadTo (between (at second (draft ks ts rs (with_items b is t) (a + adjusted_items b is t)))) (plain rest) e → LeadTo (between (at (filling any) (amid_bucket t a (is_filling b)))) (plain ws) e
   items_lead any b [] t a ws rest h l k =
@@ -103,8 +103,8 @@ module _ (ks : List KindData) (ts : List TunableData) (rs : List RuleData) (e : 
       (items_lead true b is u (a + n) h.0 rest h.2 l.1
       (subst (λ (v : ℕ). LeadTo (between (at second (draft ks ts rs (with_items b is u) v))) (plain rest) e) (sym (add_assoc a n (adjusted_items b is u))) k))
 
-  -- THE HEAD
-  -- class ids
+  -- THE HEAD of a bucket leads on
+  -- the words of class ids lead on
   class_ids_lead : (t : List Row) (a kind : ℕ) (x : List ℕ) (b : ℕ) (cs xs : List ShadowData) (ws rest : List (List ℕ)) → SpellsEach SpellsClassId xs ws rest
       → LeadTo (between (at numbered (amid_bucket t a (is_numbered kind x b (cs ++ xs))))) (plain rest) e → LeadTo (between (at numbered (amid_bucket t a (is_numbered kind x b cs)))) (plain ws) e
   class_ids_lead t a kind x b cs [] ws rest h k =
@@ -118,7 +118,7 @@ module _ (ks : List KindData) (ts : List TunableData) (rs : List RuleData) (e : 
       (class_ids_lead t a kind x b (cs ++ c ∷ []) xs h.0 rest h.2
       (subst (λ (v : List ShadowData). LeadTo (between (at numbered (amid_bucket t a (is_numbered kind x b v)))) (plain rest) e) (sym (append_assoc cs (c ∷ []) xs)) k))))
 
-  -- `hash`, or none
+  -- the form that is due after the algorithm: `hash` or nothing
   abbrev behind_algorithm : Draft → Alg → Form
   behind_algorithm d a = optional (codes "hash") (word (key (codes "hash")) (λ _. word (number 0) (λ _. done (at (filling false) (with_alg d a))))) (done (passing Hash (at (filling false) (with_alg d a))))
 
@@ -136,7 +136,7 @@ module _ (ks : List KindData) (ts : List TunableData) (rs : List RuleData) (e : 
       (words_lead (between (at numbered d)) (codes "alg" ∷ alg_text alg ∷ codes "hash" ∷ h.0 ∷ []) rest e (inr refl, ((alg, refl), (refl, (h.1.0, tt))))
       (subst (λ (x : Alg). LeadTo (between (at (filling false) (with_alg d x))) (plain rest) e) (sym (ap (λ o. unwrap_or o Straw2) (alg_of_text-alg_text alg))) k))
 
-  -- THE BUCKET
+  -- THE BUCKET as a whole leads on
   pub bucket_leads : (late : Bool) (b : BucketLines) (t : List Row) (a : ℕ) (ws rest : List (List ℕ)) → SpellsBucket b ws rest → is_reserved b.kind ≡ false → 0 < kind_number_in ks b.kind → AreListable b.id b.items (with_bucket ks b t)
       → LeadTo (between (at second (draft ks ts rs (with_items b.id b.items (with_bucket ks b t)) (a + adjusted_items b.id b.items (with_bucket ks b t))))) (plain rest) e → LeadTo (between (at (idle late) (draft ks ts rs t a))) (plain ws) e
   bucket_leads late b t a ws rest h free some l k =

@@ -1,4 +1,4 @@
--- The words of a line lead to the draft that the document says: what several kinds of lines share, and the lines of the first part.
+-- Proves that the words of a line lead to the draft that the document means. Here are lemmas for several kinds of lines, and the lines of the first part. A draft (`Draft`) is what the lines so far have built. A form (`Form`) says which words the rest of a line must have. A state (`State`) is a place in the text: between two lines, or in a line with the form of its rest.
 use Rattle.std.proofs.Common.{◌≡◌, ℕ, true, false, List, [], ◌∷◌, ◌++◌, Option, Some, None, refl, sym, subst, append_assoc, append-nil, inl, inr}
 use Rattle.std.proofs.lemmas.Bool.{and_parts}
 use Rattle.std.specs.Prelude.{codes, flat_map, drop}
@@ -21,7 +21,7 @@ use Rattle.crush_laws.proofs.BuiltLines.{plain, leads_alike}
 use Rattle.crush_text.specs.declared.expected.Optional.TheVariants.{Class}
 use Rattle.crush_laws.proofs.LeftOut.{lead_so}
 
--- words lead on wherever they stand
+-- words with the same texts lead on to the same draft, whatever their places are
 pub lead_alike : (s : State) (vs ws : List Word) (e : Draft) → texts vs ≡ texts ws → LeadTo s vs e → LeadTo s ws e
 lead_alike s [] [] e same h = h
 lead_alike s [] (w ∷ ws) e same h = absurd cc
@@ -31,7 +31,7 @@ lead_alike s (v ∷ vs) (w ∷ ws) e same h =
     let tail : texts vs ≡ texts ws = cc in
     (h.0, subst (λ (x : List ℕ). WordLeads s x ws h.0) head (leads_alike s v.text vs ws h.0 tail h.1), lead_alike h.0 vs ws e tail h.2)
 
--- SEVERAL WORDS of a line, and other words after them: what each is read as, and where it leads
+-- SEVERAL WORDS of a line, followed by other words: how each word is read, and where it leads
 abbrev FormTakes : Draft → Form → List ℕ → Type 0
 FormTakes d (word r more) w = IsFor d r w
 FormTakes d (done p) w = ⊥
@@ -74,7 +74,7 @@ pub words_lead : (s : State) (ws rest : List (List ℕ)) (e : Draft) → TakesAl
 words_lead s [] rest e h k = k
 words_lead s (w ∷ ws) rest e h k = word_leads s w (ws ++ rest) e h.0 (words_lead (behind_word s w (ws ++ rest)) ws rest e h.1 k)
 
--- AN OPTIONAL PART that isn't there: what is due without it
+-- AN OPTIONAL PART that is left out: the form that is due without it
 abbrev pub Lacks : Form → List (List ℕ) → Type 0
 Lacks (optional k f g) rest = begins_with_key k (plain rest) ≡ false
 Lacks (ahead k f g) rest = begins_with_key k (drop 1 (plain rest)) ≡ false
@@ -93,7 +93,7 @@ lacking d (ahead k f g) rest e h s = rw h s
 lacking d (word r more) rest e h s = absurd h
 lacking d (done p) rest e h s = absurd h
 
--- digits of a number
+-- a word that is a number has only digits
 pub number_digits : (most n : ℕ) (w : List ℕ) → IsNumber most n w → are_digits 10 w ≡ true
 number_digits most n w h = (and_parts (are_digits 10 w) _ h.0).0
 
@@ -101,15 +101,15 @@ number_digits most n w h = (and_parts (are_digits 10 w) _ h.0).0
 abbrev pub NoClass : List (List ℕ) → Type 0
 NoClass ws = begins_with_key (codes "class") (plain ws) ≡ false
 
--- what was read between two statements
+-- the draft between two statements
 abbrev pub draft : List KindData → List TunableData → List RuleData → List Row → ℕ → Draft
 draft ks ts rs t a = record { setting = record { kinds = ks; tunables = ts; rules = rs }; table = t; pending = nothing; adjusted = a }
 
 abbrev pub early : Draft → State
 early d = between (at first d)
 
--- WHAT STANDS FIRST
--- a tunable, a type
+-- THE FIRST PART of a document
+-- the words of a tunable and of a type lead on
 tunable_leads : (d : Draft) (name w : List ℕ) (n : ℕ) (rest : List (List ℕ)) (e : Draft) → IsNumber LARGEST_TUNABLE n w → LeadTo (early (with_tunable d name n)) (plain rest) e
     → LeadTo (early d) (plain (codes "tunable" ∷ name ∷ w ∷ rest)) e
 tunable_leads d name w n rest e h k = words_lead (early d) (codes "tunable" ∷ name ∷ w ∷ []) rest e (inl (refl, inl refl), (tt, (h.0, tt))) (subst (λ (v : ℕ). LeadTo (early (with_tunable d name v)) (plain rest) e) (sym h.1) k)
@@ -118,7 +118,7 @@ kind_leads : (d : Draft) (name w : List ℕ) (n : ℕ) (rest : List (List ℕ)) 
 kind_leads d name w n rest e h k =
     words_lead (early d) (codes "type" ∷ w ∷ name ∷ []) rest e (inl (refl, inr (inr refl)), (number_digits LAST_TYPE n w h, (tt, tt))) (subst (λ (v : ℕ). LeadTo (early (with_kind d v name)) (plain rest) e) (sym h.1) k)
 
--- a device with or without a class
+-- the words of a device, with a class or without, lead on
 class_leads : (d : Draft) (n : ℕ) (name : List ℕ) (class : Option (List ℕ)) (ws rest : List (List ℕ)) (e : Draft) → SpellsClass class ws rest → NoClass rest → LeadTo (early (with_device d n name class)) (plain rest) e
     → LeadTo (arrive d (plain ws) (device_class d n name)) (plain ws) e
 class_leads d n name None ws rest e h other k =
@@ -133,7 +133,7 @@ device_leads d name w n class more rest e h c other k =
     words_lead (early d) (codes "device" ∷ w ∷ name ∷ []) more e (inl (refl, inr (inl refl)), (number_digits LAST_DEVICE_ID n w h, (tt, tt)))
     (subst (λ (v : ℕ). LeadTo (arrive d (plain more) (device_class d v name)) (plain more) e) (sym h.1) (class_leads d n name class more rest e c other k))
 
--- one of them
+-- the words of a line of the first part lead on
 first_leads : (x : First) (ks : List KindData) (ts : List TunableData) (t : List Row) (ws rest : List (List ℕ)) (e : Draft) → SpellsFirst x ws rest → NoClass rest
     → LeadTo (early (draft (ks ++ first_kinds x) (ts ++ first_tunables x) [] (t ++ first_rows x) 0)) (plain rest) e → LeadTo (early (draft ks ts [] t 0)) (plain ws) e
 first_leads (tunable name n) ks ts t ws rest e h other k =
@@ -146,7 +146,7 @@ first_leads (device n name class) ks ts t ws rest e h other k =
     let same : draft (ks ++ []) (ts ++ []) [] (t ++ first_rows (device n name class)) 0 ≡ draft ks ts [] (t ++ first_rows (device n name class)) 0 = λ i. draft (append-nil ks i) (append-nil ts i) [] (t ++ first_rows (device n name class)) 0 in
     subst (λ (x : List (List ℕ)). LeadTo (early (draft ks ts [] t 0)) (plain x) e) (sym h.3) (device_leads (draft ks ts [] t 0) name h.0 n class h.1 rest e h.2 h.4 other (subst (λ (d : Draft). LeadTo (early d) (plain rest) e) same k))
 
--- none of them begins with `class`
+-- the words of no line of the first part begin with `class`
 first_begins : (x : First) (ws rest : List (List ℕ)) → SpellsFirst x ws rest → NoClass ws
 first_begins (tunable name n) ws rest h = subst NoClass (sym h.2) refl
 first_begins (kind n name) ws rest h = subst NoClass (sym h.2) refl
@@ -156,7 +156,7 @@ firsts_begin : (xs : List First) (ws more : List (List ℕ)) → SpellsEach Spel
 firsts_begin [] ws more h other = subst NoClass (sym h) other
 firsts_begin (x ∷ xs) ws more h other = first_begins x ws h.0 h.1
 
--- all of them
+-- the words of all lines of the first part lead on
 pub firsts_lead : (xs : List First) (ks : List KindData) (ts : List TunableData) (t : List Row) (ws more : List (List ℕ)) (e : Draft) → SpellsEach SpellsFirst xs ws more → NoClass more
     → LeadTo (early (draft (ks ++ flat_map first_kinds xs) (ts ++ flat_map first_tunables xs) [] (t ++ flat_map first_rows xs) 0)) (plain more) e → LeadTo (early (draft ks ts [] t 0)) (plain ws) e
 firsts_lead [] ks ts t ws more e h other k =

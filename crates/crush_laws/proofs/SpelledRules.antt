@@ -1,4 +1,4 @@
--- The words of a rule lead to the draft that the document says.
+-- Proves that the words of a rule lead to the draft that the document means.
 use Rattle.std.proofs.Common.{◌≡◌, ℕ, Bool, true, false, List, [], ◌∷◌, ◌++◌, Option, Some, None, refl, sym, ap, subst, ◌∙◌, append_assoc, append-nil, inl, inr}
 use Rattle.std.proofs.lemmas.List.Elements.{All-head, All-tail}
 use Rattle.std.specs.Prelude.{ℤ, All, codes, map, unwrap_or, option_and_then}
@@ -26,7 +26,7 @@ use Rattle.crush_text.specs.declared.expected.Expected.TheVariants as expect
 use Rattle.crush_text.specs.declared.expected.Optional.TheVariants.{Class}
 use Rattle.crush_laws.proofs.LeftOut.{lead_so}
 
--- THE STEPS
+-- THE STEPS of a rule lead on
 -- between two statements each bucket is closed
 closed : (o : Option ItemId) → option_and_then (closed_item nothing) o ≡ o
 closed None = refl
@@ -36,7 +36,7 @@ module _ (ks : List KindData) (ts : List TunableData) (rs : List RuleData) (t : 
   abbrev here : Draft
   here = draft ks ts rs t a
 
-  -- in a rule as far as it is read
+  -- the state in a rule, as far as the rule was read
   abbrev inside : RuleData → State
   inside r = between (at (ruled r) here)
 
@@ -46,7 +46,7 @@ module _ (ks : List KindData) (ts : List TunableData) (rs : List RuleData) (t : 
   taken : (x : List ℕ) → bucket_of_word here x ≡ unwrap_or (bucket_named t x) 0
   taken x = ap (λ o. unwrap_or o 0) (named x)
 
-  -- the class of a step, or none
+  -- the form that is due after the bucket of a `take` step: a class or nothing
   abbrev take_form : RuleData → ℕ → Form
   take_form r b = optional (codes "class") (word (key (codes "class")) (λ _. word (any_word expect.Class) (λ c. step_done here r (take b (Some c))))) (done (passing Class (at (ruled (with_step r (take b None))) here)))
 
@@ -91,7 +91,7 @@ module _ (ks : List KindData) (ts : List TunableData) (rs : List RuleData) (t : 
   step_leads emits r ws rest h takes_one other k =
       subst (λ (v : List (List ℕ)). LeadTo (inside r) (plain v) e) (sym h) (words_lead (inside r) (codes "step" ∷ codes "emit" ∷ []) rest e (inl refl, (inr (inr (inr (inl refl))), tt)) k)
 
-  -- steps begin with `step`, and a brace follows them
+  -- each step begins with the word `step`, and a brace follows the steps
   step_begins : (x : StepLine) (ws rest : List (List ℕ)) (P : List (List ℕ) → Type 0) → ((more : List (List ℕ)) → P (codes "step" ∷ more)) → SpellsStep x ws rest → P ws
   step_begins (takes x class) ws rest P all h = subst P (sym h.1) (all (codes "take" ∷ x ∷ h.0))
   step_begins (chooses leaf firstn n kind) ws rest P all h = subst P (sym h.2) (all (choice_word leaf ∷ order_word firstn ∷ h.0 ∷ codes "type" ∷ kind ∷ rest))
@@ -105,7 +105,7 @@ module _ (ks : List KindData) (ts : List TunableData) (rs : List RuleData) (t : 
   abbrev Begins : List ℕ → List (List ℕ) → Type 0
   Begins k ws = begins_with_key k (plain ws) ≡ false
 
-  -- a rule with further steps
+  -- the rule r with further steps appended
   abbrev with_steps : RuleData → List StepData → RuleData
   with_steps r xs = record r { steps = r.steps ++ xs }
 
@@ -119,7 +119,7 @@ module _ (ks : List KindData) (ts : List TunableData) (rs : List RuleData) (t : 
       (steps_lead xs (with_step r (step_in t x)) h.0 rest h.2 (All-tail (TakesBucket t) x xs l)
       (subst (λ (ys : List StepData). LeadTo (between (at second (add_rule here (record r { steps = ys })))) (plain rest) e) (sym (append_assoc r.steps (step_in t x ∷ []) (map (step_in t) xs))) k))
 
-  -- THE SIZES
+  -- THE SIZES of a rule lead on
   most_leads : (x : List ℕ) (n : ℕ) (kind : List ℕ) (least most : Option ℕ) (ws rest : List (List ℕ)) → SpellsSize (codes "max_size") most ws rest → Begins (codes "max_size") rest
       → LeadTo (inside (new_rule x n kind least most)) (plain rest) e → LeadTo (arrive here (plain ws) (max_size here x n kind least)) (plain ws) e
   most_leads x n kind least None ws rest h other k =
@@ -139,12 +139,12 @@ module _ (ks : List KindData) (ts : List TunableData) (rs : List RuleData) (t : 
       (words_lead (arrive here (plain all) (sizes here x n kind)) (codes "min_size" ∷ h.0 ∷ []) rest e (refl, (h.1.0, tt))
       (subst (λ (v : ℕ). LeadTo (arrive here (plain rest) (max_size here x n kind (Some v))) (plain rest) e) (sym h.1.1) k))
 
-  -- a greatest size, or what follows it
+  -- the words at the place of the greatest size begin with `max_size`, or they are what follows it
   most_begins : (most : Option ℕ) (ws rest : List (List ℕ)) → SpellsSize (codes "max_size") most ws rest → Begins (codes "min_size") rest → Begins (codes "min_size") ws
   most_begins None ws rest h other = subst (Begins (codes "min_size")) (sym h) other
   most_begins (Some m) ws rest h other = subst (Begins (codes "min_size")) (sym h.2) refl
 
-  -- THE RULE
+  -- THE RULE as a whole leads on
   pub rule_leads : (late : Bool) (r : RuleLines) (ws rest : List (List ℕ)) → SpellsRule r ws rest → All (TakesBucket t) r.steps → LeadTo (between (at second (draft ks ts (rs ++ rule_in t r ∷ []) t a))) (plain rest) e
       → LeadTo (between (at (idle late) (draft ks ts rs t a))) (plain ws) e
   rule_leads late r ws rest h l k =

@@ -35,7 +35,7 @@ BeginsStep w = (w ≡ codes "take") ⊎ ((w ≡ codes "choose") ⊎ ((w ≡ code
 abbrev pub IsFree : Draft → List ℕ → Type 0
 IsFree d w = (item_named d w ≡ Some (item_of d w)) × (is_placed d.table (item_of d w) ≡ false)
 
--- the word w has the form of what is due, r: a given word of the grammar, a number, digits, `-` and digits, an item that can be listed, a
+-- the word w has the form r that is due: a given word of the grammar, a number, digits, `-` and digits, an item that can be listed, a
 -- bucket whose lines have ended, or a weight. Limits, the forms of names, and whether a name or an id is already used are not checked here:
 -- they are conditions on the map that the line builds.
 abbrev pub IsFor : Draft → Role → List ℕ → Type 0
@@ -66,14 +66,14 @@ IsFor d step_order w = (w ≡ codes "firstn") ⊎ (w ≡ codes "indep")
 IsFor d step_count w = is_signed w ≡ true
 IsFor d step_type w = Unit {0}
 
--- the word w, followed by the words rest, leads from the form that is due to the state m: w has that form, and its value says what is due next
+-- the word w, followed by the words `rest`, leads from the form that is due to the state m: w has this form, and w's value says which form is due next
 abbrev pub LeadsFrom : Draft → Form → List ℕ → List Word → State → Type 0
 LeadsFrom d (word r more) w rest m = IsFor d r w × (m ≡ arrive d rest (more (value d r w)))
 LeadsFrom d (done p) w rest m = ⊥
 LeadsFrom d (optional k f g) w rest m = ⊥
 LeadsFrom d (ahead k f g) w rest m = ⊥
 
--- the word leads from a state to the state m. Between two lines, the forms of the next line are due.
+-- the word leads from a state to the state m. Between two lines, the forms of the next line are due
 abbrev pub WordLeads : State → List ℕ → List Word → State → Type 0
 WordLeads (between p) w rest m = LeadsFrom p.draft (next p) w rest m
 WordLeads (amid d f) w rest m = LeadsFrom d f w rest m

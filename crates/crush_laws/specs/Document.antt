@@ -17,8 +17,8 @@ pub record BucketLines : Type 0 where
   pub alg : Alg
   pub items : List ItemLine
 
--- a step of a rule. `takes` a bucket's name, and a class if there is one. `chooses` whether it is `chooseleaf`, whether it is `firstn`, a
--- number, and the name of a type. `sets` the word of the step, and a number. `emits` is the step `emit`.
+-- a step of a rule. `takes` has a bucket's name, and a class if there is one. `chooses` has whether the step is `chooseleaf`, whether it is `firstn`, a
+-- number, and the name of a type. `sets` has the word of the step, and a number. `emits` is the step `emit`.
 pub data StepLine : Type 0 where
   takes : List ℕ → Option (List ℕ) → StepLine
   chooses : Bool → Bool → ℤ → List ℕ → StepLine

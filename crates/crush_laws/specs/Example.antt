@@ -9,7 +9,7 @@ use Rattle.crush_laws.specs.Document.{Document, takes, chooses, sets, emits, tun
 use Rattle.crush_laws.specs.Spells.{Spells}
 use Rattle.crush_laws.specs.Meaning.{setting_of, table_of, adjusted}
 
--- the words of its text: the first lines, then the host, the root and the rule
+-- the words of the example's text: the first lines, then the host, the root and the rule
 abbrev pub example_words : List (List ℕ)
 example_words =
     codes "tunable" ∷ codes "tries" ∷ codes "50" ∷ codes "type" ∷ codes "1" ∷ codes "host" ∷ codes "type" ∷ codes "11" ∷ codes "root"

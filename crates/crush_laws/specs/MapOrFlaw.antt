@@ -31,8 +31,8 @@ AFlawExcludesTheMap = (bytes : List ℕ) (f : TextFault) (s : SettingData) (t : 
 abbrev pub AtMostOneFlaw : Type 0
 AtMostOneFlaw = (bytes : List ℕ) (f g : TextFault) → IsMapFlaw bytes f → IsMapFlaw bytes g → f ≡ g
 
--- the flaw doesn't depend on what follows the word w that has the fault, with one exception: whether the next word is `weight`. Other bytes
--- that have the same words up to and including w, and in which `weight` follows w if and only if it does here, have the same flaw.
+-- the flaw doesn't depend on what follows the word w that has the fault, except for whether the next word is `weight`. If other bytes
+-- have the same words up to and including w, and `weight` follows w in both or in neither, then these bytes have the same flaw.
 abbrev pub SameWordsSameFlaw : Type 0
 SameWordsSameFlaw = (bytes others : List ℕ) (f : TextFault) (x : IsMapFlaw bytes f) (w : Word) (next more : List Word) → x.next ≡ w ∷ next → (words 0 others).words ≡ x.before ++ w ∷ more → begins_with_key (codes "weight") next ≡ begins_with_key (codes "weight") more → IsMapFlaw others f
 
@@ -40,11 +40,11 @@ SameWordsSameFlaw = (bytes others : List ℕ) (f : TextFault) (x : IsMapFlaw byt
 abbrev pub FlawsSayWhatIsExpected : Type 0
 FlawsSayWhatIsExpected = (bytes : List ℕ) (f : TextFault) (x : IsMapFlaw bytes f) → f.expected ≡ expected_at x.so_far
 
--- with each word that may follow in that state, the text goes on: neither the words before the flaw nor this word have a fault, if perhaps other words follow
+-- after each word that may follow in that state, the text can go on: neither the words before the flaw nor this word have a fault, if suitable words follow
 abbrev pub ExpectedWordsGoOn : Type 0
 ExpectedWordsGoOn = (bytes : List ℕ) (f : TextFault) (x : IsMapFlaw bytes f) (w : Word) → MayFollow x.so_far w.text → GoesOn x.before w
 
--- with no other word the text goes on
+-- after any other word the text can't go on
 abbrev pub NoOtherWordGoesOn : Type 0
 NoOtherWordGoesOn = (bytes : List ℕ) (f : TextFault) (x : IsMapFlaw bytes f) (w : Word) → GoesOn x.before w → MayFollow x.so_far w.text
 
@@ -60,7 +60,7 @@ EachMapIsLawful = (bytes : List ℕ) (s : SettingData) (t : List Row) (n : ℕ) 
 abbrev pub MapsAreTheLawfulTexts : Type 0
 MapsAreTheLawfulTexts = (bytes : List ℕ) (s : SettingData) (t : List Row) (n : ℕ) → IsMapText bytes s t n ↔ IsLawfulText bytes s t n
 
--- bytes are the text of a map if and only if their words lead to that map by their form, and it is lawful in the end. So no line is rejected if what follows would make the map lawful.
+-- bytes are the text of a map if and only if the forms of their words lead to that map, and the map is lawful in the end. So no line is rejected if the lines after it would make the map lawful.
 abbrev pub MapsAreTheLawfulEnds : Type 0
 MapsAreTheLawfulEnds = (bytes : List ℕ) (s : SettingData) (t : List Row) (n : ℕ) → IsMapText bytes s t n ↔ EndsLawfully bytes s t n
 
@@ -80,6 +80,6 @@ pub record HasFlaw (bytes : List ℕ) : Type 0 where
   pub fault : TextFault
   pub flaw : IsMapFlaw bytes fault
 
--- all bytes are the text of a map or have a flaw
+-- every sequence of bytes is the text of a map or has a flaw
 abbrev pub AMapOrAFlaw : Type 0
 AMapOrAFlaw = (bytes : List ℕ) → HasMap bytes ⊎ HasFlaw bytes

@@ -1,4 +1,4 @@
--- WHAT A DOCUMENT MEANS: its setting, its table and its adjustments; and which documents are lawful.
+-- WHAT A DOCUMENT MEANS: a setting, a table, and the number of written bucket weights that are adjusted; and which documents are lawful.
 use Rattle.std.specs.Prelude.{◌≡◌, ℕ, ◌+◌, ◌<◌, List, [], ◌∷◌, ◌++◌, false, Some, None, All, map, flat_map, unwrap_or}
 use Rattle.crush_units.specs.declared.id.ItemId.{ItemId}
 use Rattle.crush_units.specs.declared.id.ItemId.TheVariants.{Device, Bucket}
@@ -14,7 +14,7 @@ use Rattle.crush_units.specs.Words.{words, texts, ended}
 use Rattle.crush_laws.specs.Document.{ItemLine, BucketLines, StepLine, takes, chooses, sets, emits, RuleLines, First, tunable, kind, device, Second, bucket, rule, Document}
 use Rattle.crush_laws.specs.Spells.{Spells}
 
--- THE FIRST LINES of a document are types, tunables and devices. Here: the type that a line declares, if it declares one
+-- THE FIRST LINES of a document are types, tunables and devices. This first definition is the type that a line declares, if it declares one
 abbrev pub first_kinds : First → List KindData
 first_kinds (kind n name) = record { number = n; name = name } ∷ []
 first_kinds (tunable name n) = []
@@ -26,7 +26,7 @@ first_tunables (tunable name n) = record { name = name; value = n } ∷ []
 first_tunables (kind n name) = []
 first_tunables (device n name class) = []
 
--- the row that a line appends to the table: a device's line appends the device, without a parent and with weight 0; another line appends none
+-- the row that a line appends to the table. The line of a device appends the device, without a parent and with weight 0. Any other line appends none
 abbrev pub first_rows : First → List Row
 first_rows (device n name class) = device_row None (record { id = n; name = name; weight = 0; class = class }) ∷ []
 first_rows (tunable name n) = []
@@ -64,59 +64,59 @@ abbrev pub adjusted_items : ℕ → List ItemLine → List Row → ℕ
 adjusted_items b [] t = 0
 adjusted_items b (i ∷ items) t = adjustment t (item_in t i.name) i.weight + adjusted_items b items (put_below b (item_in t i.name) (weight_or_one i.weight) t)
 
--- the same of a bucket's lines, when the table before them is t; a rule has none
+-- the number of such items in one statement, when the table before it is t. A rule has none
 abbrev pub adjusted_in : List KindData → Second → List Row → ℕ
 adjusted_in kinds (bucket b) t = adjusted_items b.id b.items (with_bucket kinds b t)
 adjusted_in kinds (rule r) t = 0
 
--- the same of several buckets and rules, in order
+-- the number of such items in several buckets and rules, in order
 abbrev pub adjusted_by : List KindData → List Second → List Row → ℕ
 adjusted_by kinds [] t = 0
 adjusted_by kinds (x ∷ xs) t = adjusted_in kinds x t + adjusted_by kinds xs (with_second kinds x t)
 
--- A STEP of a rule as the setting has it: the bucket that it takes is given by its id instead of its name
+-- A STEP of a rule as the setting stores it: the bucket that it takes is given by its id instead of its name
 abbrev pub step_in : List Row → StepLine → StepData
 step_in t (takes name class) = take (unwrap_or (bucket_named t name) 0) class
 step_in t (chooses leaf firstn n type) = choose leaf firstn n type
 step_in t (sets name n) = set name n
 step_in t emits = emit
 
--- A RULE as the setting has it
+-- A RULE as the setting stores it
 abbrev pub rule_in : List Row → RuleLines → RuleData
 rule_in t r = record { name = r.name; id = r.id; kind = r.kind; min_size = r.min_size; max_size = r.max_size; steps = map (step_in t) r.steps }
 
--- the rule of these lines, if they are a rule's
+-- the rule of a statement, as a list that is empty if the statement is a bucket
 abbrev pub rules_in : List Row → Second → List RuleData
 rules_in t (bucket b) = []
 rules_in t (rule r) = rule_in t r ∷ []
 
--- the rules among several buckets and rules, in order; each sees the table after those before it
+-- the rules of several statements, in order. The names in each rule are looked up in the table after the statements before it
 abbrev pub rules_by : List KindData → List Second → List Row → List RuleData
 rules_by kinds [] t = []
 rules_by kinds (x ∷ xs) t = rules_in t x ++ rules_by kinds xs (with_second kinds x t)
 
--- THE MAP of a document: its types
+-- THE MAP of a document: the document's types
 abbrev pub kinds_of : Document → List KindData
 kinds_of doc = flat_map first_kinds doc.first
 
--- its devices, before buckets list them
+-- the document's devices, before buckets list them
 abbrev pub devices_of : Document → List Row
 devices_of doc = flat_map first_rows doc.first
 
--- its setting: types, tunables and rules
+-- the document's setting: its types, tunables and rules
 abbrev pub setting_of : Document → SettingData
 setting_of doc = record { kinds = kinds_of doc; tunables = flat_map first_tunables doc.first; rules = rules_by (kinds_of doc) doc.second (devices_of doc) }
 
--- its table
+-- the document's table
 abbrev pub table_of : Document → List Row
 table_of doc = with_seconds (kinds_of doc) doc.second (devices_of doc)
 
--- how many of its written bucket weights aren't sums, and are replaced by the sums
+-- how many of the document's written bucket weights aren't the sums of the buckets' items, and are replaced by the sums
 abbrev pub adjusted : Document → ℕ
 adjusted doc = adjusted_by (kinds_of doc) doc.second (devices_of doc)
 
--- A NAME IS USED AFTER THE LINE THAT DECLARES IT, a bucket's name after the bucket's closing brace. The bucket b may list the name if some
--- item of the table has it (`there`), which isn't b itself (`closed`), and which no bucket lists yet (`once`).
+-- A NAME IS USED AFTER THE LINE THAT DECLARES IT, and a bucket's name after the bucket's closing brace. The bucket b may list the name if some
+-- item of the table has the name (`there`), this item isn't b itself (`closed`), and no bucket lists this item yet (`once`).
 pub record IsListable (b : ℕ) (t : List Row) (name : List ℕ) : Type 0 where
   pub there : id_named t name ≡ Some (item_in t name)
   pub closed : same_id (Bucket b) (item_in t name) ≡ false
@@ -127,24 +127,24 @@ abbrev pub AreListable : ℕ → List ItemLine → List Row → Type 0
 AreListable b [] t = Unit {0}
 AreListable b (i ∷ items) t = IsListable b t i.name × AreListable b items (put_below b (item_in t i.name) (weight_or_one i.weight) t)
 
--- if the step takes something, then a bucket of the table has that name
+-- if the step takes something, then a bucket of the table has the name that it takes
 abbrev pub TakesBucket : List Row → StepLine → Type 0
 TakesBucket t (takes name class) = bucket_named t name ≡ Some (unwrap_or (bucket_named t name) 0)
 TakesBucket t (chooses leaf firstn n type) = Unit {0}
 TakesBucket t (sets name n) = Unit {0}
 TakesBucket t emits = Unit {0}
 
--- the names in these lines can be used when the table before them is t. A bucket: its type is known and isn't type 0, and its items can be listed. A rule: what its steps take are buckets.
+-- the names in a statement can be used when the table before it is t. For a bucket: its type is known and isn't type 0, and its items can be listed. For a rule: what its steps take are buckets.
 abbrev pub UsesNames : List KindData → Second → List Row → Type 0
 UsesNames kinds (bucket b) t = (0 < kind_number_in kinds b.kind) × AreListable b.id b.items (with_bucket kinds b t)
 UsesNames kinds (rule r) t = All (TakesBucket t) r.steps
 
--- the same of several buckets and rules, in order
+-- the same for each of several statements, in order
 abbrev pub UseNames : List KindData → List Second → List Row → Type 0
 UseNames kinds [] t = Unit {0}
 UseNames kinds (x ∷ xs) t = UsesNames kinds x t × UseNames kinds xs (with_second kinds x t)
 
--- A LAWFUL DOCUMENT: each name is used after the line that declares it, and no item is listed twice (`names`); its table is lawful, and its
+-- A LAWFUL DOCUMENT: each name is used after the line that declares it, and no item is listed twice (`names`). The document's table is lawful, and its
 -- setting fits the table, both within the limits of a map
 pub record LawfulDocument (doc : Document) : Type 0 where
   pub names : UseNames (kinds_of doc) doc.second (devices_of doc)

@@ -1,4 +1,4 @@
--- The laws that the text of a plan is a script of the plan's edits, and that its run makes them.
+-- The laws that the text of a plan is a script of the plan's edits, and that the run of this script makes these edits.
 use Rattle.std.specs.Prelude.{◌≡◌, ℕ, ◌≤◌, List, [], ◌∷◌, ◌++◌, All, Option, true, codes, length, map}
 use Rattle.crush_units.specs.Name.{IsName}
 use Rattle.crush_units.specs.declared.limits.TheConstants.{LONGEST_JOB, MOST_CALLS}
@@ -16,17 +16,16 @@ use Rattle.crush_plan.specs.Leads.{Leads}
 use Rattle.crush_plan.specs.Part.{IsAllowed}
 use Rattle.crush_plan.specs.Plan.{IsPlan, PlanData}
 use Rattle.crush_plan.specs.PlanText.{plan_text}
-use Rattle.crush_plan.specs.declared.text.PlanWords.TheVariants.{Script}
 
--- the script of the operator of this name, with one call for each edit
+-- the script of the operator with this name, with one call for each edit
 abbrev pub script_of : List ℕ → List Edit → ScriptData
 script_of name es = record { name = name; calls = map One es }
 
--- the text of a map, followed by the text of a plan as the section of the operator of this name
+-- the text of a map, followed by the text of a plan as the section of the operator with this name
 abbrev pub planned_job : List ℕ → List ℕ → PlanData → List ℕ
-planned_job text name plan = text ++ (codes "%operator " ++ name ++ codes "\n" ++ plan_text Script plan)
+planned_job text name plan = text ++ (codes "%operator " ++ name ++ codes "\n" ++ plan_text plan)
 
--- PLANS ARE SCRIPTS: take the text of a map, which ends a line, and any plan from this map to another, for the whole or for a part. The text
+-- PLANS ARE SCRIPTS: take the text of a map, whose last line ends, and any plan from this map to another, for the whole map or for a part. The text
 -- of the map followed by the plan as a section is the job of that map with one call for each edit of the plan and no other call, if it has at
 -- most as many calls and bytes as a job may have. The plan's lines of remaining differences are comments, and add nothing to the job.
 abbrev pub PlansAreScripts : Type 0
@@ -39,6 +38,6 @@ pub record IsRun (u : List Row) (s : SettingData) (t : List Row) (h : List Entry
   pub table : table_after s t h ≡ u
   pub changes : All (λ (e : EntryData). is_change e.reply ≡ true) h
 
--- PLANS ARE RUN: if these edits lead from the table t to the table u, then so does the run of the script with one call for each of them, and each call is a change
+-- PLANS ARE RUN: if the edits lead from the table t to the table u, then the run of the script with one call for each edit also leads from t to u, and each call changes the map
 abbrev pub PlansAreRun : Type 0
 PlansAreRun = (old new : List Row) (under : Option (List ℕ)) (s : SettingData) (t : List Row) (name : List ℕ) (es : List Edit) (u : List Row) → Leads (IsAllowed old new under) s t es u → IsRun u s t (turns s t (script_of name es ∷ []))

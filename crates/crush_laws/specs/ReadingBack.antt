@@ -16,13 +16,13 @@ pub record SameSetting (s r : SettingData) : Type 0 where
   pub tunables : s.tunables ≡ r.tunables
   pub rules : s.rules ≡ r.rules
 
--- the bytes are the text of a map with the setting s and a table that is the same as t, and each written weight of a bucket is its sum
+-- the bytes are the text of a map with the setting s and a table that is the same as t. Each written weight of a bucket is the sum of its items
 pub record IsTextOf (bytes : List ℕ) (s : SettingData) (t : List Row) : Type 0 where
   pub table : List Row
   pub text : IsMapText bytes s table 0
   pub same : Same table t
 
--- READ AS: the bytes are the text of such a map, whose setting is the same as s except for the order of its types; and in each form of weights, the printed text of that map is the printed text of s and t
+-- READ AS: the bytes are the text of a map with such a table and with a setting that is the same as s, except for the order of its types. In each form of weights, the printed text of this map is the printed text of s and t
 pub record IsReadAs (bytes : List ℕ) (s : SettingData) (t : List Row) : Type 0 where
   pub setting : SettingData
   pub settings : SameSetting s setting
@@ -49,7 +49,7 @@ InOrderIsTheSame = (s : SettingData) (t : List Row) → Fits s t → SameSetting
 abbrev pub TypesAreReadInOrder : Type 0
 TypesAreReadInOrder = (form : WeightForm) (s : SettingData) (t : List Row) → Lawful t → Fits s t → IsTextOf (map_text form s t) (in_order s) t
 
--- the setting with its types in order, and any table that is the same, have the same printed text
+-- the setting with its types in order, together with any table that is the same as t, has the same printed text as the setting s and t
 abbrev pub ReadBackPrintsAlike : Type 0
 ReadBackPrintsAlike = (form : WeightForm) (s : SettingData) (t u : List Row) → Lawful t → Fits s t → Same u t → map_text form (in_order s) u ≡ map_text form s t
 

@@ -28,12 +28,12 @@ abbrev pub SpellsEach : {A : Type 0} → (A → List (List ℕ) → List (List �
 SpellsEach S [] words rest = words ≡ rest
 SpellsEach S (x ∷ xs) words rest = (more : List (List ℕ)) × S x words more × SpellsEach S xs more rest
 
--- [`class` CLASS]: optional
+-- [`class` CLASS]: an optional part
 abbrev pub SpellsClass : Option (List ℕ) → List (List ℕ) → List (List ℕ) → Type 0
 SpellsClass None words rest = words ≡ rest
 SpellsClass (Some class) words rest = words ≡ codes "class" ∷ class ∷ rest
 
--- [KEY N]: optional
+-- [KEY N]: an optional part
 abbrev pub SpellsSize : List ℕ → Option ℕ → List (List ℕ) → List (List ℕ) → Type 0
 SpellsSize key None words rest = words ≡ rest
 SpellsSize key (Some n) words rest = (w : List ℕ) × IsNumber LARGEST_RULE_NUMBER n w × (words ≡ key ∷ w ∷ rest)
@@ -48,7 +48,7 @@ SpellsFirst (device n name class) words rest = (w : List ℕ) × (more : List (L
 abbrev pub SpellsClassId : ShadowData → List (List ℕ) → List (List ℕ) → Type 0
 SpellsClassId c words rest = (w : List ℕ) × IsBucketNumber c.id w × (words ≡ codes "id" ∷ w ∷ codes "class" ∷ c.class ∷ rest)
 
--- [`hash` `0`]: optional; the 0 may have leading zeros
+-- [`hash` `0`]: an optional part; the 0 may have leading zeros
 abbrev pub SpellsHash : List (List ℕ) → List (List ℕ) → Type 0
 SpellsHash words rest = (words ≡ rest) ⊎ ((w : List ℕ) × IsNumber 0 0 w × (words ≡ codes "hash" ∷ w ∷ rest))
 
@@ -57,7 +57,7 @@ abbrev pub SpellsWeighed : List ℕ → Option ℕ → List (List ℕ) → List 
 SpellsWeighed name None words rest = words ≡ codes "item" ∷ name ∷ rest
 SpellsWeighed name (Some units) words rest = (w : List ℕ) × (weight_of_text w ≡ Ok units) × (words ≡ codes "item" ∷ name ∷ codes "weight" ∷ w ∷ rest)
 
--- the same for a line of the document
+-- the same for an `ItemLine` of the document
 abbrev pub SpellsItem : ItemLine → List (List ℕ) → List (List ℕ) → Type 0
 SpellsItem i words rest = SpellsWeighed i.name i.weight words rest
 

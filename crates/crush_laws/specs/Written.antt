@@ -1,4 +1,4 @@
--- The laws that the output of a run is read back as the map after it.
+-- The laws that the output of a run is read back as the map after the run.
 use Rattle.std.specs.Prelude.{ℕ, ◌≤◌, ◌++◌, List, All, length}
 use Rattle.crush_units.specs.Name.{IsName}
 use Rattle.crush_model.specs.Table.{Row}
@@ -37,13 +37,13 @@ IsNamed (Rename from to) = IsName from × IsName to
 IsNamed (SetClass n c) = IsName n × IsName c
 IsNamed (RemoveClass n) = IsName n
 
--- the same of each edit of a call
+-- the same for each edit of a call
 abbrev pub IsNamedCall : Call → Type 0
 IsNamedCall (One e) = IsNamed e
 IsNamedCall (Batch es) = All IsNamed es
 IsNamedCall (Guarded seen es) = All IsNamed es
 
--- the same of each call of a history
+-- the same for each call of a history
 abbrev pub IsNamedHistory : List EntryData → Type 0
 IsNamedHistory h = All (λ (e : EntryData). IsNamedCall e.call) h
 
@@ -60,7 +60,7 @@ WhatIsWrittenIsReadBack = (form : WeightForm) (s : SettingData) (t : List Row) (
 abbrev pub text_after : WeightForm → SettingData → List Row → List (List ℕ) → List EntryData → List ℕ
 text_after form s t names h = map_text form s (table_after s t h) ++ entries_text names 1 h
 
--- THE TEXT OF ANY HISTORY: the map after a history of a lawful map, followed by the history's lines, is read back as that map, if the calls have the forms that edits keep
+-- THE TEXT OF ANY HISTORY: the map after a history of a lawful map, followed by the history's lines, is read back as that map, if the calls meet `IsNamedHistory` and `IsCall`
 abbrev pub HistoryTextsAreReadBack : Type 0
 HistoryTextsAreReadBack = (form : WeightForm) (s : SettingData) (t : List Row) (names : List (List ℕ)) (h : List EntryData) → Lawful t → Fits s t
     → All IsName names → IsNamedHistory h → All (λ (e : EntryData). IsCall e.call) h → IsReadAs (text_after form s t names h) s (table_after s t h)
@@ -79,17 +79,17 @@ abbrev pub JobMapsAreReadBack : Type 0
 JobMapsAreReadBack = (form : WeightForm) (bytes : List ℕ) (job : JobData) → IsJob bytes job
     → let u = table_after job.setting job.table (turns job.setting job.table job.scripts) in IsReadAs (map_text form job.setting u) job.setting u
 
--- RUNS ON: the bytes are read as this map. If the sections of any scripts are appended, and the result isn't longer than a job may be, then it is the job of that map with these scripts.
+-- RUNS ON: the bytes are read as the map with the setting s and the table t. If the sections of any scripts are appended, and the result isn't longer than a job may be, then the result is the job of that map with these scripts.
 pub record RunsOn (bytes : List ℕ) (s : SettingData) (t : List Row) : Type 0 where
   pub read : IsReadAs bytes s t
   pub job : (scripts : List ScriptData) → AreScripts scripts → length (bytes ++ scripts_text scripts) ≤ LONGEST_JOB
       → IsJob (bytes ++ scripts_text scripts) (record { setting = read.setting; table = read.map.table; adjusted = 0; scripts = scripts })
 
--- PRINT, APPEND A SECTION, RUN: the printed text of a lawful map runs on, whatever comment lines follow it
+-- PRINT, APPEND A SECTION, RUN: the printed text of a lawful map, followed by any comment lines, has the property `RunsOn`
 abbrev pub PrintedMapsRunOn : Type 0
 PrintedMapsRunOn = (form : WeightForm) (s : SettingData) (t : List Row) (comments : List ℕ) → Lawful t → Fits s t → AreCommentLines comments → RunsOn (map_text form s t ++ comments) s t
 
--- the output of a job, with the lines of its history, runs on
+-- the output of a job, with the lines of its history, has the property `RunsOn`
 abbrev pub JobTextsRunOn : Type 0
 JobTextsRunOn = (form : WeightForm) (bytes : List ℕ) (job : JobData) → IsJob bytes job
     → let h = turns job.setting job.table job.scripts in RunsOn (text_after form job.setting job.table (names_of job.scripts) h) job.setting (table_after job.setting job.table h)

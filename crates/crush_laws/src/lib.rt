@@ -1,8 +1,9 @@
 //! Laws of map texts. Each law is the contract of a function that does nothing and needs no call.
 //!
-//! Each text either is the text of one map or has one flaw. The text of a map is a lawful document
-//! (`specs/Document.antt`, `specs/Spells.antt` and `specs/Meaning.antt` say what that is). What is
-//! printed of a map, or written after a run, is read back as the same map. The text of a plan is a
+//! Each sequence of bytes either is the text of exactly one map or has exactly one flaw, which is a
+//! fault with its place. The text of a map is a lawful document; `specs/Document.antt`,
+//! `specs/Spells.antt` and `specs/Meaning.antt` define what that is. If the printed text of a map,
+//! or the output of a run, is read again, the result is the same map. The text of a plan is a
 //! script.
 #![tactic(auto)]
 

@@ -1,13 +1,14 @@
-//! The laws that what is printed or written is read back.
+//! The laws that the printed text of a map and the output of a run are read back as the same map.
 
 ghost use Rattle.crush_laws.specs.ReadingBack.{CommentsBehindAreNoMatter, InOrderIsTheSame, PrintedTextsAreReadBack, ReadBackPrintsAlike, TypesAreReadInOrder};
 ghost use Rattle.crush_laws.specs.Written.{HistoryLinesAreComments, WhatIsWrittenIsReadBack, HistoryTextsAreReadBack};
 ghost use Rattle.crush_laws.specs.Written.{JobsStayLawful, JobTextsAreReadBack, JobMapsAreReadBack, JobTextsRunOn, PrintedMapsRunOn};
 
-/// The law that the printed text of a map is read back as that map, with weights in either form. The table and the setting are
-/// the same, except that the types are then in the order of their numbers, and the map that was
-/// read prints the same text again. That also holds with comment lines after the text. With
-/// sections of scripts after it, the text is the job of that map with these scripts.
+/// The law that the printed text of a map is read back as that map, in whichever of the two forms
+/// its weights are printed. The map that is read has the same table and the same setting, except
+/// that its types are in the order of their numbers. If this map is printed, the result is the same
+/// text. All this also holds if comment lines follow the text. If sections of scripts follow the
+/// text, then the text and the sections together are the job of that map with these scripts.
 pub fn what_is_printed_is_read_back()
     ensures read { PrintedTextsAreReadBack }
     ensures behind { CommentsBehindAreNoMatter }
@@ -17,11 +18,12 @@ pub fn what_is_printed_is_read_back()
     ensures again { ReadBackPrintsAlike }
 {}
 
-/// The law that the output of a run is read back. The lines of a history are comments. The text of
-/// a history, which is the printed map after it followed by its lines, is read back as that map, if
-/// its calls have the forms that edits keep. After any job the map is lawful, and the output of the
-/// job, with the lines of its history or without, is read back as that map. A further job may begin
-/// with this output.
+/// The law that the output of a run is read back as the map after the run. The lines of a history
+/// are comments. The text of a history is the printed map after the history, followed by the lines
+/// of the history. If the calls of the history meet the definitions `IsNamedHistory` and `IsCall`,
+/// this text is read back as that map. After any job the map is lawful, and the output of the job
+/// is read back as that map, with or without the lines of the history. The output can also be the
+/// beginning of a further job.
 pub fn what_is_written_is_read_back()
     ensures comments { HistoryLinesAreComments }
     ensures read { WhatIsWrittenIsReadBack }

@@ -1,4 +1,4 @@
--- An encoding of maps as values of one plain type, from which each map can be decoded again.
+-- An encoding that writes each map as a value of one plain type, from which the map can be decoded again.
 use Rattle.std.specs.Prelude.{refl}
 use Rattle.std.specs.Coded.{Coded, code_by, coded×}
 use Rattle.crush_model.specs.Forest.{ForestData}

@@ -11,7 +11,7 @@ pub record MapData : Type 0 where
   pub setting : SettingData
   pub forest : ForestData
 
--- the invariant of a map, in addition to its forest's: its setting fits its rows. That is, the setting is valid by itself, declares the type of each bucket, and each bucket that a rule takes exists
+-- the invariant of a map, in addition to the invariant of its forest: the setting fits the rows. This means that the setting is valid by itself, that it declares the type of each bucket, and that each bucket that a rule takes exists
 abbrev pub MapFits : MapData → Type 0
 MapFits m = Fits m.setting (rows_of m.forest)
 

@@ -12,7 +12,7 @@ use Rattle.crush_model.specs.Columns.{without_row}
 abbrev pub placed_row : ℕ → ℕ → Row → Row
 placed_row b w r = record r { parent = Some b; weight = if is_device r then w else r.weight }
 
--- the table after the item i is put into bucket b: its row is taken out, changed as above, and appended at the end
+-- the table after the item i is put into bucket b: its row is taken out, changed as `placed_row` says, and appended at the end
 abbrev pub put_below : ℕ → ItemId → ℕ → List Row → List Row
 put_below b i w t = without_row i t ++ map (placed_row b w) (filter (λ (r : Row). same_id r.id i) t)
 
@@ -21,7 +21,7 @@ abbrev pub weight_or_one : Option ℕ → ℕ
 weight_or_one None = UNITS_OF_ONE
 weight_or_one (Some w) = w
 
--- 1 if the item is a bucket and the line gives a weight that differs from the sum of the devices below it; otherwise 0
+-- 1 if the item is a bucket and the line gives a weight that differs from the sum of the weights of the devices below the bucket; otherwise 0
 abbrev pub adjustment : List Row → ItemId → Option ℕ → ℕ
 adjustment t (Device x) w = 0
 adjustment t (Bucket b) None = 0

@@ -22,14 +22,14 @@ use std::alloc::{Allocator, Global};
 
 impl<A: Allocator> CrushMap<A> {
     /// Applies one edit to the map, and returns whether it changed the map and how many buckets it
-    /// made.
+    /// created.
     ///
-    /// Returns [`EditFault::Refused`] if there is a reason to refuse the edit; if there are
-    /// several, the error has the one that [`Refusal`] lists first. Returns
-    /// [`EditFault::OutOfMemory`] only if there is no reason to refuse the edit and it would change
-    /// the map. Edits that set weights, swap two buckets, or remove an item or a class never run
-    /// out of memory. After an error the map is exactly as before, including the spare capacity of
-    /// its vectors.
+    /// Returns [`EditFault::Refused`] if there is a reason to refuse the edit. If there are several
+    /// reasons, the error names the reason that comes first in the list of [`Refusal`]. Returns
+    /// [`EditFault::OutOfMemory`] only if there is no reason to refuse the edit and the edit would
+    /// change the map. Edits that set weights, swap two buckets, or remove an item or a class never
+    /// run out of memory. After an error the map is exactly as before, including the spare capacity
+    /// of its vectors.
     pub fn apply(&mut self, requested: &Edit) -> Result<Done, EditFault>
     where
         A: Clone,
@@ -51,12 +51,15 @@ impl<A: Allocator> CrushMap<A> {
         apply_edit(&mut self.hierarchy, &self.setting, requested)
     }
 
-    /// Returns the name in a refused edit that the refusal is about, for example to print it.
+    /// Returns the name that a refusal is about. The name is one of the names in the refused edit.
+    /// A caller can print it in a message.
     ///
-    /// The name is that of a type or a bucket if the edit's location is at fault, and that of the
-    /// type if the type of a new bucket is. If the edit names two items, it is the one at fault.
-    /// Otherwise it is the name of the item to edit. Call it on the map that refused the edit. An
-    /// edit of a batch was refused by the map after the edits before it, which is not this map.
+    /// If the edit's location is at fault, the result is the name of a type or a bucket in the
+    /// location. If the type of a new bucket is at fault, the result is the name of this type. If
+    /// the edit names two items, the result is the name that is at fault. Otherwise the result is
+    /// the name of the item to edit. Call this method on the map that refused the edit. In a batch,
+    /// this is the map after the edits that precede the refused edit; a failed batch undoes these
+    /// edits, so the caller has to apply them again.
     pub fn culprit<'a>(&self, requested: &'a Edit, refusal: Refusal) -> &'a Name<Global>
         ensures { (t : List Row) → Stands self.now.forest t
             → result.now ≡ culprit self.now.setting t requested.now refusal }
@@ -64,13 +67,14 @@ impl<A: Allocator> CrushMap<A> {
         culprit(&self.hierarchy, &self.setting, requested, refusal)
     }
 
-    /// Applies a batch of at most 65,536 edits in order, all or none of them.
+    /// Applies a batch of at most 65,536 edits in order: either all of them, or none.
     ///
-    /// Each edit applies to the map that the edits before it made. Returns how many edits were
-    /// made, how many of them changed the map, and how many buckets they made. Returns
-    /// [`BatchFault::Refused`] with the first refused edit's index, from 0, and its refusal.
-    /// Returns [`BatchFault::OutOfMemory`] if memory runs out, even if a later edit would be
-    /// refused. After an error the map is as before: the edits are made in place, and undone.
+    /// Each edit is applied to the map as the edits before it have changed it. Returns how many
+    /// edits the batch has, how many of them changed the map, and how many buckets they created. If
+    /// an edit is refused, returns [`BatchFault::Refused`] with the index of the first refused
+    /// edit, from 0, and with the refusal. Returns [`BatchFault::OutOfMemory`] if memory runs out,
+    /// even if a later edit would be refused. After an error the map is as before, because the
+    /// edits that were already applied are undone.
     pub fn apply_batch(&mut self, edits: &[Edit]) -> Result<Dones, BatchFault>
     where
         A: Clone,

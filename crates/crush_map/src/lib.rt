@@ -1,8 +1,8 @@
 //! A CRUSH map: its setting (types, tunables and rules), its hierarchy of buckets and devices, and
 //! the edits of `ceph osd crush`.
 //!
-//! `crush_text` reads a [`CrushMap`] from a text, `crush_print` prints one, and `crush_editor` lets
-//! several operators edit one at the same time.
+//! `crush_text` reads a [`CrushMap`] from a text, `crush_print` prints a map, and `crush_editor`
+//! lets several operators edit the same map at the same time.
 #![tactic(auto)]
 
 mod apply;

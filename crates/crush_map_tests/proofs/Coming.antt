@@ -1,4 +1,4 @@
--- A new item: a device without a class, or an empty bucket, with an id and a name that aren't used.
+-- Lemmas about a new item: a device without a class, or an empty bucket, whose id and name aren't used yet.
 use Rattle.std.proofs.Common.{◌≡◌, ℕ, ◌+◌, ◌<◌, ◌≤◌, Bool, true, false, not, List, [], ◌∷◌, ◌++◌, refl, ap, sym, subst, ◌∙◌, arith}
 use Rattle.std.proofs.lemmas.Bool.Decides.{nat_tests}
 use Rattle.std.proofs.lemmas.List.Sums.{sum_by_push}
@@ -27,7 +27,7 @@ use Rattle.crush_map_tests.proofs.Passed.{passed}
 not_less : (m n : ℕ) → n ≤ m → nat_lt m n ≡ false
 not_less m n h = grind (arith, nat_tests)
 
--- ROOM for one row more
+-- ROOM: the table may have one more row
 device_room : (t : List Row) (r : Row) → Lawful t → is_device r ≡ true → is_bucket r ≡ false → device_count t < MOST_DEVICES → has_too_many (t ++ r ∷ []) ≡ false
 device_room t r l dev buck few =
     let one : one_if (is_device r) ≡ 1 = ap one_if dev in
@@ -58,11 +58,11 @@ module _ (t : List Row) (r : Row) (l : Lawful (t ++ alone r ∷ [])) where
   uses_apart : (k : ℕ) → times_used k (t ++ r ∷ []) ≤ 1
   uses_apart k = subst (λ n. n ≤ 1) (times_used-push k t (alone r) ∙ sym (times_used-push k t r)) (l.used k)
 
--- the test that sums stay in range, which these items pass
+-- the test whether sums of weights stay in range, which the items n pass
 abbrev Passes : List Row → ℕ → ℕ → Type 0
 Passes t b w = (n : Items) → weight_sum n ≡ w → CanCome t (AtBucket b) n → true ≡ not (is_too_heavy (t ++ rows (Some b) n))
 
--- A DEVICE
+-- A DEVICE that is new
 abbrev pub new_leaf : ℕ → List ℕ → ℕ → LeafData
 new_leaf d n w = record { id = d; name = n; weight = w; class = None }
 
@@ -81,7 +81,7 @@ module _ (t : List Row) (l : Lawful t) (d : ℕ) (n : List ℕ) (small : d < DEV
       Lawful-attach t (Some b) m l there (All-cons IsRow r [] (record { name = form; form = record { id = small; kind = refl; light = light; unplaced = λ e. absurd cc; alg = refl; class_ids = refl; class = tt } }) (All-nil IsRow))
       apart (names_apart t r unplaced_lawful) (uses_apart t r unplaced_lawful) (passed (is_too_heavy (t ++ r ∷ [])) (test m (omega arith) can)) (device_room t r l refl refl few)
 
--- AN EMPTY BUCKET
+-- AN EMPTY BUCKET that is new
 abbrev pub new_header : ℕ → ℕ → List ℕ → HeaderData
 new_header b k n = record { id = b; kind = k; name = n; alg = Straw2; class_ids = [] }
 

@@ -1,4 +1,4 @@
--- A device that moves to a bucket and gets another weight.
+-- Proves that the table is lawful after a device has moved to a bucket and has got another weight.
 use Rattle.std.proofs.Common.{◌≡◌, ℕ, ◌≤◌, Bool, true, false, not, refl, List, [], ◌∷◌, ◌++◌, ap, sym, ◌∙◌, arith}
 use Rattle.std.specs.Prelude.{Some, None, is_some, if◌then◌else◌}
 use Rattle.crush_units.specs.Id.{same_id}
@@ -28,7 +28,7 @@ use Rattle.crush_nodes.specs.declared.place.Place.TheVariants.{Bucket as AtBucke
 use Rattle.crush_hierarchy.specs.Given.{with_given}
 use Rattle.crush_map_tests.proofs.Passed.{found, passed}
 
--- without the device each bucket is still there
+-- the table without the device still has each bucket
 pub left_there : (t : List Row) (d b : ℕ) → is_there t (Bucket b) ≡ true → is_there (table_without (Device d) t) (Bucket b) ≡ true
 left_there t d b there = ap is_some (row_of-only (λ j. not (is_part t (Device d) j)) t (Bucket b)) ∙ there
 
@@ -42,7 +42,7 @@ part_devices d none = tt
 part_devices d (device x s) = devices_if (same_id (Device x.id) (Device d)) x (part_of (Device d) s) (part_devices d s)
 part_devices d (bucket h w m k s) = OnlyDevices-join (part_of (Device d) k) (part_of (Device d) s) (part_devices d k) (part_devices d s)
 
--- the test that sums stay in range, which the move passes
+-- the test whether sums of weights stay in range, which the move passes
 abbrev Passes : List Row → ℕ → ℕ → ℕ → Type 0
 Passes t d b w =
     (m : Items) → weight_sum m ≡ w → CanCome (table_without (Device d) t) (AtBucket b) m → true ≡ not (is_too_heavy (table_without (Device d) t ++ rows (Some b) m))
@@ -51,7 +51,7 @@ module _ (t : List Row) (l : Lawful t) (d b w : ℕ) (r : Row) (is : row_of t (D
   abbrev last : List Row
   last = without_row (Device d) t ++ at_parent (Some b) w r ∷ []
 
-  -- the device's row is the last, and no id occurs twice
+  -- the row of the device is the last row, and no id occurs twice
   distinct : Distinct last
   distinct = Distinct-same (placed_last (Device d) (Some b) w t r (l.ids (Device d)) is) (Distinct-map (place (Device d) (Some b) w) (place-id (Device d) (Some b) w) t l.ids)
 
@@ -66,7 +66,7 @@ module _ (t : List Row) (l : Lawful t) (d b w : ℕ) (r : Row) (is : row_of t (D
       let row : IsRow (at_parent (Some b) w r) = placed_device d b w r (row_id (Device d) t r is) light (All-row IsRow t l.rows (Device d) r is) in
       Lawful-same last u (Same-sym u last moved) (Lawful-moved t (Device d) b w r l is there refl row (sym (is_too_heavy-same u last moved.rows apart) ∙ fits))
 
--- so the table with it is lawful
+-- the table with the device at its new place is lawful
 pub put_lawful : (t : List Row) (d b w : ℕ) (s : Items) → Lawful t → is_there t (Device d) ≡ true → is_there t (Bucket b) ≡ true → w ≤ HEAVIEST_DEVICE → IsOne (part_of (Device d) s) → Same (rows None (part_of (Device d) s)) (part (Device d) t)
     → Passes t d b w → Lawful (table_without (Device d) t ++ rows (Some b) (with_given (Some w) (part_of (Device d) s)))
 put_lawful t d b w s l here there light one whole test = by_item (part_of (Device d) s) (part_devices d s) one whole where

@@ -1,4 +1,4 @@
-//! Locations up to their greatest length, and copies of each kind of edit.
+//! Tests locations up to their greatest length, and copies of each kind of edit.
 
 use crush_edits::*;
 use crush_units::limits::MOST_PAIRS;

@@ -1,4 +1,4 @@
-//! Tests that call each method of an index and of a hierarchy once.
+//! Tests that call each method of an `Index` and of a `Hierarchy` once.
 
 mod asked;
 mod asked_changes;

@@ -1,4 +1,4 @@
-//! Tests of maps and of the crates below them. `units` and `edits` test `crush_units` and
+//! Tests maps and the crates below `crush_map`. `units` and `edits` test `crush_units` and
 //! `crush_edits`; `tree` tests forests; `hierarchy` tests a hierarchy and its index; `map` tests
 //! `crush_map` and `crush_builder`.
 #![tactic(auto)]

@@ -1,6 +1,7 @@
-//! The example map, how it is built, and edits of it, in the global allocator and in small heaps.
-//! The jobs of `examples/worked` show the results of more edits. A test ends each map, builder and
-//! edit that it owns by `drop`, so that proofs take its parts apart in one place.
+//! Tests the example map: how it is built, and how edits change it, in the global allocator and in
+//! small heaps. The jobs of `examples/worked` show the results of more edits. A test calls `drop`
+//! for each map, builder and edit that it owns, so that the proofs about freeing its parts are
+//! needed in one place only.
 
 mod asking;
 mod building;

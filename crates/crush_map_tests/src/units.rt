@@ -1,4 +1,5 @@
-//! Limits, ids and algorithms, and examples of weights and names that were worked by hand.
+//! Tests limits, ids and algorithms, and examples of weights and names that were worked out by
+//! hand.
 
 use crush_units::limits::*;
 use crush_units::*;
@@ -169,7 +170,8 @@ fn bytes_of_names(rt: HostRuntime) {
     assert!(rt; are_name_bytes(b"azAZ09-_.", true) && are_name_bytes(b"@[`{/:,+ ", false));
 }
 
-/// A weight as text, its number of units, and the text that is printed for it.
+/// The text of a weight, the weight in units of 1/65536, and the text that is printed for this
+/// weight.
 const WEIGHTS: &[(&str, u32, &str)] = &[
     ("0", 0, "0.00000"),
     ("1", 65536, "1.00000"),
@@ -209,7 +211,7 @@ fn weights(rt: HostRuntime) {
     printed_is_read_back();
 }
 
-/// A weight's number of units, and its exact text.
+/// A weight in units of 1/65536, and its exact text.
 const EXACT_WEIGHTS: &[(u32, &str)] = &[
     (0, "0.000000"),
     (1, "0.000016"),

@@ -1,4 +1,4 @@
--- A table stays lawful where a row without parent comes.
+-- A table stays lawful if a row without a parent is appended.
 use Rattle.std.proofs.Common.{◌≡◌, ℕ, zero, suc, ◌+◌, ◌≤◌, Bool, true, false, List, [], ◌∷◌, ◌++◌, length, ap, sym, subst, ◌∙◌, refl, arith, length-append, ⊎_elim}
 use Rattle.std.specs.Prelude.{◌==◌, if◌then◌else◌, Option, Some, None, IfSome, map, is_some, option_and_then, bytes_eq, nat_lt}
 use Rattle.std.specs.List.{sum_by, count_by}
@@ -22,7 +22,7 @@ use Rattle.crush_model.proofs.Climbs.{climb-above}
 use Rattle.crush_model.proofs.Weighs.{or_left, or_right, true_or_false}
 use Rattle.crush_units.specs.declared.limits.TheConstants.{HEAVIEST_BUCKET, HEAVIEST_MAP, MOST_BUCKETS, MOST_DEVICES}
 
--- a row of either table
+-- if the first row or a row of the first table has the id, it is found; otherwise a row of the second table is
 row_first : (b : Bool) (r : Row) (o q : Option Row) → (if is_some (if b then Some r else o) then (if b then Some r else o) else q) ≡ (if b then Some r else (if is_some o then o else q))
 row_first true r o q = refl
 row_first false r o q = refl
@@ -31,7 +31,7 @@ pub row_of-append : (t u : List Row) (i : ItemId) → row_of (t ++ u) i ≡ (if 
 row_of-append [] u i = refl
 row_of-append (r ∷ t) u i = ap (λ z. if same_id r.id i then Some r else z) (row_of-append t u i) ∙ sym (row_first (same_id r.id i) r (row_of t i) (row_of u i))
 
--- what isn't named is no row's name
+-- if no item has a name, no row has it
 pub unnamed : (t : List Row) (n : List ℕ) → is_named t n ≡ false → count_by (λ (r : Row). bytes_eq r.name n) t ≡ 0
 unnamed [] n h = refl
 unnamed (r ∷ t) n h = by_name (bytes_eq r.name n) h (unnamed t n) (sum_by-cons (λ (x : Row). one_if (bytes_eq x.name n)) r t) where
@@ -57,7 +57,7 @@ module _ (t : List Row) (l : Lawful t) (r : Row) (root : r.parent ≡ None) (fre
   pub is_below-push : (b : ℕ) (i : ItemId) → is_below (t ++ r ∷ []) b i ≡ is_below t b i
   is_below-push b i = ap (member b) (above-push i)
 
-  -- the new row is below nothing
+  -- nothing is above the new row
   root_climbs : above (t ++ r ∷ []) r.id ≡ []
   root_climbs = above-push r.id ∙ stuck (length t) where
     nowhere : parent_of t r.id ≡ None
@@ -94,7 +94,7 @@ still_there t r x h = by_parent x.parent h where
   by_parent None h = h
   by_parent (Some p) h = found_first p (is_there t (Bucket p)) refl h
 
--- THE LAW: a row without parent may come where its id, its name and the ids that it uses are fresh and there is room
+-- THE LAW: a row without a parent may be appended if its id, its name and the ids that it uses are new and there is room
 pub Lawful-push : (t : List Row) (r : Row) → Lawful t → IsRow r → r.parent ≡ None → is_there t r.id ≡ false → is_named t r.name ≡ false
     → ((k : ℕ) → times_used k t + count_by (λ u. u == k) (uses r) ≤ 1) → has_too_many (t ++ r ∷ []) ≡ false → Lawful (t ++ r ∷ [])
 Lawful-push t r l row root fresh new unused room = record {
@@ -122,7 +122,7 @@ Lawful-push t r l row root fresh new unused room = record {
   one_name : (n : List ℕ) → count_by (λ (x : Row). bytes_eq x.name n) t + one_if (bytes_eq r.name n) ≤ 1
   one_name n = by_name n (bytes_eq r.name n) refl
 
--- a bucket uses its own id
+-- a bucket's row uses the bucket's own id
 own_use : (r : Row) (b : ℕ) → one_if (same_id r.id (Bucket b)) ≤ count_by (λ u. u == b) (uses r)
 own_use r b = by_id r.id where
   by_id : (i : ItemId) → one_if (same_id i (Bucket b)) ≤ count_by (λ u. u == b) (bucket_ids i ++ map (λ (c : ShadowData). c.id) r.class_ids)
@@ -135,25 +135,25 @@ times-used t b = omega (arith, times_used-rows b t, sum_by-le-sum_by (λ (r : Ro
 pub unused_times : (t : List Row) (b : ℕ) → member b (used_ids t) ≡ false → times_used b t ≡ 0
 unused_times t b h = omega (arith, ltb-false 0 (times_used b t) (sym (member-count b (used_ids t)) ∙ h))
 
--- an id that isn't used is no bucket's
+-- an id that isn't used isn't the id of a bucket
 pub unused_fresh : (t : List Row) (b : ℕ) → member b (used_ids t) ≡ false → is_there t (Bucket b) ≡ false
 unused_fresh t b h = ⊎_elim
     (λ there. absurd (omega (arith, is_there-times t (Bucket b) there, times-used t b, unused_times t b h)))
     (λ gone. gone)
     (true_or_false (is_there t (Bucket b)))
 
--- a device's row uses no id
+-- a device's row uses no bucket id
 device_uses : (d : ℕ) (r : Row) → r.id ≡ Device d → r.class_ids ≡ [] → uses r ≡ []
 device_uses d r e h = λ k. bucket_ids (e k) ++ map (λ (c : ShadowData). c.id) (h k)
 
--- an unplaced device
+-- the law for an unplaced device
 pub Lawful-push_device : (t : List Row) (d : ℕ) (r : Row) → r.id ≡ Device d → Lawful t → IsRow r → r.parent ≡ None → is_there t (Device d) ≡ false → is_named t r.name ≡ false → has_too_many (t ++ r ∷ []) ≡ false → Lawful (t ++ r ∷ [])
 Lawful-push_device t d r e l row root fresh new room =
     let form : IsRowOf (Device d) r = subst (λ i. IsRowOf i r) e row.form in
     let nothing_used : uses r ≡ [] = device_uses d r e form.class_ids in
     Lawful-push t r l row root (ap (is_there t) e ∙ fresh) new (λ k. subst (λ xs. times_used k t + count_by (λ u. u == k) xs ≤ 1) (sym nothing_used) (omega (arith, l.used k))) room
 
--- a bucket without class ids
+-- the law for a bucket without class ids
 pub Lawful-push_bucket : (t : List Row) (b : ℕ) (r : Row) → r.id ≡ Bucket b → r.class_ids ≡ [] → Lawful t → IsRow r → r.parent ≡ None → member b (used_ids t) ≡ false → is_named t r.name ≡ false → has_too_many (t ++ r ∷ []) ≡ false → Lawful (t ++ r ∷ [])
 Lawful-push_bucket t b r e without_capacity l row root unused new room =
     Lawful-push t r l row root (ap (is_there t) e ∙ unused_fresh t b unused) new (λ k. subst (λ xs. times_used k t + count_by (λ u. u == k) xs ≤ 1) (sym one_used) (once k)) room where

@@ -1,4 +1,4 @@
--- The rows of items, put last below a bucket or as roots: what is above them, their sums, and that the table stays lawful.
+-- The rows of items that are appended below a bucket or as roots: what is above them, their sums, and that the table stays lawful.
 use Rattle.std.proofs.Common.{◌≡◌, ℕ, zero, suc, ◌+◌, ◌≤◌, true, false, List, [], ◌∷◌, ◌++◌, length, ap, sym, subst, ◌∙◌, refl, arith, append_assoc, append-nil, length-append, ⊎_elim}
 use Rattle.std.specs.Prelude.{◌==◌, if◌then◌else◌, Option, Some, None, IfSome, All, is_some, option_and_then, nat_lt}
 use Rattle.std.specs.List.{sum_by}
@@ -23,7 +23,7 @@ use Rattle.crush_model.proofs.Appended.{row_of-append}
 use Rattle.crush_model.proofs.Weighs.{true_or_false, or_left, or_right, light_sums, light_total, All-found}
 use Rattle.crush_units.specs.declared.limits.TheConstants.{MOST_BUCKETS, MOST_DEVICES}
 
--- what is there stays there
+-- an item of the table is still in it after rows are appended
 pub is_there-append : (t u : List Row) (i : ItemId) → is_there t i ≡ true → is_there (t ++ u) i ≡ true
 is_there-append t u i h = ap is_some (row_of-append t u i) ∙ ap (λ z. is_some (if z then row_of t i else row_of u i)) h ∙ h
 
@@ -40,7 +40,7 @@ has_parent v front None c chain there up = tt
 has_parent v front (Some q) [] chain there up = absurd chain
 has_parent v front (Some q) (x ∷ c) chain there up = ap (λ z. is_there v (Bucket z)) chain.0 ∙ up (Bucket x) there.0
 
--- rows of items have their parents before them, and no loop among them
+-- each of the rows of items has its parent before it, and no row is below itself
 tree_rows : (v : List Row) → Distinct v → (front : List Row) (s : Items) (back : List Row) (p : Option ℕ) (c : List ℕ) → v ≡ front ++ (rows p s ++ back) → Chain v p c → length c ≤ length front → AreThere front c → All (λ (r : Row). HasParent v r × NoLoop v r) (rows p s)
 tree_rows v distinct front none back p c e chain le there = All-nil (λ (r : Row). HasParent v r × NoLoop v r)
 tree_rows v distinct front (device d r) back p c e chain le there =
@@ -77,13 +77,13 @@ sum_by-same : {X : Type 0} (f g : X → ℕ) (xs : List X) → All (λ x. f x �
 sum_by-same f g [] a = refl
 sum_by-same f g (x ∷ xs) a = omega (arith, sum_by-cons f x xs, sum_by-cons g x xs, All-head (λ y. f y ≡ g y) x xs a, sum_by-same f g xs (All-tail (λ y. f y ≡ g y) x xs a))
 
--- what is above the place: nothing, or the bucket and what is above it
+-- what is above an item with this parent: nothing, or the parent and what is above the parent
 abbrev pub chain_at : List Row → Option ℕ → List ℕ
 chain_at t None = []
 chain_at t (Some b) = b ∷ above t (Bucket b)
 
 module _ (t : List Row) (l : Lawful t) (u : List Row) where
-  -- what is there climbs as before
+  -- following parents from an item of the old table gives the same as before
   parent_kept : (i : ItemId) → is_there t i ≡ true → parent_of (t ++ u) i ≡ parent_of t i
   parent_kept i h = ap (option_and_then (λ (r : Row). r.parent)) (row_of-append t u i ∙ ap (λ z. if z then row_of t i else row_of u i) h)
 
@@ -122,13 +122,13 @@ module _ (t : List Row) (l : Lawful t) (u : List Row) where
         (λ e. let other : one_if (c == b) ≡ 0 = ap one_if e.0 in omega (arith, other, above_once t l (Bucket b) c))
         (eqb_tells c b)
 
-  -- the sum over the rows that were there is as before
+  -- the sum over the rows of the old table is the same as before
   pub sum_kept : (c : ℕ) → sum_by (added_weight (t ++ u) c) t ≡ sum_below t c
   sum_kept c = sum_by-same (added_weight (t ++ u) c) (added_weight t c) t (All-weaker (λ (r : Row). row_of t r.id ≡ Some r) (λ (r : Row). added_weight (t ++ u) c r ≡ added_weight t c r)
       (λ r e. ap (λ xs. if member c xs then summed_weight r else 0) (above_kept r.id (ap is_some e))) t (All-found t l.ids))
 
 module _ (t : List Row) (l : Lawful t) (p : Option ℕ) (n : Items) (there : IfSome p (λ b. is_there t (Bucket b) ≡ true)) (distinct : Distinct (t ++ rows p n)) where
-  -- each bucket at the place or above it gains the weights of all devices that come
+  -- the sum of each bucket that is the place or above it grows by the weights of all devices that are appended
   pub sum_below-attach : (c : ℕ) → sum_below (t ++ rows p n) c ≡ sum_below t c + (if member c (chain_at t p) then device_sum n else below c n)
   sum_below-attach c =
       sum_by-append (added_weight (t ++ rows p n) c) t (rows p n) ∙ ap (λ z. z + sum_by (added_weight (t ++ rows p n) c) (rows p n)) (sum_kept t l (rows p n) c)
@@ -145,7 +145,7 @@ module _ (t : List Row) (l : Lawful t) (p : Option ℕ) (n : Items) (there : IfS
         still None h = h
         still (Some q) h = is_there-append t (rows p n) (Bucket q) h
 
-  -- a row that is there is found in the list
+  -- if no row of a list is below itself, then no bucket of the list is
   loop_found : (u : List Row) → All (λ (r : Row). NoLoop (t ++ rows p n) r) u → (b : ℕ) → is_there u (Bucket b) ≡ true → is_below (t ++ rows p n) b (Bucket b) ≡ false
   loop_found [] a b h = absurd cc
   loop_found (r ∷ u) a b h = ⊎_elim
@@ -162,7 +162,7 @@ module _ (t : List Row) (l : Lawful t) (p : Option ℕ) (n : Items) (there : IfS
       (true_or_false (is_there (rows p n) (Bucket b))))
       (true_or_false (is_there t (Bucket b)))
 
--- THE LAW: rows of items may come below a bucket that is there, or as roots, where ids, names and used ids are apart and sums and counts stay in range
+-- THE LAW: rows of items may be appended below a bucket of the table, or as roots, if ids, names and used ids are distinct and sums and counts stay in range
 pub Lawful-attach : (t : List Row) (p : Option ℕ) (n : Items) → Lawful t → IfSome p (λ b. is_there t (Bucket b) ≡ true) → All IsRow (rows p n)
     → Distinct (t ++ rows p n) → DistinctNames (t ++ rows p n) → ((k : ℕ) → times_used k (t ++ rows p n) ≤ 1)
     → is_too_heavy (t ++ rows p n) ≡ false → has_too_many (t ++ rows p n) ≡ false → Lawful (t ++ rows p n)
@@ -179,7 +179,7 @@ Lawful-attach t p n l there forms ids names used light room = record {
   buckets = ltb-false MOST_BUCKETS (bucket_count (t ++ rows p n)) (or_right (nat_lt MOST_DEVICES (device_count (t ++ rows p n))) (nat_lt MOST_BUCKETS (bucket_count (t ++ rows p n))) room);
 }
 
--- no rows are a lawful table
+-- the table without rows is lawful
 pub Lawful-nil : Lawful []
 Lawful-nil = record {
   ids = λ i. omega arith;
@@ -194,7 +194,7 @@ Lawful-nil = record {
   buckets = omega arith;
 }
 
--- rows of items alone
+-- the law for rows of items that are appended to no other rows
 pub Lawful-rows : (n : Items) → All IsRow (rows None n) → Distinct (rows None n) → DistinctNames (rows None n) → ((k : ℕ) → times_used k (rows None n) ≤ 1)
     → is_too_heavy (rows None n) ≡ false → has_too_many (rows None n) ≡ false → Lawful (rows None n)
 Lawful-rows n = Lawful-attach [] None n Lawful-nil tt

@@ -1,4 +1,4 @@
--- A class is a column of its own: what a change of it leaves, and what the devices of a class weigh.
+-- The class is a column of its own: what a change of a class doesn't change, and what the devices of a class weigh.
 use Rattle.std.proofs.Common.{◌≡◌, ℕ, ◌+◌, ◌≤◌, Bool, true, false, List, [], ◌∷◌, ap, sym, subst, ◌∙◌, refl, arith, ⊎_elim}
 use Rattle.std.specs.Prelude.{if◌then◌else◌, Option, Some, None, IfSome, All, filter, is_some, option_and_then, bytes_eq}
 use Rattle.std.specs.List.{sum_by, count_by}
@@ -27,7 +27,7 @@ use Rattle.crush_model.proofs.Weighs.{sums_light}
 abbrev pub with_class : ItemId → Option (List ℕ) → Row → Row
 with_class i c r = if same_id r.id i then record r { class = c } else r
 
--- the other columns stay
+-- a change of a class doesn't change the other columns
 module _ {X : Type 0} (column : Row → X) (kept : (c : Option (List ℕ)) (r : Row) → column (record r { class = c }) ≡ column r) where
   by_test : (b : Bool) (c : Option (List ℕ)) (r : Row) → column (if b then record r { class = c } else r) ≡ column r
   by_test true c r = kept c r
@@ -54,7 +54,7 @@ with_class-uses = class-keeps uses (λ c r. refl)
 pub Same-set_class : (i : ItemId) (c : Option (List ℕ)) (t u : List Row) → Same t u → Same (set_class i c t) (set_class i c u)
 Same-set_class i c = Same-map (with_class i c) (with_class-id i c) (with_class-parent i c)
 
--- no sum changes
+-- a change of a class changes no sum
 pub sum_below-set_class : (i : ItemId) (c : Option (List ℕ)) (t : List Row) (b : ℕ) → sum_below (set_class i c t) b ≡ sum_below t b
 sum_below-set_class i c t b =
     let same : ◌≡◌ {A = Row → ℕ} (λ r. if is_below t b r.id then summed_weight (with_class i c r) else 0) (λ r. if is_below t b r.id then summed_weight r else 0) = λ k r. if is_below t b r.id then with_class-summed i c r k else 0 in
@@ -66,7 +66,7 @@ total-set_class i c t =
     λ k r. if is_some (with_class-parent i c r k) then with_class-summed i c r k else 0 in
     sum_by-map (λ (r : Row). if is_some r.parent then summed_weight r else 0) (with_class i c) t ∙ ap (λ f. sum_by f t) same
 
--- a device's row keeps its form
+-- a device's row stays well-formed with another class
 classed_row : (d : ℕ) (c : Option (List ℕ)) → IfSome c IsName → (r : Row) → IsRow r → IsRow (with_class (Device d) c r)
 classed_row d c name r row = by_test (same_id r.id (Device d)) refl where
   by_id : (i : ItemId) → same_id i (Device d) ≡ true → IsRowOf i r → IsRowOf i (record r { class = c })
@@ -77,7 +77,7 @@ classed_row d c name r row = by_test (same_id r.id (Device d)) refl where
   by_test true e = record { name = row.name; form = by_id r.id e row.form }
   by_test false e = row
 
--- THE LAW: a device may have any class, or none
+-- THE LAW: a device may get any class, or none
 pub Lawful-set_class : (d : ℕ) (c : Option (List ℕ)) (t : List Row) → Lawful t → IfSome c IsName → Lawful (set_class (Device d) c t)
 Lawful-set_class d c t l name =
     let i = Device d in
@@ -86,7 +86,7 @@ Lawful-set_class d c t l name =
     (All-weaker IsRow (λ (r : Row). IsRow (with_class i c r)) (classed_row d c name) t l.rows)
     (sums_light (set_class i c t) (λ b. subst (λ n. n ≤ HEAVIEST_BUCKET) (sym (sum_below-set_class i c t b)) (l.sums b)) (subst (λ n. n ≤ HEAVIEST_MAP) (sym (total-set_class i c t)) l.total))
 
--- the class that a device has leaves the table as it was
+-- setting the class that a device already has doesn't change the table
 untouched : (i : ItemId) (c : Option (List ℕ)) (t : List Row) → times i t ≡ 0 → set_class i c t ≡ t
 untouched i c [] h = refl
 untouched i c (r ∷ t) h = ⊎_elim
@@ -108,7 +108,7 @@ kept_from i c (r ∷ t) h there e = ⊎_elim
 pub class_kept : (i : ItemId) (c : Option (List ℕ)) (t : List Row) → Lawful t → is_there t i ≡ true → class_of t i ≡ c → set_class i c t ≡ t
 class_kept i c t l there e = kept_from i c t (l.ids i) there e
 
--- WHAT A CLASS WEIGHS is equal on tables that are the same
+-- THE WEIGHT OF A CLASS is equal in tables that are the same
 pub class_sum-same : (t u : List Row) → IsReordered t u → Distinct t → (i : ItemId) (c : List ℕ) → class_sum t i c ≡ class_sum u i c
 class_sum-same t u p d i c =
     let same : ◌≡◌ {A = Row → ℕ} (λ r. if is_part t i r.id then classed_weight c r else 0) (λ r. if is_part u i r.id then classed_weight c r else 0) = λ k r. if is_part-same t u p d i r.id k then classed_weight c r else 0 in
@@ -122,7 +122,7 @@ sum-filter g p (r ∷ t) = by_test (p r) (sum_by-cons (λ x. if p x then g x els
   by_test true e ih = omega (arith, e, ih, sum_by-cons g r (filter p t))
   by_test false e ih = omega (arith, e, ih)
 
--- and is the weight of the class in the item's part alone
+-- the weight of a class in an item is the weight of the class in the item's part of the table
 root_classed : (b : Bool) (c : List ℕ) (r : Row) → classed_weight c (if b then record r { parent = None } else r) ≡ classed_weight c r
 root_classed true c r = refl
 root_classed false c r = refl

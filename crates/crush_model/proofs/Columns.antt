@@ -1,4 +1,4 @@
--- A table stays lawful where a column other than id and parent changes.
+-- A table stays lawful if a column other than id and parent changes.
 use Rattle.std.proofs.Common.{◌≡◌, ℕ, zero, suc, ◌≤◌, Bool, true, false, List, length, ap, sym, subst, ◌∙◌, refl, ⊎_elim}
 use Rattle.std.specs.Prelude.{◌==◌, ◌&&◌, not, if◌then◌else◌, Option, Some, None, IfSome, All, map, is_some, option_and_then, bytes_eq}
 use Rattle.std.specs.List.{sum_by, count_by}
@@ -18,7 +18,7 @@ use Rattle.crush_model.proofs.Changes.{with_weight, with_weight-id, with_weight-
 use Rattle.crush_model.proofs.Weighs.{light_sums, light_total, All-found, All-both}
 use Rattle.crush_units.specs.declared.limits.TheConstants.{HEAVIEST_DEVICE, MOST_BUCKETS, MOST_DEVICES}
 
--- counts and used ids of changed rows
+-- the counts and the used ids of changed rows
 module _ (f : Row → Row) where
   pub count-map : (p : Row → Bool) → ((r : Row) → p (f r) ≡ p r) → (t : List Row) → count_by p (map f t) ≡ count_by p t
   count-map p h t = let same : (λ (r : Row). p (f r)) ≡ p = λ k r. h r k in sum_by-map (λ (r : Row). one_if (p r)) f t ∙ ap (λ q. count_by q t) same
@@ -58,7 +58,7 @@ weight_uses : (b : Bool) (w : ℕ) (r : Row) → uses (if b then record r { weig
 weight_uses true w r = refl
 weight_uses false w r = refl
 
--- a row that keeps its form with the new weight: a device's that is placed
+-- a row that stays well-formed with the new weight: the row of a placed device
 abbrev pub CanWeigh : Row → Type 0
 CanWeigh r = (is_device r ≡ true) × (is_some r.parent ≡ true)
 
@@ -70,7 +70,7 @@ weighed_row : (b : Bool) (w : ℕ) (r : Row) → (b ≡ true → CanWeigh r) →
 weighed_row true w r can h row = record { name = row.name; form = weighed_form r.id w r (can refl).0 (can refl).1 h row.form }
 weighed_row false w r can h row = row
 
--- new weights of placed devices
+-- the law for new weights of placed devices
 pub Lawful-set_weights : (which : Row → Bool) (w : ℕ) (t : List Row) → Lawful t → All (λ (r : Row). which r ≡ true → CanWeigh r) t → w ≤ HEAVIEST_DEVICE → is_too_heavy (set_weights which w t) ≡ false → Lawful (set_weights which w t)
 Lawful-set_weights which w t l can h light =
     Lawful-columns (with_weight which w) (with_weight-id which w) (with_weight-parent which w) (λ r. weight_uses (which r) w r) t l
@@ -78,7 +78,7 @@ Lawful-set_weights which w t l can h light =
     (All-weaker (λ (r : Row). (which r ≡ true → CanWeigh r) × IsRow r) (λ (r : Row). IsRow (with_weight which w r)) (λ r p. weighed_row (which r) w r p.0 h p.1) t (All-both (λ (r : Row). which r ≡ true → CanWeigh r) IsRow t can l.rows))
     light
 
--- a new weight of one placed device
+-- the law for a new weight of one placed device
 pub Lawful-set_weight : (t : List Row) (d w : ℕ) → Lawful t → is_placed t (Device d) ≡ true → w ≤ HEAVIEST_DEVICE → is_too_heavy (set_weight (Device d) w t) ≡ false → Lawful (set_weight (Device d) w t)
 Lawful-set_weight t d w l placed h light =
     Lawful-set_weights (λ (r : Row). same_id r.id (Device d)) w t l
@@ -100,7 +100,7 @@ below_placed t b r found h = climbed (length t) h where
   climbed zero h = absurd cc
   climbed (suc n) h = sym (ap (λ o. is_some (option_and_then (λ (x : Row). x.parent) o)) found) ∙ by_parent n (parent_of t r.id) h
 
--- a new weight of each device below a bucket
+-- the law for a new weight of each device below a bucket
 pub Lawful-set_subtree : (t : List Row) (b w : ℕ) → Lawful t → w ≤ HEAVIEST_DEVICE → is_too_heavy (set_subtree b w t) ≡ false → Lawful (set_subtree b w t)
 Lawful-set_subtree t b w l h light =
     Lawful-set_weights (λ (r : Row). is_device r && is_below t b r.id) w t l

@@ -1,4 +1,4 @@
--- What rows that come last add to counts, used ids and the total.
+-- What rows that are appended add to counts, used ids and the total.
 use Rattle.std.proofs.Common.{◌≡◌, ◌+◌, List, ◌++◌}
 use Rattle.std.specs.Prelude.{if◌then◌else◌, is_some}
 use Rattle.std.proofs.lemmas.List.Sums.{sum_by-append}

@@ -1,4 +1,4 @@
--- A bucket without items, taken out.
+-- A bucket without items, when it is removed.
 use Rattle.std.proofs.Common.{◌≡◌, ℕ, zero, suc, ◌≤◌, Bool, true, false, List, [], ◌∷◌, length, ap, sym, subst, ◌∙◌, refl, arith, ⊎_elim}
 use Rattle.std.specs.Prelude.{◌||◌, not, if◌then◌else◌, Option, Some, None, map, filter, is_some, option_and_then}
 use Rattle.std.specs.List.{sum_by}
@@ -29,7 +29,7 @@ no_kid (r ∷ t) b h i = by_kid (is_parent b r.parent) refl (λ g. no_kid t b g 
   by_kid true e ih g = absurd (let long : suc (length (map (λ (x : Row). x.id) (filter (λ (x : Row). is_parent b x.parent) t))) ≡ 0 = ap length g in omega (arith, long))
   by_kid false e ih g = by_id (same_id r.id i) e (ih g)
 
--- so nothing is below it
+-- nothing is below a bucket without items
 never_climbed : (t : List Row) (b : ℕ) → ((i : ItemId) → is_parent b (parent_of t i) ≡ false) → (n : ℕ) (i : ItemId) → member b (climb t n i) ≡ false
 never_climbed t b h zero i = refl
 never_climbed t b h (suc n) i = up (parent_of t i) (h i) (λ p. never_climbed t b h n (Bucket p)) where
@@ -44,15 +44,15 @@ or_none : (a b : Bool) → b ≡ false → (a || b) ≡ a
 or_none true b h = refl
 or_none false b h = h
 
--- THE LAW: its row alone is taken out
+-- THE LAW: when a bucket without items is removed, only its own row is removed
 pub table_without-empty : (t : List Row) (b : ℕ) → kids t b ≡ [] → table_without (Bucket b) t ≡ without_row (Bucket b) t
 table_without-empty t b h = filter_agree (λ (r : Row). not (is_part t (Bucket b) r.id)) (λ (r : Row). not (same_id r.id (Bucket b))) (λ r. ap not (or_none (same_id r.id (Bucket b)) (is_below t b r.id) (nothing_below t b h r.id))) t
 
--- and a device's
+-- when a device is removed, only its own row is removed
 pub table_without-device : (t : List Row) (d : ℕ) → table_without (Device d) t ≡ without_row (Device d) t
 table_without-device t d = filter_agree (λ (r : Row). not (is_part t (Device d) r.id)) (λ (r : Row). not (same_id r.id (Device d))) (λ r. ap not (or_none (same_id r.id (Device d)) false refl)) t
 
--- the rows of an id that is there once are its row
+-- the rows that have an id which occurs once are the row that is found by it
 no_rows : (t : List Row) (i : ItemId) → times i t ≡ 0 → filter (λ (x : Row). same_id x.id i) t ≡ []
 no_rows [] i h = refl
 no_rows (x ∷ t) i h = ⊎_elim
@@ -73,7 +73,7 @@ own_row (x ∷ t) i r h e = ⊎_elim
     ∙ own_row t i r (omega (arith, h, times-cons i x t)) (sym (ap (λ z. if z then Some x else row_of t i) p.0) ∙ e))
     (same_id_tells x.id i)
 
--- THE LAW: its row alone is what is taken out, and so is a device's
+-- THE LAW: the part of a bucket without items is its own row, and so is the part of a device
 pub part-empty : (t : List Row) (b : ℕ) (r : Row) → Lawful t → kids t b ≡ [] → row_of t (Bucket b) ≡ Some r → part (Bucket b) t ≡ record r { parent = None } ∷ []
 part-empty t b r l h e =
     ap (map (as_root (Bucket b))) (filter_agree (λ (x : Row). is_part t (Bucket b) x.id) (λ (x : Row). same_id x.id (Bucket b)) (λ x. or_none (same_id x.id (Bucket b)) (is_below t b x.id) (nothing_below t b h x.id)) t)
@@ -84,7 +84,7 @@ part-device t d r l e =
     ap (map (as_root (Device d))) (filter_agree (λ (x : Row). is_part t (Device d) x.id) (λ (x : Row). same_id x.id (Device d)) (λ x. or_none (same_id x.id (Device d)) false refl) t)
     ∙ own_row t (Device d) r (l.ids (Device d)) e
 
--- a bucket's row adds nothing, so a sum over the others is the sum
+-- a bucket's row adds nothing to a sum, so the sum over the other rows is the same
 adds_nothing : (r : Row) (b : ℕ) → r.id ≡ Bucket b → summed_weight r ≡ 0
 adds_nothing r b e = ap (λ i. if is_device_id i then r.weight else 0) e
 
@@ -103,7 +103,7 @@ module _ (t : List Row) (l : Lawful t) (b : ℕ) (h : kids t b ≡ []) where
   left_lawful : Lawful left
   left_lawful = subst Lawful (table_without-empty t b h) (Lawful-without (Bucket b) t l)
 
-  -- what is left has the parents that it had
+  -- each item that is left has the same parent as before
   parent_left : (i : ItemId) → same_id i (Bucket b) ≡ false → parent_of left i ≡ parent_of t i
   parent_left i other = parent_of-only (λ j. not (same_id j (Bucket b))) t i ∙ ap (λ z. if not z then parent_of t i else None) other
 
@@ -131,7 +131,7 @@ module _ (t : List Row) (l : Lawful t) (b : ℕ) (h : kids t b ≡ []) where
   no_more true w e = e
   no_more false w e = refl
 
-  -- THE LAW: all sums and the total are as they were
+  -- THE LAW: all sums and the total are the same as before
   pub sum_below-emptied : (c : ℕ) → sum_below (table_without (Bucket b) t) c ≡ sum_below t c
   sum_below-emptied c =
       ap (λ z. sum_below z c) (table_without-empty t b h) ∙ weighed_left c t ∙ sum_others (added_weight t c) b t (λ r e. no_more (is_below t c r.id) (summed_weight r) e)

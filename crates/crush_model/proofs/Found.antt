@@ -11,7 +11,7 @@ use Rattle.crush_model.specs.Reordered.{IsReordered}
 use Rattle.crush_model.specs.Table.{Row, row_of, row_named, id_named, is_named, is_there, kind_of, name_of, own_weight_of, class_of, alg_of, parent_of, is_placed}
 use Rattle.crush_model.proofs.Reorder.{one_if, reordered-count, reordered-find}
 
--- at most one row of each id, of each name
+-- no two rows have the same id, or the same name
 abbrev pub Distinct : List Row → Type 0
 Distinct t = (i : ItemId) → count_by (λ (r : Row). same_id r.id i) t ≤ 1
 
@@ -39,7 +39,7 @@ pub row_named-find : (t : List Row) (n : List ℕ) → row_named t n ≡ find (�
 row_named-find [] n = refl
 row_named-find (r ∷ t) n = ap (λ z. if bytes_eq r.name n then Some r else z) (row_named-find t n)
 
--- a row of a table with distinct ids is the one that is found
+-- in a table with distinct ids, each row is the one that is found by its id
 pub row_at : (front : List Row) (r : Row) (back : List Row) → times r.id (front ++ r ∷ back) ≤ 1 → row_of (front ++ r ∷ back) r.id ≡ Some r
 row_at [] r back h = ap (λ b. if b then Some r else row_of back r.id) (same_id_refl r.id)
 row_at (x ∷ front) r back h = ⊎_elim
@@ -51,7 +51,7 @@ row_at (x ∷ front) r back h = ⊎_elim
 pub parent_at : (front : List Row) (r : Row) (back : List Row) → times r.id (front ++ r ∷ back) ≤ 1 → parent_of (front ++ r ∷ back) r.id ≡ r.parent
 parent_at front r back h = ap (option_and_then (λ (x : Row). x.parent)) (row_at front r back h)
 
--- what is found has the id, and where none has it nothing is found
+-- the row that is found has the id; if no row has the id, none is found
 pub row_of-absent : (t : List Row) (i : ItemId) → times i t ≡ 0 → row_of t i ≡ None
 row_of-absent [] i h = refl
 row_of-absent (r ∷ t) i h = ⊎_elim
@@ -79,7 +79,7 @@ times-absent t i h = none_of (times i t) (λ some. absurd (let there : is_there 
   none_of zero f = refl
   none_of (suc n) f = f (omega arith)
 
--- a table with distinct ids and the same rows in another order has the same row of each id, of each name
+-- if a table has distinct ids, then a table with the same rows in another order has the same row for each id and each name
 pub Distinct-same : {t u : List Row} → IsReordered t u → Distinct t → Distinct u
 Distinct-same p d i = omega (arith, d i, reordered-count (λ (x : Row). same_id x.id i) p)
 

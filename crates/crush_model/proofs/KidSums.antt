@@ -45,7 +45,7 @@ if_times : (b : Bool) (x n : ℕ) → (if b then x else 0) * n ≡ (if b then x 
 if_times true x n = refl
 if_times false x n = omega arith
 
--- the sum over the rows with parent b of a number for each id
+-- the sum of a number for each id, over the rows whose parent is b
 abbrev pub over_kids : List Row → ℕ → (ItemId → ℕ) → ℕ
 over_kids t b g = sum_by (λ (k : Row). if is_parent b k.parent then g k.id else 0) t
 
@@ -62,7 +62,7 @@ ids_if : (b : Bool) (r : Row) (rs : List Row) → map (λ (x : Row). x.id) (if b
 ids_if true r rs = refl
 ids_if false r rs = refl
 
--- it is the sum over the bucket's items
+-- it equals the sum over the items of the bucket
 pub over_kids-kids : (t : List Row) (b : ℕ) (g : ItemId → ℕ) → over_kids t b g ≡ sum_by g (kids t b)
 over_kids-kids [] b g = refl
 over_kids-kids (r ∷ t) b g =
@@ -79,7 +79,7 @@ none_kid i (r ∷ t) b h =
       nothing true = refl
       nothing false = refl
 
--- an item is a kid of its parent alone, and there once
+-- an item is among the items of its parent only, and occurs there once
 pub kid_once : (i : ItemId) (t : List Row) (b : ℕ) → times i t ≤ 1 → over_kids t b (λ k. one_if (same_id k i)) ≡ one_if (is_parent b (parent_of t i))
 kid_once i [] b h = refl
 kid_once i (r ∷ t) b h = ⊎_elim
@@ -102,7 +102,7 @@ none_met t b = sum_by-zero (λ (k : Row). if is_parent b k.parent then 0 else 0)
   nothing true = refl
   nothing false = refl
 
--- one comes from below to the bucket through exactly one of its items
+-- the way up from an item below a bucket leads through exactly one item of the bucket
 pub climb_kids : (t : List Row) (b : ℕ) → Distinct t → (n : ℕ) (i : ItemId) → over_kids t b (λ k. one_if (same_id k i) + times_in k (climb t n i)) ≡ times_in (Bucket b) (climb t (suc n) i)
 climb_kids t b d zero i =
     over_kids-plus t b (λ k. one_if (same_id k i)) (λ k. 0) ∙ omega (arith, kid_once i t b (d i), none_met t b)
@@ -114,7 +114,7 @@ climb_kids t b d (suc n) i =
     (λ p. let turned : one_if (p == b) ≡ one_if (b == p) = ap one_if (eqb_turned p b) in omega (arith, turned, climb_kids t b d n (Bucket p)))
     (parent_of t i)
 
--- THE LAW: of any weighing of the rows, what climbs to the bucket is what its items are and what climbs to them
+-- THE LAW, for any weights of the rows: the sum over the items of a bucket and all that is below them is the sum over all that is below the bucket
 abbrev pub own_sum : List Row → ItemId → ℕ
 own_sum t i = sum_by (λ (r : Row). one_if (same_id i r.id) * summed_weight r) t
 
@@ -125,7 +125,7 @@ hit_times : (b : Bool) (w : ℕ) → (if b then w else 0) ≡ one_if b * w
 hit_times true w = omega arith
 hit_times false w = omega arith
 
--- a bucket's sum is that of the rows that climb to it
+-- a bucket's sum is the sum over the rows that are below the bucket
 pub sum_below-met : (t : List Row) → Lawful t → (b : ℕ) → sum_below t b ≡ met_sum t (Bucket b)
 sum_below-met t l b = sum_by-agree (λ (r : Row). if is_below t b r.id then summed_weight r else 0) (λ r. times_in (Bucket b) (above t r.id) * summed_weight r)
     (λ r. hit_times (is_below t b r.id) (summed_weight r) ∙ ap (λ n. n * summed_weight r) (one_if-is_below t l b r.id)) t
@@ -151,7 +151,7 @@ sum_below-kids_met t l b =
     (λ k. sum_by-if (is_parent b k.parent) (λ (r : Row). (one_if (same_id k.id r.id) + times_in k.id (above t r.id)) * summed_weight r) t ∙ ap (λ n. if is_parent b k.parent then n else 0) (kid_sums t k.id)) t
     ∙ over_kids-kids t b (λ i. own_sum t i + met_sum t i)
 
--- the weight of an item that is there, else 0
+-- the weight of an item of the table, otherwise 0
 abbrev pub weight_or_none : List Row → ItemId → ℕ
 weight_or_none t i = unwrap_or (weight_of t i) 0
 
@@ -162,7 +162,7 @@ own_sum-absent (r ∷ t) i h =
     let own : one_if (same_id i r.id) * summed_weight r ≡ 0 = ap (λ n. n * summed_weight r) gone ∙ omega arith in
     omega (arith, own, sum_by-cons (λ (x : Row). one_if (same_id i x.id) * summed_weight x) r t, own_sum-absent t i (omega (arith, h, times-cons i r t)))
 
--- a device's own weight
+-- the sum over the row of a device is the device's own weight
 own_sum-device : (t : List Row) (d : ℕ) → times (Device d) t ≤ 1 → own_sum t (Device d) ≡ unwrap_or (own_weight_of t (Device d)) 0
 own_sum-device [] d h = refl
 own_sum-device (r ∷ t) d h = ⊎_elim
@@ -177,7 +177,7 @@ own_sum-device (r ∷ t) d h = ⊎_elim
     omega (arith, own, found, sum_by-cons (λ (x : Row). one_if (same_id (Device d) x.id) * summed_weight x) r t, own_sum-device t d (omega (arith, miss, h, times-cons (Device d) r t))))
     (same_id_tells r.id (Device d))
 
--- a bucket's row adds nothing
+-- a bucket's own row adds nothing to a sum
 own_sum-bucket : (t : List Row) (b : ℕ) → own_sum t (Bucket b) ≡ 0
 own_sum-bucket t b = sum_by-zero (λ (r : Row). one_if (same_id (Bucket b) r.id) * summed_weight r) (λ r. by_id r.id r.weight) t where
   by_id : (i : ItemId) (w : ℕ) → one_if (same_id (Bucket b) i) * (if is_device_id i then w else 0) ≡ 0
@@ -194,7 +194,7 @@ bucket_weight : (t : List Row) → Lawful t → (b : ℕ) (o : Option Row) → r
 bucket_weight t l b None e = sym (sum_below-absent t l.parents b (ap is_some e))
 bucket_weight t l b (Some r) e = refl
 
--- an item's weight is its own, and that of what climbs to it
+-- an item's weight is its own weight plus the weight of all that is below it
 pub weight_or_none-sums : (t : List Row) → Lawful t → (i : ItemId) → own_sum t i + met_sum t i ≡ weight_or_none t i
 weight_or_none-sums t l (Device d) = omega (arith, own_sum-device t d (l.ids (Device d)), device_met t d) ∙ device_weight (row_of t (Device d)) where
   device_weight : (o : Option Row) → unwrap_or (option_map (λ (x : Row). x.weight) o) 0 ≡ unwrap_or (option_map (item_weight t (Device d)) (option_map (λ (x : Row). x.weight) o)) 0

@@ -1,4 +1,4 @@
--- The id of a name: it is settled by the names of ids, and what it is after each change of a table.
+-- The id of a name: the names of the ids decide it. What it is after each change of a table.
 use Rattle.std.proofs.Common.{◌≡◌, ◌≢◌, ◌⊎◌, inl, inr, ⊎_elim, ℕ, ◌+◌, ◌≤◌, Bool, true, false, List, [], ◌∷◌, ◌++◌, ap, sym, ◌∙◌, refl, arith}
 use Rattle.std.specs.Prelude.{◌==◌, not, if◌then◌else◌, Option, Some, None, map, is_some, option_and_then, unwrap_or, bytes_eq}
 use Rattle.std.specs.Option.{option_map}
@@ -19,7 +19,7 @@ use Rattle.crush_model.proofs.Renamed.{named}
 use Rattle.crush_model.proofs.Tested.{bytes_equal, bytes_itself}
 use Rattle.crush_model.proofs.Weighs.{true_or_false}
 
--- names, compared
+-- a comparison of two names, as a test and as a fact
 tells : (m n : List ℕ) → ((bytes_eq m n ≡ true) × (m ≡ n)) ⊎ ((bytes_eq m n ≡ false) × (m ≢ n))
 tells m n = ⊎_elim
     (λ yes. inl (yes, bytes_equal m n yes))
@@ -29,7 +29,7 @@ tells m n = ⊎_elim
 choose : {X : Type 0} (b c : Bool) (x y : X) → b ≡ c → (if b then x else y) ≡ (if c then x else y)
 choose b c x y e = ap (λ z. if z then x else y) e
 
--- ONE ROW MORE
+-- ONE MORE ROW
 id_if : (b : Bool) (r : Row) (o : Option Row) → option_map (λ (x : Row). x.id) (if b then Some r else o) ≡ (if b then Some r.id else option_map (λ (x : Row). x.id) o)
 id_if true r o = refl
 id_if false r o = refl
@@ -47,7 +47,7 @@ name_of-cons r t i = name_if (same_id r.id i) r (row_of t i)
 named-cons : (n : List ℕ) (r : Row) (t : List Row) → named n (r ∷ t) ≡ one_if (bytes_eq r.name n) + named n t
 named-cons n r t = sum_by-cons (λ (x : Row). one_if (bytes_eq x.name n)) r t
 
--- a name that is some row's, an id that is some row's, are counted
+-- if an item has a name, then at least one row has the name
 named_once : (t : List Row) (i : ItemId) (n : List ℕ) → name_of t i ≡ Some n → 1 ≤ named n t
 named_once [] i n e = absurd cc
 named_once (r ∷ t) i n e = ⊎_elim
@@ -73,7 +73,7 @@ there_once (r ∷ t) i n e = ⊎_elim
 names-tail : (r : Row) (t : List Row) → DistinctNames (r ∷ t) → DistinctNames t
 names-tail r t d n = omega (arith, d n, named-cons n r t)
 
--- THE TWO COLUMNS: where names are distinct, an item is found by its name; where ids are, what is found has the name
+-- THE TWO COLUMNS: if names are distinct, an item is found by its name; if ids are distinct, the item that is found has the name
 pub id_named-by : (t : List Row) (i : ItemId) (n : List ℕ) → DistinctNames t → name_of t i ≡ Some n → id_named t n ≡ Some i
 id_named-by [] i n d e = absurd cc
 id_named-by (r ∷ t) i n d e = ⊎_elim
@@ -102,21 +102,21 @@ name_of-found (r ∷ t) i n d e = ⊎_elim
     (same_id_tells r.id i))
     (tells r.name n)
 
--- a name that no item has is no row's
+-- if no item has a name, no id is found for it
 pub id_named-nobody : (t : List Row) (n : List ℕ) → Distinct t → ((i : ItemId) → name_of t i ≡ Some n → ⊥) → id_named t n ≡ None
 id_named-nobody t n d none = by_id (id_named t n) refl where
   by_id : (o : Option ItemId) → id_named t n ≡ o → o ≡ None
   by_id None e = refl
   by_id (Some i) e = absurd (none i (name_of-found t i n d e))
 
--- two tables tell the same id of a name where the same items have it
+-- two tables have the same id for a name if the same items have the name in both
 pub id_named-alike : (t u : List Row) (n : List ℕ) → Lawful t → Lawful u → ((i : ItemId) → name_of t i ≡ Some n → name_of u i ≡ Some n) → ((i : ItemId) → name_of u i ≡ Some n → name_of t i ≡ Some n) → id_named t n ≡ id_named u n
 id_named-alike t u n l m there back = by_id (id_named t n) refl where
   by_id : (o : Option ItemId) → id_named t n ≡ o → o ≡ id_named u n
   by_id None e = sym (id_named-nobody u n m.ids (λ i h. let here : ◌≡◌ {A = Option ItemId} (Some i) None = sym (id_named-by t i n l.names (back i h)) ∙ e in cc))
   by_id (Some i) e = sym (id_named-by u i n m.names (there i (name_of-found t i n l.ids e)))
 
--- ROWS PUT LAST
+-- ROWS THAT ARE APPENDED
 pub id_named-append : (t u : List Row) (n : List ℕ) → id_named (t ++ u) n ≡ (if is_named t n then id_named t n else id_named u n)
 id_named-append [] u n = refl
 id_named-append (r ∷ t) u n = by_name (bytes_eq r.name n) (row_named t n) (row_named (t ++ u) n) (id_named-append t u n) where
@@ -138,7 +138,7 @@ id_named-last t r n fresh = id_named-append t (r ∷ []) n ∙ ⊎_elim
       same_or_none None = refl
       same_or_none (Some i) = refl
 
--- ROWS TAKEN OUT: the id of a name stays where it passes the test
+-- ROWS THAT ARE REMOVED: the id of a name stays if it passes the test
 abbrev pub kept_id : (ItemId → Bool) → Option ItemId → Option ItemId
 kept_id q o = option_and_then (λ i. if q i then Some i else None) o
 
@@ -234,21 +234,21 @@ pub name_of-set_name_of_another : (i : ItemId) (m : List ℕ) (t : List Row) (j 
 name_of-set_name_of_another i m t j e = set_name_of i m t j ∙ choose (same_id j i) false _ _ e
 
 module _ (i : ItemId) (from m n : List ℕ) (t : List Row) (l : Lawful t) (after : Lawful (set_name i m t)) (e : name_of t i ≡ Some from) where
-  -- who has a name that isn't the new one had it before
+  -- an item that has a name other than the new one had this name before
   had_it : m ≢ n → (j : ItemId) → name_of (set_name i m t) j ≡ Some n → name_of t j ≡ Some n
   had_it other j h = ⊎_elim
       (λ yes. absurd (other (let both : Some m ≡ Some n = sym (name_of-set_name i m from t e) ∙ ap (name_of (set_name i m t)) (sym yes.1) ∙ h in cc)))
       (λ no. sym (name_of-set_name_of_another i m t j no.0) ∙ h)
       (same_id_tells j i)
 
-  -- who had a name that isn't the old one has it still
+  -- an item that had a name other than the old one still has this name
   has_it : from ≢ n → (j : ItemId) → name_of t j ≡ Some n → name_of (set_name i m t) j ≡ Some n
   has_it other j h = ⊎_elim
       (λ yes. absurd (other (let both : Some from ≡ Some n = sym e ∙ ap (name_of t) (sym yes.1) ∙ h in cc)))
       (λ no. name_of-set_name_of_another i m t j no.0 ∙ h)
       (same_id_tells j i)
 
-  -- nobody has the old name
+  -- no item has the old name
   let_go : m ≢ n → from ≡ n → (j : ItemId) → name_of (set_name i m t) j ≡ Some n → ⊥
   let_go other old j h =
       let both : Some j ≡ Some i = sym (id_named-by t j n l.names (had_it other j h)) ∙ id_named-by t i n l.names (e ∙ ap Some old) in
@@ -265,7 +265,7 @@ module _ (i : ItemId) (from m n : List ℕ) (t : List Row) (l : Lawful t) (after
       (tells from n))
       (tells m n)
 
--- TWO NAMES EXCHANGED
+-- TWO NAMES ARE EXCHANGED
 module _ (a b : ℕ) (m k : List ℕ) (t : List Row) (apart : (a == b) ≡ false) (e : name_of t (Bucket a) ≡ Some m) (g : name_of t (Bucket b) ≡ Some k) where
   abbrev turned : List Row
   turned = set_name (Bucket b) m t

@@ -1,4 +1,4 @@
--- Lists of any length, whose elements come by number, and a name for each number.
+-- Lists of any length whose elements are functions of a number, and a name for each number.
 use Rattle.std.proofs.Common.{◌≡◌, ℕ, zero, suc, ◌+◌, ◌*◌, ◌-◌, ◌/◌, ◌%◌, ◌<◌, Bool, true, false, List, [], ◌∷◌, ap, ◌∙◌, refl, arith, ⊎_elim}
 use Rattle.std.specs.Prelude.{◌||◌, ◌&&◌, not, map, length, bytes_eq, nat_le}
 use Rattle.std.specs.List.{sum_by, list_any, list_all}
@@ -9,7 +9,7 @@ use Rattle.crush_model.specs.Tested.{are_apart}
 use Rattle.crush_model.proofs.Tested.{bytes_equal}
 use Rattle.crush_model.proofs.Weighs.{true_or_false}
 
--- the elements below n, the last first
+-- the elements for the numbers below n, beginning with the last
 unfoldable pub numbered : {X : Type 0} → (ℕ → X) → ℕ → List X
 numbered f zero = []
 numbered f (suc n) = f n ∷ numbered f n
@@ -67,13 +67,13 @@ unfolding letters
 is_name-letters n =
     λ i. letter_of_a_name n i && (letter_of_a_name (n / 26) i && (letter_of_a_name (n / 26 / 26) i && (letter_of_a_name (n / 26 / 26 / 26) i && true)))
 
--- also after one more letter
+-- a name with one more letter in front is a name
 pub is_name-lettered : (c n : ℕ) → is_name_byte c ≡ true → is_name (c ∷ letters n) ≡ true
 unfolding letters
 is_name-lettered c n h =
     λ i. h i && (letter_of_a_name n i && (letter_of_a_name (n / 26) i && (letter_of_a_name (n / 26 / 26) i && (letter_of_a_name (n / 26 / 26 / 26) i && true))))
 
--- the number that a name stands for
+-- the number that a name was made from
 number : List ℕ → ℕ
 number (a ∷ (b ∷ (c ∷ (d ∷ [])))) = (a - 97) + 26 * ((b - 97) + 26 * ((c - 97) + 26 * (d - 97)))
 number other = 0

@@ -1,4 +1,4 @@
--- A root with what is below it, taken out, is a lawful table of its own.
+-- A root with all that is below it is a lawful table by itself.
 use Rattle.std.proofs.Common.{◌≡◌, ℕ, true, false, List, [], ◌∷◌, ap, sym, subst, ◌∙◌, refl, ⊎_elim}
 use Rattle.std.specs.Prelude.{◌||◌, if◌then◌else◌, Option, Some, None, All, map, filter, is_some, option_and_then}
 use Rattle.std.proofs.lemmas.List.Elements.{All-head, All-tail, All-weaker, All-filter}
@@ -12,7 +12,7 @@ use Rattle.crush_model.proofs.Relocated.{under_parent}
 use Rattle.crush_model.proofs.Removed.{Lawful-only}
 use Rattle.crush_model.proofs.Weighs.{All-found}
 
--- as a root it is the row that it was
+-- the row of a root doesn't change when it loses its parent
 pub as_root-root : (t : List Row) (i : ItemId) → Lawful t → parent_of t i ≡ None → All (λ (r : Row). as_root i r ≡ r) t
 as_root-root t i l root = All-weaker (λ (r : Row). row_of t r.id ≡ Some r) (λ (r : Row). as_root i r ≡ r) each t (All-found t l.ids) where
   each : (r : Row) → row_of t r.id ≡ Some r → as_root i r ≡ r
@@ -22,12 +22,12 @@ as_root-root t i l root = All-weaker (λ (r : Row). row_of t r.id ≡ Some r) (�
       (λ p. ap (λ b. if b then record r { parent = None } else r) p.0)
       (same_id_tells r.id i)
 
--- a change of each element to itself
+-- a map that changes no element gives the same list
 pub map_same : {X : Type 0} (f : X → X) (xs : List X) → All (λ x. f x ≡ x) xs → map f xs ≡ xs
 map_same f [] a = refl
 map_same f (x ∷ xs) a = λ k. All-head (λ y. f y ≡ y) x xs a k ∷ map_same f xs (All-tail (λ y. f y ≡ y) x xs a) k
 
--- what has its parent in the part is in it too, and so upward
+-- if the parent of an item is in the part, then the item is in the part
 pub is_part-parent : (t : List Row) (i : ItemId) → Lawful t → parent_of t i ≡ None → (j : ItemId) (p : ℕ) → is_part t i j ≡ true → parent_of t j ≡ Some p → is_part t i (Bucket p) ≡ true
 is_part-parent t i l root j p h e = ⊎_elim
     (λ q. absurd (let never : ◌≡◌ {A = Option ℕ} None (Some p) = sym root ∙ ap (parent_of t) (sym q.1) ∙ e in cc))
@@ -40,7 +40,7 @@ Lawful-part t i l root =
     subst Lawful (sym (map_same (as_root i) (filter (λ (r : Row). is_part t i r.id) t) (All-filter (λ (r : Row). is_part t i r.id) (λ (r : Row). as_root i r ≡ r) t (as_root-root t i l root))))
     (Lawful-only (is_part t i) t (is_part-parent t i l root) l)
 
--- by the test whether it is placed
+-- the law, with the test that the item isn't placed
 pub Lawful-part_placed : (t : List Row) (i : ItemId) → Lawful t → is_placed t i ≡ false → Lawful (part i t)
 Lawful-part_placed t i l h = Lawful-part t i l (no_parent (parent_of t i) h) where
   no_parent : (o : Option ℕ) → is_some o ≡ false → o ≡ None

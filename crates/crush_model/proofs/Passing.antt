@@ -21,7 +21,7 @@ use Rattle.crush_model.proofs.Tested.{HoldEach, bytes_itself, bytes_equal}
 use Rattle.crush_model.proofs.Weighs.{true_or_false, lawful_light}
 use Rattle.crush_units.specs.declared.limits.TheConstants.{DEVICE_IDS, FARTHEST_BUCKET_ID, HEAVIEST_DEVICE, LAST_TYPE, MOST_BUCKETS, MOST_CLASS_IDS, MOST_DEVICES}
 
--- tests that hold each hold together
+-- if each of several tests holds, then the test of all of them holds
 all_held : (bs : List Bool) → HoldEach bs → all_hold bs ≡ true
 all_held [] h = refl
 all_held (b ∷ bs) h = (λ k. h.0 k && all_hold bs) ∙ all_held bs h.1
@@ -32,7 +32,7 @@ lt_passes a b h = grind (arith, nat_tests)
 le_passes : (a b : ℕ) → a ≤ b → nat_le a b ≡ true
 le_passes a b h = grind (arith, nat_tests)
 
--- elements of which each is there once at most are apart
+-- if each element occurs at most once, then the elements are distinct
 module _ {X : Type 0} (same : X → X → Bool) (equal : (x y : X) → same x y ≡ true → x ≡ y) (itself : (x : X) → same x x ≡ true) where
   none_same : (x : X) (ys : List X) → count_by (λ y. same y x) ys ≡ 0 → list_any (same x) ys ≡ false
   none_same x [] h = refl
@@ -48,7 +48,7 @@ module _ {X : Type 0} (same : X → X → Bool) (equal : (x y : X) → same x y 
       let alone : list_any (same x) xs ≡ false = none_same x xs (omega (arith, own, h x, sum_by-cons (λ z. one_if (same z x)) x xs)) in
       (λ k. not (alone k) && are_apart same xs) ∙ once_apart xs (λ y. omega (arith, h y, sum_by-cons (λ z. one_if (same z y)) x xs))
 
--- rows
+-- ROWS
 name_passes : (o : Option (List ℕ)) → IfSome o IsName → name_or_none o ≡ true
 name_passes None h = refl
 name_passes (Some n) h = is_name_true n h
@@ -112,11 +112,11 @@ no_loops t l (r ∷ u) = (λ k. by_id r.id k || list_any (λ (x : Row). is_loop 
   by_id (Device d) = refl
   by_id (Bucket b) = l.loops b
 
--- a lawful table has room
+-- a lawful table doesn't have too many items
 pub lawful_room : (t : List Row) → Lawful t → has_too_many t ≡ false
 lawful_room t l = λ k. le-ltb MOST_DEVICES (device_count t) l.devices k || le-ltb MOST_BUCKETS (bucket_count t) l.buckets k
 
--- THE TEST holds of each lawful table
+-- THE TEST holds for each lawful table
 pub Lawful-passes : (t : List Row) → Lawful t → is_lawful t ≡ true
 Lawful-passes t l = all_held (table_tests t) (
   once_apart same_id same_id_equal same_id_refl (map (λ (r : Row). r.id) t) (λ i. subst (λ n. n ≤ 1) (sym (sum_by-map (λ j. one_if (same_id j i)) (λ (r : Row). r.id) t)) (l.ids i)),

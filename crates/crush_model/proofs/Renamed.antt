@@ -1,4 +1,4 @@
--- A table stays lawful where an item gets a fresh name.
+-- A table stays lawful if an item gets a new name that no row has.
 use Rattle.std.proofs.Common.{◌≡◌, ℕ, ◌+◌, ◌≤◌, Bool, true, false, List, [], ◌∷◌, ap, sym, subst, ◌∙◌, refl, arith, ⊎_elim}
 use Rattle.std.specs.Prelude.{if◌then◌else◌, Some, All, is_some, bytes_eq}
 use Rattle.std.specs.List.{sum_by, count_by}
@@ -38,7 +38,7 @@ named-other i m n (r ∷ t) h = ⊎_elim
     omega (arith, own, named-cons n (with_name i m r) (set_name i m t), named-cons n r t, named-other i m n t (omega (arith, h, times-cons i r t))))
     (same_id_tells r.id i)
 
--- the new name comes and the old one goes
+-- how often each name occurs after the item has the new name instead of the old one
 pub named-set_name : (i : ItemId) (m n : List ℕ) (t : List Row) (r : Row) → times i t ≤ 1 → row_of t i ≡ Some r → named n (set_name i m t) + one_if (bytes_eq r.name n) ≡ named n t + one_if (bytes_eq m n)
 named-set_name i m n [] r h e = absurd cc
 named-set_name i m n (x ∷ t) r h e = ⊎_elim
@@ -71,7 +71,7 @@ named_row false m r name row = row
 name_summed : (i : ItemId) (m : List ℕ) (r : Row) → summed_weight (with_name i m r) ≡ summed_weight r
 name_summed i m r = λ k. if is_device_id (with_name-id i m r k) then name_weight i m r k else 0
 
--- names change no sum
+-- a change of names changes no sum
 pub sum_below-set_name : (i : ItemId) (m : List ℕ) (t : List Row) (b : ℕ) → sum_below (set_name i m t) b ≡ sum_below t b
 sum_below-set_name i m t b =
     let same : ◌≡◌ {A = Row → ℕ} (λ r. if is_below t b r.id then summed_weight (with_name i m r) else 0) (λ r. if is_below t b r.id then summed_weight r else 0) = λ k r. if is_below t b r.id then name_summed i m r k else 0 in
@@ -83,13 +83,13 @@ total-set_name i m t =
     λ k r. if is_some (with_name-parent i m r k) then name_summed i m r k else 0 in
     sum_by-map (λ (r : Row). if is_some r.parent then summed_weight r else 0) (with_name i m) t ∙ ap (λ f. sum_by f t) same
 
--- a name in the form of names, where the names are distinct after it
+-- the law, if the new name is valid and the names are distinct after the change
 pub Lawful-named : (i : ItemId) (m : List ℕ) (t : List Row) → Lawful t → IsName m → ((n : List ℕ) → named n (set_name i m t) ≤ 1) → Lawful (set_name i m t)
 Lawful-named i m t l name names =
     Lawful-columns (with_name i m) (with_name-id i m) (with_name-parent i m) (name_uses i m) t l names (All-weaker IsRow (λ (r : Row). IsRow (with_name i m r)) (λ r. named_row (same_id r.id i) m r name) t l.rows)
     (sums_light (set_name i m t) (λ b. subst (λ n. n ≤ HEAVIEST_BUCKET) (sym (sum_below-set_name i m t b)) (l.sums b)) (subst (λ n. n ≤ HEAVIEST_MAP) (sym (total-set_name i m t)) l.total))
 
--- THE LAW: an item that is there may get a name that no row has
+-- THE LAW: an item of the table may get a name that no row has
 pub Lawful-set_name : (i : ItemId) (m : List ℕ) (t : List Row) (r : Row) → Lawful t → row_of t i ≡ Some r → IsName m → is_named t m ≡ false → Lawful (set_name i m t)
 Lawful-set_name i m t r l e name fresh = Lawful-named i m t l name (λ n. by_test n (bytes_eq m n) refl) where
   by_test : (n : List ℕ) (b : Bool) → bytes_eq m n ≡ b → named n (set_name i m t) ≤ 1
@@ -100,7 +100,7 @@ Lawful-set_name i m t r l e name fresh = Lawful-named i m t l name (λ n. by_tes
       omega (arith, gone, new, named-set_name i m n t r (l.ids i) e)
   by_test n false other = let old : one_if (bytes_eq m n) ≡ 0 = ap one_if other in omega (arith, old, l.names n, named-set_name i m n t r (l.ids i) e)
 
--- what holds of each row holds of the one that is found
+-- what is true of each row is true of the row that is found
 pub All-row : (P : Row → Type 0) (t : List Row) → All P t → (i : ItemId) (r : Row) → row_of t i ≡ Some r → P r
 All-row P [] a i r e = absurd cc
 All-row P (x ∷ t) a i r e = by_test (same_id x.id i) e (λ h. All-row P t (All-tail P x t a) i r h) where

@@ -1,4 +1,4 @@
--- What a new order of a list leaves as it was.
+-- What stays the same when a list is reordered.
 use Rattle.std.proofs.Common.{◌≡◌, ℕ, ◌+◌, ◌≤◌, Bool, true, false, List, [], ◌∷◌, ◌++◌, length, ap, sym, subst, ◌∙◌, refl, arith, append_assoc, append-nil}
 use Rattle.std.specs.Prelude.{map, filter, find, if◌then◌else◌, All, flat_map, Option, Some, not}
 use Rattle.std.specs.List.{sum_by, count_by}
@@ -37,7 +37,7 @@ module _ {X : Type 0} where
   reordered-length exchange = refl
   reordered-length (through h g) = reordered-length h ∙ reordered-length g
 
-  -- what holds of each element of one holds of each of the other
+  -- what is true of each element of a list is true of each element of its reordering
   pub reordered-All : (P : X → Type 0) {xs ys : List X} → IsReordered xs ys → All P xs → All P ys
   reordered-All P nothing a = a
   reordered-All P (keep {x} {xs} {ys} h) a = All-cons P x ys (All-head P x xs a) (reordered-All P h (All-tail P x xs a))
@@ -79,12 +79,12 @@ module _ {X : Type 0} where
   to_middle x [] ts = reordered-refl (x ∷ ts)
   to_middle x (y ∷ us) ts = through exchange (keep (to_middle x us ts))
 
-  -- two lists side by side change places
+  -- two adjacent lists can be exchanged
   pub reordered_comm : (ts us : List X) → IsReordered (ts ++ us) (us ++ ts)
   reordered_comm [] us = subst (λ z. IsReordered us z) (sym (append-nil us)) (reordered-refl us)
   reordered_comm (x ∷ ts) us = through (keep (reordered_comm ts us)) (to_middle x us ts)
 
-  -- the last of three lists moves before the second
+  -- the last of three lists can be moved before the second
   pub reordered_end : (k r n : List X) → IsReordered ((k ++ r) ++ n) ((k ++ n) ++ r)
   reordered_end k r n = subst (λ z. IsReordered z ((k ++ n) ++ r)) (sym (append_assoc k r n)) (subst (λ z. IsReordered (k ++ (r ++ n)) z) (sym (append_assoc k n r)) (reordered-after k (reordered_comm r n)))
 
@@ -92,7 +92,7 @@ module _ {X : Type 0} where
   split_if true x xs ys ns h = keep h
   split_if false x xs ys ns h = through (reordered-sym (to_middle x ys ns)) (keep h)
 
-  -- what passes a test and what fails it are the whole
+  -- the elements that pass a test and those that fail it are all elements
   pub reordered_split : (p : X → Bool) (xs : List X) → IsReordered (filter p xs ++ filter (λ x. not (p x)) xs) xs
   reordered_split p [] = nothing
   reordered_split p (x ∷ xs) = split_if (p x) x xs (filter p xs) (filter (λ y. not (p y)) xs) (reordered_split p xs)
@@ -106,7 +106,7 @@ module _ {X : Type 0} where
   find_exchange false true x y o h = refl
   find_exchange false false x y o h = refl
 
-  -- where at most one element passes, it is found in either order
+  -- if at most one element passes a test, the same element is found in both orders
   pub reordered-find : (p : X → Bool) {xs ys : List X} → IsReordered xs ys → count_by p xs ≤ 1 → find p xs ≡ find p ys
   reordered-find p nothing h = refl
   reordered-find p (keep {x} {xs} {ys} r) h = find_if (p x) x (find p xs) (find p ys) (reordered-find p r (omega (arith, sum_by-cons (λ z. one_if (p z)) x xs)))

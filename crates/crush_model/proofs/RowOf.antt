@@ -1,4 +1,4 @@
--- The row of an id after rows are put last or taken out.
+-- The row of an id after rows are appended or removed.
 use Rattle.std.proofs.Common.{◌≡◌, Bool, true, false, List, [], ◌∷◌, ◌++◌, ap, sym, ◌∙◌, refl, ⊎_elim}
 use Rattle.std.specs.Prelude.{not, if◌then◌else◌, Option, Some, None, is_some}
 use Rattle.crush_units.specs.declared.id.ItemId.{ItemId}
@@ -16,7 +16,7 @@ itself : (o : Option Row) → (if is_some o then o else None) ≡ o
 itself None = refl
 itself (Some r) = refl
 
--- a row put last that has an id of its own
+-- after a row with a new id is appended
 pub row_of-last : (t : List Row) (r : Row) (i : ItemId) → is_there t r.id ≡ false → row_of (t ++ r ∷ []) i ≡ (if same_id r.id i then Some r else row_of t i)
 row_of-last t r i fresh = row_of-append t (r ∷ []) i ∙ ⊎_elim
     (λ yes.
@@ -27,18 +27,18 @@ row_of-last t r i fresh = row_of-append t (r ∷ []) i ∙ ⊎_elim
     ∙ itself (row_of t i) ∙ sym (choose (same_id r.id i) false (Some r) (row_of t i) other.0))
     (same_id_tells r.id i)
 
--- a row taken out
+-- after a row is removed
 pub row_of-without_row : (i : ItemId) (t : List Row) (j : ItemId) → row_of (without_row i t) j ≡ (if same_id i j then None else row_of t j)
 row_of-without_row i t j = row_of-only (λ k. not (same_id k i)) t j ∙ ⊎_elim
     (λ yes. choose (not (same_id j i)) false (row_of t j) None (ap not (equal_same_id j i (sym yes.1))) ∙ sym (choose (same_id i j) true None (row_of t j) yes.0))
     (λ other. choose (not (same_id j i)) true (row_of t j) None (ap not (distinct_same_id j i (λ e. other.1 (sym e)))) ∙ sym (choose (same_id i j) false None (row_of t j) other.0))
     (same_id_tells i j)
 
--- a row taken out is there no more
+-- an item whose row was removed isn't in the table any more
 pub is_there-without_row : (i : ItemId) (t : List Row) → is_there (without_row i t) i ≡ false
 is_there-without_row i t = ap is_some (row_of-without_row i t i ∙ choose (same_id i i) true None (row_of t i) (same_id_refl i))
 
--- a row put last in place of one with the same id
+-- after a row is appended in place of a row with the same id
 pub row_of-replaced : (t : List Row) (r : Row) (j : ItemId) → row_of (without_row r.id t ++ r ∷ []) j ≡ (if same_id r.id j then Some r else row_of t j)
 row_of-replaced t r j =
     row_of-last (without_row r.id t) r j (is_there-without_row r.id t) ∙ ap (λ o. if same_id r.id j then Some r else o) (row_of-without_row r.id t j) ∙ twice (same_id r.id j) where

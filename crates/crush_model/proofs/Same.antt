@@ -31,7 +31,7 @@ Same-sym t u s = record { rows = reordered-sym s.rows; kids = λ b. sym (s.kids 
 pub Same-trans : (t u v : List Row) → Same t u → Same u v → Same t v
 Same-trans t u v s r = record { rows = through s.rows r.rows; kids = λ b. s.kids b ∙ r.kids b }
 
--- with the same parents one climbs the same way
+-- if the parents are the same, following parents gives the same
 pub climb-agree : (t u : List Row) → ((i : ItemId) → parent_of t i ≡ parent_of u i) → (n : ℕ) (i : ItemId) → climb t n i ≡ climb u n i
 climb-agree t u h zero i = refl
 climb-agree t u h (suc n) i = λ k. then_up (h i k) (λ p. climb-agree t u h n (Bucket p) k)
@@ -68,7 +68,7 @@ bucket_count-same t u p = reordered-count is_bucket p
 abbrev pub uses : Row → List ℕ
 uses r = bucket_ids r.id ++ map (λ (c : ShadowData). c.id) r.class_ids
 
--- how often a number is used
+-- how often a number is used as an id
 abbrev pub times_used : ℕ → List Row → ℕ
 times_used k t = count_by (λ u. u == k) (used_ids t)
 
@@ -81,7 +81,7 @@ times_used-same t u p k = times_used-rows k t ∙ reordered-sum (λ (r : Row). c
 pub used_ids-length : (t u : List Row) → IsReordered t u → length (used_ids t) ≡ length (used_ids u)
 used_ids-length t u p = length-flat_map uses t ∙ reordered-sum (λ (r : Row). length (uses r)) p ∙ sym (length-flat_map uses u)
 
--- whether a number is in a list, by how often
+-- a number is in a list if it occurs there more than 0 times
 pub member-count : (k : ℕ) (xs : List ℕ) → member k xs ≡ nat_lt 0 (count_by (λ u. u == k) xs)
 member-count k [] = refl
 member-count k (x ∷ xs) = ⊎_elim
@@ -109,7 +109,7 @@ HasParent-same t u p d r h = by_parent r.parent h where
   by_parent None h = h
   by_parent (Some q) h = sym (is_there-same t u p d (Bucket q)) ∙ h
 
--- a table with the same rows in another order is lawful too
+-- a table with the same rows as a lawful table, in another order, is lawful too
 pub Lawful-reordered : (t u : List Row) → IsReordered t u → Lawful t → Lawful u
 Lawful-reordered t u p l = record {
   ids = Distinct-same p l.ids;

@@ -9,14 +9,14 @@ use Rattle.crush_units.specs.declared.id.ItemId.TheVariants.{Device, Bucket}
 use Rattle.crush_model.specs.Table.{Row, is_device_id, is_below, sum_below, summed_weight, total}
 use Rattle.crush_model.specs.Lawful.{IsRow, IsRowOf, Lawful}
 
--- a row by itself
+-- what one well-formed row adds is the weight in the row
 pub summed_weight-row : (r : Row) → IsRow r → summed_weight r ≡ r.weight
 summed_weight-row r row = by_id r.id row.form where
   by_id : (i : ItemId) → IsRowOf i r → (if is_device_id i then r.weight else 0) ≡ r.weight
   by_id (Device d) form = refl
   by_id (Bucket b) form = sym form.weight
 
--- so all weights may be added where a test of the row holds
+-- so the weights of all rows that pass a test can be added
 sum-rows : (which : Row → ℕ → ℕ) (t : List Row) → All IsRow t → sum_by (λ (r : Row). which r (summed_weight r)) t ≡ sum_by (λ (r : Row). which r r.weight) t
 sum-rows which [] rows = refl
 sum-rows which (r ∷ t) rows =

@@ -1,4 +1,4 @@
--- What passes the test is lawful.
+-- A table that passes the test is lawful.
 use Rattle.std.proofs.Common.{◌≡◌, ℕ, ◌≤◌, Bool, true, false, List, [], ◌∷◌, length, ap, sym, subst, ◌∙◌, refl, arith, eq-eqb, ⊎_elim}
 use Rattle.std.specs.Prelude.{◌==◌, ◌||◌, ◌&&◌, not, if◌then◌else◌, Option, Some, None, IfSome, All, map, is_some, is_none, bytes_eq, nat_lt, nat_le}
 use Rattle.std.specs.List.{count_by, list_any}
@@ -33,7 +33,7 @@ not_so : (a : Bool) → not a ≡ true → a ≡ false
 not_so true h = absurd cc
 not_so false h = refl
 
--- each of several tests
+-- each of several tests holds
 abbrev pub HoldEach : List Bool → Type 0
 HoldEach [] = Unit {0}
 HoldEach (b ∷ bs) = (b ≡ true) × HoldEach bs
@@ -42,7 +42,7 @@ holds_each : (bs : List Bool) → all_hold bs ≡ true → HoldEach bs
 holds_each [] h = tt
 holds_each (b ∷ bs) h = (and_left b (all_hold bs) h, holds_each bs (and_right b (all_hold bs) h))
 
--- elements that are apart: each is there once at most
+-- if elements are distinct, each occurs at most once
 module _ {X : Type 0} (same : X → X → Bool) (equal : (x y : X) → same x y ≡ true → x ≡ y) (itself : (x : X) → same x x ≡ true) where
   no_more : (x : X) (ys : List X) → list_any (same x) ys ≡ false → count_by (λ y. same y x) ys ≡ 0
   no_more x [] h = refl
@@ -67,7 +67,7 @@ bytes_itself n = (bytes_eq-Decides n n).1 refl
 pub bytes_equal : (m n : List ℕ) → bytes_eq m n ≡ true → m ≡ n
 bytes_equal m n = (bytes_eq-Decides m n).0
 
--- rows
+-- ROWS
 name_holds : (o : Option (List ℕ)) → name_or_none o ≡ true → IfSome o IsName
 name_holds None h = tt
 name_holds (Some n) h = is_name_holds n h
@@ -127,7 +127,7 @@ parent_holds : (t : List Row) (o : Option ℕ) → parent_is_there t o ≡ true 
 parent_holds t None h = tt
 parent_holds t (Some p) h = h
 
--- no loop among the rows
+-- no row is below itself
 no_loop : (t u : List Row) → list_any (λ (r : Row). is_loop t r.id) u ≡ false → (b : ℕ) → is_there u (Bucket b) ≡ true → is_below t b (Bucket b) ≡ false
 no_loop t [] h b there = absurd cc
 no_loop t (r ∷ u) h b there = ⊎_elim

@@ -1,4 +1,4 @@
--- Tables of up to MOST_BUCKETS buckets, lawful but for their total: with all of them it is one unit out of range, and they break that condition alone.
+-- Tables of up to MOST_BUCKETS buckets that are lawful except for their total. With all of these buckets the total is one unit out of range, and no other condition is broken.
 use Rattle.std.proofs.Common.{◌≡◌, ℕ, zero, suc, ◌+◌, ◌-◌, ◌*◌, ◌≤◌, ◌<◌, Bool, true, false, List, [], ◌∷◌, ◌++◌, ap, subst, ◌∙◌, refl, arith, ⊎_elim}
 use Rattle.std.specs.Prelude.{Some, None, replicate, nat_lt, nat_le, not, ◌==◌, ◌||◌, ◌&&◌, map, bytes_eq, is_some, if◌then◌else◌}
 use Rattle.std.specs.List.{list_any, list_all, sum_by}
@@ -109,7 +109,7 @@ unfolding roots
 all_are_rows zero h = refl
 all_are_rows (suc n) h = λ i. root_is_row n (omega arith) i && (left_is_row n (omega arith) i && (right_is_row n (omega arith) i && all_are_rows n (omega arith) i))
 
--- parents, and none above a root
+-- parents, and nothing is above a root
 root_is_there : (n k : ℕ) → k < n → is_there (heavy_rows n) (Bucket (suc k)) ≡ true
 unfolding roots
 root_is_there zero k h = absurd (omega arith)
@@ -178,14 +178,14 @@ rows_have_room n h =
     let buckets : bucket_count (heavy_rows n) ≡ n * 1 = rows_add (λ r. one_if (is_bucket r)) 1 0 (λ k. refl) (λ k. refl) (λ k. refl) n in
     λ i. le-ltb MOST_DEVICES (device_count (heavy_rows n)) (omega (arith, devices)) i || le-ltb MOST_BUCKETS (bucket_count (heavy_rows n)) (omega (arith, buckets)) i
 
--- each test but that of sums and total holds, and of these it is the total that fails
+-- each test except for that of sums and total holds; of these two, the total fails
 many_roots : (n : ℕ) → n ≤ MOST_BUCKETS → table_tests (heavy_rows n) ≡ replicate 6 true ++ not (nat_lt HEAVIEST_MAP (n * 2147483648)) ∷ (true ∷ [])
 many_roots n h =
     let used : are_apart (λ a b. a == b) (used_ids (heavy_rows n)) ≡ true =
     ap (are_apart (λ a b. a == b)) (roots_use_ids n) ∙ are_apart-numbered suc (λ a b. a == b) n (λ m k l e. numbers_differ (suc m) (suc k) (omega arith)) in
     λ i. ids_apart n i ∷ (names_apart n (omega arith) i ∷ (used i ∷ (all_are_rows n (omega arith) i ∷ (parents_are_there n n (omega arith) i ∷ (not (no_loops n n i) ∷ (not (total_is_over n i) ∷ (not (rows_have_room n h i) ∷ [])))))))
 
--- such roots, one fewer than there may be buckets, are no total out of range; one more are, by one unit, and no sum is
+-- with one fewer of these roots than the greatest number of buckets, the total is in range; with one more, it is out of range by one unit, and no sum is
 heavy_total : table_tests (heavy_rows (MOST_BUCKETS - 1)) ≡ replicate 8 true
 heavy_total = many_roots (MOST_BUCKETS - 1) (omega arith)
 

@@ -1,4 +1,4 @@
--- Tables of up to 456,976 devices or buckets, lawful but for that number: with one too many they break that condition alone.
+-- Tables of up to 456,976 devices or buckets that are lawful except for this number. With one device or bucket too many, no other condition is broken.
 use Rattle.std.proofs.Common.{◌≡◌, ℕ, zero, suc, ◌+◌, ◌≤◌, ◌<◌, Bool, true, false, List, [], ◌∷◌, ◌++◌, ap, ◌∙◌, refl, arith}
 use Rattle.std.specs.Prelude.{Option, Some, None, replicate, nat_lt, nat_le, not, ◌==◌, ◌||◌, ◌&&◌, map, bytes_eq, length, option_and_then, is_some, if◌then◌else◌}
 use Rattle.std.specs.List.{list_any, list_all}
@@ -17,7 +17,7 @@ use Rattle.crush_model.proofs.Unlawful.{all_but, disk, box}
 pub numbers_differ : (m n : ℕ) → n < m → (m == n) ≡ false
 numbers_differ m n l = ne_eqb m n (λ e. omega (arith, e))
 
--- DEVICES that are nowhere and weigh nothing
+-- DEVICES without a parent and of weight 0
 abbrev disk_at : ℕ → Row
 disk_at k = disk k (letters k) None 0
 
@@ -49,7 +49,7 @@ disks_fill n =
       or_false true = refl
       or_false false = refl
 
--- each test but that of counts holds
+-- each test except for that of counts holds
 many_disks : (n : ℕ) → n ≤ 456976 → table_tests (disks n) ≡ replicate 7 true ++ not (nat_lt MOST_DEVICES n) ∷ []
 many_disks n h =
     let ids : are_apart same_id (map (λ (r : Row). r.id) (disks n)) ≡ true =
@@ -67,7 +67,7 @@ most_devices = many_disks MOST_DEVICES (omega arith)
 devices_too_many : table_tests (disks (MOST_DEVICES + 1)) ≡ all_but 7 0
 devices_too_many = many_disks (MOST_DEVICES + 1) (omega arith)
 
--- BUCKETS that are roots and empty
+-- BUCKETS that are roots without items
 abbrev box_at : ℕ → Row
 box_at k = box (suc k) (letters k) None []
 
@@ -85,7 +85,7 @@ box_is_row k h =
     let most : nat_le (suc k) FARTHEST_BUCKET_ID ≡ true = le-leb (suc k) FARTHEST_BUCKET_ID (omega arith) in
     λ i. is_name-letters k i && ((some i && (most i && true)) && true)
 
--- of rows without a parent none is below another
+-- if no row has a parent, no row is below another
 pub root_or_rest : (c : Bool) (r : Row) (o : Option Row) → r.parent ≡ None → option_and_then (λ (x : Row). x.parent) o ≡ None → option_and_then (λ (x : Row). x.parent) (if c then Some r else o) ≡ None
 root_or_rest true r o h g = h
 root_or_rest false r o h g = g
@@ -118,7 +118,7 @@ boxes_fill n =
     let buckets : bucket_count (boxes n) ≡ n = sum_by-numbered box_at (λ r. one_if (is_bucket r)) 1 (λ k. refl) n ∙ omega arith in
     λ i. nat_lt MOST_DEVICES (none_else i) || nat_lt MOST_BUCKETS (buckets i)
 
--- each test but that of counts holds
+-- each test except for that of counts holds
 many_boxes : (n : ℕ) → n ≤ 456976 → table_tests (boxes n) ≡ replicate 7 true ++ not (nat_lt MOST_BUCKETS n) ∷ []
 many_boxes n h =
     let ids : are_apart same_id (map (λ (r : Row). r.id) (boxes n)) ≡ true =

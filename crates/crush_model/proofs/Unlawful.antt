@@ -1,4 +1,4 @@
--- Tables and rows that break one condition of a lawful table alone, computed: for total see TooHeavy, for counts TooMany.
+-- Tables and rows that break exactly one condition of a lawful table, by computation. The total is in TooHeavy, and the counts are in TooMany.
 use Rattle.std.proofs.Common.{◌≡◌, ℕ, zero, suc, ◌+◌, Bool, true, false, List, [], ◌∷◌, ◌++◌, refl}
 use Rattle.std.specs.Prelude.{Option, Some, None, codes, replicate, nat_lt}
 use Rattle.crush_units.specs.declared.alg.Alg.TheVariants.{Straw2}
@@ -10,7 +10,7 @@ use Rattle.crush_model.specs.Table.{Row, sum_below, total}
 use Rattle.crush_model.specs.Lawful.{is_too_heavy}
 use Rattle.crush_model.specs.Tested.{device_tests, bucket_tests, table_tests}
 
--- of some tests the one after the first n fails, and the m after it hold
+-- the results of tests of which the one after the first n fails, and n tests before it and m after it hold
 abbrev pub all_but : ℕ → ℕ → List Bool
 all_but n m = replicate n true ++ false ∷ replicate m true
 
@@ -46,7 +46,7 @@ bad_name = refl
 absent_parent : table_tests (disk 0 (codes "a") (Some 9) 1 ∷ []) ≡ all_but 4 3
 absent_parent = refl
 
--- a row's parent is the number of a bucket, so no device can be one, be it another or the row's own
+-- a row's parent is the number of a bucket, so no device can be a parent, neither another device nor the row's own
 parent_is_a_device : table_tests (disk 1 (codes "a") None 0 ∷ (disk 2 (codes "b") (Some 1) 1 ∷ [])) ≡ all_but 4 3
 parent_is_a_device = refl
 
@@ -56,7 +56,7 @@ parent_of_own_number = refl
 below_itself : table_tests (box 1 (codes "r") (Some 2) [] ∷ (box 2 (codes "s") (Some 1) [] ∷ [])) ≡ all_but 5 2
 below_itself = refl
 
--- two of the heaviest devices fill a bucket all but one unit
+-- two of the heaviest devices fill a bucket up to one unit less than its limit
 abbrev heavy : List Row
 heavy = box 1 (codes "r") None [] ∷ (disk 0 (codes "a") (Some 1) HEAVIEST_DEVICE ∷ (disk 1 (codes "b") (Some 1) HEAVIEST_DEVICE ∷ (disk 2 (codes "c") (Some 1) 1 ∷ [])))
 
@@ -72,7 +72,7 @@ heavy_sum = refl
 light_total : nat_lt HEAVIEST_MAP (total too_heavy) ≡ false
 light_total = refl
 
--- a weight in a bucket's row is added nowhere
+-- a weight in a bucket's row is added to no sum
 abbrev weighted_bucket : List Row
 weighted_bucket = box 1 (codes "r") None [] ∷ (record (box 2 (codes "s") (Some 1) []) { weight = 7 } ∷ (disk 0 (codes "a") (Some 2) 5 ∷ []))
 
@@ -167,7 +167,7 @@ class_of_a_class_id = refl
 class_twice : bucket_tests 1 (box 1 (codes "r") None (ssd 3 ∷ (ssd 4 ∷ []))) ≡ all_but 9 0
 class_twice = refl
 
--- classes a, aa, aaa ..
+-- the classes a, aa, aaa and so on
 abbrev shadows : ℕ → List ShadowData
 shadows zero = []
 shadows (suc n) = record { id = suc n; class = replicate (suc n) 97 } ∷ shadows n

@@ -24,14 +24,14 @@ pub member-append : (k : ℕ) (xs ys : List ℕ) → member k (xs ++ ys) ≡ (me
 member-append k [] ys = refl
 member-append k (x ∷ xs) ys = ap (λ b. (x == k) || b) (member-append k xs ys) ∙ either (x == k) (member k xs) (member k ys)
 
--- rows put last bring theirs
+-- rows that are appended add the ids that they use
 pub used-append : (t u : List Row) (k : ℕ) → member k (used_ids (t ++ u)) ≡ (member k (used_ids t) || member k (used_ids u))
 used-append t u k = ap (member k) (used_ids-append t u) ∙ member-append k (used_ids t) (used_ids u)
 
 pub used-last : (t : List Row) (r : Row) (k : ℕ) → member k (used_ids (t ++ r ∷ [])) ≡ (member k (used_ids t) || member k (uses r))
 used-last t r k = used-append t (r ∷ []) k ∙ ap (λ xs. member k (used_ids t) || member k xs) (append-nil (uses r))
 
--- a row taken out takes its own along
+-- a row that is removed takes away the ids that it uses
 times_used-last : (t : List Row) (r : Row) (k : ℕ) → times_used k (t ++ r ∷ []) ≡ times_used k t + count_by (λ u. u == k) (uses r)
 times_used-last t r k =
     let own : Row → ℕ = λ x. count_by (λ u. u == k) (uses x) in
@@ -48,7 +48,7 @@ used-without_row i t r k l e =
     member-count k (used_ids (without_row i t)) ∙ taken (times_used k (without_row i t)) own (times_used k t) sum (l.used k)
     ∙ sym ((λ z. if member-count k (uses r) z then false else member-count k (used_ids t) z))
 
--- columns other than id and class ids
+-- a change of columns other than id and class ids
 pub used-map : (f : Row → Row) → ((r : Row) → uses (f r) ≡ uses r) → (t : List Row) (k : ℕ) → member k (used_ids (map f t)) ≡ member k (used_ids t)
 used-map f same t k = member-count k (used_ids (map f t)) ∙ ap (nat_lt 0) (times_used-map f same k t) ∙ sym (member-count k (used_ids t))
 

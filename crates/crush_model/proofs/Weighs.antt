@@ -1,4 +1,4 @@
--- What the test for sums tells, and what follows for rows that are found.
+-- What the test for sums says, and what follows for rows that are found.
 use Rattle.std.proofs.Common.{◌≡◌, ℕ, ◌≤◌, Bool, true, false, List, [], ◌∷◌, ◌++◌, ap, sym, subst, ◌∙◌, refl, arith, append_assoc, ⊎_elim, ◌⊎◌, inl, inr}
 use Rattle.std.specs.Prelude.{◌||◌, if◌then◌else◌, Some, All, is_some, nat_lt}
 use Rattle.std.specs.List.{list_any}
@@ -25,7 +25,7 @@ pub or_right : (a b : Bool) → (a || b) ≡ false → b ≡ false
 or_right true b h = absurd cc
 or_right false b h = h
 
--- a bucket that is there passes the test of its row
+-- a bucket of the table passes the test that its row passes
 over_found : (t u : List Row) → list_any (λ (r : Row). is_over t r.id) u ≡ false → (b : ℕ) → is_there u (Bucket b) ≡ true → is_over t (Bucket b) ≡ false
 over_found t [] h b there = absurd cc
 over_found t (r ∷ u) h b there = ⊎_elim
@@ -33,7 +33,7 @@ over_found t (r ∷ u) h b there = ⊎_elim
     (λ p. over_found t u (or_right (is_over t r.id) (list_any (λ (x : Row). is_over t x.id) u) h) b (sym (ap (λ z. is_some (if z then Some r else row_of u (Bucket b))) p.0) ∙ there))
     (same_id_tells r.id (Bucket b))
 
--- the test for sums, passed: no sum and no total is too large
+-- if the test for sums passes, then no sum and no total is too large
 pub light_sums : (t : List Row) → All (HasParent t) t → is_too_heavy t ≡ false → (b : ℕ) → sum_below t b ≤ HEAVIEST_BUCKET
 light_sums t a h b = ⊎_elim
     (λ there. ltb-false HEAVIEST_BUCKET (sum_below t b) (over_found t t (or_left (list_any (λ (r : Row). is_over t r.id) t) (nat_lt HEAVIEST_MAP (total t)) h) b there))
@@ -50,14 +50,14 @@ none_over t h (r ∷ u) = ap (λ z. z || list_any (λ (x : Row). is_over t x.id)
   not_over (Device d) = refl
   not_over (Bucket b) = le-ltb HEAVIEST_BUCKET (sum_below t b) (h b)
 
--- and a lawful table passes it
+-- a lawful table passes the test for sums
 pub sums_light : (t : List Row) → ((b : ℕ) → sum_below t b ≤ HEAVIEST_BUCKET) → total t ≤ HEAVIEST_MAP → is_too_heavy t ≡ false
 sums_light t h k = ap (λ z. z || nat_lt HEAVIEST_MAP (total t)) (none_over t h t) ∙ le-ltb HEAVIEST_MAP (total t) k
 
 pub lawful_light : (t : List Row) → Lawful t → is_too_heavy t ≡ false
 lawful_light t l = sums_light t l.sums l.total
 
--- each row is the one that is found by its id
+-- each row is the row that is found by its id
 found_from : (front u : List Row) → Distinct (front ++ u) → All (λ (r : Row). row_of (front ++ u) r.id ≡ Some r) u
 found_from front [] d = All-nil (λ (r : Row). row_of (front ++ []) r.id ≡ Some r)
 found_from front (r ∷ u) d =
@@ -69,6 +69,6 @@ found_from front (r ∷ u) d =
 pub All-found : (t : List Row) → Distinct t → All (λ (r : Row). row_of t r.id ≡ Some r) t
 All-found t d = found_from [] t d
 
--- what two facts say of each
+-- if each of two facts is true of all elements, then both are true of all elements
 pub All-both : {X : Type 0} (P Q : X → Type 0) (xs : List X) → All P xs → All Q xs → All (λ x. P x × Q x) xs
 All-both P Q xs a b = λ k d h. (a k d h, b k d h)

@@ -1,4 +1,4 @@
--- The example map's kids, sums and total, computed, and what some changes make of them.
+-- The items, sums and total of the example map, by computation, and what some changes do to them.
 use Rattle.std.specs.Prelude.{◌≡◌, ℕ, ◌*◌, List, [], ◌∷◌, ◌++◌, Some, None, true, false, codes, refl}
 use Rattle.crush_units.specs.declared.id.ItemId.TheVariants.{Device, Bucket}
 use Rattle.crush_units.specs.declared.alg.Alg.TheVariants.{Straw2}
@@ -98,7 +98,7 @@ used = refl
 free : free_ids map 2 ≡ 4 ∷ (5 ∷ [])
 free = refl
 
--- osd.2 weighs 65536: one more 32768 for each bucket above it
+-- osd.2 weighs 65536 units: each bucket above it weighs 32768 more
 heavier : sum_below (set_weight (Device 2) 65536 map) 3 ≡ 65536
 heavier = refl
 
@@ -147,7 +147,7 @@ swapped_name = refl
 swapped_root : sum_below swapped 1 ≡ 163840
 swapped_root = refl
 
--- h2 taken out with what is below it
+-- h2 is removed with all that is below it
 left : kids (table_without (Bucket 3) map) 1 ≡ Bucket 2 ∷ []
 left = refl
 
@@ -157,7 +157,7 @@ left_sum = refl
 taken : total (part (Bucket 3) map) ≡ 32768
 taken = refl
 
--- three devices of the greatest weight in two buckets below one root: its sum is above HEAVIEST_BUCKET
+-- three devices of the greatest weight in two buckets below one root, whose sum is above HEAVIEST_BUCKET
 abbrev heavy : List Row
 heavy = rows_of (record {
   roots = bucket (header 5 3 (codes "rx")) (3 * HEAVIEST_DEVICE) 2
@@ -193,7 +193,7 @@ added_rack = refl
 added_lawful : is_lawful added ≡ true
 added_lawful = refl
 
--- two buckets whose sums a swap would bring out of range: a (-2) with one device in p (-1), and q (-3) with two
+-- two buckets whose sums would be out of range after a swap: a (-2) with one device in p (-1), and q (-3) with two devices
 abbrev full : List Row
 full = rows None (bucket (header 1 11 (codes "p")) (2 * HEAVIEST_DEVICE) 2 (bucket (header 2 1 (codes "a")) HEAVIEST_DEVICE 1 (device (leaf 0 (codes "d0") HEAVIEST_DEVICE) none) (device (leaf 1 (codes "d1") HEAVIEST_DEVICE) none))
     (bucket (header 3 11 (codes "q")) (2 * HEAVIEST_DEVICE) 2 (device (leaf 2 (codes "d2") HEAVIEST_DEVICE) (device (leaf 3 (codes "d3") HEAVIEST_DEVICE) none)) none))
@@ -204,7 +204,7 @@ full_fits = refl
 full_swapped : is_too_heavy (swap_buckets 2 3 full) ≡ true
 full_swapped = refl
 
--- the example map is lawful, as are the tables that the changes make of it
+-- the example map is lawful, and so are the tables that the changes give
 pub example_lawful : Lawful map
 example_lawful = Lawful-tested map refl
 
@@ -217,7 +217,7 @@ moved_lawful = refl
 swapped_lawful : is_lawful swapped ≡ true
 swapped_lawful = refl
 
--- and these are not: a device twice, and a bucket in itself
+-- these tables are not lawful: one has a device twice, and one has a bucket in itself
 twice : is_lawful (map ++ rows (Some 3) (device (leaf 0 (codes "disk") 65536) none)) ≡ false
 twice = refl
 

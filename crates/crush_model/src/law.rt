@@ -1,4 +1,4 @@
-//! Laws about tables. Each law is stated as the contract of a function that does nothing, so no
+//! Laws about tables. Each law is stated as the contract of a function that does nothing. So no
 //! program needs to call these functions.
 
 ghost use Rattle.std.specs.Prelude.{◌≡◌, ◌↔◌, ℕ, List, Option, ◌++◌, true};
@@ -12,22 +12,23 @@ ghost use Rattle.crush_model.specs.Forest.{ForestData};
 ghost use Rattle.crush_model.specs.Table.{Row};
 ghost use Rattle.crush_model.specs.Tested.{is_lawful};
 
-/// The law that, in a lawful table, a bucket's weight is the sum of its items' weights. The parents
-/// above an item end: following them more often than there are rows finds no more of them.
+/// The law that, in a lawful table, a bucket's weight is the sum of its items' weights. It also
+/// says that the chain of parents above an item ends: following parents more often than there are
+/// rows finds no more of them.
 pub fn sums_are_those_of_items()
     ensures sums { (t : List Row) → Lawful t → SumsItems t }
     ensures ends { (t : List Row) → Lawful t → ClimbEnds t }
 {}
 
-/// The law that reading gives equal results on a lawful table and on each table that is the same,
-/// which is lawful too. Two tables are the same if they have the same rows in whatever order, and
-/// the items of each bucket in the same order.
+/// The law that reading gives equal results on two tables that are the same, if one of them is
+/// lawful. The other table is then lawful too. Two tables are *the same* if they have the same
+/// rows, in whatever order, and each bucket has its items in the same order.
 pub fn same_tables_are_read_alike()
     ensures { SameIsAlike }
 {}
 
-/// The law that each of these changes, made to two lawful tables that are the same, results in
-/// tables that are the same.
+/// The law that each change in the contract, made to two lawful tables that are the same, results
+/// in tables that are the same.
 pub fn changes_keep_same()
     ensures weight { (i : ItemId) (w : ℕ) → KeepsSame (set_weight i w) }
     ensures subtree { (b w : ℕ) → KeepsSame (set_subtree b w) }
@@ -41,13 +42,13 @@ pub fn changes_keep_same()
     ensures swap { (a b : ℕ) → KeepsSame (swap_buckets a b) }
 {}
 
-/// The law that all tables that one forest represents are the same, and that it represents each
-/// table that is the same as one of them. A sound forest represents its own rows.
+/// The law that all tables that one forest represents are the same, and that the forest also
+/// represents every table that is the same as one of them. A sound forest represents its own rows.
 pub fn stands_for_one_table()
     ensures { (f : ForestData) → StandsForOne f }
 {}
 
-/// The laws of which changes keep a table lawful, and under which conditions.
+/// The laws that say which changes keep a table lawful, and under which conditions.
 pub fn changes_keep_lawful()
     ensures without { (i : ItemId) → KeepsLawful (table_without i) }
     ensures weight { WeightKeepsLawful }
@@ -62,8 +63,8 @@ pub fn changes_keep_lawful()
     ensures part { PartKeepsLawful }
 {}
 
-/// The law that a row keeps its form if it gets a bucket as its parent, and that a device's row
-/// also does if its weight changes too.
+/// The law that a row stays well-formed if it gets a bucket as its parent. A device's row stays
+/// well-formed even if its weight changes at the same time.
 pub fn placed_rows_keep_their_form()
     ensures row { PlacedRowKeepsForm }
     ensures device { PlacedDeviceKeepsForm }
@@ -81,22 +82,22 @@ pub fn moves_of_devices_are_of_one_row()
     ensures { (t : List Row) → Lawful t → RelocatesDevice t }
 {}
 
-/// The law that the free ids are unused bucket ids, and distinct. It also bounds how many ids a
-/// lawful table uses.
+/// The law that the free ids of a table are ids of buckets, unused and distinct. It also says how
+/// many ids a lawful table uses at most.
 pub fn free_ids_are_free()
     ensures free { FreeIdsAreFree }
     ensures few { FewIdsAreUsed }
 {}
 
 /// The law that the tests for sums and for the number of items have equal results on tables that
-/// are the same. For the sums no id may be in a table twice.
+/// are the same. The law about sums requires that no table has an id twice.
 pub fn tests_are_alike()
     ensures sums { HeavyIsAlike }
     ensures room { RoomIsAlike }
 {}
 
-/// The law that taking out a bucket without items, or a device, takes out just its own row. A
-/// bucket without items adds nothing to any sum.
+/// The law that removing a bucket without items, or a device, removes just its own row. A bucket
+/// without items adds nothing to any sum.
 pub fn empty_bucket_is_one_row()
     ensures bucket { EmptyIsRow }
     ensures device { DeviceIsRow }
@@ -106,12 +107,13 @@ pub fn empty_bucket_is_one_row()
 {}
 
 /// The law that rows appended to a table add their numbers of devices and buckets, their total
-/// weight and their used ids.
+/// weight and their used ids to those of the table.
 pub fn counts_add()
     ensures { (t u : List Row) → AddsRows t u }
 {}
 
-/// The law that a table is lawful if and only if it passes the test `is_lawful`, which computes.
+/// The law that a table is lawful if and only if it passes the test `is_lawful`, which can be
+/// computed.
 pub fn lawful_is_what_passes()
     ensures { (t : List Row) → (is_lawful t ≡ true) ↔ Lawful t }
 {}

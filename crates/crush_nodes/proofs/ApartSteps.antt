@@ -22,7 +22,7 @@ pub any_class : {A : _} (f : List ℕ → Bool) (cs : List (ShadowId A)) → lis
 any_class f [] = refl
 any_class f (c ∷ cs) = ap (λ z. f c.class || z) (any_class f cs)
 
--- class ids up to one, and that one
+-- the class ids up to an index, and the class id there
 pub seen_more : {A : _} (cs : List (ShadowId A)) (i : ℕ) (x : ShadowId A) → i < length cs → x ≡ get_or cs i x → map shadow_data (take (i + 1) cs) ≡ map shadow_data (take i cs) ++ shadow_data x ∷ []
 seen_more cs i x lt e = ap (map shadow_data) (take_more cs i x lt ∙ ap (λ z. take i cs ++ z ∷ []) (sym e)) ∙ map_append shadow_data (take i cs) (x ∷ [])
 

@@ -1,4 +1,4 @@
--- What the devices of a class weigh: laws of the items, and of their rows.
+-- The weight of the devices of a class: laws of the items and of their rows.
 use Rattle.std.proofs.Common.{◌≡◌, ℕ, ◌+◌, ◌<◌, ◌≤◌, Bool, true, false, List, [], ◌∷◌, ◌++◌, length, get_or, drop, ap, ◌∙◌, refl, arith}
 use Rattle.std.specs.Prelude.{Option, Some, if◌then◌else◌}
 use Rattle.std.specs.List.{sum_by}
@@ -23,7 +23,7 @@ pub class_sum_in-at : {A : _} (c : List ℕ) (ns : List (Node A)) (i : ℕ) (x :
     → class_sum_in c (items_of (drop i ns)) ≡ class_sum_in c (items_of (x ∷ [])) + class_sum_in c (items_of (drop (i + 1) ns))
 class_sum_in-at c ns i x lt e = ap (class_sum_in c) (items_at ns i x lt e ∙ items_of-cons x (drop (i + 1) ns)) ∙ class_sum_in-join c (items_of (x ∷ [])) (items_of (drop (i + 1) ns))
 
--- the sum is no more than that of all devices, and so no more than what buckets store
+-- the sum is at most the sum over all devices, and so at most what buckets store
 leaf_less : (b : Bool) (w : ℕ) → (if b then w else 0) ≤ w
 leaf_less true w = omega arith
 leaf_less false w = omega arith
@@ -33,7 +33,7 @@ class_sum_in-le c none s = omega arith
 class_sum_in-le c (device d r) s = let own : leaf_class_weight c d ≤ d.weight = leaf_less _ d.weight in omega (arith, own, class_sum_in-le c r s)
 class_sum_in-le c (bucket h w m k r) s = omega (arith, s.0, class_sum_in-le c k s.1, class_sum_in-le c r s.2)
 
--- the rows add the same
+-- the rows add the same weight
 no_weight : (b : Bool) → ◌≡◌ {A = ℕ} (if b then 0 else 0) 0
 no_weight true = refl
 no_weight false = refl

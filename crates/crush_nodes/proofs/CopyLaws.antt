@@ -17,14 +17,14 @@ use Rattle.crush_nodes.proofs.Steps.{items_of-append, items_of-taken}
 use Rattle.crush_nodes.proofs.RoomLaws.{without_capacity-join}
 use Rattle.crush_nodes.proofs.RoomSteps.{rows_of-widened, sound-widened, stands-widened}
 
--- one item more
+-- the copies with one more item
 pub without_capacity-copied : {A : _} (more ms ns : List (Node A)) (i : ℕ) (y x : Node A) → i < length ns → x ≡ get_or ns i x → more ≡ ms ++ y ∷ [] → without_capacity (items_of ms) ≡ without_capacity (items_of (take i ns))
     → without_capacity (items_of (y ∷ [])) ≡ without_capacity (items_of (x ∷ [])) → without_capacity (items_of more) ≡ without_capacity (items_of (take (i + 1) ns))
 without_capacity-copied more ms ns i y x lt at written e same =
     ap (λ z. without_capacity (items_of z)) written ∙ ap without_capacity (items_of-append ms (y ∷ [])) ∙ without_capacity-join (items_of ms) (items_of (y ∷ [])) ∙ (λ k. join (e k) (same k))
     ∙ sym (without_capacity-join (items_of (take i ns)) (items_of (x ∷ []))) ∙ sym (ap without_capacity (items_of-taken ns i x lt at))
 
--- one element more, stated by the plain data of each
+-- the copies with one more element, stated by the plain data of each
 pub map-copied : {X Y : Type 0} (f : X → Y) (more ms ns : List X) (i : ℕ) (y x : X) → i < length ns → x ≡ get_or ns i x → more ≡ ms ++ y ∷ [] → map f ms ≡ map f (take i ns) → f y ≡ f x
     → map f more ≡ map f (take (i + 1) ns)
 map-copied f more ms ns i y x lt at written e same =
@@ -39,12 +39,12 @@ full_room false m n e = refl
 pub bucket_room-full : (b : ℕ) (h : HeaderData) (w m : ℕ) (k : Items) → m ≡ count k → bucket_room b k ≡ 0 → bucket_room b (bucket h w m k none) ≡ 0
 bucket_room-full b h w m k full below = omega (arith, full_room (h.id == b) m (count k) full, below)
 
--- one item more, without room
+-- the room of the copies with one more item, which has no room
 pub bucket_room-copied : {A : _} (b : ℕ) (more ms : List (Node A)) (y : Node A) → more ≡ ms ++ y ∷ [] → bucket_room b (items_of ms) ≡ 0 → bucket_room b (items_of (y ∷ [])) ≡ 0 → bucket_room b (items_of more) ≡ 0
 bucket_room-copied b more ms y written before one =
     ap (λ z. bucket_room b (items_of z)) written ∙ ap (bucket_room b) (items_of-append ms (y ∷ [])) ∙ omega (arith, bucket_room-join b (items_of ms) (items_of (y ∷ [])), before, one)
 
--- COPIED: a node more, which is a copy of another, without room
+-- COPIED: one more node, which is a copy of another, without room
 pub record Copied {A : _} (old new : List (Node A)) (x : Node A) : Type 0 where
   pub seen : Items
   pub pushed : IsPushed old new seen

@@ -25,7 +25,7 @@ use Rattle.crush_nodes.specs.declared.node.Node.{Node}
 use Rattle.crush_nodes.proofs.Steps.{items_of-taken}
 use Rattle.crush_nodes.proofs.StoredLaws.{first_of, second_of}
 
--- TYPES of what stands side by side
+-- THE TYPES of the items of two lists
 AreTyped-join : (a b : Items) → AreTyped a → AreTyped b → AreTyped (join a b)
 AreTyped-join none b s t = t
 AreTyped-join (device d r) b s t = (s.0, s.1, s.2, AreTyped-join r b s.3 t)
@@ -129,7 +129,7 @@ formed_rows (bucket h v m k r) p e t w =
     All-cons IsRow (bucket_row p h) (rows (Some h.id) k ++ rows p r) (formed_bucket p h (first_of (is_formed h) (are_formed k && are_formed r) e) t.0)
     (All-append IsRow (rows (Some h.id) k) (rows p r) (formed_rows k (Some h.id) (first_of (are_formed k) (are_formed r) rest) t.2 (λ q. absurd cc)) (formed_rows r p (second_of (are_formed k) (are_formed r) rest) t.3 w))
 
--- a list of both, taken apart
+-- what is true of two lists together is true of each
 All-front : (xs ys : List Row) → All IsRow (xs ++ ys) → All IsRow xs
 All-front [] ys a = All-nil IsRow
 All-front (x ∷ xs) ys a = All-cons IsRow x xs (All-head IsRow x (xs ++ ys) a) (All-front xs ys (All-tail IsRow x (xs ++ ys) a))

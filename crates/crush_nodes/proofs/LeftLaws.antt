@@ -1,4 +1,4 @@
--- How many devices and buckets there are along a list of nodes.
+-- The numbers of devices and buckets in a list of nodes.
 use Rattle.std.proofs.Common.{◌≡◌, ℕ, ◌+◌, ◌<◌, List, [], ◌∷◌, length, get_or, take, drop, ap, ◌∙◌}
 use Rattle.crush_model.specs.Items.{size_of}
 use Rattle.crush_model.specs.Forest.{join}

@@ -1,5 +1,5 @@
-//! Tests of an item that is to be put at a place of the forest: whether the place accepts it, and
-//! how many devices and buckets it has.
+//! Tests of an item that is to be put at a place of the forest: whether the place accepts the item,
+//! and how many devices and buckets the item has.
 
 ghost use Rattle.std.specs.Prelude.{◌≡◌, ◌+◌, ◌<◌, ◌≤◌, ◌∷◌, [], ◌↔◌, IfNone, IfSome, nat_le};
 ghost use Rattle.crush_model.specs.Items.{size_of};
@@ -25,8 +25,8 @@ pub fn has_few_buckets<A: Allocator>(node: &Node<A>, most: u32) -> bool
     buckets_left(node, most).is_some()
 }
 
-/// Whether the place accepts the item. A root must be a bucket, an unplaced device must be a device
-/// with weight 0, and a bucket accepts every item.
+/// Whether the place accepts the item. The roots accept every bucket, the unplaced devices accept
+/// every device of weight 0, and a bucket accepts every item.
 pub fn takes<A: Allocator>(place: &Place, node: &Node<A>) -> bool
     ensures { result ≡ takes place.now (items_of (node.now ∷ [])) }
 {

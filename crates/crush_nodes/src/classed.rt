@@ -11,8 +11,8 @@ use crate::sums::with_more;
 use crush_units::{Name, Weight};
 use std::alloc::Allocator;
 
-/// Returns the sum of the weights of the devices that have the class, among the item and all that
-/// is below it. The cost is linear in the number of items.
+/// Returns the sum of the weights of the devices that have the class, among the item and all items
+/// below it. The cost is linear in the number of these items.
 pub fn class_weight_in<A: Allocator>(node: &Node<A>, class: &[u8]) -> Weight
     requires { class_sum_in class.now (items_of (node.now ∷ [])) ≤ HEAVIEST_BUCKET }
     ensures { result ≡ class_sum_in class.now (items_of (node.now ∷ [])) }

@@ -1,7 +1,8 @@
 //! Copies of items with all that is below them.
 //!
-//! Calls nest as deep as buckets do, and each level needs stack. So the other work of a level is in
-//! functions that are `inline(never)`, which keeps their variables out of the nested frames.
+//! The functions call themselves as deep as buckets nest, and each level needs stack. So the other
+//! work of a level is in functions that are `inline(never)`, which keeps their variables out of the
+//! nested frames.
 
 ghost use Rattle.std.specs.Prelude.{◌≡◌, ℕ, ◌<◌, ◌+◌, ◌∷◌, [], map, IfOk, OnOk, vec_len, vec_capacity};
 ghost use Rattle.crush_model.specs.Items.{bucket, device, none};
@@ -14,8 +15,8 @@ use crate::node::{Bucket, Header, Leaf, Node, ShadowId};
 use crush_units::Weight;
 use std::alloc::{AllocError, Allocator};
 
-/// Copies items with all that is below them. The copies have no memory for further items. Fails
-/// with `AllocError` if memory can't be allocated. The cost is linear in the number of items.
+/// Copies items with all that is below them. The copied lists have no memory for further items.
+/// Fails with `AllocError` if memory can't be allocated. The cost is linear in the number of items.
 pub fn copy_items<A: Allocator + Clone>(
     alloc: &A,
     items: &[Node<A>],

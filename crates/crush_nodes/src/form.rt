@@ -103,7 +103,8 @@ fn recall_shadow_ids<A: Allocator>(class_ids: &[ShadowId<A>])
     }
 }
 
-/// Proves the same of one class id. Does nothing at run time.
+/// Proves that the number of one class id is in range and that its class is a name, as the types'
+/// invariants say. Does nothing at run time.
 fn recall_shadow_id<A: Allocator>(class_id: &ShadowId<A>)
     ensures { IsShadowId (shadow_data class_id.now) }
 {

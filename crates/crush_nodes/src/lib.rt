@@ -1,9 +1,10 @@
 //! The items of the hierarchy, which are devices and buckets, and functions that read, test or copy
 //! items and all that is below them.
 //!
-//! Read [`node`] first: it has the types. [`descent`] defines how a walk finds its way down to an
-//! item, and [`path`] is the way that a [`guide`] finds. The crate `crush_walks` changes items, and
-//! `crush_tree` has the forest of all items.
+//! Read [`node`] first: it has the types. A [`guide`] is an index that knows at which place each
+//! item is. A [`descent`] tells a walk at each level which item to enter on the way down to an
+//! item. [`path`] has the descent that is found with a guide. The crate `crush_walks` changes
+//! items, and `crush_tree` has the forest of all items.
 #![tactic(auto)]
 
 pub mod apart;

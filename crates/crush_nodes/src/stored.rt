@@ -9,9 +9,9 @@ use crush_units::Weight;
 use std::alloc::Allocator;
 
 impl<A: Allocator> Node<A> {
-    /// Whether each bucket, the item itself or one below it at any depth, stores the sum of the
-    /// weights of its items. A hierarchy requires this of an item that is put into it. The cost is
-    /// linear in the number of items.
+    /// Whether each bucket, among the item and all items below it, stores the sum of its own items'
+    /// weights. An item that is put into a hierarchy must pass this test. The cost is linear in the
+    /// number of items.
     pub fn stores_sums(&self) -> bool
         ensures { IsTrue result ↔ StoresSums (items_of (self.now ∷ [])) }
     {

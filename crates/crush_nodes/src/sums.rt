@@ -5,7 +5,7 @@ ghost use Rattle.crush_units.specs.declared.limits.TheConstants.{HEAVIEST_BUCKET
 
 use crush_units::Weight;
 
-/// Returns a sum with one more weight added.
+/// Returns the sum after one more weight is added to it.
 pub fn with_more(sum: Weight, more: Weight) -> Weight
     requires { sum + more ≤ HEAVIEST_BUCKET }
     ensures { result ≡ sum + more }
@@ -13,7 +13,7 @@ pub fn with_more(sum: Weight, more: Weight) -> Weight
     Weight::from_units(sum.units() + more.units())
 }
 
-/// Returns a sum without one of its weights.
+/// Returns the sum after one of its weights is subtracted from it.
 pub fn with_less(sum: Weight, less: Weight) -> Weight
     requires { less ≤ sum }
     ensures { result ≡ sum - less }
@@ -21,7 +21,7 @@ pub fn with_less(sum: Weight, less: Weight) -> Weight
     Weight::from_units(sum.units() - less.units())
 }
 
-/// Returns a sum in which `new` replaces `old`, one of its weights.
+/// Returns the sum after `old`, which is one of its weights, is replaced by `new`.
 pub fn with_other(sum: Weight, old: Weight, new: Weight) -> Weight
     requires held { old ≤ sum }
     requires fits { sum - old + new ≤ HEAVIEST_BUCKET }

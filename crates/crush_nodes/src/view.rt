@@ -1,4 +1,4 @@
-//! The results of reads of a forest: one item without what is below it, and counts.
+//! The results of reading a forest: one item without what is below it, and counts.
 
 ghost use Rattle.std.specs.Prelude.{◌≡◌};
 
@@ -10,15 +10,15 @@ use std::alloc::Allocator;
 #[derive(Clone, Copy, Debug)]
 pub struct View<'a> {
     pub id: ItemId,
-    /// The number of its type, which is 0 for a device.
+    /// The number of the item's type, which is 0 for a device.
     pub kind: TypeId,
     pub name: &'a str,
-    /// Its stored weight. A bucket of a forest stores the sum of the weights of all devices below
-    /// it.
+    /// The weight that the item stores. A bucket of a forest stores the sum of the weights of all
+    /// devices below it.
     pub weight: Weight,
-    /// The bucket that holds it, or `None` for a root and for an unplaced device.
+    /// The bucket that holds the item, or `None` for a root and for an unplaced device.
     pub parent: Option<BucketId>,
-    /// A device's class, or `None` if it has none. It is `None` for a bucket.
+    /// A device's class, or `None` if the device has no class. It is `None` for a bucket.
     pub class: Option<&'a str>,
     /// A bucket's algorithm, or `None` for a device.
     pub alg: Option<Alg>,

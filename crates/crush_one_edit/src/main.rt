@@ -1,6 +1,7 @@
 //! An example of a single-threaded program that uses the library. It reads the text of a map,
-//! applies one edit, and prints the new text. It does so twice: the first edit is done, the second
-//! is refused. After each edit it prints a line with the result.
+//! applies one edit, and prints the new text. It does this with two edits, each time with the same
+//! text: the first edit succeeds, and the second edit is refused. After each edit it prints a line
+//! with the result.
 #![tactic(auto)]
 
 ghost use Rattle.std.specs.Prelude.{◌≡◌, ℕ, List, IfOk};
@@ -23,8 +24,8 @@ use std::alloc::Global;
 use std::io::Write;
 use thiserror::Error;
 
-/// The text of the map that is edited. The text that the program prints has comment lines too: a
-/// heading before each kind of line.
+/// The text of the map that is edited. The printed text also has comment lines: a heading before
+/// each group of lines.
 const MAP: &[u8] = b"device 0 osd.0
 device 1 osd.1
 type 1 host
@@ -33,7 +34,7 @@ host h1 { id -2 alg straw2 item osd.0 weight 1.0 item osd.1 weight 1.5 }
 root default { id -1 alg straw2 item h1 }
 ";
 
-/// Why an edit of a text wasn't done.
+/// The reason why an edit of a text failed.
 #[derive(Clone, Copy, Debug, PartialEq, Eq, Error)]
 enum Fault {
     /// The text isn't the text of a map, or there was no memory for the map.
@@ -48,17 +49,17 @@ enum Fault {
 }
 
 fn main(rt: HostRuntime) -> anyhow::Result<()> {
-    // An edit is a plain value. Its names and weights are checked when they are read from text.
+    // An edit is a plain value. Its names and weights are checked when they are created from text.
     let osd = Name::read(rt.alloc(), b"osd.1")?;
     let weight = Weight::read("0.5")?;
     print_edited(&rt, MAP, &Edit::Reweight { name: osd, weight })?;
-    // A bucket can only be removed if it is empty, and h1 has two devices: this edit is refused.
+    // Only an empty bucket can be removed. The bucket h1 has two devices, so this edit is refused.
     let host = Name::read(rt.alloc(), b"h1")?;
     print_edited(&rt, MAP, &Edit::Remove { name: host })
 }
 
-/// Edits the text, and prints the result. A refusal is an expected result and is printed like a
-/// success; any other fault ends the program with an error.
+/// Edits the text, and prints the result. A refusal is an expected result, and it is printed like a
+/// success. Any other fault ends the program with an error.
 fn print_edited(rt: &HostRuntime, text: &[u8], asked: &Edit) -> anyhow::Result<()> {
     match edit_text(rt.alloc(), text, asked, &mut rt.stdout()) {
         Ok(done) => {
@@ -73,17 +74,18 @@ fn print_edited(rt: &HostRuntime, text: &[u8], asked: &Edit) -> anyhow::Result<(
 }
 
 /// Reads the map of a text, applies one edit to it, writes the new text to `out`, and returns what
-/// the edit did. If the edit isn't done, then nothing is written.
+/// the edit has changed. If the edit is refused or fails, nothing is written.
 ///
 /// The clauses of the contract say what a caller can rely on:
 ///
-/// - `done`: if the text is the text of a map and the result is `Ok`, then the rules of edits make
-///   this edit of the map's table, with the same result, and exactly the text of the table after it
-///   was appended to `out`.
-/// - `refused`: if the result is a refusal and the text is the text of a map, then the rules refuse
-///   this edit of the map's table, for the same reason.
-/// - `flaw`: if the result is a fault of the text, then the text has this flaw, or memory ran out.
-/// - `nothing`: if the edit was refused or memory ran out for it, then `out` is unchanged.
+/// - `done`: if the text is the text of a map and the call succeeds, then the definition `edit`,
+/// which states the rules of edits, has the same result for this edit and the map's table. Exactly
+/// the text of the new table has been appended to `out`.
+/// - `refused`: if the text is the text of a map and the call fails with a refusal, then the
+/// definition `edit` refuses this edit of the map's table for the same reason.
+/// - `flaw`: if the call fails with a fault of the text, then the text has this fault, or memory
+/// has run out.
+/// - `nothing`: if the edit was refused, or memory for it ran out, then `out` is unchanged.
 fn edit_text<W: Write>(alloc: Global, text: &[u8], asked: &Edit, out: &mut W) -> Result<Done, Fault>
     ensures done { (s : SettingData) (t : List Row) (n : ℕ) → IsMapText text.now s t n
         → IfOk result (λ d. (u : List Row) × (edit s t asked.now ≡ done d.changed d.made u)
@@ -95,13 +97,13 @@ fn edit_text<W: Write>(alloc: Global, text: &[u8], asked: &Edit, out: &mut W) ->
     ensures nothing { (f : DeclaredFault) → result ≡ Err (Fault.Edit f)
         → Keeps (W.contents out.old) (W.contents out.new) }
 {
-    // Parses the text. `_adjusted` is the number of buckets that the text lists with a weight other
-    // than the sum of their items; the map has the sums.
+    // Parses the text. `_adjusted` is the number of buckets whose weight in the text isn't the sum
+    // of their items. The map has the sums.
     let (mut map, _adjusted) = match read_map(alloc, text) {
         Ok(read) => read,
         Err(fault) => return Err(Fault::Text(fault)),
     };
-    // Changes the map. If the edit isn't done, `apply` leaves the map as it was.
+    // Changes the map. If the edit is refused or fails, `apply` leaves the map unchanged.
     let done = match map.apply(asked) {
         Ok(done) => done,
         Err(fault) => return Err(Fault::Edit(fault)),

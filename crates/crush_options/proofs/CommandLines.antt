@@ -61,7 +61,7 @@ scripts_in_order : (fault_of program (codes "-s" ∷ codes "a" ∷ codes "j.txt"
 unfolding clap_on_literals
 scripts_in_order = (refl, refl)
 
--- `clap` accepts these words, since each of them is right; the program itself decides whether they can be given together
+-- `clap` accepts these words, because each of them is right. The program itself decides whether the words can be given together
 two_printed : (fault_of program (codes "--tree" ∷ codes "--since" ∷ codes "m" ∷ []) ≡ []) × (one_of (codes "tree") (matches_of program (codes "--tree" ∷ codes "--since" ∷ codes "m" ∷ [])) ≡ Some (codes "true"))
 unfolding clap_on_literals
 two_printed = (refl, refl)

@@ -1,4 +1,4 @@
--- What is read of the parsed words, and the fault with which they are refused.
+-- The values that the program takes from the parsed words, and the fault with which it refuses the words.
 use Rattle.std.proofs.Common.{◌≡◌, Bool, [], List, Option, Some, None, ap, ap₂, inl, inr, sym, subst, ◌∙◌}
 use Rattle.std.specs.Borrow.{Bor}
 use Rattle.std.specs.Prelude.{option_map}
@@ -9,7 +9,7 @@ use Rattle.crush_options.specs.declared.parsed_options.OptionsFault.TheVariants.
 use Rattle.crush_options.specs.Options.{IsConflictFault, IsFaultIn, IsRefusedFor, IsRefusedIf, IsConflict, program}
 use Rattle.crush_options.specs.OutputFlags.{AreOutputFlags, IsOutputSpec, OutputFlagsData, complaint, flags_by}
 
--- if the program reads no value, the parsed words have none
+-- if the program reads no value, the parsed words have no value
 pub none_read : (r : Option (Bor Text)) (x y : Option Text) → r ≡ None → option_map (λ s. s.now) r ≡ x → x ≡ y → y ≡ None
 none_read r x y is e f = sym f ∙ sym e ∙ ap (option_map (λ (s : Bor Text). s.now)) is
 
@@ -29,12 +29,12 @@ refused_much rows why (Help text) much told = told
 refused_much rows why (Refused text) much told = subst (IsConflict rows) (sym told) much
 refused_much rows why Memory much told = tt
 
--- so is a refusal with the error line of words that can't be given together
+-- a refusal with the error line of words that can't be given together is also such a fault
 pub apart_much : (rows : List Row) (flags : OutputFlagsData) (why : Option Text) (fault : OptionsFault) → AreOutputFlags rows flags → why ≡ complaint flags → IsRefusedIf why fault → IsConflictFault rows fault
 apart_much rows flags (Some text) fault are is told = refused_much rows text fault (inl (record { flags = flags; are = are; apart = sym is })) told
 apart_much rows flags None fault are is told = subst (IsConflictFault rows) (sym told) tt
 
--- words that can be given together, and that ask for this output, have it as what is printed
+-- if the words can be given together and ask for this output, then this output is what is printed
 pub printed_is : (rows : List Row) (flags : OutputFlagsData) (json exact : Bool) (output_spec : OutputSpec) → AreOutputFlags rows flags → json ≡ flags.json → exact ≡ flags.exact → flags_by flags.json flags.exact output_spec ≡ flags → complaint flags ≡ None → IsOutputSpec rows json exact output_spec
 printed_is rows flags json exact output_spec are json_same exact_same is fits =
     let by : flags_by json exact output_spec ≡ flags = ap₂ (λ j e. flags_by j e output_spec) json_same exact_same ∙ is in

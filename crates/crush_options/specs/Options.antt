@@ -1,4 +1,4 @@
--- What the words of a command line ask for, and with which fault they are refused.
+-- What the words of a command line ask for, and the fault with which they are refused. The parsed words are the rows that the parser `clap` makes of the words.
 use Rattle.std.specs.Prelude.{◌≡◌, ◌≢◌, ◌⊎◌, ◌<◌, ◌≤◌, true, false, not, List, [], length, map, Option, Some, None, codes, unwrap_or, String}
 use Rattle.clap.specs.declared.builder.action.ArgAction.TheVariants.{Set, SetTrue, Append}
 use Rattle.clap.specs.declared.error.kind.ErrorKind.{ErrorKind}
@@ -32,23 +32,23 @@ output = record (new_rule (codes "output")) { long = Some (codes "output"); shor
 abbrev pub file : Rule
 file = record (new_rule (codes "FILE")) { action = Some Set }
 
--- the program before arguments are added to it: its words don't begin with its own name, and it has a version
+-- the program's command line before flags, options and arguments are added to it. The words that are parsed don't include the program's name, and the program has a version
 abbrev pub named : App
 named = record (new_app (codes "crushedit")) { top = record (new_app (codes "crushedit")).top { no_binary_name = true; has_version = true } }
 
--- the program with the flags that say how a job is run
+-- the command line with the flags that say how a job is run
 abbrev pub with_modes : App
 with_modes = with_rule (with_rule (with_rule (with_rule named (flag (codes "in-turn"))) (flag (codes "no-history"))) (flag (codes "strict"))) (flag (codes "no-make"))
 
--- then with the flags and options that say what is printed
+-- the same, and the flags and options that say what is printed
 abbrev pub with_output_flags : App
 with_output_flags = with_rule (with_rule (with_rule (with_rule with_modes (flag (codes "tree"))) (option (codes "since"))) (flag (codes "as-ceph"))) (option (codes "to"))
 
--- then with the flags and options that say how it is printed, and of which items
+-- the same, and the flags and options that say in which form it is printed, and which items are printed
 abbrev pub with_parts : App
 with_parts = with_rule (with_rule (with_rule (with_rule with_output_flags (flag (codes "by-name"))) (flag (codes "json"))) (option (codes "under"))) (option (codes "down-to"))
 
--- then with the class whose devices alone count, and the flags that say how weights are printed, which status shows a change, and what standard error gets
+-- the same, and four more: the option for the class whose devices alone are counted, and the flags that say how weights are printed, whether the exit status reports a change, and whether standard error gets reasons
 abbrev pub with_ends : App
 with_ends = with_rule (with_rule (with_rule (with_rule with_parts (option (codes "class"))) (flag (codes "exact"))) (flag (codes "exit-code"))) (flag (codes "explain"))
 
@@ -57,19 +57,19 @@ with_ends = with_rule (with_rule (with_rule (with_rule with_parts (option (codes
 abbrev pub program : App
 program = with_rule (with_rule (with_rule with_ends scripts) output) file
 
--- the bytes of each of some strings
+-- the bytes of each of these strings
 abbrev pub names_text : {Z : Type 0} → List (String Z) → List Text
 names_text names = map (λ name. name.bytes.items) names
 
--- all values of an argument among the parsed words; none if it isn't given
+-- all values of an argument among the parsed words; none if the argument isn't given
 abbrev pub all_named : Text → List Row → List Text
 all_named id rows = unwrap_or (all_of id rows) []
 
--- why words are refused of which each is right: some of them can't be given together, as the line `why` says, or there are more than MOST_SCRIPTS scripts
+-- why words can be refused although each of them is right: some of them can't be given together, for the reason in the line `why`, or there are more than MOST_SCRIPTS scripts
 abbrev pub IsConflict : List Row → Text → Type 0
 IsConflict rows why = AreApart rows why ⊎ ((MOST_SCRIPTS < length (all_named (codes "script") rows)) × (why ≡ codes "error: at most 16 times --script\n"))
 
--- the mode is as the parsed words say: each field says whether its flag is given, and `history` says that `--no-history` isn't.
+-- the mode is the one that the parsed words ask for. Each field says whether its flag is given, except that `history` says whether `--no-history` isn't given
 pub record IsModeOf (rows : List Row) (mode : Mode) : Type 0 where
   pub in_turn : IsFlag (one_of (codes "in-turn") rows) mode.in_turn
   pub history : IsFlag (one_of (codes "no-history") rows) (not mode.history)
@@ -80,7 +80,7 @@ pub record IsModeOf (rows : List Row) (mode : Mode) : Type 0 where
   pub json : IsFlag (one_of (codes "json") rows) mode.json
   pub exact : IsFlag (one_of (codes "exact") rows) mode.exact
 
--- the options are those of the parsed words: how the job is run, what is printed, the files of scripts, of which there are at most MOST_SCRIPTS, the job's file, and the file that the output replaces. The first file is a job.
+-- the options are those that the parsed words ask for: how the job is run, what is printed, the names of at most MOST_SCRIPTS files with scripts, the name of the job's file, and the name of the file that the output replaces. The first file is a job.
 pub record AreRead (rows : List Row) (options : Options) : Type 0 where
   pub mode : IsModeOf rows options.mode
   pub output_spec : IsOutputSpec rows options.mode.json options.mode.exact options.output_spec
@@ -90,12 +90,12 @@ pub record AreRead (rows : List Row) (options : Options) : Type 0 where
   pub output : name_text options.output ≡ first_of (codes "output") rows
   pub maps : options.maps ≡ Job
 
--- the words have no error, and the options are those that they ask for
+-- the words have no error, and the options are those that the words ask for
 pub record AreOptionsOf (words : List Text) (options : Options) : Type 0 where
   pub right : fault_of program words ≡ []
   pub read : AreRead (matches_of program words) options
 
--- the fault for words of which each is right: a refusal with one of the reasons above, or out of memory, but never the help
+-- the fault if each word is right, but some of them can't be given together or there are too many scripts: a refusal with the reason, or out of memory, but never the help
 abbrev pub IsConflictFault : List Row → OptionsFault → Type 0
 IsConflictFault rows (Help text) = ⊥
 IsConflictFault rows (Refused text) = IsConflict rows text.bytes.items
@@ -107,29 +107,29 @@ IsRefusedFor why (Help text) = ⊥
 IsRefusedFor why (Refused text) = text.bytes.items ≡ why
 IsRefusedFor why Memory = Unit {0}
 
--- if there is a reason to refuse, the fault is as above; otherwise it is out of memory
+-- if there is a reason to refuse, the fault is a refusal for this reason, or out of memory; otherwise the fault is out of memory
 abbrev pub IsRefusedIf : Option Text → OptionsFault → Type 0
 IsRefusedIf (Some why) fault = IsRefusedFor why fault
 IsRefusedIf None fault = fault ≡ Memory
 
--- the fault for an error of a kind: the help's text for the help or the version, a refusal for any other kind except out of memory, and out of memory for each kind, since the text needs memory
+-- the fault that results from an error of the parser of this kind. If the words ask for the help or the version, the fault has that text. For any other kind except out of memory, the fault is a refusal. For each kind the fault can be out of memory, because the text of the fault needs memory
 abbrev pub IsFaultOf : ErrorKind → OptionsFault → Type 0
 IsFaultOf kind (Help text) = (kind ≡ DisplayHelp) ⊎ (kind ≡ DisplayVersion)
 IsFaultOf kind (Refused text) = (kind ≢ DisplayHelp) × (kind ≢ DisplayVersion) × (kind ≢ OutOfMemory)
 IsFaultOf kind Memory = Unit {0}
 
--- the words have an error of some kind, and the fault is one for that kind
+-- the fault results from an error of one of these kinds
 pub record HasFault (kinds : Kinds) (fault : OptionsFault) : Type 0 where
   pub kind : ErrorKind
   pub among : IsAmong kind kinds
   pub told : IsFaultOf kind fault
 
--- the words have no error, but are refused for the reason `why`
+-- the words have no error, but they are refused for the reason `why`
 pub record HaveConflict (words : List Text) (why : Text) : Type 0 where
   pub right : fault_of program words ≡ []
   pub much : IsConflict (matches_of program words) why
 
--- the fault of a command line: the text of the help or the version that the words ask for, a refusal for an error or a reason above, or out of memory
+-- the fault of a plain command line: the text of the help or of the version if the words ask for it; a refusal if the words have an error, or for one of the reasons above; or out of memory
 abbrev pub IsFaultIn : List Text → OptionsFault → Type 0
 IsFaultIn words (Help text) = HasFault (fault_of program words) (Help text)
 IsFaultIn words (Refused text) = HasFault (fault_of program words) (Refused text) ⊎ HaveConflict words text.bytes.items

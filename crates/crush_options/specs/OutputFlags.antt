@@ -6,13 +6,13 @@ use Rattle.crush_options.specs.declared.parsed_options.OutputSpec.{OutputSpec}
 use Rattle.crush_options.specs.declared.parsed_options.OutputSpec.TheVariants.{Map, Tree, Since, Changes, AsCeph, To}
 use Rattle.crush_options.specs.declared.command_line.OutputFlags.{OutputFlags}
 
--- the value of a flag, by the text that the parser has for it: true for "true", and false for "false" or without a text
+-- the value of a flag, if this is the text that the parser has for the flag: true for "true", and false for "false" or if there is no text
 pub record IsFlag (text : Option Text) (flag : Bool) : Type 0 where
   pub given : text ≡ Some (codes "true") → flag ≡ true
   pub absent : text ≡ Some (codes "false") → flag ≡ false
   pub none : text ≡ None → flag ≡ false
 
--- the words that decide what is printed: whether `--tree`, `--as-ceph`, `--by-name`, `--json` and `--exact` are given, and the values of `--since`, `--to`, `--under`, `--down-to` and `--class` that are given
+-- the words that decide what is printed. A field of a flag says whether the flag is given. A field of an option has the value of the option, if the option is given
 pub record OutputFlagsData : Type 0 where
   pub tree : Bool
   pub since : Option Text
@@ -25,7 +25,7 @@ pub record OutputFlagsData : Type 0 where
   pub class : Option Text
   pub exact : Bool
 
--- the parsed words have exactly these flags and values
+-- the flags and values among the parsed words are these
 pub record AreOutputFlags (rows : List Row) (flags : OutputFlagsData) : Type 0 where
   pub tree : IsFlag (one_of (codes "tree") rows) flags.tree
   pub since : first_of (codes "since") rows ≡ flags.since
@@ -42,7 +42,7 @@ pub record AreOutputFlags (rows : List Row) (flags : OutputFlagsData) : Type 0 w
 abbrev pub name_text : {Z : Type 0} → Option (String Z) → Option Text
 name_text name = option_map (λ n. n.bytes.items) name
 
--- these words as the program holds them, as data
+-- the flags and values of the program, as data
 abbrev pub flags_data : OutputFlags → OutputFlagsData
 flags_data s = record {
   tree = s.tree;
@@ -57,11 +57,11 @@ flags_data s = record {
   exact = s.exact;
 }
 
--- none of these words is given, except for `--json` and `--exact`, which may be
+-- the flags and values if none of these words is given, except that `--json` and `--exact` may be given
 abbrev pub no_output_flags : Bool → Bool → OutputFlagsData
 no_output_flags json exact = record { tree = false; since = None; as_ceph = false; to = None; by_name = false; json = json; under = None; down_to = None; class = None; exact = exact }
 
--- exactly the words that ask for this to be printed, with or without `--json` and `--exact`
+-- the flags and values of the words that ask to print this, with or without `--json` and `--exact`
 abbrev pub flags_by : Bool → Bool → OutputSpec → OutputFlagsData
 flags_by json exact Map = no_output_flags json exact
 flags_by json exact (Tree part) = record (no_output_flags json exact) { tree = true; under = name_text part.under; down_to = name_text part.down_to; class = name_text part.class }
@@ -70,19 +70,19 @@ flags_by json exact (Changes tree) = record (no_output_flags json exact) { tree 
 flags_by json exact AsCeph = record (no_output_flags json exact) { as_ceph = true }
 flags_by json exact (To target) = record (no_output_flags json exact) { as_ceph = target.as_ceph; to = Some target.map.bytes.items; by_name = target.by_name; under = name_text target.under }
 
--- whether the words ask for two things to be printed; `--tree` with `--since` asks for one thing, and so does `--as-ceph` with `--to`
+-- whether the words ask to print two things. `--tree` with `--since` asks for one thing, and so does `--as-ceph` with `--to`
 abbrev pub ask_for_two : OutputFlagsData → Bool
 ask_for_two flags = (flags.tree || is_some flags.since) && (flags.as_ceph || is_some flags.to)
 
--- whether the words ask for a tree of changes by names, which doesn't exist
+-- whether the words ask for a tree of changes whose items are matched by names, which doesn't exist
 abbrev pub ask_for_tree_of_names : OutputFlagsData → Bool
 ask_for_tree_of_names flags = flags.tree && is_some flags.since && flags.by_name
 
--- whether `--by-name` is given without another map, so without `--since` and `--to`
+-- whether `--by-name` is given although there is no other map, that is, neither `--since` nor `--to` is given
 abbrev pub have_names_alone : OutputFlagsData → Bool
 have_names_alone flags = flags.by_name && not (is_some flags.since) && not (is_some flags.to)
 
--- whether `--under` is given, but nothing that can be printed in part: none of `--tree`, `--since` and `--to`
+-- whether `--under` is given although nothing is printed of which a part can be selected, that is, none of `--tree`, `--since` and `--to` is given
 abbrev pub have_part_alone : OutputFlagsData → Bool
 have_part_alone flags = is_some flags.under && not flags.tree && not (is_some flags.since) && not (is_some flags.to)
 
@@ -94,19 +94,15 @@ have_type_alone flags = is_some flags.down_to && not flags.tree
 abbrev pub have_class_alone : OutputFlagsData → Bool
 have_class_alone flags = is_some flags.class && not flags.tree
 
--- whether the words ask for a tree of changes of one class, which doesn't exist
-abbrev pub changes_of_class : OutputFlagsData → Bool
-changes_of_class flags = is_some flags.class && is_some flags.since
-
--- whether the words ask for a JSON document of one class, which doesn't exist
+-- whether the words ask for a JSON document of one class of devices, which doesn't exist
 abbrev pub json_of_class : OutputFlagsData → Bool
 json_of_class flags = flags.json && is_some flags.class
 
--- whether the words ask for a JSON document of lines for a shell, which doesn't exist
+-- whether the words ask for a JSON document of Ceph's own commands, which doesn't exist
 abbrev pub json_of_lines : OutputFlagsData → Bool
 json_of_lines flags = flags.json && flags.as_ceph
 
--- whether the words ask for a JSON document of changes by names, which doesn't exist
+-- whether the words ask for a JSON document of changes between items that are matched by names, which doesn't exist
 abbrev pub json_of_names : OutputFlagsData → Bool
 json_of_names flags = flags.json && is_some flags.since && flags.by_name
 
@@ -114,11 +110,11 @@ json_of_names flags = flags.json && is_some flags.since && flags.by_name
 abbrev pub json_of_levels : OutputFlagsData → Bool
 json_of_levels flags = flags.json && is_some flags.since && is_some flags.down_to
 
--- whether the words ask for exact weights of anything but the text of the map
+-- whether the words ask for exact weights, but for another output than the text of the map
 abbrev pub exact_of_other : OutputFlagsData → Bool
 exact_of_other flags = flags.exact && ((flags.tree || is_some flags.since || flags.as_ceph || is_some flags.to) || flags.json)
 
--- WORDS THAT DON'T GO TOGETHER: the error line of the first of these conditions that holds of the words; nothing if none holds, so that the words can be given together
+-- WORDS THAT CAN'T BE GIVEN TOGETHER: the error line of the first of these conditions that is true; none if no condition is true, so that the words can be given together
 abbrev pub complaint : OutputFlagsData → Option Text
 complaint flags =
     if ask_for_two flags then Some (codes "error: at most one of --tree, --since, --as-ceph and --to, but --tree with --since and --to with --as-ceph\n") else (
@@ -127,19 +123,18 @@ complaint flags =
     if have_part_alone flags then Some (codes "error: --under goes with --tree, --since and --to\n") else (
     if have_type_alone flags then Some (codes "error: --down-to goes with --tree\n") else (
     if have_class_alone flags then Some (codes "error: --class goes with --tree\n") else (
-    if changes_of_class flags then Some (codes "error: --tree with --since doesn't go with --class\n") else (
     if json_of_class flags then Some (codes "error: --json doesn't go with --class\n") else (
     if json_of_lines flags then Some (codes "error: --json doesn't go with --as-ceph\n") else (
     if json_of_names flags then Some (codes "error: --json and --since don't go with --by-name\n") else (
     if json_of_levels flags then Some (codes "error: --json and --since don't go with --down-to\n") else (
-    if exact_of_other flags then Some (codes "error: --exact goes with the text of the map alone\n") else None)))))))))))
+    if exact_of_other flags then Some (codes "error: --exact goes with the text of the map alone\n") else None))))))))))
 
--- WHAT IS PRINTED: the parsed words are exactly those that ask for this, and they can be given together
+-- WHAT IS PRINTED: the parsed words are exactly those that ask to print this, and they can be given together
 pub record IsOutputSpec (rows : List Row) (json exact : Bool) (output_spec : OutputSpec) : Type 0 where
   pub flags : AreOutputFlags rows (flags_by json exact output_spec)
   pub together : complaint (flags_by json exact output_spec) ≡ None
 
--- the parsed words can't be given together, as the line `why` says
+-- some of the parsed words can't be given together, for the reason in the line `why`
 pub record AreApart (rows : List Row) (why : Text) : Type 0 where
   pub flags : OutputFlagsData
   pub are : AreOutputFlags rows flags

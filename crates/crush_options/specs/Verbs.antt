@@ -1,4 +1,4 @@
--- The verbs: which words each takes, and for which plain command line each is short.
+-- The verbs: which words each verb takes, and for which plain command line each verb is short.
 use Rattle.std.specs.Prelude.{◌≡◌, ◌⊎◌, ◌+◌, ◌++◌, ◌&&◌, ◌||◌, Bool, true, false, not, ℕ, List, [], ◌∷◌, Option, Some, None, codes, if◌then◌else◌, is_some, map, nat_lt, option_map, drop}
 use Rattle.std.specs.List.{count_by}
 use Rattle.std.specs.Str.{bytes_eq}
@@ -16,7 +16,7 @@ use Rattle.crush_options.specs.declared.verb_words.VerbWords.{VerbWords}
 use Rattle.crush_options.specs.Options.{AreOptionsOf, HasFault, IsFaultIn, IsRefusedFor, all_named, flag, option, output}
 use Rattle.crush_options.specs.OutputFlags.{IsFlag}
 
--- an argument that has to be given once
+-- an argument that must be given once
 abbrev pub needed : Text → Rule
 needed name = record (new_rule name) { action = Some Set; required = true }
 
@@ -24,15 +24,15 @@ needed name = record (new_rule name) { action = Some Set; required = true }
 abbrev pub more_scripts : Rule
 more_scripts = record (new_rule (codes "SCRIPT")) { action = Some Append; range = Some (record { start_inclusive = 0; end_inclusive = usize_max }) }
 
--- a verb before arguments are added to it: its words don't begin with its own name
+-- a verb's command line before flags, options and arguments are added to it. The words that are parsed don't include the verb
 abbrev pub verb_of : Text → App
 verb_of name = record (new_app name) { top = record (new_app name).top { no_binary_name = true } }
 
--- `apply` with the flags that only it takes, and with `--tree`
+-- `apply` with the flags that no other verb has, and with `--tree`
 abbrev pub apply_flags : App
 apply_flags = with_rule (with_rule (with_rule (verb_of (codes "crushedit apply")) (flag (codes "dry-run"))) (flag (codes "make"))) (flag (codes "tree"))
 
--- then with the words that say how a dry run prints
+-- the same, and the words that say what a dry run prints
 abbrev pub apply_shown : App
 apply_shown = with_rule (with_rule (with_rule (with_rule apply_flags (flag (codes "json"))) (option (codes "under"))) (option (codes "down-to"))) (flag (codes "exit-code"))
 
@@ -44,9 +44,9 @@ apply = with_rule (with_rule (with_rule apply_shown output) (needed (codes "MAP"
 abbrev pub diff_shown : App
 diff_shown = with_rule (with_rule (with_rule (with_rule (verb_of (codes "crushedit diff")) (flag (codes "tree"))) (flag (codes "json"))) (flag (codes "by-name"))) (option (codes "under"))
 
--- DIFF: `[--tree] [--json] [--by-name] [--under NAME] [--down-to TYPE] [--exit-code] [-o FILE] OLD NEW`
+-- DIFF: `[--tree] [--json] [--by-name] [--under NAME] [--down-to TYPE] [--class CLASS] [--exit-code] [-o FILE] OLD NEW`
 abbrev pub diff : App
-diff = with_rule (with_rule (with_rule (with_rule (with_rule diff_shown (option (codes "down-to"))) (flag (codes "exit-code"))) output) (needed (codes "OLD"))) (needed (codes "NEW"))
+diff = with_rule (with_rule (with_rule (with_rule (with_rule (with_rule diff_shown (option (codes "down-to"))) (option (codes "class"))) (flag (codes "exit-code"))) output) (needed (codes "OLD"))) (needed (codes "NEW"))
 
 -- `plan` with the words that say what is printed
 abbrev pub plan_shown : App
@@ -67,17 +67,17 @@ app_of_verb Diff = diff
 app_of_verb Plan = plan
 app_of_verb Tree = tree
 
--- the name of the argument for the map from which a run begins
+-- the name of the argument for the map with which a run begins
 abbrev pub map_argument : Verb → Text
 map_argument Diff = codes "NEW"
 map_argument verb = codes "MAP"
 
--- the name of the argument for the other map; no argument has this name if the verb reads no other map
+-- the name of the argument for the other map. If the verb reads no other map, the verb has no argument with the name that is given here
 abbrev pub other_argument : Verb → Text
 other_argument Diff = codes "OLD"
 other_argument verb = codes "WANTED"
 
--- the words of a verb's command line, as its parser has read them: which flags are given, and which values options and arguments have. What a verb doesn't take isn't given.
+-- what the parser found on a verb's command line: which flags are given, and which values the options and arguments have. A flag that the verb doesn't have is false, and an option or argument that it doesn't have has no value.
 pub record VerbData : Type 0 where
   pub dry_run : Bool
   pub make : Bool
@@ -95,7 +95,7 @@ pub record VerbData : Type 0 where
   pub other : Option Text
   pub scripts : List Text
 
--- the parsed words of this verb have exactly these flags and values
+-- the flags and values among the parsed words of this verb are these
 pub record AreVerbWords (verb : Verb) (rows : List Row) (words : VerbData) : Type 0 where
   pub dry_run : IsFlag (one_of (codes "dry-run") rows) words.dry_run
   pub make : IsFlag (one_of (codes "make") rows) words.make
@@ -113,7 +113,7 @@ pub record AreVerbWords (verb : Verb) (rows : List Row) (words : VerbData) : Typ
   pub other : first_of (other_argument verb) rows ≡ words.other
   pub scripts : all_named (codes "SCRIPT") rows ≡ words.scripts
 
--- these words as the program holds them, as data
+-- the flags and values of the program, as data
 abbrev pub verb_data : VerbWords → VerbData
 verb_data w = record {
   dry_run = w.dry_run;
@@ -133,36 +133,36 @@ verb_data w = record {
   scripts = map (λ name. name.now) w.scripts.now;
 }
 
--- a word, if it is given
+-- this word if it is given; otherwise nothing
 abbrev pub word_if : Bool → Text → List Text
 word_if given word = if given then word ∷ [] else []
 
--- an option with its value in one word, such as `--under=NAME`, if the value is given; `start` is the part up to the value
+-- if the value is given, an option and its value as one word, such as `--under=NAME`; otherwise nothing. `start` is the part of the word before the value
 abbrev pub word_with : Text → Option Text → List Text
 word_with start None = []
 word_with start (Some value) = (start ++ value) ∷ []
 
--- the words that say what is printed
+-- the words of a plain command line that say what is printed
 abbrev pub shown_words : VerbData → List Text
 shown_words w =
     word_if w.tree (codes "--tree") ++ (word_if w.json (codes "--json") ++ (word_if w.by_name (codes "--by-name") ++ (word_if w.as_ceph (codes "--as-ceph")
     ++ (word_with (codes "--under=") w.under ++ (word_with (codes "--down-to=") w.down_to ++ (word_with (codes "--class=") w.class
     ++ word_if w.exit_code (codes "--exit-code")))))))
 
--- the words for the files: those of scripts, the file for the output, and the map from which the run begins
+-- the words of a plain command line with the names of files: the files of scripts, the file for the output, and the file of the map with which the run begins
 abbrev pub file_words : VerbData → List Text
 file_words w =
     map (λ name. codes "--script=" ++ name) w.scripts ++ (word_with (codes "--output=") w.output ++ (codes "--" ∷ word_with [] w.map))
 
--- the map since which `apply` tells changes: with `--dry-run` the map that it was given
+-- the name of the map's file with which `apply` compares the map after the scripts: with `--dry-run` the map MAP; otherwise none
 abbrev pub since_of_apply : VerbData → Option Text
 since_of_apply w = if w.dry_run then w.map else None
 
--- the words that only `tree` is short for
+-- the words that the plain command line for `tree` has because of the verb
 abbrev pub tree_words : List Text
 tree_words = word_if true (codes "--no-history") ++ word_if true (codes "--tree")
 
--- the words that only one verb is short for
+-- the words that the plain command line for a verb has because of the verb itself
 abbrev pub own_words : Verb → VerbData → List Text
 own_words Apply w =
     word_if true (codes "--in-turn") ++ (word_if true (codes "--strict") ++ (word_if (not w.make) (codes "--no-make")
@@ -171,7 +171,7 @@ own_words Diff w = word_if true (codes "--no-history") ++ word_with (codes "--si
 own_words Plan w = word_if true (codes "--no-history") ++ (word_if w.strict (codes "--strict") ++ word_with (codes "--to=") w.other)
 own_words Tree w = tree_words
 
--- WORDS OF A VERB: the plain command line that a verb is short for. Every verb explains.
+-- WORDS OF A VERB: the plain command line for which a verb's command line is short. It always has `--explain`
 abbrev pub words_of_verb : Verb → VerbData → List Text
 words_of_verb verb w = own_words verb w ++ (word_if true (codes "--explain") ++ (shown_words w ++ file_words w))
 
@@ -179,45 +179,45 @@ words_of_verb verb w = own_words verb w ++ (word_if true (codes "--explain") ++ 
 abbrev pub is_dash : Text → Bool
 is_dash name = bytes_eq name (codes "-")
 
--- the number of these names that are `-`: none or one
+-- 1 if there is a name and the name is `-`; otherwise 0
 abbrev pub dashes_of : Option Text → ℕ
 dashes_of None = 0
 dashes_of (Some name) = if is_dash name then 1 else 0
 
--- how many files of a verb are standard input
+-- how many of the files of a verb are standard input
 abbrev pub dashes : VerbData → ℕ
 dashes w = (dashes_of w.map + dashes_of w.other) + count_by is_dash w.scripts
 
--- whether words are given that say how a dry run prints, without a dry run
+-- whether words that say what a dry run prints are given without `--dry-run`
 abbrev pub shows_without_dry_run : VerbData → Bool
 shows_without_dry_run w = not w.dry_run && ((w.tree || w.json || w.exit_code) || (is_some w.under || is_some w.down_to))
 
--- why words of `apply` are refused of which each is right; nothing if they can be given together
+-- why the words of `apply` are refused although each of them is right; none if they can be given together
 abbrev pub apply_complaint : VerbData → Option Text
 apply_complaint w =
     if w.dry_run && is_some w.output then Some (codes "error: --output doesn't go with --dry-run\n") else (
     if shows_without_dry_run w then Some (codes "error: --tree, --json, --under, --down-to and --exit-code go with --dry-run\n") else None)
 
--- the same for each verb: the words of the other three have no such rules
+-- the same for each verb; only `apply` has such rules
 abbrev pub own_complaint : Verb → VerbData → Option Text
 own_complaint Apply w = apply_complaint w
 own_complaint verb w = None
 
--- WORDS OF A VERB THAT DON'T GO TOGETHER: at most one file may be standard input, and then the rules above hold
+-- WORDS OF A VERB THAT CAN'T BE GIVEN TOGETHER: the error line if more than one file is standard input, or if the words break a rule above; none if the words can be given together
 abbrev pub verb_complaint : Verb → VerbData → Option Text
 verb_complaint verb w = if nat_lt 1 (dashes w) then Some (codes "error: only one file can be -, which is standard input\n") else own_complaint verb w
 
--- what the files of a verb have to be: maps without scripts, and whole maps unless only a tree is printed
+-- what the files of a verb must contain: maps without scripts, which must be whole except if the verb is `tree`
 abbrev pub maps_of_verb : Verb → MapForm
 maps_of_verb Tree = form.Map
 maps_of_verb verb = form.WholeMap
 
--- SHORT FOR: the options are those of the plain command line that the verb is short for, except that its files are maps
+-- SHORT FOR: the options are those of the plain command line for which the verb is short, except that the verb says what its files must contain
 pub record AreShortFor (verb : Verb) (w : VerbData) (options : Options) : Type 0 where
   pub maps : options.maps ≡ maps_of_verb verb
   pub plain : AreOptionsOf (words_of_verb verb w) (record options { maps = form.Job })
 
--- the words behind a verb have no error, can be given together, and ask for these options
+-- the words after a verb have no error, can be given together, and ask for these options
 pub record AreOptionsOfVerb (verb : Verb) (words : List Text) (options : Options) : Type 0 where
   pub right : fault_of (app_of_verb verb) words ≡ []
   pub given : VerbData
@@ -225,23 +225,23 @@ pub record AreOptionsOfVerb (verb : Verb) (words : List Text) (options : Options
   pub together : verb_complaint verb given ≡ None
   pub short : AreShortFor verb given options
 
--- the fault of words behind a verb of which each is right: the reason why they can't be given together, if there is one, and otherwise a fault of the plain command line
+-- the fault if each word after a verb is right: the reason why some of them can't be given together, if there is such a reason; otherwise a fault of the plain command line for which the verb is short
 abbrev pub IsShortFault : Option Text → List Text → OptionsFault → Type 0
 IsShortFault (Some why) plain fault = IsRefusedFor why fault
 IsShortFault None plain fault = IsFaultIn plain fault
 
--- the words behind a verb are right one by one, and the fault is one as above
+-- each word after the verb is right, and the fault is as above
 pub record HasShortFault (verb : Verb) (words : List Text) (fault : OptionsFault) : Type 0 where
   pub right : fault_of (app_of_verb verb) words ≡ []
   pub given : VerbData
   pub read : AreVerbWords verb (matches_of (app_of_verb verb) words) given
   pub told : IsShortFault (verb_complaint verb given) (words_of_verb verb given) fault
 
--- the fault of the words behind a verb: out of memory, an error of a word or the help, or a fault of right words as above
+-- the fault for the words after a verb: out of memory, an error of a word or the help, or a fault although each word is right, as above
 abbrev pub IsFaultOfVerb : Verb → List Text → OptionsFault → Type 0
 IsFaultOfVerb verb words fault = (fault ≡ Memory) ⊎ (HasFault (fault_of (app_of_verb verb) words) fault ⊎ HasShortFault verb words fault)
 
--- the verb that a word names, if it names one
+-- the verb that a word names; none if the word isn't a verb
 abbrev pub verb_named : Text → Option Verb
 verb_named word =
     if bytes_eq word (codes "apply") then Some Apply else (
@@ -249,17 +249,17 @@ verb_named word =
     if bytes_eq word (codes "plan") then Some Plan else (
     if bytes_eq word (codes "tree") then Some Tree else None)))
 
--- A COMMAND LINE: if its first word names a verb, the options are those of the verb and of the words after it; otherwise they are those of a plain command line
+-- A COMMAND LINE: if its first word is a verb, the options are those that the words after it ask for; otherwise the options are those that the plain command line asks for
 abbrev pub AreOptionsBy : Option Verb → List Text → Options → Type 0
 AreOptionsBy None words options = AreOptionsOf words options
 AreOptionsBy (Some verb) words options = AreOptionsOfVerb verb (drop 1 words) options
 
--- the same for the fault of a command line
+-- in the same way, the fault of a command line: that of the words after the verb, or that of a plain command line
 abbrev pub IsFaultBy : Option Verb → List Text → OptionsFault → Type 0
 IsFaultBy None words fault = IsFaultIn words fault
 IsFaultBy (Some verb) words fault = IsFaultOfVerb verb (drop 1 words) fault
 
--- the verb of a command line, if its first word names one
+-- the verb of a command line; none if its first word isn't a verb
 abbrev pub verb_of_words : List Text → Option Verb
 verb_of_words [] = None
 verb_of_words (word ∷ words) = verb_named word

@@ -1,4 +1,5 @@
-//! Reads the command line with `clap`, and has the text of the help.
+//! Parses a plain command line with `clap`, and defines the text of the help. A plain command line
+//! is one that doesn't begin with a verb.
 
 ghost use Rattle.std.specs.Prelude.{◌≡◌, ◌≤◌, IfErr, IfOk, None, Some, codes, false, length, map, option_map, true};
 ghost use Rattle.clap.specs.declared.error.kind.ErrorKind.{ErrorKind};
@@ -17,11 +18,13 @@ use std::convert::AsStr;
 const ABOUT: &str =
     "Edits the hierarchy of a Ceph CRUSH map offline, by commands of ceph osd crush";
 
-/// The program's version, with the toolchain that checked the proofs, as `rt version` prints it.
+/// The version of the program, followed by the version of the toolchain that checked the proofs, as
+/// `rt version` prints it.
 const VERSION: &str = "0.2.0 (rattle-kit-13f logic dac8208d650f15bf)";
 
 /// The part of the help after the list of flags. `tools/manual.py` makes the manual page from the
-/// help. Its lines have at most 80 columns, which leaves 55 columns for the text of a flag.
+/// help. The lines of the help have at most 80 columns, which leaves 55 columns for the text about
+/// a flag.
 const MORE: &str = "\
 A job is the text of a CRUSH map, as `crushtool -d` prints it, followed by the
 scripts of up to 16 operators. A script begins with a line `%operator NAME`, and
@@ -104,7 +107,7 @@ two clusters `--by-name` compares them by their names alone.
 With `--tree`, `--since` or `--to`, `--under NAME` prints only what concerns the
 item NAME and the items below it. With `--tree`, `--down-to TYPE` prints nothing
 below buckets of this type, and `--class CLASS` counts only the devices of this
-class. Neither `--by-name` nor `--class` goes with a tree of what has changed.
+class. `--by-name` doesn't go with a tree of what has changed.
 `--json` prints one JSON document in place of everything else. It doesn't go
 with `--as-ceph` or `--class`, nor with `--since` by name or down to a type.
 
@@ -166,8 +169,6 @@ const TYPE_ALONE: &str = "error: --down-to goes with --tree\n";
 
 const CLASS_ALONE: &str = "error: --class goes with --tree\n";
 
-const CLASS_CHANGES: &str = "error: --tree with --since doesn't go with --class\n";
-
 const JSON_CLASS: &str = "error: --json doesn't go with --class\n";
 
 const JSON_LINES: &str = "error: --json doesn't go with --as-ceph\n";
@@ -178,7 +179,7 @@ const JSON_LEVELS: &str = "error: --json and --since don't go with --down-to\n";
 
 const EXACT_OTHER: &str = "error: --exact goes with the text of the map alone\n";
 
-/// What the error of a second file says of the verbs.
+/// The text about verbs that follows the error for a second file on a plain command line.
 const VERBS: &str = "
 Commands that take several files:
     crushedit apply MAP SCRIPT ..    the map after scripts
@@ -408,7 +409,7 @@ fn exact_of_other(flags: OutputFlags<'_>) -> bool
     flags.exact && (other || flags.json)
 }
 
-/// Returns the error line of words that can't be given together, or `None` if they can.
+/// Returns the error line if some of these words can't be given together, and `None` if they can.
 fn complaint(flags: OutputFlags<'_>) -> Option<&'static str>
     ensures { option_map (λ text. text.now) result ≡ complaint (flags_data flags.entry) }
 {
@@ -424,8 +425,6 @@ fn complaint(flags: OutputFlags<'_>) -> Option<&'static str>
         Some(TYPE_ALONE)
     } else if have_class_alone(flags) {
         Some(CLASS_ALONE)
-    } else if flags.class.is_some() && flags.since.is_some() {
-        Some(CLASS_CHANGES)
     } else if flags.json && flags.class.is_some() {
         Some(JSON_CLASS)
     } else if flags.json && flags.as_ceph {
@@ -450,7 +449,7 @@ fn copy_of(alloc: Global, name: Option<&str>) -> Result<Option<String>, AllocErr
     }
 }
 
-/// Returns the part of a tree that is printed.
+/// Returns which part of a tree to print, as these words ask.
 fn part_by(alloc: Global, flags: OutputFlags<'_>) -> Result<TreePartSpec, AllocError>
     ensures under { IfOk result (λ part. name_text part.under ≡ (flags_data flags.entry).under) }
     ensures down_to { IfOk result (λ part. name_text part.down_to
@@ -632,7 +631,8 @@ pub(crate) fn fault_of(alloc: Global, error: &Error) -> OptionsFault
     }
 }
 
-/// Adds the verbs to the error of a second file, which may be meant for one of them.
+/// If the fault is the error for a second file, adds a text about the verbs, because one of them
+/// may be meant. Returns any other fault unchanged.
 fn with_verbs(fault: OptionsFault) -> OptionsFault
     ensures { (kind : ErrorKind) → IsFaultOf kind fault → IsFaultOf kind result }
 {
@@ -643,14 +643,16 @@ fn with_verbs(fault: OptionsFault) -> OptionsFault
     }
 }
 
-/// The same as [`fault_of`], with the verbs if the error is that of a second file.
+/// Returns the same fault as [`fault_of`]. If the error is for a second file, adds a text about the
+/// verbs.
 fn plain_fault_of(alloc: Global, error: &Error) -> OptionsFault
     ensures { IsFaultOf (kind_of error.now) result }
 {
     with_verbs(fault_of(alloc, error))
 }
 
-/// Whether the error of `clap` is that of a word which is neither an option nor the first file.
+/// Whether this is the text of an error of `clap` for a word that is neither an option nor the
+/// first file.
 fn is_of_second_file(text: &str) -> bool {
     text.starts_with("error: unexpected argument '")
         && !text.starts_with("error: unexpected argument '-")

@@ -1,7 +1,8 @@
 //! The command line of `crushedit`: its words, its options and its help.
 //!
-//! [`options`] reads the words into [`Options`], which `crush_run` runs. If it can't, it fails with
-//! an [`OptionsFault`], which `crush_input` prints.
+//! [`options`] parses the words of a command line, and returns [`Options`], which say what a run of
+//! `crush_run` does. If the words start no run, for example because they ask for the help,
+//! [`options`] fails with an [`OptionsFault`], which `crush_input` prints.
 #![tactic(auto)]
 
 mod command_line;

@@ -1,4 +1,4 @@
-//! The words of a verb's command line, and the plain words that they are short for.
+//! The words of a verb's command line, and the plain command line for which they are short.
 
 ghost use Rattle.std.specs.Prelude.{◌≡◌, ◌++◌, IfOk, OnOk, codes, map, nat_lt, option_map};
 ghost use Rattle.std.specs.List.{count_by};
@@ -18,8 +18,8 @@ const DRY_OUTPUT: &str = "error: --output doesn't go with --dry-run\n";
 const WITHOUT_DRY_RUN: &str =
     "error: --tree, --json, --under, --down-to and --exit-code go with --dry-run\n";
 
-/// The words of a verb's command line, as its parser has read them. A word that the verb doesn't
-/// take isn't given.
+/// What the parser found on a verb's command line. A flag that the verb doesn't have is false, and
+/// an option or an argument that the verb doesn't have has no value.
 #[derive(Clone, Copy)]
 pub(crate) struct VerbWords<'a> {
     pub(crate) dry_run: bool,
@@ -34,7 +34,7 @@ pub(crate) struct VerbWords<'a> {
     pub(crate) down_to: Option<&'a str>,
     pub(crate) class: Option<&'a str>,
     pub(crate) output: Option<&'a str>,
-    /// The map from which the run begins: MAP, or NEW of `diff`.
+    /// The map with which the run begins: MAP, or NEW of `diff`.
     pub(crate) map: Option<&'a str>,
     /// The other map: OLD of `diff`, or WANTED of `plan`.
     pub(crate) other: Option<&'a str>,
@@ -141,7 +141,8 @@ fn apply_complaint(words: VerbWords<'_>) -> Option<&'static str>
     }
 }
 
-/// Returns the error line of words of a verb that can't be given together, or `None` if they can.
+/// Returns the error line if some words of a verb's command line can't be given together, and
+/// `None` if they can.
 pub(crate) fn verb_complaint(verb: Verb, words: VerbWords<'_>) -> Option<&'static str>
     ensures { option_map (λ text. text.now) result
         ≡ verb_complaint verb (verb_data words.entry) }
@@ -230,7 +231,9 @@ fn push_files(
     push_with(alloc, "", words.map, plain)
 }
 
-/// Returns the map since which a dry run tells what would change.
+/// In a dry run, `apply` compares the map before the scripts with the map after the scripts, and
+/// this function returns the name of the file of the map before the scripts. Otherwise it returns
+/// `None`.
 fn since_of_apply<'a>(words: VerbWords<'a>) -> Option<&'a str>
     ensures { option_map (λ name. name.now) result ≡ since_of_apply (verb_data words.entry) }
 {
@@ -303,7 +306,7 @@ fn push_own(
     }
 }
 
-/// Returns the words of the plain command line that a verb is short for.
+/// Returns the words of the plain command line for which a verb's command line is short.
 pub(crate) fn plain_words(
     alloc: Global,
     verb: Verb,

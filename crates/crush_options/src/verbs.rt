@@ -1,4 +1,5 @@
-//! The verbs: commands with safe defaults, each short for a plain command line.
+//! The verbs: commands with safe defaults. Each command line with a verb is short for a plain
+//! command line.
 
 ghost use Rattle.std.specs.Prelude.{◌≡◌, IfOk, IfErr, None, codes, false, map};
 ghost use Rattle.clap.specs.Words.{app_of, rule_of};
@@ -12,14 +13,14 @@ use clap::{Arg, ArgAction, Command};
 use std::alloc::{AllocError, Global};
 use std::convert::AsStr;
 
-/// A command with safe defaults, which the first word of a command line names.
+/// A command with safe defaults. The first word of a command line can be its name.
 #[derive(Clone, Copy, Debug, PartialEq, Eq)]
 pub(crate) enum Verb {
     /// `apply` prints the map after scripts.
     Apply,
     /// `diff` prints what differs between two maps.
     Diff,
-    /// `plan` prints the commands that lead from one map to another.
+    /// `plan` prints the commands that lead from one map to another map.
     Plan,
     /// `tree` prints the tree of a map.
     Tree,
@@ -117,7 +118,8 @@ fn more_scripts<'a>(alloc: Global) -> Arg<'a>
         .help("Files of scripts, which run in this order")
 }
 
-/// Starts the command of a verb. Its words don't begin with its own name.
+/// Returns the command line of a verb, before its options and arguments are added to it. The words
+/// that are parsed don't include the verb itself.
 fn new_verb<'a>(alloc: Global, name: &'a str, about: &'a str, more: &'a str) -> Command<'a>
     ensures { app_of result ≡ verb_of name.entry.now }
 {
@@ -177,6 +179,7 @@ fn diff<'a>(alloc: Global) -> Result<Command<'a>, AllocError>
 {
     diff_shown(alloc)?
         .arg(option(alloc, "down-to", "TYPE", DOWN_TO_HELP))?
+        .arg(option(alloc, "class", "CLASS", CLASS_HELP))?
         .arg(flag(alloc, "exit-code", EXIT_CODE_HELP))?
         .arg(output(alloc))?
         .arg(needed(alloc, "OLD", "The old map's text; - is standard input"))?
@@ -242,8 +245,8 @@ fn maps_of(verb: Verb) -> MapForm
     }
 }
 
-/// Returns the options of the plain command line that the words of a verb are short for, with what
-/// only verbs ask for.
+/// Returns the options of the plain command line for which a verb's command line is short. The only
+/// difference is that the verb says what the files must contain.
 fn short_for(alloc: Global, verb: Verb, words: VerbWords<'_>) -> Result<Options, OptionsFault>
     ensures read { IfOk result (AreShortFor verb (verb_data words.entry)) }
     ensures fault { IfErr result (IsFaultIn (words_of_verb verb (verb_data words.entry))) }
@@ -254,7 +257,7 @@ fn short_for(alloc: Global, verb: Verb, words: VerbWords<'_>) -> Result<Options,
     Ok(options)
 }
 
-/// The same, but refuses words that can't be given together.
+/// Returns the same options as [`short_for`], but refuses words that can't be given together.
 fn checked(alloc: Global, verb: Verb, words: VerbWords<'_>) -> Result<Options, OptionsFault>
     ensures together { IfOk result (λ _. verb_complaint verb (verb_data words.entry) ≡ None) }
     ensures read { IfOk result (AreShortFor verb (verb_data words.entry)) }
@@ -307,14 +310,18 @@ fn verb_of_words<S: AsStr>(words: &[S]) -> Option<Verb>
     }
 }
 
-/// Reads the words of a command line, without the program's name, by the rules that the help shows.
+/// Parses the words of a command line, without the program's name, by the rules that the help
+/// shows.
 ///
-/// If the first word is `apply`, `diff`, `plan` or `tree`, the words after it are those of this
-/// verb, and the options are those of the plain command line that the verb is short for. Otherwise
-/// the words are a plain command line. The words may be in any order, and none is ignored: a word
-/// that isn't the program's is refused. Fails with [`OptionsFault::Help`] if a word asks for the
-/// help or the version, with [`OptionsFault::Refused`] if a word is wrong or words can't be given
-/// together, and with [`OptionsFault::Memory`] if memory runs out.
+/// If the first word is `apply`, `diff`, `plan` or `tree`, it is a verb, and the other words are
+/// the command line of this verb. The result has the options of the plain command line for which
+/// this verb's command line is short. Otherwise all words are a plain command line. Options and
+/// file names may be mixed in any order. No word is ignored: a word that the command line doesn't
+/// have is refused.
+///
+/// Fails with [`OptionsFault::Help`] if a word asks for the help or the version, with
+/// [`OptionsFault::Refused`] if a word is wrong or some words can't be given together, and with
+/// [`OptionsFault::Memory`] if memory runs out.
 pub fn options<S: AsStr>(alloc: Global, words: &[S]) -> Result<Options, OptionsFault>
     ensures parsed { IfOk result (AreOptionsBy (verb_of_words (map S.text words.now)) (map S.text words.now)) }
     ensures fault { IfErr result (IsFaultBy (verb_of_words (map S.text words.now)) (map S.text words.now)) }

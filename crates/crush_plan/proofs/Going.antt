@@ -1,4 +1,4 @@
--- Edits that are made one after the other.
+-- Lemmas about edits that are applied one after the other, and about drafts.
 use Rattle.std.proofs.Common.{◌≡◌, ◌⊎◌, inl, inr, ℕ, Bool, true, false, List, [], ◌∷◌, ◌++◌, refl, sym, subst, ap, append_assoc, append-nil, ◌∙◌}
 use Rattle.std.specs.Prelude.{Result, OnOk, if◌then◌else◌}
 use Rattle.std.proofs.lemmas.Result.{on_ok_weaker}
@@ -14,7 +14,7 @@ use Rattle.crush_plan.specs.declared.draft.Draft.{Draft}
 use Rattle.crush_plan.specs.Draft.{Allows, GoesOn, IsContinued, IsDraftOf, IsFork, LeadsTo}
 use Rattle.crush_plan.specs.Leads.{Leads}
 
--- edits that lead to a table, followed by edits that lead on from there
+-- if some edits lead from t to u and further edits lead from u to v, then all these edits lead from t to v
 pub leads_then : (P : List Row → Edit → Type 0) (s : SettingData) (t : List Row) (es fs : List Edit) (u v : List Row) → Leads P s t es u → Leads P s u fs v → Leads P s t (es ++ fs) v
 leads_then P s t [] fs u v a b = subst (λ (x : List Row). Leads P s x fs v) (sym a) b
 leads_then P s t (e ∷ es) fs u v a b = (a.0, a.1, a.2, a.3, leads_then P s a.2 es fs u v a.4 b)
@@ -24,7 +24,7 @@ pub leads_weaker : (P Q : List Row → Edit → Type 0) (s : SettingData) (t : L
 leads_weaker P Q s t [] u f a = a
 leads_weaker P Q s t (e ∷ es) u f a = (f t e a.0, a.1, a.2, a.3, leads_weaker P Q s a.2 es u f a.4)
 
--- no edit yet
+-- a draft continues itself, without further edits
 pub stays_here : {A B : _} {goal : PlanGoal A B} (d : Draft A) → GoesOn goal d d
 stays_here d = record {
   setting = refl;
@@ -33,7 +33,7 @@ stays_here d = record {
   leads = λ t st. (t, refl, st);
 }
 
--- one after the other
+-- if b continues a and c continues b, then c continues a
 pub goes_then : {A B : _} {goal : PlanGoal A B} (a b c : Draft A) → GoesOn goal a b → GoesOn goal b c → GoesOn goal a c
 goes_then {A} {B} {goal} a b c x y = record {
   setting = y.setting ∙ x.setting;
@@ -58,7 +58,7 @@ with_map a b is edits = record {
   leads = λ t st. (t, refl, subst (λ (m : MapData). Stands m.forest t) (sym is) st);
 }
 
--- an edit that is done, and kept if it has changed the map
+-- a draft to which an edit was applied continues the draft before. The edit is kept if it has changed the map
 pub gave : {A B : _} {goal : PlanGoal A B} (a b : Draft A) (e : Edit) (changed : Bool) (made : ℕ) → ((t : List Row) → Stands a.map.forest t → Allows goal t e) → b.map.setting ≡ a.map.setting → b.edits.items ≡ a.edits.items ++ (if changed then e ∷ [] else []) → ((t : List Row) → Stands a.map.forest t → (u : List Row) × (edit a.map.setting t e ≡ done changed made u) × Stands b.map.forest u) → (changed ≡ false → b.map ≡ a.map) → GoesOn goal a b
 gave a b e true made allowed s is d still = record {
   setting = s;
@@ -73,7 +73,7 @@ gave a b e false made allowed s is d still = record {
   leads = λ t st. (t, refl, subst (λ (m : MapData). Stands m.forest t) (sym (still refl)) st);
 }
 
--- a draft that began without edits, with a copy of the map before
+-- a draft that continues a draft without edits, whose map is a copy of the map before the plan
 pub draft_of : {A B : _} {goal : PlanGoal A B} (a b : Draft A) → a.edits.items ≡ [] → a.map.setting ≡ goal.before.now.setting → ((t : List Row) → Stands goal.before.now.forest t → Stands a.map.forest t) → GoesOn goal a b → IsDraftOf goal b
 draft_of {A} {B} {goal} a b none s copied y = record {
   setting = y.setting ∙ s;
@@ -100,7 +100,7 @@ adopted {A} {B} {goal} d next new x is edits = record {
   leads = λ t st. subst (λ (m : MapData). LeadsTo goal d.map.setting t next.edits.items m.forest) (sym is) (x.leads t st);
 }
 
--- what holds of both holds of either
+-- if a property holds for both a and b, it holds for each x that is a or b
 pub either : {X : Type 0} (P : X → Type 0) (a b x : X) → (x ≡ a) ⊎ (x ≡ b) → P a → P b → P x
 either P a b x (inl is) p q = subst P (sym is) p
 either P a b x (inr is) p q = subst P (sym is) q

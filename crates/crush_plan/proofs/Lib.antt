@@ -1,2 +1,3 @@
 pub mod Among
 pub mod Going
+pub mod InTurn

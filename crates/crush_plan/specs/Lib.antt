@@ -1,3 +1,4 @@
+pub mod Classes
 pub mod Draft
 pub mod Leads
 pub mod Part

@@ -1,4 +1,4 @@
--- Which edits a plan may have: those that a command can say, that create no bucket by their location, and that change only the part.
+-- Which edits a plan may have: a command must be able to express the edit, its location must create no bucket, and it must change only items of the part.
 use Rattle.std.specs.Prelude.{◌≡◌, ℕ, Bool, true, false, ◌||◌, List, [], ◌∷◌, Option, None, Some, is_some}
 use Rattle.std.specs.List.{list_all}
 use Rattle.std.specs.Option.{option_map_or}
@@ -11,7 +11,7 @@ use Rattle.crush_edits.specs.declared.location.Pair.{Pair}
 use Rattle.crush_compare.specs.Named.{is_in}
 use Rattle.crush_history.specs.Said.{IsSaid}
 
--- the name with which an edit names an item, and the item's name after the edit, if the item is there then
+-- the name by which an edit names an item, and the name that the item has after the edit; none if the edit removes the item
 pub record Called : Type 0 where
   pub before : List ℕ
   pub behind : Option (List ℕ)
@@ -33,7 +33,7 @@ called (Rename from to) = record { before = from; behind = Some to } ∷ []
 called (SetClass n c) = keeps_name n
 called (RemoveClass n) = keeps_name n
 
--- whether the item that has this name in the table t was in the part of the old table, by its id; whether the new table has an item of this name in the part
+-- the first test finds the item with this name in the table t, and says whether the item with its id was in the part of the old table. The second test says whether the item with this name in the new table is in the part of the new table
 abbrev pub was_in_part : List Row → Option (List ℕ) → List Row → List ℕ → Bool
 was_in_part old under t name = option_map_or (is_in under old) (id_named t name) false
 
@@ -43,22 +43,22 @@ will_be_in_part new under name = option_map_or (is_in under new) (id_named new n
 abbrev pub is_called_in : List Row → List Row → Option (List ℕ) → List Row → Called → Bool
 is_called_in old new under t c = was_in_part old under t c.before || option_map_or (will_be_in_part new under) c.behind false
 
--- CONCERNS: if a part is selected, then each item that the edit names was in the part, or will be there by its name after the edit
+-- CONCERNS: if a part is selected, then each item that the edit names was in the part of the old table, or the name that it has after the edit is the name of an item in the part of the new table
 abbrev pub concerns : List Row → List Row → Option (List ℕ) → List Row → Edit → Bool
 concerns old new None t e = true
 concerns old new (Some part) t e = list_all (is_called_in old new (Some part) t) (called e)
 
--- whether an item of the table t, of this id, was in the part, or will be there by the name that it has in t
+-- whether the id of an item was in the part of the old table, or the item's name in the table t is the name of an item in the part of the new table
 abbrev pub is_item_in_part : List Row → List Row → Option (List ℕ) → List Row → ItemId → Bool
 is_item_in_part old new under t i = is_in under old i || option_map_or (will_be_in_part new under) (name_of t i) false
 
--- each item below a bucket was in the part, or will be there; of a device, or of no item, nothing is said
+-- each item below a bucket meets this test. For a device, or if there is no item, this requires nothing
 abbrev pub HasPartBelow : List Row → List Row → Option (List ℕ) → List Row → Option ItemId → Type 0
 HasPartBelow old new under t None = Unit {0}
 HasPartBelow old new under t (Some (Device d)) = Unit {0}
 HasPartBelow old new under t (Some (Bucket b)) = (i : ItemId) → is_below t b i ≡ true → is_item_in_part old new under t i ≡ true
 
--- WEIGHS PART: an edit that sets all weights below a bucket sets only weights of items that were in the part, or will be there
+-- WEIGHS PART: if the edit sets all weights below a bucket, then each item below this bucket meets this test. For any other edit this requires nothing
 abbrev pub WeighsPart : List Row → List Row → Option (List ℕ) → List Row → Edit → Type 0
 WeighsPart old new under t (Insert d n w l) = Unit {0}
 WeighsPart old new under t (CreateOrMove d n w l) = Unit {0}
@@ -88,12 +88,12 @@ location_of (Rename from to) = []
 location_of (SetClass n c) = []
 location_of (RemoveClass n) = []
 
--- whether all buckets of a location are there, so that the edit creates none of them
+-- whether the table has all buckets of a location, so that the edit creates none of them
 abbrev pub are_there : List Row → List Pair → Bool
 are_there t l = list_all (λ (p : Pair). is_some (id_named t p.name)) l
 
--- ALLOWED: a command can say the edit, the edit creates no bucket by its location, and it changes only items of the part, also
--- where it sets all weights below a bucket
+-- ALLOWED: a command can express the edit, the edit's location creates no bucket, and the edit changes only items of the part. This also holds
+-- if the edit sets all weights below a bucket
 pub record IsAllowed (old new : List Row) (under : Option (List ℕ)) (t : List Row) (e : Edit) : Type 0 where
   pub said : IsSaid e
   pub there : are_there t (location_of e) ≡ true

@@ -1,4 +1,4 @@
--- What a plan promises, however it was found.
+-- What a plan promises, independent of the search that has found it.
 use Rattle.std.specs.Prelude.{◌≡◌, ◌⊎◌, ◌<◌, ℕ, ◌==◌, List, [], Option}
 use Rattle.std.specs.List.{count_by}
 use Rattle.crush_model.specs.Table.{Row}
@@ -11,7 +11,7 @@ use Rattle.crush_plan.specs.Leads.{Leads}
 use Rattle.crush_plan.specs.Part.{IsAllowed}
 use Rattle.crush_since.specs.Stays.{stays_part}
 
--- the edits, the lines of the differences that remain after them, and the counts of ids that differ
+-- a plan as plain data: the edits, the lines of the differences that remain after them, and the counts of ids that differ
 pub record PlanData : Type 0 where
   pub edits : List Edit
   pub rest : List ℕ
@@ -20,30 +20,30 @@ pub record PlanData : Type 0 where
 abbrev pub plan_data : Plan → PlanData
 plan_data p = record { edits = p.edits.items; rest = p.rest.items; aside = p.aside }
 
--- what a plan tells is what remains between this map and the wanted one, in the part that is selected
+-- the plan's differences and counts are those between the map `old` and the wanted map `new`, in the selected part
 pub record TellsRest (under : Option (List ℕ)) (old new : PlainMap) (plan : PlanData) : Type 0 where
   pub rest : plan.rest ≡ stays_part under old new
   pub aside : CountsAsideOf under old.table new.table plan.aside
 
--- the edits are allowed and lead from the old map to a table, and the plan tells what remains from there
+-- the edits are allowed and lead from the old map to a table, and the plan's differences are those between this table and the wanted map
 pub record GoesTo (under : Option (List ℕ)) (old new : PlainMap) (plan : PlanData) : Type 0 where
   pub table : List Row
   pub leads : Leads (IsAllowed old.table new.table under) old.setting old.table plan.edits table
   pub tells : TellsRest under (plain_map old.setting table) new plan
 
--- how many lines a text has
+-- the number of lines of a text, which is the number of its line feeds
 abbrev pub line_count : List ℕ → ℕ
 line_count text = count_by (λ b. b == 10) text
 
--- BETTER: without edits, more differences remain than after the edits of the plan. Ids are no differences, and count for nothing
+-- BETTER: fewer differences remain after the plan's edits than there are without any edit. Different ids don't count as differences
 pub record IsBetterThanNone (under : Option (List ℕ)) (old new : PlainMap) (plan : PlanData) : Type 0 where
   pub none : PlanData
   pub edits : none.edits ≡ []
   pub tells : TellsRest under old new none
   pub fewer : line_count plan.rest < line_count none.rest
 
--- PLAN: the edits, all of which are allowed, lead to a table; the plan tells exactly what remains from there; and either it has no edits,
--- or fewer differences remain than without them
+-- PLAN: the edits are allowed and lead from the old map to a table, and the plan's differences are exactly those that remain after the edits. Either the plan
+-- has no edits, or fewer differences remain than without them
 pub record IsPlan (under : Option (List ℕ)) (old new : PlainMap) (plan : PlanData) : Type 0 where
   pub goes : GoesTo under old new plan
   pub better : (plan.edits ≡ []) ⊎ IsBetterThanNone under old new plan

@@ -1,19 +1,19 @@
 -- The text of a plan.
 use Rattle.std.specs.Prelude.{ℕ, ◌==◌, Bool, true, List, [], ◌∷◌, ◌++◌, if◌then◌else◌, codes, decimal, flat_map, length}
+use Rattle.crush_model.specs.Table.{Row}
 use Rattle.crush_edits.specs.declared.edit.Edit.{Edit}
+use Rattle.crush_edits.specs.Setting.{SettingData}
 use Rattle.crush_history.specs.HistoryText.{edit_text}
-use Rattle.crush_history.specs.Ceph.{ceph_heading, ceph_line}
+use Rattle.crush_history.specs.Ceph.{ceph_heading}
+use Rattle.crush_ceph.specs.CephText.{ceph_text}
 use Rattle.crush_since.specs.Aside.{aside_text}
 use Rattle.crush_plan.specs.Plan.{PlanData, line_count}
-use Rattle.crush_plan.specs.declared.text.PlanWords.{PlanWords}
-use Rattle.crush_plan.specs.declared.text.PlanWords.TheVariants.{Script, Ceph}
 
--- an edit as a line of a script, or as a command of Ceph for a shell
-abbrev pub plan_line : PlanWords → Edit → List ℕ
-plan_line Script e = edit_text e ++ codes "\n"
-plan_line Ceph e = ceph_line e
+-- an edit as a line of a script
+abbrev pub script_line : Edit → List ℕ
+script_line e = edit_text e ++ codes "\n"
 
--- the bytes of lines, with `# ` before each line; the first argument says whether a line begins here
+-- the bytes of a text, with `# ` before each line. The first argument says whether the next byte is the first of a line
 abbrev pub mark : Bool → List ℕ
 mark at_head = if at_head then codes "# " else []
 
@@ -21,7 +21,7 @@ abbrev pub commented : Bool → List ℕ → List ℕ
 commented at_head [] = []
 commented at_head (b ∷ bs) = mark at_head ++ b ∷ commented (b == 10) bs
 
--- the differences that remain, as comments, if there are any
+-- the comment lines with the differences that remain; nothing if no differences remain
 unfoldable pub stay_heading : ℕ → List ℕ
 stay_heading count = codes "# " ++ decimal count ++ codes " differences stay\n"
 
@@ -29,7 +29,14 @@ abbrev pub stay_text : List ℕ → List ℕ
 stay_text [] = []
 stay_text (b ∷ bs) = stay_heading (line_count (b ∷ bs)) ++ commented true (b ∷ bs)
 
--- PLAN TEXT: how many edits there are, a line for each edit, the differences that remain, and how many ids differ
-unfoldable pub plan_text : PlanWords → PlanData → List ℕ
-plan_text words plan =
-    ceph_heading (length plan.edits) ++ flat_map (plan_line words) plan.edits ++ stay_text plan.rest ++ commented true (aside_text plan.aside)
+-- what follows the edits: the differences that remain, and the numbers of buckets whose ids differ
+abbrev pub tail_text : PlanData → List ℕ
+tail_text plan = stay_text plan.rest ++ commented true (aside_text plan.aside)
+
+-- PLAN TEXT as a script: the number of edits, a line for each edit, and what follows the edits
+unfoldable pub plan_text : PlanData → List ℕ
+plan_text plan = ceph_heading (length plan.edits) ++ flat_map script_line plan.edits ++ tail_text plan
+
+-- PLAN TEXT for Ceph: the commands of Ceph that do the edits, if this is the table from which the plan starts, and what follows the edits
+unfoldable pub ceph_plan_text : SettingData → List Row → PlanData → List ℕ
+ceph_plan_text s t plan = ceph_text s t plan.edits ++ tail_text plan

@@ -1,4 +1,4 @@
-//! Adds the devices that the map doesn't have, and sets classes.
+//! Adds the devices that the map doesn't have.
 
 ghost use Rattle.std.specs.Prelude.{OnOk};
 ghost use Rattle.crush_plan.specs.Draft.{GoesOn};
@@ -11,8 +11,8 @@ use crush_tree::View;
 use crush_units::ItemId;
 use std::alloc::{AllocError, Allocator};
 
-/// Adds each of these devices if the map doesn't have it, and sets its class if the class differs.
-pub(crate) fn set_devices<A: Allocator + Clone, B: Allocator>(
+/// Adds each of these devices that the map doesn't have.
+pub(crate) fn add_devices<A: Allocator + Clone, B: Allocator>(
     draft: &mut Draft<A>,
     goal: &PlanGoal<'_, A, B>,
     devices: &[SetDevice],
@@ -20,12 +20,12 @@ pub(crate) fn set_devices<A: Allocator + Clone, B: Allocator>(
     ensures { OnOk result (GoesOn goal.now draft.old draft.new) }
 {
     for device in devices {
-        set_device(draft, goal, device)?;
+        add_device(draft, goal, device)?;
     }
     Ok(())
 }
 
-fn set_device<A: Allocator + Clone, B: Allocator>(
+fn add_device<A: Allocator + Clone, B: Allocator>(
     draft: &mut Draft<A>,
     goal: &PlanGoal<'_, A, B>,
     device: &SetDevice,
@@ -35,12 +35,11 @@ fn set_device<A: Allocator + Clone, B: Allocator>(
     let Some(there) = goal.there.view(ItemId::Device(device.id)) else {
         return Ok(());
     };
-    put_device(draft, goal, device, &there)?;
-    set_class(draft, goal, device, &there)
+    put_device(draft, goal, device, &there)
 }
 
-/// Adds the device to the bucket of the same name as in the wanted map, unless an item has the
-/// device's name already.
+/// Adds the device to the bucket that has the same name as the device's bucket in the wanted map.
+/// Does nothing if an item already has the device's name.
 fn put_device<A: Allocator + Clone, B: Allocator>(
     draft: &mut Draft<A>,
     goal: &PlanGoal<'_, A, B>,
@@ -72,39 +71,4 @@ fn place_name<'a, A: Allocator, B: Allocator>(
     there: &View<'_>,
 ) -> Option<&'a str> {
     goal.there.name_of(ItemId::Bucket(there.parent?))
-}
-
-/// Sets the class that the device has in the wanted map.
-fn set_class<A: Allocator + Clone, B: Allocator>(
-    draft: &mut Draft<A>,
-    goal: &PlanGoal<'_, A, B>,
-    device: &SetDevice,
-    there: &View<'_>,
-) -> Result<(), AllocError>
-    ensures { OnOk result (GoesOn goal.now draft.old draft.new) }
-{
-    if !device.differs || !draft.has_item(ItemId::Device(device.id), there.name) {
-        return Ok(());
-    }
-    remove_class(draft, goal, device, there.name)?;
-    match there.class {
-        Some(class) => draft.set_class(goal, there.name.as_bytes(), class.as_bytes()),
-        None => Ok(()),
-    }
-}
-
-/// Removes the old class. A device that has a class can't get another class.
-fn remove_class<A: Allocator + Clone, B: Allocator>(
-    draft: &mut Draft<A>,
-    goal: &PlanGoal<'_, A, B>,
-    device: &SetDevice,
-    name: &str,
-) -> Result<(), AllocError>
-    ensures { OnOk result (GoesOn goal.now draft.old draft.new) }
-{
-    if device.has_class {
-        draft.remove_class(goal, name.as_bytes())
-    } else {
-        Ok(())
-    }
 }

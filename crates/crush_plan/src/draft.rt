@@ -1,5 +1,5 @@
-//! An unfinished plan: a map on its way to another map, with the edits that have been applied so
-//! far.
+//! An unfinished plan: a map that is changed step by step, and the edits that have been applied to
+//! it.
 
 ghost use Rattle.std.specs.Prelude.{◌≡◌, ◌++◌, ◌∷◌, [], List, OnOk, IfOk, if◌then◌else◌, true};
 ghost use Rattle.crush_model.specs.Stands.{Stands};
@@ -20,12 +20,12 @@ pub(crate) struct Draft<A: Allocator> {
     pub alloc: Global,
     /// The map after the edits.
     pub map: CrushMap<A>,
-    /// Each of these edits was allowed and not refused, and changed the map.
+    /// The edits that were applied, in this order. The plan may have each of them, none was
+    /// refused, and each changed the map.
     pub edits: Vec<Edit>,
 }
 
-/// Copies the name of an item. The only possible error is that memory runs out, because the name
-/// is valid.
+/// Copies the name of an item. It can only fail because memory runs out, since the name is valid.
 pub(crate) fn copy_name(alloc: Global, name: &[u8]) -> Result<Name<Global>, AllocError> {
     match Name::read(alloc, name) {
         Ok(name) => Ok(name),
@@ -34,7 +34,7 @@ pub(crate) fn copy_name(alloc: Global, name: &[u8]) -> Result<Name<Global>, Allo
 }
 
 impl<A: Allocator + Clone> Draft<A> {
-    /// Returns a draft without edits that starts from this draft's map.
+    /// Returns a new draft without edits. It starts from a copy of this draft's map.
     pub(crate) fn fork(&self) -> Result<Draft<A>, AllocError>
         ensures { IfOk result (IsFork self.now) }
     {
@@ -45,7 +45,8 @@ impl<A: Allocator + Clone> Draft<A> {
         })
     }
 
-    /// Takes the map of a draft that was made by `fork`, and appends that draft's edits.
+    /// Adopts a draft that was forked from this one and then got further edits: takes the fork's
+    /// map, and appends the fork's edits.
     pub(crate) fn adopt(&mut self, fork: Draft<A>) -> Result<(), AllocError>
         ensures map { OnOk result (self.new.map ≡ fork.map) }
         ensures edits { OnOk result (self.new.edits.items
@@ -57,8 +58,8 @@ impl<A: Allocator + Clone> Draft<A> {
         Ok(())
     }
 
-    /// Applies the edit if it is allowed. Adds it to the edits if it is not refused and changes the
-    /// map.
+    /// Applies the edit if the plan may have it. If the edit is not refused and changes the map,
+    /// adds it to the edits.
     pub(crate) fn give<B: Allocator>(
         &mut self,
         goal: &PlanGoal<'_, A, B>,
@@ -74,7 +75,7 @@ impl<A: Allocator + Clone> Draft<A> {
         }
     }
 
-    /// Whether the plan may have the edit. An `Err` says that memory ran out.
+    /// Whether the plan may have the edit. It fails only if memory runs out.
     fn allows<B: Allocator>(
         &self,
         goal: &PlanGoal<'_, A, B>,
@@ -90,7 +91,7 @@ impl<A: Allocator + Clone> Draft<A> {
         }
     }
 
-    /// Whether the plan may have the edit, if it only sets weights of items in the part.
+    /// Whether the plan may have the edit, except for one test, that of `PlanGoal::weighs_part`.
     fn fits<B: Allocator>(&self, goal: &PlanGoal<'_, A, B>, edit: &Edit) -> bool
         ensures said { result ≡ true → IsSaid edit.now }
         ensures there { result ≡ true → (v : List Row) → Stands self.now.map.forest v
@@ -103,7 +104,7 @@ impl<A: Allocator + Clone> Draft<A> {
         is_expressible(edit) && is_located(&self.map, edit) && goal.concerns(&self.map, edit)
     }
 
-    /// Applies the edit. Adds it to the edits if it is not refused and changes the map.
+    /// Applies the edit. If it is not refused and changes the map, adds it to the edits.
     fn make<B: Allocator>(
         &mut self,
         goal: &PlanGoal<'_, A, B>,
@@ -119,7 +120,7 @@ impl<A: Allocator + Clone> Draft<A> {
         }
     }
 
-    /// Adds the edit to the edits if it has changed the map.
+    /// Adds the edit to the edits if `changed` says that it has changed the map.
     fn keep(&mut self, edit: Edit, changed: bool) -> Result<(), AllocError>
         ensures map { self.new.map ≡ self.old.map }
         ensures edits { OnOk result (self.new.edits.items
@@ -136,7 +137,8 @@ impl<A: Allocator + Clone> Draft<A> {
         self.map.locate(name) == Some(id)
     }
 
-    /// Returns the location that consists only of this bucket, which has this name.
+    /// Returns the location that consists of one bucket, whose id is `bucket` and whose name is
+    /// `name`.
     fn place(&self, bucket: BucketId, name: &str) -> Result<Location, AllocError> {
         let mut at = Location::new(self.alloc);
         let Some(kind) = self.map.kind_of(ItemId::Bucket(bucket)) else {
@@ -151,7 +153,7 @@ impl<A: Allocator + Clone> Draft<A> {
         }
     }
 
-    /// Gives the draft an edit that removes the item of this name.
+    /// Gives the draft an edit that removes the item with this name.
     pub(crate) fn remove<B: Allocator>(
         &mut self,
         goal: &PlanGoal<'_, A, B>,
@@ -163,7 +165,7 @@ impl<A: Allocator + Clone> Draft<A> {
         self.give(goal, Edit::Remove { name })
     }
 
-    /// Gives the draft an edit that swaps the two buckets of these names.
+    /// Gives the draft an edit that swaps the two buckets with these names.
     pub(crate) fn swap<B: Allocator>(
         &mut self,
         goal: &PlanGoal<'_, A, B>,
@@ -177,7 +179,7 @@ impl<A: Allocator + Clone> Draft<A> {
         self.give(goal, Edit::Swap { a, b })
     }
 
-    /// Gives the draft an edit that gives the bucket of the name `from` the name `to`.
+    /// Gives the draft an edit that renames the bucket `from` to `to`.
     pub(crate) fn rename_bucket<B: Allocator>(
         &mut self,
         goal: &PlanGoal<'_, A, B>,
@@ -205,8 +207,8 @@ impl<A: Allocator + Clone> Draft<A> {
         self.give(goal, Edit::AddBucket { name, kind })
     }
 
-    /// Gives the draft an edit that moves the item of the first name into the bucket, which has the
-    /// second name.
+    /// Gives the draft an edit that moves an item into a bucket. The first name is the item's name,
+    /// and the second is the bucket's name.
     pub(crate) fn relocate<B: Allocator>(
         &mut self,
         goal: &PlanGoal<'_, A, B>,
@@ -221,7 +223,7 @@ impl<A: Allocator + Clone> Draft<A> {
         self.give(goal, Edit::Move { name, at })
     }
 
-    /// Gives the draft an edit that sets the weight of the device of this name.
+    /// Gives the draft an edit that sets the weight of the device with this name.
     pub(crate) fn reweight<B: Allocator>(
         &mut self,
         goal: &PlanGoal<'_, A, B>,
@@ -234,7 +236,7 @@ impl<A: Allocator + Clone> Draft<A> {
         self.give(goal, Edit::Reweight { name, weight })
     }
 
-    /// Gives the draft an edit that sets the weights of all devices below the bucket.
+    /// Gives the draft an edit that sets each device below the bucket to the same weight.
     pub(crate) fn reweight_below<B: Allocator>(
         &mut self,
         goal: &PlanGoal<'_, A, B>,
@@ -250,7 +252,7 @@ impl<A: Allocator + Clone> Draft<A> {
         self.give(goal, Edit::ReweightSubtree { name, weight })
     }
 
-    /// Gives the draft an edit that adds the device to the bucket, which has this name.
+    /// Gives the draft an edit that adds the device to the bucket with this name.
     pub(crate) fn insert<B: Allocator>(
         &mut self,
         goal: &PlanGoal<'_, A, B>,
@@ -271,7 +273,7 @@ impl<A: Allocator + Clone> Draft<A> {
         self.give(goal, edit)
     }
 
-    /// Gives the draft an edit that removes the class of the device of this name.
+    /// Gives the draft an edit that removes the class of the device with this name.
     pub(crate) fn remove_class<B: Allocator>(
         &mut self,
         goal: &PlanGoal<'_, A, B>,
@@ -283,7 +285,7 @@ impl<A: Allocator + Clone> Draft<A> {
         self.give(goal, Edit::RemoveClass { name })
     }
 
-    /// Gives the draft an edit that sets the class of the device of this name.
+    /// Gives the draft an edit that sets the class of the device with this name.
     pub(crate) fn set_class<B: Allocator>(
         &mut self,
         goal: &PlanGoal<'_, A, B>,
@@ -298,7 +300,7 @@ impl<A: Allocator + Clone> Draft<A> {
     }
 }
 
-/// A device that an edit adds to the map, with its weight there.
+/// A device that an edit adds to the map, with the weight that it gets.
 #[derive(Drop)]
 pub(crate) struct NewDevice<'a> {
     pub id: DeviceId,
@@ -306,7 +308,7 @@ pub(crate) struct NewDevice<'a> {
     pub weight: Weight,
 }
 
-/// Whether the map has each bucket of the edit's location, so that the edit creates none of them.
+/// Whether the map already has the buckets of the edit's location, so that the edit creates none.
 fn is_located<A: Allocator>(map: &CrushMap<A>, edit: &Edit) -> bool
     ensures { result ≡ true → (v : List Row) → Stands map.now.forest v
         → are_there v (location_of edit.now) ≡ true }
@@ -327,7 +329,7 @@ fn is_located<A: Allocator>(map: &CrushMap<A>, edit: &Edit) -> bool
     }
 }
 
-/// Whether the location consists of one bucket, which the map has.
+/// Whether the location consists of exactly one bucket, and the map has this bucket.
 fn is_there<A: Allocator>(map: &CrushMap<A>, at: &Location) -> bool
     ensures { result ≡ true → (v : List Row) → Stands map.now.forest v
         → are_there v at.now ≡ true }

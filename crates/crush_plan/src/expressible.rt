@@ -1,4 +1,4 @@
-//! Which edits a line of a script can express.
+//! Tests whether a line of a script can express an edit.
 
 ghost use Rattle.std.specs.Prelude.{◌≡◌, ◌<◌, ◌^◌, Some, true};
 ghost use Rattle.crush_edits.specs.Pushed.{IsLocation};

@@ -1,4 +1,5 @@
-//! The goal of a plan: the wanted map, and which edits the plan may have.
+//! The goal of a plan: the wanted map, and the part of the map that the plan may change. The part
+//! is the whole map, or one item and all items below it.
 
 ghost use Rattle.std.specs.Prelude.{◌≡◌, List, IfOk, Some, false, true};
 ghost use Rattle.std.specs.List.{list_all};
@@ -22,18 +23,18 @@ use std::alloc::{AllocError, Allocator, Global};
 #[derive(Drop)]
 pub(crate) struct PlanGoal<'a, A: Allocator, B: Allocator> {
     pub identity: Identity,
-    /// The name of an item, or `None`. If there is a name, the plan changes only the item of this
-    /// name, and the items below it.
+    /// If it is the name of an item, the part that the plan may change is this item and all items
+    /// below it. If it is `None`, the part is the whole map.
     pub under: Option<&'a str>,
-    /// The map before all edits of the plan.
+    /// The map before the plan's first edit.
     pub before: &'a CrushMap<A>,
     pub wanted: &'a CrushMap<B>,
-    /// The items of the wanted map.
+    /// The items of the wanted map, in a table that finds an item by its id.
     pub there: ItemTable<'a, B>,
 }
 
 impl<A: Allocator, B: Allocator> PlanGoal<'_, A, B> {
-    /// Whether the item of this id was in the part before all edits.
+    /// Whether the item of this id was in the part before the plan's first edit.
     pub(crate) fn was_in_part(&self, id: ItemId) -> bool
         ensures { (t : List Row) → Stands self.now.before.now.forest t
             → result ≡ is_in (option_map (λ n. n.now) self.now.under) t id }
@@ -41,7 +42,7 @@ impl<A: Allocator, B: Allocator> PlanGoal<'_, A, B> {
         is_in(self.before, self.under, id)
     }
 
-    /// Whether the wanted map has an item of this name in the part.
+    /// Whether the item of this name is in the part in the wanted map.
     fn will_be_in_part(&self, name: &str) -> bool
         ensures { (u : List Row) → Stands self.now.wanted.now.forest u
             → result ≡ will_be_in_part u (option_map (λ n. n.now) self.now.under) name.now }
@@ -52,12 +53,13 @@ impl<A: Allocator, B: Allocator> PlanGoal<'_, A, B> {
         }
     }
 
-    /// Whether the plan may change the item of this id, which has this name after the change.
+    /// Whether the plan may change this item. `name` is the item's name after the change.
     pub(crate) fn is_in_part(&self, id: ItemId, name: &str) -> bool {
         self.under.is_none() || self.was_in_part(id) || self.will_be_in_part(name)
     }
 
-    /// Whether each item that the edit names was in the part, or will be there.
+    /// Whether each item that the edit names was in the part before the plan's first edit, or is in
+    /// the part in the wanted map.
     pub(crate) fn concerns(&self, map: &CrushMap<A>, edit: &Edit) -> bool
         ensures { (t u v : List Row) → Stands self.now.before.now.forest t
             → Stands self.now.wanted.now.forest u → Stands map.now.forest v
@@ -110,8 +112,10 @@ impl<A: Allocator, B: Allocator> PlanGoal<'_, A, B> {
         self.was_called_in(map, before) || self.will_be_in_part(behind.as_str())
     }
 
-    /// Whether the edit sets only weights of items that were in the part, or will be there. Only
-    /// one kind of edit sets all weights below a bucket. An `Err` says that memory ran out.
+    /// Whether the edit sets only weights of items that were in the part before the plan's first
+    /// edit, or that are in the part in the wanted map. Only an edit that sets all weights below a
+    /// bucket could set the weights of other items, so every other edit passes this test. The test
+    /// fails only if memory runs out.
     pub(crate) fn weighs_part(
         &self,
         alloc: Global,
@@ -182,7 +186,7 @@ impl<A: Allocator, B: Allocator> PlanGoal<'_, A, B> {
         }
     }
 
-    /// Lists the items below the bucket.
+    /// Whether all items below the bucket are in the part. The test first lists these items.
     fn has_listed_below(
         &self,
         alloc: Global,

@@ -1,5 +1,6 @@
-//! Matches the buckets of two maps: finds out which bucket of the map becomes which bucket of the
-//! wanted map.
+//! Matches the buckets of the map with the buckets of the wanted map. If two buckets are matched,
+//! the plan changes the map's bucket until it agrees with the wanted map's bucket. A bucket of the
+//! map that isn't matched is removed, and a bucket of the wanted map that isn't matched is created.
 
 use crate::item_table::ItemTable;
 use crush_edits::Setting;
@@ -10,33 +11,36 @@ use std::alloc::{AllocError, Allocator, Global};
 /// How a plan matches the buckets of the map with the buckets of the wanted map.
 #[derive(Clone, Copy, Debug, PartialEq, Eq)]
 pub enum Identity {
-    /// For two maps of one cluster: two buckets of the same id are matched if their names or their
-    /// types agree. Any other bucket is matched by its name. If fewer differences remain when all
-    /// buckets are matched by their names, the plan does that instead.
+    /// For two maps of one cluster. Two buckets of the same id are matched if their names or their
+    /// types agree. Any other bucket is matched by its name. If this plan leaves more differences
+    /// than a plan that matches all buckets by their names, the search returns the plan that
+    /// matches by names.
     Ids,
-    /// For maps of two clusters: two buckets are matched if they have the same name.
+    /// For maps of two clusters. Two buckets are matched if they have the same name.
     Names,
 }
 
-/// A bucket of the map, and the bucket of the wanted map that it becomes.
+/// A bucket of the map, and the bucket of the wanted map with which it is matched.
 #[derive(Clone, Copy)]
 pub(crate) struct BucketPair {
     pub current: BucketId,
     pub target: BucketId,
 }
 
-/// All pairs of matched buckets.
+/// The pairs of matched buckets. All pairs are stored twice, in two orders. The pairs whose bucket
+/// has to be renamed are stored once more.
 #[derive(Drop)]
 pub(crate) struct BucketPairs {
-    /// In the order of the current ids, from -1 downward.
+    /// All pairs, in the order of the ids in the map, from -1 downward.
     by_current: Vec<BucketPair>,
-    /// In the order of the target ids, from -1 downward.
+    /// All pairs, in the order of the ids in the wanted map, from -1 downward.
     by_target: Vec<BucketPair>,
-    /// The pairs of buckets with different names, in the order of the map's tree.
+    /// The pairs whose two buckets have different names, in the order of the map's tree.
     pub renamed: Vec<BucketPair>,
 }
 
-/// Whether the two maps give two types the same name. The maps may number their types differently.
+/// Whether two types have the same name, each in its own map. The maps may number their types
+/// differently.
 fn is_same_type(map: &Setting, current: TypeId, other: &Setting, target: TypeId) -> bool {
     match (map.kind_name(current), other.kind_name(target)) {
         (Some(current), Some(target)) => current.as_bytes() == target.as_bytes(),
@@ -48,7 +52,8 @@ fn have_same_name(current: &View<'_>, target: &View<'_>) -> bool {
     current.name.as_bytes() == target.name.as_bytes()
 }
 
-/// Whether both maps have a bucket of this id, and the names or the types of the two buckets agree.
+/// Whether both maps have a bucket of this id, and these two buckets have the same name or the same
+/// type.
 fn is_same_by_id<A: Allocator, B: Allocator>(
     map: &ItemTable<'_, A>,
     wanted: &ItemTable<'_, B>,
@@ -66,8 +71,8 @@ fn is_same_by_id<A: Allocator, B: Allocator>(
     }
 }
 
-/// Returns the bucket of the wanted map that a bucket of the map becomes, or `None` if the wanted
-/// map doesn't have the bucket.
+/// Returns the bucket of the wanted map with which a bucket of the map is matched, or `None` if
+/// there is no such bucket.
 ///
 /// Two buckets of the same name are matched even if their types differ. Otherwise the plan would
 /// have to remove the bucket and create it again.
@@ -87,7 +92,8 @@ fn target_of<A: Allocator, B: Allocator>(
     }
 }
 
-/// Returns this bucket of the wanted map, unless it is matched with the bucket of its own id.
+/// `bucket` is a bucket of the wanted map. Returns it, or `None` if it is matched with the map's
+/// bucket that has the same id.
 fn unless_same_by_id<A: Allocator, B: Allocator>(
     map: &ItemTable<'_, A>,
     wanted: &ItemTable<'_, B>,
@@ -125,7 +131,8 @@ impl BucketPairs {
         Ok(pairs)
     }
 
-    /// Appends the pair of this item, if the item is a bucket that the wanted map has too.
+    /// `item` is an item of the map. If it is a bucket that is matched with a bucket of the wanted
+    /// map, appends the pair of the two buckets.
     fn push<A: Allocator, B: Allocator>(
         &mut self,
         identity: Identity,
@@ -150,7 +157,8 @@ impl BucketPairs {
         Ok(())
     }
 
-    /// Returns the bucket of the wanted map that this bucket of the map becomes.
+    /// `bucket` is a bucket of the map. Returns the bucket of the wanted map with which it is
+    /// matched.
     pub(crate) fn target_of(&self, bucket: BucketId) -> Option<BucketId> {
         let pairs = self.by_current.as_slice();
         match pairs.binary_search_by_key(&bucket.distance(), |pair| pair.current.distance()) {
@@ -159,7 +167,8 @@ impl BucketPairs {
         }
     }
 
-    /// Returns the bucket of the map that becomes this bucket of the wanted map.
+    /// `bucket` is a bucket of the wanted map. Returns the bucket of the map with which it is
+    /// matched.
     pub(crate) fn current_of(&self, bucket: BucketId) -> Option<BucketId> {
         let pairs = self.by_target.as_slice();
         match pairs.binary_search_by_key(&bucket.distance(), |pair| pair.target.distance()) {

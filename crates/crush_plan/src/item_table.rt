@@ -1,4 +1,4 @@
-//! A table in which an item of a map is found by its id.
+//! A table that finds an item of a map by the item's id.
 
 use crush_map::{CrushMap, Setting};
 use crush_print::{WalkStep, walk};
@@ -6,7 +6,7 @@ use crush_tree::View;
 use crush_units::{BucketId, ItemId};
 use std::alloc::{AllocError, Allocator, Global};
 
-/// The position of an item in the list of all items.
+/// The key of an item, and the position of the item in the list of all items.
 #[derive(Clone, Copy)]
 struct Key {
     key: u64,
@@ -15,19 +15,20 @@ struct Key {
 
 /// The items of a map that doesn't change while the table is used.
 ///
-/// One walk through the map makes the table. A search in the table takes logarithmic time. A search
-/// for an id in the map itself goes through all buckets above the item, which takes long if buckets
-/// are nested deeply.
+/// The table is built in one walk over the map. A search in the table takes logarithmic time. In
+/// the map itself, a search for an id climbs through all buckets above the item, which takes long
+/// if buckets are nested deeply.
 #[derive(Drop)]
 pub(crate) struct ItemTable<'a, A: Allocator> {
     map: &'a CrushMap<A>,
-    /// In the order of the map's tree: a bucket comes before the items below it.
+    /// All items in the order of the map's tree: a bucket comes before the items below it.
     pub steps: Vec<WalkStep<'a, A>>,
-    /// By ascending keys.
+    /// The keys of all items, in ascending order.
     keys: Vec<Key>,
 }
 
-/// Returns an even number for a bucket and an odd number for a device.
+/// Returns a number by which ids are sorted: an even number for a bucket, and an odd number for a
+/// device.
 fn key_of(id: ItemId) -> u64 {
     match id {
         ItemId::Bucket(bucket) => 2 * bucket.distance() as u64,
@@ -59,7 +60,7 @@ impl<'a, A: Allocator> ItemTable<'a, A> {
         Ok(ItemTable { map, steps, keys })
     }
 
-    /// Returns the item of this id.
+    /// Returns the item of this id, or `None` if the map has no such item.
     pub(crate) fn view(&self, id: ItemId) -> Option<View<'_>> {
         let keys = self.keys.as_slice();
         let key = key_of(id);
@@ -72,7 +73,7 @@ impl<'a, A: Allocator> ItemTable<'a, A> {
         }
     }
 
-    /// Returns the name of the item of this id.
+    /// Returns the name of the item of this id, or `None` if the map has no such item.
     pub(crate) fn name_of(&self, id: ItemId) -> Option<&str> {
         match self.view(id) {
             Some(view) => Some(view.name),
@@ -80,7 +81,7 @@ impl<'a, A: Allocator> ItemTable<'a, A> {
         }
     }
 
-    /// Returns the bucket that holds the item of this id.
+    /// Returns the parent of the item of this id, or `None` if the item has no parent.
     pub(crate) fn parent(&self, id: ItemId) -> Option<BucketId> {
         match self.view(id) {
             Some(view) => view.parent,
@@ -88,17 +89,17 @@ impl<'a, A: Allocator> ItemTable<'a, A> {
         }
     }
 
-    /// Returns the id of the item of this name.
+    /// Returns the id of the item of this name, or `None` if the map has no such item.
     pub(crate) fn locate(&self, name: &str) -> Option<ItemId> {
         self.map.locate(name)
     }
 
-    /// Returns the bucket of this name.
+    /// Returns the bucket of this name, or `None` if the map has no such bucket.
     pub(crate) fn bucket_named(&self, name: &str) -> Option<BucketId> {
         bucket_named(self.map, name)
     }
 
-    /// Returns the setting of the map.
+    /// Returns the setting of the map: its tunables, types and rules.
     pub(crate) fn setting(&self) -> &Setting {
         self.map.setting()
     }

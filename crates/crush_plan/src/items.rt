@@ -15,24 +15,32 @@ pub(crate) struct CurrentItems {
     pub removed_buckets: Vec<BucketId>,
     /// The devices that the wanted map doesn't have.
     pub removed_devices: Vec<DeviceId>,
-    /// The devices that both maps have, except those that both maps place with the same weight.
+    /// The devices that both maps have and whose weight or place may have to change: not both maps
+    /// hold the device in a bucket with the same weight.
     pub reweighed: Vec<DeviceId>,
-    /// Those of `reweighed` whose weight is to become less.
+    /// The devices among `reweighed` that get a lower weight.
     pub lowered: Vec<DeviceId>,
 }
 
 /// Items of the wanted map, in the order of the wanted map's tree.
 #[derive(Drop)]
 pub(crate) struct TargetItems {
-    /// All buckets. A bucket that already has its place is listed too, because an edit of another
+    /// All buckets. A bucket that already is in its place is listed too, because an edit of another
     /// bucket may move it away.
-    pub buckets: Vec<BucketId>,
-    /// The buckets that the map doesn't have.
-    pub new_buckets: Vec<BucketId>,
+    pub buckets: Vec<TargetBucket>,
     /// The devices that are in a bucket.
     pub placed: Vec<Placed>,
-    /// The devices that the map doesn't have, and the devices that have another class in the map.
+    /// The devices that the map doesn't have, and the devices whose class in the map is another
+    /// one.
     pub set: Vec<SetDevice>,
+}
+
+/// A bucket of the wanted map.
+#[derive(Clone, Copy)]
+pub(crate) struct TargetBucket {
+    pub id: BucketId,
+    /// Whether the map doesn't have the bucket.
+    pub is_new: bool,
 }
 
 /// A device, and the bucket that holds the device in the wanted map.
@@ -46,9 +54,9 @@ pub(crate) struct Placed {
 #[derive(Clone, Copy)]
 pub(crate) struct SetDevice {
     pub id: DeviceId,
-    /// Whether the device has a class in the map.
+    /// Whether the device has a class in the map before the plan's edits.
     pub has_class: bool,
-    /// Whether the device has another class in the wanted map.
+    /// Whether the device's class in the wanted map is another one.
     pub differs: bool,
 }
 
@@ -58,8 +66,8 @@ pub(crate) struct Items {
     pub target: TargetItems,
 }
 
-/// Finds the items of both maps for which the plan may need an edit. `pairs` says which buckets of
-/// the two maps are matched.
+/// Finds the items of both maps for which the plan may need an edit. `pairs` has the matched
+/// buckets of the two maps.
 pub(crate) fn items_of_both<A: Allocator, B: Allocator>(
     alloc: Global,
     pairs: &BucketPairs,
@@ -97,7 +105,6 @@ fn target_items<A: Allocator, B: Allocator>(
 ) -> Result<TargetItems, AllocError> {
     let mut items = TargetItems {
         buckets: Vec::new(alloc),
-        new_buckets: Vec::new(alloc),
         placed: Vec::new(alloc),
         set: Vec::new(alloc),
     };
@@ -107,7 +114,7 @@ fn target_items<A: Allocator, B: Allocator>(
     Ok(items)
 }
 
-/// Returns the other map's item with the same id and the same name.
+/// Returns the other map's item with the same id and the same name, or `None` if there is none.
 pub(crate) fn same_item<'a, A: Allocator>(
     map: &'a ItemTable<'_, A>,
     item: &View<'_>,
@@ -118,7 +125,7 @@ pub(crate) fn same_item<'a, A: Allocator>(
     }
 }
 
-/// Whether both maps place the device, with the same weight.
+/// Whether a bucket holds the device in both maps, with weights that are at most one unit apart.
 fn weigh_alike(current: &View<'_>, target: &View<'_>) -> bool {
     current.parent.is_some() && target.parent.is_some() && are_near(current.weight, target.weight)
 }
@@ -141,7 +148,8 @@ impl CurrentItems {
         Ok(())
     }
 
-    /// Appends the device if its weight is to change. Both maps have the device.
+    /// Appends the device if it isn't held with the same weight in both maps. Both maps have the
+    /// device.
     fn push_reweighed(
         &mut self,
         device: DeviceId,
@@ -172,11 +180,9 @@ impl TargetItems {
         }
     }
 
-    fn push_bucket(&mut self, pairs: &BucketPairs, bucket: BucketId) -> Result<(), AllocError> {
-        self.buckets.push(bucket)?;
-        if pairs.current_of(bucket).is_none() {
-            self.new_buckets.push(bucket)?;
-        }
+    fn push_bucket(&mut self, pairs: &BucketPairs, id: BucketId) -> Result<(), AllocError> {
+        let is_new = pairs.current_of(id).is_none();
+        self.buckets.push(TargetBucket { id, is_new })?;
         Ok(())
     }
 

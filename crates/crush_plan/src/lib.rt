@@ -1,12 +1,14 @@
 //! Plans: the edits that lead from one map to another map, and the differences that remain because
 //! no edit can remove them.
 //!
-//! [`find_plan`] finds a [`Plan`], and [`plan_text`] prints it. To find a plan, the program applies
-//! each edit to a copy of the map, and keeps the edit only if it is not refused and changes the
-//! copy. So what a plan says is true of the two maps, however the plan was found.
+//! [`find_plan`] finds a [`Plan`]. [`plan_text`] and [`ceph_plan_text`] print it. To find a plan,
+//! the search applies each edit to a copy of the map. It keeps the edit only if the edit isn't
+//! refused and changes the copy. So the edits of a plan and its remaining differences are right for the two maps, however
+//! the plan was found.
 #![tactic(auto)]
 
 mod buckets;
+mod classes;
 mod devices;
 mod draft;
 mod expressible;
@@ -26,4 +28,4 @@ mod weights;
 
 pub use identity::Identity;
 pub use plan::{Plan, find_plan};
-pub use text::{PlanWords, plan_text};
+pub use text::{ceph_plan_text, plan_text};

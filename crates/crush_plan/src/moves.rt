@@ -1,18 +1,19 @@
-//! Moves items to the places that they have in the wanted map.
+//! Creates buckets, and moves items to the places that they have in the wanted map.
 
 ghost use Rattle.std.specs.Prelude.{OnOk};
 ghost use Rattle.crush_plan.specs.Draft.{GoesOn};
 
+use crate::buckets::make_bucket;
 use crate::draft::Draft;
 use crate::goal::PlanGoal;
 use crate::item_table::bucket_named;
-use crate::items::{Placed, TargetItems};
+use crate::items::{Placed, TargetBucket, TargetItems};
 use crush_units::{BucketId, ItemId};
 use std::alloc::{AllocError, Allocator};
 
-/// Moves buckets, from the roots of the wanted map downward, and then devices. When an item is
-/// moved, all buckets above its destination already have their places, so nothing is moved below
-/// itself.
+/// Creates and moves buckets, from the roots of the wanted map downward, and then moves devices.
+/// When an item is moved, all buckets above its destination already have their places, so nothing
+/// is moved below itself.
 pub(crate) fn move_all<A: Allocator + Clone, B: Allocator>(
     draft: &mut Draft<A>,
     goal: &PlanGoal<'_, A, B>,
@@ -20,21 +21,48 @@ pub(crate) fn move_all<A: Allocator + Clone, B: Allocator>(
 ) -> Result<(), AllocError>
     ensures { OnOk result (GoesOn goal.now draft.old draft.new) }
 {
-    move_buckets(draft, goal, target.buckets.as_slice())?;
+    place_buckets(draft, goal, target.buckets.as_slice())?;
     move_devices(draft, goal, target.placed.as_slice())
 }
 
-fn move_buckets<A: Allocator + Clone, B: Allocator>(
+fn place_buckets<A: Allocator + Clone, B: Allocator>(
     draft: &mut Draft<A>,
     goal: &PlanGoal<'_, A, B>,
-    buckets: &[BucketId],
+    buckets: &[TargetBucket],
 ) -> Result<(), AllocError>
     ensures { OnOk result (GoesOn goal.now draft.old draft.new) }
 {
     for bucket in buckets {
-        move_bucket(draft, goal, *bucket)?;
+        place_bucket(draft, goal, bucket)?;
     }
     Ok(())
+}
+
+/// Creates the bucket if the map doesn't have it, and then moves it. Nothing comes between the two
+/// edits, so that Ceph can do both with one command.
+fn place_bucket<A: Allocator + Clone, B: Allocator>(
+    draft: &mut Draft<A>,
+    goal: &PlanGoal<'_, A, B>,
+    bucket: &TargetBucket,
+) -> Result<(), AllocError>
+    ensures { OnOk result (GoesOn goal.now draft.old draft.new) }
+{
+    make_if_new(draft, goal, bucket)?;
+    move_bucket(draft, goal, bucket.id)
+}
+
+fn make_if_new<A: Allocator + Clone, B: Allocator>(
+    draft: &mut Draft<A>,
+    goal: &PlanGoal<'_, A, B>,
+    bucket: &TargetBucket,
+) -> Result<(), AllocError>
+    ensures { OnOk result (GoesOn goal.now draft.old draft.new) }
+{
+    if bucket.is_new {
+        make_bucket(draft, goal, bucket.id)
+    } else {
+        Ok(())
+    }
 }
 
 /// Moves the bucket that has the name of this bucket of the wanted map, if the two have different
@@ -70,7 +98,7 @@ fn move_devices<A: Allocator + Clone, B: Allocator>(
     Ok(())
 }
 
-/// Moves the device if the map has it under the name that it has in the wanted map.
+/// Moves the device, if the map has it under the name that it has in the wanted map.
 fn move_device<A: Allocator + Clone, B: Allocator>(
     draft: &mut Draft<A>,
     goal: &PlanGoal<'_, A, B>,
@@ -88,8 +116,8 @@ fn move_device<A: Allocator + Clone, B: Allocator>(
     }
 }
 
-/// Moves the item, which has this name, into the map's bucket that has the same name as `parent`.
-/// `parent` is a bucket of the wanted map. If the item is in that bucket already, nothing happens.
+/// Moves the item of this name into the bucket of the map that has the same name as `parent`, which
+/// is a bucket of the wanted map. Does nothing if that bucket already holds the item.
 fn move_below<A: Allocator + Clone, B: Allocator>(
     draft: &mut Draft<A>,
     goal: &PlanGoal<'_, A, B>,

@@ -1,4 +1,4 @@
-//! The plan from one map to another.
+//! Finds the plan that leads from one map to another.
 
 ghost use Rattle.std.specs.Prelude.{◌≡◌, ◌<◌, IfOk, List, true};
 ghost use Rattle.std.specs.Option.{option_map};
@@ -18,30 +18,31 @@ use crush_map::{CrushMap, Edit};
 use crush_since::{Counts, count_aside, stays_part};
 use std::alloc::{AllocError, Allocator, Global};
 
-/// Edits that lead from one map to another map, and what still differs after the edits.
+/// Edits that lead from one map to another map, and the differences that remain after the edits.
 #[derive(Debug, Drop)]
 pub struct Plan {
-    /// The edits, in the order in which they are to be applied. No edit is refused, and each edit
-    /// changes the map that the edits before it have made.
+    /// The edits, in the order in which they have to be applied. No edit is refused, and each edit
+    /// changes the map to which the edits before it have led.
     pub edits: Vec<Edit>,
-    /// A line for each difference that remains after the edits. The items of the two maps are
-    /// matched by their names.
+    /// A line of text for each difference that remains after the edits. To find these differences,
+    /// the items of the two maps are matched by their names.
     pub rest: Vec<u8>,
-    /// How many buckets of the same name have different ids after the edits. No edit can set an id,
-    /// so a different id is no difference.
+    /// The numbers of buckets that have different ids, or different class ids, in the two maps
+    /// after the edits. The buckets are matched by their names. No edit can set an id, so these
+    /// differences aren't in `rest`.
     pub aside: Counts,
 }
 
-/// Returns a plan that leads from a map to the wanted map.
+/// Returns a plan that leads from a map toward the wanted map.
 ///
-/// `identity` says how the buckets of the two maps are matched. If `under` is a name, the plan is
-/// only for a part of the map: the item of this name, and all items below it. Then each edit
-/// concerns only items that are in this part of the map, or in this part of the wanted map.
+/// `identity` says how the buckets of the two maps are matched. If `under` is a name, the plan
+/// changes only a part of the map: the item of this name, and all items below it. Then an edit
+/// names and changes only items that are in this part of the map or in this part of the wanted map.
 ///
-/// A line of a script can express each edit. No edit is refused, and each edit changes the map.
-/// Either the plan has no edits, or fewer differences remain than without its edits.
+/// Each edit can be written as a line of a script. No edit is refused, and each edit changes the
+/// map. If the plan has edits, fewer differences remain after them than before them.
 ///
-/// An `Err` says that memory ran out.
+/// The call fails only if memory runs out.
 pub fn find_plan<A: Allocator + Clone, B: Allocator>(
     alloc: Global,
     identity: Identity,
@@ -66,7 +67,7 @@ pub fn find_plan<A: Allocator + Clone, B: Allocator>(
     without_edits(alloc, under, map, wanted, rest)
 }
 
-/// Returns the plan without edits. `rest` lists the differences between the two maps.
+/// Returns a plan without edits. `rest` lists the differences between the two maps.
 fn without_edits<A: Allocator, B: Allocator>(
     alloc: Global,
     under: Option<&str>,
@@ -91,7 +92,8 @@ fn without_edits<A: Allocator, B: Allocator>(
     })
 }
 
-/// Looks for edits. `differences` is the number of differences between the two maps.
+/// Returns a plan with the edits that a search finds. `differences` is the number of differences
+/// between the two maps.
 fn with_edits<A: Allocator + Clone, B: Allocator>(
     alloc: Global,
     identity: Identity,
@@ -132,7 +134,7 @@ fn to_goal<A: Allocator + Clone, B: Allocator>(
     Ok(Plan { edits, rest, aside })
 }
 
-/// Whether fewer than these differences remain after the edits of the plan.
+/// Whether fewer than `differences` differences remain after the edits of the plan.
 fn is_better(plan: &Plan, differences: usize) -> bool
     ensures { result ≡ true → line_count plan.now.rest.items < differences }
 {
@@ -148,7 +150,7 @@ impl Plan {
     }
 }
 
-/// Returns how many lines a text has: how many of its bytes end a line.
+/// Returns the number of lines of a text: the number of its line feeds.
 pub(crate) fn count_lines(text: &[u8]) -> usize
     ensures { result ≡ line_count text.now }
 {
@@ -161,7 +163,8 @@ pub(crate) fn count_lines(text: &[u8]) -> usize
     count
 }
 
-/// Returns the draft to which the search leads from the map before all edits.
+/// Searches for edits, starting from the map itself, and returns the draft that the search has
+/// reached.
 fn drafted<A: Allocator + Clone, B: Allocator>(
     alloc: Global,
     goal: &PlanGoal<'_, A, B>,

@@ -9,7 +9,8 @@ use crate::way::Way;
 use crush_units::{BucketId, DeviceId, ItemId, Name};
 use std::alloc::{AllocError, Allocator, Global};
 
-/// Removes devices, and then buckets without items. A bucket comes after all buckets below it.
+/// Removes first all devices and then all buckets that have to be removed. A bucket is removed
+/// after all buckets below it.
 pub(crate) fn remove_all<A: Allocator + Clone, B: Allocator>(
     draft: &mut Draft<A>,
     goal: &PlanGoal<'_, A, B>,
@@ -34,7 +35,7 @@ fn remove_devices<A: Allocator + Clone, B: Allocator>(
     Ok(())
 }
 
-/// Removes the device, unless an earlier step has removed it already.
+/// Removes the device, unless an earlier edit has removed it already.
 fn remove_device<A: Allocator + Clone, B: Allocator>(
     draft: &mut Draft<A>,
     goal: &PlanGoal<'_, A, B>,
@@ -66,7 +67,7 @@ fn remove_buckets<A: Allocator + Clone, B: Allocator>(
     Ok(())
 }
 
-/// Removes the bucket, unless an earlier step has removed it already.
+/// Removes the bucket, unless an earlier edit has removed it already.
 fn remove_bucket<A: Allocator + Clone, B: Allocator>(
     draft: &mut Draft<A>,
     goal: &PlanGoal<'_, A, B>,
@@ -81,8 +82,9 @@ fn remove_bucket<A: Allocator + Clone, B: Allocator>(
     }
 }
 
-/// Returns the name that the bucket has now, or `None` if the bucket has been removed. After the
-/// removal, a new bucket may have got the id of the removed bucket.
+/// Returns the name that the bucket has now, or `None` if the bucket has been removed. The bucket
+/// has also been removed if an item has the bucket's id and the name of a new bucket. In this case
+/// the new bucket has got the id of the removed one.
 fn removed_name<A: Allocator + Clone, B: Allocator>(
     draft: &Draft<A>,
     goal: &PlanGoal<'_, A, B>,
@@ -98,7 +100,8 @@ fn removed_name<A: Allocator + Clone, B: Allocator>(
     }
 }
 
-/// Whether a bucket that only the wanted map has has this name.
+/// Whether this is the name of a new bucket: a bucket of the wanted map that isn't matched with any
+/// bucket of the map.
 fn is_new<A: Allocator, B: Allocator>(
     goal: &PlanGoal<'_, A, B>,
     way: &Way<'_, A>,

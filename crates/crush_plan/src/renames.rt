@@ -1,10 +1,10 @@
 //! Gives buckets the names that they have in the wanted map.
 //!
-//! A bucket can get its name only when no other item has the name. If the name belongs to a bucket
-//! that is to be renamed too, then that bucket comes first. So the buckets to be renamed form
-//! chains: the last bucket of a chain gets a name that is free, and each other bucket gets the name
-//! of the next bucket of the chain. Or they form cycles: then one bucket of the cycle first gets a
-//! name that no item has.
+//! A bucket can get its new name only when no other item has this name. If another bucket has the
+//! name and has to be renamed too, that bucket has to be renamed first. So the buckets that have to
+//! be renamed form chains and cycles. The last bucket of a chain gets a name that is free, and
+//! every other bucket of the chain gets the name of the next bucket. In a cycle, each bucket gets
+//! the name of the next one, so one bucket of the cycle first gets a name that no item has.
 
 ghost use Rattle.std.specs.Prelude.{OnOk};
 ghost use Rattle.crush_plan.specs.Draft.{GoesOn};
@@ -19,11 +19,12 @@ use crush_units::{BucketId, ItemId, Name};
 use itoa::Buffer;
 use std::alloc::{AllocError, Allocator, Global};
 
-/// The largest number of bytes that a free name takes from the name of a bucket, before its number.
-/// So a free name isn't longer than a name may be.
+/// A free name begins with the first bytes of a bucket's name, at most this many, and ends with a
+/// number. The limit keeps the free name within the longest length that a name may have.
 const LONGEST_STEM: usize = 240;
 
-/// Renames the buckets that are to be renamed, if the plan may rename them.
+/// Renames each bucket whose matched bucket in the wanted map has a different name, if the plan may
+/// rename it.
 pub(crate) fn rename_all<A: Allocator + Clone, B: Allocator>(
     draft: &mut Draft<A>,
     goal: &PlanGoal<'_, A, B>,
@@ -40,7 +41,7 @@ pub(crate) fn rename_all<A: Allocator + Clone, B: Allocator>(
     rename_cycles(draft, goal, way, cycles.as_slice())
 }
 
-/// Returns the renames of buckets in the part, in the order of the map's tree.
+/// Returns the renames that the plan may have, in the order of the map's tree.
 fn possible_renames<A: Allocator, B: Allocator>(
     alloc: Global,
     goal: &PlanGoal<'_, A, B>,
@@ -63,7 +64,7 @@ fn is_possible<A: Allocator, B: Allocator>(goal: &PlanGoal<'_, A, B>, pair: &Buc
     }
 }
 
-/// Returns the name that the bucket is to get.
+/// Returns the bucket's new name, which is its name in the wanted map.
 fn target_name<'a, A: Allocator, B: Allocator>(
     goal: &'a PlanGoal<'_, A, B>,
     pair: &BucketPair,
@@ -71,7 +72,8 @@ fn target_name<'a, A: Allocator, B: Allocator>(
     goal.there.name_of(ItemId::Bucket(pair.target))
 }
 
-/// Returns the bucket that has the name which this bucket is to get.
+/// Returns the bucket of the map that has this bucket's new name, or `None` if no bucket has the
+/// name.
 fn owner<A: Allocator, B: Allocator>(
     goal: &PlanGoal<'_, A, B>,
     way: &Way<'_, A>,
@@ -80,7 +82,8 @@ fn owner<A: Allocator, B: Allocator>(
     way.start.bucket_named(target_name(goal, pair)?)
 }
 
-/// Returns the rename of the bucket that is to get this bucket's name, if that rename is possible.
+/// Returns the bucket that has to get this bucket's old name, if there is one and the plan may
+/// rename it.
 fn next_owner<A: Allocator, B: Allocator>(
     goal: &PlanGoal<'_, A, B>,
     way: &Way<'_, A>,
@@ -95,8 +98,8 @@ fn next_owner<A: Allocator, B: Allocator>(
     }
 }
 
-/// Whether no other bucket has to be renamed before this bucket: this is the last bucket of a
-/// chain.
+/// Whether this bucket is the last one of a chain, so that no other bucket has to be renamed before
+/// it.
 fn begins_chain<A: Allocator, B: Allocator>(
     goal: &PlanGoal<'_, A, B>,
     way: &Way<'_, A>,
@@ -126,8 +129,8 @@ fn rename_chains<A: Allocator + Clone, B: Allocator>(
     Ok(())
 }
 
-/// Renames the buckets of a chain, of which this bucket is the last one. Does nothing if an item
-/// has the name that this bucket is to get, or if this bucket is not the last one of a chain.
+/// Renames the buckets of the chain that ends with this bucket. Does nothing if an item has this
+/// bucket's new name, or if this bucket is not the last one of a chain.
 fn rename_chain<A: Allocator + Clone, B: Allocator>(
     draft: &mut Draft<A>,
     goal: &PlanGoal<'_, A, B>,
@@ -148,7 +151,7 @@ fn rename_chain<A: Allocator + Clone, B: Allocator>(
     }
 }
 
-/// Whether no item of the map has the name that the bucket is to get.
+/// Whether no item of the map has the bucket's new name.
 fn is_target_free<A: Allocator, B: Allocator>(
     map: &CrushMap<A>,
     goal: &PlanGoal<'_, A, B>,
@@ -160,8 +163,8 @@ fn is_target_free<A: Allocator, B: Allocator>(
     }
 }
 
-/// Renames the first bucket, then the bucket that is to get its old name, and so on. Stops at a
-/// bucket that has been renamed already. Renames at most `most` buckets.
+/// Renames this bucket, then the bucket that gets this bucket's old name, and so on. Stops when a
+/// bucket has been renamed already, or after `most` buckets.
 fn rename_from<A: Allocator + Clone, B: Allocator>(
     draft: &mut Draft<A>,
     goal: &PlanGoal<'_, A, B>,
@@ -182,8 +185,8 @@ fn rename_from<A: Allocator + Clone, B: Allocator>(
     Ok(())
 }
 
-/// Returns the bucket that is to get this bucket's old name, or `None` if this bucket has been
-/// renamed already.
+/// Returns the bucket that gets this bucket's old name, or `None` if this bucket has been renamed
+/// already.
 fn next_waiting<A: Allocator + Clone, B: Allocator>(
     draft: &Draft<A>,
     goal: &PlanGoal<'_, A, B>,
@@ -214,8 +217,8 @@ fn rename_one<A: Allocator + Clone, B: Allocator>(
     }
 }
 
-/// Makes the name that this bucket is to get free: gives a free name to the bucket that has the
-/// name, if the wanted map doesn't have that bucket.
+/// Frees this bucket's new name: if a bucket that isn't matched with any bucket of the wanted map
+/// still has the name, gives that bucket a name that no item of either map has.
 fn release_name<A: Allocator + Clone, B: Allocator>(
     draft: &mut Draft<A>,
     goal: &PlanGoal<'_, A, B>,
@@ -232,7 +235,7 @@ fn release_name<A: Allocator + Clone, B: Allocator>(
     }
 }
 
-/// Whether the bucket still has the name, and the wanted map doesn't have the bucket.
+/// Whether the bucket still has this name, and isn't matched with any bucket of the wanted map.
 fn is_removed<A: Allocator + Clone>(
     draft: &Draft<A>,
     way: &Way<'_, A>,
@@ -242,7 +245,7 @@ fn is_removed<A: Allocator + Clone>(
     way.pairs.target_of(bucket).is_none() && draft.has_item(ItemId::Bucket(bucket), name)
 }
 
-/// Renames the bucket of this name to a free name.
+/// Renames the bucket that has this name to a name that no item of either map has.
 fn release<A: Allocator + Clone, B: Allocator>(
     draft: &mut Draft<A>,
     goal: &PlanGoal<'_, A, B>,
@@ -256,7 +259,8 @@ fn release<A: Allocator + Clone, B: Allocator>(
     }
 }
 
-/// Returns the renames that are in no chain, and so are in cycles. It goes through each chain once.
+/// Returns the pairs of the buckets that are in no chain, and therefore in a cycle. The function
+/// visits each chain once.
 fn unchained<A: Allocator, B: Allocator>(
     alloc: Global,
     goal: &PlanGoal<'_, A, B>,
@@ -273,7 +277,7 @@ fn unchained<A: Allocator, B: Allocator>(
     Ok(cycles)
 }
 
-/// Returns the buckets of all chains, by ascending distance of their ids from 0.
+/// Returns the buckets of all chains, sorted by the distances of their ids from 0.
 fn chained_buckets<A: Allocator, B: Allocator>(
     alloc: Global,
     goal: &PlanGoal<'_, A, B>,
@@ -290,7 +294,8 @@ fn chained_buckets<A: Allocator, B: Allocator>(
     Ok(chained)
 }
 
-/// Whether the bucket is one of these buckets.
+/// Whether the bucket is among the buckets `chained`, which are sorted by the distances of their
+/// ids from 0.
 fn is_chained(chained: &[BucketId], bucket: BucketId) -> bool {
     match chained.binary_search_by_key(&bucket.distance(), |bucket| bucket.distance()) {
         Ok(_) => true,
@@ -298,8 +303,8 @@ fn is_chained(chained: &[BucketId], bucket: BucketId) -> bool {
     }
 }
 
-/// Appends the first bucket, and the buckets of its chain that are renamed after it, at most `most`
-/// buckets.
+/// Appends the last bucket of a chain, and the other buckets of the chain in the order in which
+/// they are renamed. Appends at most `most` buckets.
 fn push_chain<A: Allocator, B: Allocator>(
     goal: &PlanGoal<'_, A, B>,
     way: &Way<'_, A>,
@@ -333,7 +338,7 @@ fn rename_cycles<A: Allocator + Clone, B: Allocator>(
     Ok(())
 }
 
-/// Whether the bucket still has the name, and was in the part.
+/// Whether the bucket still has this name, and was in the part before the plan's first edit.
 fn may_break<A: Allocator + Clone, B: Allocator>(
     draft: &Draft<A>,
     goal: &PlanGoal<'_, A, B>,
@@ -344,8 +349,8 @@ fn may_break<A: Allocator + Clone, B: Allocator>(
         && goal.was_in_part(ItemId::Bucket(pair.current))
 }
 
-/// Renames all buckets of a cycle. This bucket first gets a free name. This bucket has to be in the
-/// part before the edits, because no item of the wanted map has the free name.
+/// Renames all buckets of a cycle. This bucket first gets a free name. It must have been in the
+/// part before the plan's first edit, because no item of the wanted map has the free name.
 fn break_cycle<A: Allocator + Clone, B: Allocator>(
     draft: &mut Draft<A>,
     goal: &PlanGoal<'_, A, B>,
@@ -369,7 +374,8 @@ fn break_cycle<A: Allocator + Clone, B: Allocator>(
     draft.rename_bucket(goal, spare.as_bytes(), to.as_bytes())
 }
 
-/// Returns the first of the names `NAME.1`, `NAME.2` and so on that neither map has.
+/// Returns a free name: the first of the names `NAME.1`, `NAME.2` and so on that no item of either
+/// map has.
 fn free_name<A: Allocator, B: Allocator>(
     alloc: Global,
     map: &CrushMap<A>,
@@ -385,8 +391,8 @@ fn free_name<A: Allocator, B: Allocator>(
     Ok(None)
 }
 
-/// Returns the name with a point and the number after it. Of a long name, it takes only the first
-/// bytes.
+/// Returns a name that consists of `name`, a dot and the number. If `name` is longer than
+/// `LONGEST_STEM`, only its first bytes are used.
 fn numbered_name(alloc: Global, name: &[u8], number: u32) -> Result<Name<Global>, AllocError> {
     let mut buffer = Buffer::new();
     let number = buffer.format(number).as_bytes();

@@ -1,4 +1,4 @@
-//! Swaps two buckets if they are to exchange their names and most of their items.
+//! Swaps two buckets if they exchange their names and most of their items.
 
 ghost use Rattle.std.specs.Prelude.{OnOk};
 ghost use Rattle.crush_plan.specs.Draft.{GoesOn};
@@ -13,8 +13,8 @@ use crush_tree::Node;
 use crush_units::{BucketId, ItemId};
 use std::alloc::{AllocError, Allocator};
 
-/// Swaps each two buckets that are to have each other's names, if more of their items change from
-/// one bucket to the other than stay.
+/// Swaps two buckets if each of them has to get the other's name, and if the number of their items
+/// that have to move from one of them to the other is greater than the number that stay.
 pub(crate) fn swap_all<A: Allocator + Clone, B: Allocator>(
     draft: &mut Draft<A>,
     goal: &PlanGoal<'_, A, B>,
@@ -28,7 +28,7 @@ pub(crate) fn swap_all<A: Allocator + Clone, B: Allocator>(
     Ok(())
 }
 
-/// Swaps the bucket with its partner, if it has one and the swap is worth it.
+/// Swaps the bucket with its partner, if it has a partner and the swap saves moves.
 fn swap_one<A: Allocator + Clone, B: Allocator>(
     draft: &mut Draft<A>,
     goal: &PlanGoal<'_, A, B>,
@@ -52,8 +52,8 @@ fn swap_one<A: Allocator + Clone, B: Allocator>(
     }
 }
 
-/// Returns the partner of a bucket: the bucket that has the name which this bucket is to get, and
-/// that is to get this bucket's name.
+/// Returns the partner of a bucket, if there is one. Each of two partners has to get the other's
+/// name.
 fn partner<A: Allocator, B: Allocator>(
     goal: &PlanGoal<'_, A, B>,
     way: &Way<'_, A>,
@@ -69,7 +69,8 @@ fn partner<A: Allocator, B: Allocator>(
     }
 }
 
-/// Whether more items of the two buckets change from one bucket to the other than stay.
+/// Whether the number of the two buckets' items that have to move from one of them to the other is
+/// greater than the number that stay.
 fn is_worth<A: Allocator, B: Allocator>(
     map: &CrushMap<A>,
     wanted: &ItemTable<'_, B>,
@@ -83,7 +84,7 @@ fn is_worth<A: Allocator, B: Allocator>(
     a_stay + b_stay < a_leave + b_leave
 }
 
-/// Returns how many items of the bucket `from` are in the bucket `to` in the wanted map.
+/// Returns how many items of the map's bucket `from` are in the bucket `to` in the wanted map.
 fn count_below<A: Allocator, B: Allocator>(
     map: &CrushMap<A>,
     wanted: &ItemTable<'_, B>,
@@ -96,7 +97,7 @@ fn count_below<A: Allocator, B: Allocator>(
     }
 }
 
-/// Returns how many of the items are in this bucket in the wanted map.
+/// Returns how many of the given items are in this bucket in the wanted map.
 fn count_in<A: Allocator, B: Allocator>(
     items: &[Node<A>],
     wanted: &ItemTable<'_, B>,

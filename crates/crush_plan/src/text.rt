@@ -1,44 +1,62 @@
 //! Prints a plan.
 
-ghost use Rattle.std.specs.Prelude.{◌≡◌, ◌∷◌, [], ◌++◌, IfOk, OnOk, codes, flat_map, true};
-ghost use Rattle.crush_history.specs.HistoryText.{edit_text};
+ghost use Rattle.std.specs.Prelude.{◌≡◌, ◌∷◌, [], ◌++◌, IfOk, List, OnOk, flat_map, true};
+ghost use Rattle.crush_model.specs.Stands.{Stands};
+ghost use Rattle.crush_model.specs.Table.{Row};
 ghost use Rattle.crush_since.specs.Aside.{aside_text};
 ghost use Rattle.crush_plan.specs.Plan.{plan_data};
-ghost use Rattle.crush_plan.specs.PlanText.{commented, mark, plan_line, plan_text, stay_heading, stay_text};
+ghost use Rattle.crush_plan.specs.PlanText.{ceph_plan_text, commented, mark, plan_text, script_line, stay_heading, stay_text, tail_text};
 
 use crate::plan::{Plan, count_lines};
+use crush_ceph::ceph_text;
 use crush_edits::Edit;
-use crush_history::{push_ceph_heading, push_ceph_line, write_edit};
+use crush_history::{push_ceph_heading, write_edit};
+use crush_map::CrushMap;
 use crush_since::{Counts, push_aside};
 use crush_units::put_all;
 use itoa::Buffer;
 use std::alloc::{AllocError, Global};
 
-/// The form in which the edits of a plan are printed.
-#[derive(Clone, Copy, Debug, PartialEq, Eq)]
-pub enum PlanWords {
-    /// Lines of a script.
-    Script,
-    /// Ceph's own commands.
-    Ceph,
-}
-
-/// Returns the text of a plan: the line `# N commands`, and a line for each edit. If differences
-/// remain, the line `# N differences stay` follows, and a comment for each difference. Last come
-/// comments that say how many buckets have different ids. An `Err` says that memory ran out.
-pub fn plan_text(alloc: Global, plan: &Plan, words: PlanWords) -> Result<Vec<u8>, AllocError>
-    ensures { IfOk result (λ text. text.items ≡ plan_text words (plan_data plan.now)) }
+/// Returns the text of a plan as a script: the line `# N commands`, and a line for each edit. If
+/// differences remain, the line `# N differences stay` follows, and then a comment line for each
+/// difference. Last come comment lines that say how many buckets have different ids. The call fails
+/// only if memory runs out.
+pub fn plan_text(alloc: Global, plan: &Plan) -> Result<Vec<u8>, AllocError>
+    ensures { IfOk result (λ text. text.items ≡ plan_text (plan_data plan.now)) }
 {
     let mut text = Vec::new(alloc);
     let edits = plan.edits.as_slice();
     push_ceph_heading(edits.len() as u64, &mut text)?;
-    push_edits(edits, words, &mut text)?;
-    push_rest(plan.rest.as_slice(), &mut text)?;
-    push_ids(alloc, plan.aside, &mut text)?;
+    push_edits(edits, &mut text)?;
+    push_tail(alloc, plan, &mut text)?;
     Ok(text)
 }
 
-/// Appends the counts of different ids, as comments.
+/// Returns the text of a plan as Ceph's own commands. `map` is the map from which the plan starts.
+/// The commands are those that [`ceph_text`] returns for the edits. The lines after the commands are
+/// the same as in [`plan_text`]. The call fails only if memory runs out.
+pub fn ceph_plan_text(
+    alloc: Global,
+    map: &CrushMap<Global>,
+    plan: &Plan,
+) -> Result<Vec<u8>, AllocError>
+    ensures { IfOk result (λ text. (t : List Row) → Stands map.now.forest t
+        → text.items ≡ ceph_plan_text map.now.setting t (plan_data plan.now)) }
+{
+    let mut text = ceph_text(alloc, map.try_copy()?, plan.edits.as_slice())?;
+    push_tail(alloc, plan, &mut text)?;
+    Ok(text)
+}
+
+/// Appends what follows the edits of the plan.
+fn push_tail(alloc: Global, plan: &Plan, text: &mut Vec<u8>) -> Result<(), AllocError>
+    ensures { OnOk result (text.new.items ≡ text.old.items ++ tail_text (plan_data plan.now)) }
+{
+    push_rest(plan.rest.as_slice(), text)?;
+    push_ids(alloc, plan.aside, text)
+}
+
+/// Appends comment lines that say how many buckets have different ids.
 fn push_ids(alloc: Global, counts: Counts, text: &mut Vec<u8>) -> Result<(), AllocError>
     ensures { OnOk result (text.new.items ≡ text.old.items ++ commented true (aside_text counts)) }
 {
@@ -48,33 +66,25 @@ fn push_ids(alloc: Global, counts: Counts, text: &mut Vec<u8>) -> Result<(), All
 }
 
 /// Appends a line for each edit.
-fn push_edits(edits: &[Edit], words: PlanWords, text: &mut Vec<u8>) -> Result<(), AllocError>
-    ensures { OnOk result (text.new.items ≡ text.old.items ++ flat_map (plan_line words) edits.now) }
+fn push_edits(edits: &[Edit], text: &mut Vec<u8>) -> Result<(), AllocError>
+    ensures { OnOk result (text.new.items ≡ text.old.items ++ flat_map script_line edits.now) }
 {
     for edit in edits {
-        push_edit(edit, words, text)?;
+        push_line(edit, text)?;
     }
     Ok(())
 }
 
-fn push_edit(edit: &Edit, words: PlanWords, text: &mut Vec<u8>) -> Result<(), AllocError>
-    ensures { OnOk result (text.new.items ≡ text.old.items ++ plan_line words edit.now) }
-{
-    match words {
-        PlanWords::Script => push_line(edit, text),
-        PlanWords::Ceph => push_ceph_line(edit, text),
-    }
-}
-
 /// Appends the edit as a line of a script.
 fn push_line(edit: &Edit, text: &mut Vec<u8>) -> Result<(), AllocError>
-    ensures { OnOk result (text.new.items ≡ text.old.items ++ (edit_text edit.now ++ codes "\n")) }
+    ensures { OnOk result (text.new.items ≡ text.old.items ++ script_line edit.now) }
 {
     write_edit(edit, text).map_err(|_| AllocError)?;
     text.extend_from_slice(b"\n")
 }
 
-/// Appends the differences that remain, as comments, if there are any.
+/// Appends comment lines with the differences that remain. If no differences remain, appends
+/// nothing.
 fn push_rest(rest: &[u8], text: &mut Vec<u8>) -> Result<(), AllocError>
     ensures { OnOk result (text.new.items ≡ text.old.items ++ stay_text rest.now) }
 {
@@ -111,7 +121,7 @@ fn push_comments(lines: &[u8], text: &mut Vec<u8>) -> Result<(), AllocError>
     Ok(())
 }
 
-/// Appends the byte, with `# ` before it if a line begins with it.
+/// Appends the byte. If `at_head` says that it is the first byte of a line, appends `# ` before it.
 fn push_marked(at_head: bool, byte: u8, text: &mut Vec<u8>) -> Result<(), AllocError>
     ensures { OnOk result (text.new.items ≡ text.old.items ++ (mark at_head ++ byte ∷ [])) }
 {

@@ -1,5 +1,5 @@
-//! One way to look for a plan: how the buckets of the two maps are matched, and what has to be
-//! done.
+//! What one search for a plan starts from: the matched buckets of the two maps, and the items that
+//! need edits.
 
 use crate::goal::PlanGoal;
 use crate::identity::{BucketPair, BucketPairs, Identity};
@@ -12,14 +12,15 @@ use std::alloc::{AllocError, Allocator, Global};
 /// The matched buckets of the two maps, and the items for which the plan may need an edit.
 #[derive(Drop)]
 pub(crate) struct Way<'a, A: Allocator> {
-    /// The items of the map from which this way starts.
+    /// The items of the map from which the search starts.
     pub start: ItemTable<'a, A>,
     pub pairs: BucketPairs,
     pub items: Items,
 }
 
 impl<'a, A: Allocator> Way<'a, A> {
-    /// Returns the way that starts from this map and matches buckets as `identity` says.
+    /// Matches the buckets of this map with those of the wanted map, as `identity` says, and finds
+    /// the items that need edits.
     pub(crate) fn new<B: Allocator>(
         alloc: Global,
         identity: Identity,
@@ -36,13 +37,13 @@ impl<'a, A: Allocator> Way<'a, A> {
         })
     }
 
-    /// Returns the name that the bucket has in the map from which this way starts.
+    /// Returns the bucket's name in the map from which the search starts.
     pub(crate) fn name_at_start(&self, pair: &BucketPair) -> Option<&str> {
         self.start.name_of(ItemId::Bucket(pair.current))
     }
 
-    /// Returns this bucket of the map with the bucket of the wanted map that it becomes, if the two
-    /// buckets have different names.
+    /// `current` is a bucket of the map. If it is matched with a bucket of the wanted map that has
+    /// a different name, returns the pair of the two buckets.
     pub(crate) fn renamed<B: Allocator>(
         &self,
         goal: &PlanGoal<'_, A, B>,

@@ -9,23 +9,24 @@ use crate::draft::Draft;
 use crate::goal::PlanGoal;
 use crate::item_table::ItemTable;
 use crate::items::same_item;
+pub(crate) use common::weighed_together;
 use common::{Subtree, subtrees};
 use crush_compare::are_near;
 use crush_map::CrushMap;
 use crush_units::{DeviceId, ItemId, Weight};
 use std::alloc::{AllocError, Allocator, Global};
 
-/// Which weights are set.
+/// Which weights a call sets.
 #[derive(Clone, Copy, PartialEq, Eq)]
 pub(crate) enum Which {
-    /// The weights that become less.
+    /// The weights that become lower.
     Less,
-    /// The weights that become less or more.
+    /// The weights that change in any way.
     Other,
 }
 
 impl Which {
-    /// Whether a weight that is to change in this way is set. A difference of one unit doesn't
+    /// Whether a weight that changes from `from` to `to` is set. A change of one unit doesn't
     /// count.
     pub(crate) fn sets(self, from: Weight, to: Weight) -> bool {
         match self {
@@ -35,30 +36,32 @@ impl Which {
     }
 }
 
-/// A device with the weight that it is to get.
+/// A device with its new weight.
 #[derive(Clone, Copy)]
 struct NewWeight {
     device: DeviceId,
     weight: Weight,
 }
 
-/// Sets the weights of these devices. If all devices below a bucket are to have the same weight,
-/// and at least two of them have another weight, then one edit sets the weights of all of them.
-/// Each other weight is set by an edit of its own.
+/// Sets the weights of these devices, except for the devices `later`, whose weights a later edit
+/// sets. If all devices below a bucket get the same weight, and at least two of them have another
+/// weight now, one edit sets the weights of all of them. Every other weight is set by an edit of its
+/// own.
 pub(crate) fn set_weights<A: Allocator + Clone, B: Allocator>(
     draft: &mut Draft<A>,
     goal: &PlanGoal<'_, A, B>,
     devices: &[DeviceId],
     which: Which,
+    later: &[DeviceId],
 ) -> Result<(), AllocError>
     ensures { OnOk result (GoesOn goal.now draft.old draft.new) }
 {
     if devices.is_empty() {
         return Ok(());
     }
-    let found = subtrees(draft.alloc, &draft.map, goal, which)?;
+    let found = subtrees(draft.alloc, &draft.map, goal, which, later)?;
     set_below(draft, goal, found.as_slice())?;
-    let changes = new_weights(draft.alloc, &draft.map, goal, devices, which)?;
+    let changes = new_weights(draft.alloc, &draft.map, goal, devices, which, later)?;
     set_one_by_one(draft, goal, changes.as_slice())
 }
 
@@ -103,25 +106,46 @@ fn set_weight<A: Allocator + Clone, B: Allocator>(
     }
 }
 
-/// Returns those of the devices whose weights have to be set, with their new weights.
+/// Returns those of the devices whose weights have to be set, with their new weights. Leaves out the
+/// devices `later`.
 fn new_weights<A: Allocator, B: Allocator>(
     alloc: Global,
     map: &CrushMap<A>,
     goal: &PlanGoal<'_, A, B>,
     devices: &[DeviceId],
     which: Which,
+    later: &[DeviceId],
 ) -> Result<Vec<NewWeight>, AllocError> {
     let now = ItemTable::new(alloc, map)?;
     let mut changes = Vec::new(alloc);
     for device in devices {
-        if let Some(weight) = new_weight(&now, &goal.there, *device, which) {
-            changes.push(NewWeight {
-                device: *device,
-                weight,
-            })?;
+        if !is_one_of(later, *device) {
+            push_new_weight(&now, &goal.there, *device, which, &mut changes)?;
         }
     }
     Ok(changes)
+}
+
+/// Appends the device with its new weight, if its weight has to be set.
+fn push_new_weight<A: Allocator, B: Allocator>(
+    map: &ItemTable<'_, A>,
+    wanted: &ItemTable<'_, B>,
+    device: DeviceId,
+    which: Which,
+    changes: &mut Vec<NewWeight>,
+) -> Result<(), AllocError> {
+    if let Some(weight) = new_weight(map, wanted, device, which) {
+        changes.push(NewWeight { device, weight })?;
+    }
+    Ok(())
+}
+
+/// Whether the device is one of these devices, which are in the order of their ids.
+fn is_one_of(devices: &[DeviceId], device: DeviceId) -> bool {
+    match devices.binary_search_by_key(&device.number(), |device| device.number()) {
+        Ok(_) => true,
+        Err(_) => false,
+    }
 }
 
 /// Returns the weight that the device is to get, or `None` if it is not to be set or a map doesn't

@@ -1,4 +1,4 @@
--- What a table says of the items below one bucket.
+-- What a table says about the items below one bucket.
 use Rattle.std.proofs.Common.{◌≡◌, ℕ, ◌+◌, ◌<◌, ◌≤◌, ◌^◌, Bool, true, false, List, [], ◌∷◌, ◌++◌, length, map, ap, sym, subst, ◌∙◌, refl, arith, ⊎_elim}
 use Rattle.std.specs.Prelude.{flat_map, All, IfSome, Option, None, Some, ◌==◌, if◌then◌else◌, filter}
 use Rattle.std.specs.Option.{option_or}
@@ -21,7 +21,7 @@ use Rattle.crush_print.proofs.WalkLaws.{node_steps, steps_told}
 use Rattle.crush_items.specs.SeenPart.{HasSteps}
 use Rattle.crush_items.specs.Tree.{WalkStepData, steps_at, steps_of}
 
--- what a table says of items, it says of the items of a bucket among them
+-- what a table says about items, it also says about the items of a bucket that is among them or below them
 pub told_kids : (t : List Row) (p : Option ℕ) (n k : Items) (b : ℕ) → Told t p n → kids_in b n ≡ Some k → Told t (Some b) k
 told_kids t p none k b told e = absurd cc
 told_kids t p (device d rest) k b told e = told_kids t p rest k b told.1 e
@@ -36,7 +36,7 @@ told_kids t p (bucket h w m n rest) k b told e = ⊎_elim
       either None second f g same = g same
       either (Some x) second f g same = f same
 
--- and they are no more than all
+-- the items of a bucket have no more buckets than all items together
 no_more_of : (k n rest : Items) (first second : Option Items) → (first ≡ Some k → size_of k ≤ size_of n) → (second ≡ Some k → size_of k ≤ size_of rest) → option_or first second ≡ Some k → size_of k ≤ 1 + size_of n + size_of rest
 no_more_of k n rest None second f g same = let le = g same in omega (arith, le)
 no_more_of k n rest (Some x) second f g same = let le = f same in omega (arith, le)
@@ -50,13 +50,13 @@ kids_no_more b none k e = absurd cc
 kids_no_more b (device d rest) k e = kids_no_more b rest k e
 kids_no_more b (bucket h w m n rest) k e = no_more_by (h.id == b) k n rest (kids_in b n) (kids_in b rest) (λ f. kids_no_more b n k f) (λ f. kids_no_more b rest k f) e
 
--- all are those of both
+-- the number of buckets in two joined lists of items is the sum of both numbers
 sizes-join : (a b : Items) → size_of (join a b) ≡ size_of a + size_of b
 sizes-join none b = omega arith
 sizes-join (device d a) b = sizes-join a b
 sizes-join (bucket h w m k a) b = omega (arith, sizes-join a b)
 
--- a bucket that isn't there holds nothing
+-- a bucket that isn't in the table has no items
 pub no_kids : (t u : List Row) (b : ℕ) → All (HasParent t) u → is_there t (Bucket b) ≡ false → map (λ (r : Row). r.id) (filter (λ (r : Row). is_parent b r.parent) u) ≡ []
 no_kids t [] b parents absent = refl
 no_kids t (r ∷ u) b parents absent =
@@ -66,7 +66,7 @@ no_kids t (r ∷ u) b parents absent =
       not_here None there = refl
       not_here (Some p) there = ⊎_elim (λ q. absurd (let here : is_there t (Bucket b) ≡ true = subst (λ i. is_there t (Bucket i) ≡ true) q.1 there in cc)) (λ q. q.0) (eqb_tells p b)
 
--- THE STEPS BELOW
+-- THE STEPS BELOW a bucket
 pub few_below : (f : ForestData) (b : ℕ) (k : Items) → IsSound f → Some k ≡ kids_in b (all_items f) → size_of k < 2 ^ 31
 few_below f b k sound e = let most = sound.lawful.buckets in let le = kids_no_more b (all_items f) k (sym e) in omega (arith, most, bucket_count-forest f, le, sizes-join f.unplaced f.roots)
 

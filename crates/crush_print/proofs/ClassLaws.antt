@@ -1,4 +1,4 @@
--- What the devices of a class weigh among items as plain data, and what a table says of it for the items of a forest.
+-- What the devices of a class weigh among plain items (`Items`), and that a table says the same about the items of a forest.
 use Rattle.std.proofs.Common.{◌≡◌, ℕ, zero, suc, ◌+◌, ◌<◌, ◌≤◌, Bool, true, false, List, [], ◌∷◌, ◌++◌, length, get_or, take, drop, map, ap, sym, subst, ◌∙◌, refl, arith, append_assoc, append-nil}
 use Rattle.std.specs.Prelude.{◌||◌, ◌==◌, if◌then◌else◌, All, Option, Some, None, flat_map, is_some, nat_lt, unwrap_or, bytes_eq, filter}
 use Rattle.std.specs.List.{sum_by, count_by}
@@ -46,7 +46,7 @@ use Rattle.crush_print.specs.ClassWeights.{has_class_at, is_class, weight_of_cla
 use Rattle.crush_print.proofs.PartSums.{sum_by-filtered}
 use Rattle.crush_print.proofs.WalkLaws.{All-unmap, few_roots, few_unplaced, node_steps, roots_in_order, roots_told, unplaced_in_order, unplaced_told}
 
--- WEIGHTS TOGETHER
+-- SUMS of weights that may be missing
 together-none : (a : Option ℕ) → together None a ≡ a
 together-none None = refl
 together-none (Some a) = refl
@@ -69,7 +69,7 @@ class_weights_in-join c (bucket h w m k r) b =
     ap (λ (l : List (Option ℕ)). class_weight_in c k ∷ (class_weights_in c k ++ l)) (class_weights_in-join c r b)
     ∙ ap (λ (l : List (Option ℕ)). class_weight_in c k ∷ l) (sym (append_assoc (class_weights_in c k) (class_weights_in c r) (class_weights_in c b)))
 
--- one item more
+-- the weight of the first i + 1 nodes is the sum of the weight of the first i nodes and the weight of node i
 pub weight-more : {A : _} (c : List ℕ) (ns : List (Node A)) (i : ℕ) (x : Node A) → i < length ns → x ≡ get_or ns i x
     → class_weight_in c (items_of (take (i + 1) ns)) ≡ together (class_weight_in c (items_of (take i ns))) (class_weight_in c (items_of (x ∷ [])))
 weight-more c ns i x lt is = ap (class_weight_in c) (items_of-taken ns i x lt is) ∙ class_weight_in-join c (items_of (take i ns)) (items_of (x ∷ []))
@@ -78,14 +78,14 @@ pub weights-more : {A : _} (c : List ℕ) (ns : List (Node A)) (i : ℕ) (x : No
     → class_weights_in c (items_of (take (i + 1) ns)) ≡ class_weights_in c (items_of (take i ns)) ++ class_weights_in c (items_of (x ∷ []))
 weights-more c ns i x lt is = ap (class_weights_in c) (items_of-taken ns i x lt is) ∙ class_weights_in-join c (items_of (take i ns)) (items_of (x ∷ []))
 
--- the sum of some items, of the one after them, and of the rest
+-- the sum over all nodes is the sum over the nodes before node i, over node i, and over the nodes after it
 pub sum-split : {A : _} (c : List ℕ) (ns : List (Node A)) (i : ℕ) (x : Node A) → i < length ns → x ≡ get_or ns i x
     → class_sum_in c (items_of ns) ≡ class_sum_in c (items_of (take i ns)) + (class_sum_in c (items_of (x ∷ [])) + class_sum_in c (items_of (drop (i + 1) ns)))
 sum-split c ns i x lt is =
     ap (class_sum_in c) (items_of-split ns i x lt is) ∙ class_sum_in-join c (items_of (take i ns)) (join (items_of (x ∷ [])) (items_of (drop (i + 1) ns)))
     ∙ ap (λ n. class_sum_in c (items_of (take i ns)) + n) (class_sum_in-join c (items_of (x ∷ [])) (items_of (drop (i + 1) ns)))
 
--- a bucket has what its items have
+-- the weight of a bucket is the weight of its items
 pub weight_of_bucket : {A : _} (c : List ℕ) (x : Node A) (b : _) (k : Items) (d : BucketData) → x ≡ Bucket b → d ≡ b.value → k ≡ d.kids → class_weight_in c k ≡ class_weight_in c (items_of (x ∷ []))
 weight_of_bucket c x b k d at same kids_are = ap (class_weight_in c) kids_are ∙ ap (λ (e : BucketData). class_weight_in c e.kids) same ∙ ap (λ y. class_weight_in c (items_of (y ∷ []))) (sym at)
 
@@ -100,7 +100,7 @@ sum_of_bucket c x b k d at same kids_are =
     let whole : class_sum_in c (items_of (x ∷ [])) ≡ class_sum_in c b.value.kids + 0 = ap (λ y. class_sum_in c (items_of (y ∷ []))) at in
     omega (arith, whole, ap (class_sum_in c) kids_are, ap (λ (e : BucketData). class_sum_in c e.kids) same)
 
--- WHETHER A DEVICE has the class
+-- WHETHER A DEVICE of the class is among the items or below them
 abbrev pub found : List ℕ → Items → Bool
 found c none = false
 found c (device d rest) = option_eq bytes_eq d.class (Some c) || found c rest
@@ -114,7 +114,7 @@ neither : (a b : Bool) (x y : ℕ) → (a || b) ≡ false → (a ≡ false → x
 neither true b x y h p q = absurd (let no : true ≡ false = h in cc)
 neither false b x y h p q = omega (arith, p refl, q h)
 
--- without such a device the sum is 0
+-- if there is no such device, the sum is 0
 not_found : (c : List ℕ) (n : Items) → found c n ≡ false → class_sum_in c n ≡ 0
 not_found c none h = refl
 not_found c (device d r) h = neither (option_eq bytes_eq d.class (Some c)) (found c r) (leaf_class_weight c d) (class_sum_in c r) h (if_none (option_eq bytes_eq d.class (Some c)) d.weight) (not_found c r)
@@ -130,7 +130,7 @@ own_weight : (b : Bool) (w : ℕ) → ◌≡◌ {A = Option ℕ} (if b then Some
 own_weight true w = refl
 own_weight false w = refl
 
--- with such a device, the weight is the sum
+-- if there is such a device, the weight is the sum
 pub weight_is_sum : (c : List ℕ) (n : Items) → class_weight_in c n ≡ (if found c n then Some (class_sum_in c n) else None)
 weight_is_sum c none = refl
 weight_is_sum c (device d r) =
@@ -162,7 +162,7 @@ found-join c none b = refl
 found-join c (device d r) b = ap (λ z. option_eq bytes_eq d.class (Some c) || z) (found-join c r b) ∙ or_assoc (option_eq bytes_eq d.class (Some c)) (found c r) (found c b)
 found-join c (bucket h w m k r) b = ap (λ z. found c k || z) (found-join c r b) ∙ or_assoc (found c k) (found c r) (found c b)
 
--- THE ROWS: as many have the class
+-- THE ROWS of items: as many rows have the class as there are devices of the class
 some_of : (x y : ℕ) → nat_lt 0 (x + y) ≡ (nat_lt 0 x || nat_lt 0 y)
 some_of zero y = ap (nat_lt 0) (omega arith)
 some_of (suc x) y =
@@ -187,7 +187,7 @@ rows_found c p (bucket h w m k r) =
     ) in
     ap (nat_lt 0) total ∙ some_of (count_by (has_class c) (rows (Some h.id) k)) (count_by (has_class c) (rows p r)) ∙ (λ i. rows_found c (Some h.id) k i || rows_found c p r i)
 
--- AN ITEM'S PART
+-- THE PART of the items that consists of an item and all items below it
 nested_if : (a b : Bool) → one_if (if a then b else false) ≡ (if a then one_if b else 0)
 nested_if true b = refl
 nested_if false b = refl
@@ -203,7 +203,7 @@ part_counted t i c =
     ap (λ f. sum_by f t) own ∙ sym (sum_by-filtered (λ (r : Row). is_part t i r.id) (λ (r : Row). one_if (has_class c r)) t)
     ∙ ap (λ f. sum_by f (filter (λ (r : Row). is_part t i r.id) t)) same ∙ sym (sum_by-map (λ (r : Row). one_if (has_class c r)) (as_root i) (filter (λ (r : Row). is_part t i r.id) t))
 
--- what the table says of an item, by the item with all below it
+-- what the table says about the class at an item: the same as the plain item n, with all items below it, and the sum is in range
 abbrev IsWeighed : List Row → List ℕ → ItemId → Items → Type 0
 IsWeighed t c i n = (weight_of_class t c i ≡ class_weight_in c n) × (class_sum_in c n ≤ HEAVIEST_BUCKET)
 
@@ -217,7 +217,7 @@ item_weighed f t c i sound stands some =
       omega (arith, class_sum_in-le c (part_of i (all_items f)) (part_sums f sound i there), part_light f sound i there),
     )
 
--- EACH ITEM is weighed
+-- EACH ITEM has what the table says about it (`IsWeighed`)
 abbrev pub Weighed : List Row → List ℕ → Items → Type 0
 Weighed t c none = Unit {0}
 Weighed t c (device d rest) = IsWeighed t c (DeviceItem d.id) (device d none) × Weighed t c rest
@@ -268,7 +268,7 @@ weighed_kids t c (bucket h x m n rest) k b w e = by_test (h.id == b) (λ g. weig
     by_test true f g same = let own : n ≡ k = cc in subst (Weighed t c) own w.1
     by_test false f g same = either (kids_in b n) (kids_in b rest) f g same
 
--- THE STEPS of items have these weights
+-- THE STEPS of items have the weights of the items
 steps_weighed : (t : List Row) (c : List ℕ) (depth : ℕ) (p : Option ℕ) (n : Items) → Weighed t c n → map (step_weight t c) (steps_of depth p n) ≡ class_weights_in c n
 steps_weighed t c depth p none w = refl
 steps_weighed t c depth p (device d rest) w = λ i. w.0.0 i ∷ steps_weighed t c depth p rest w.1 i
@@ -277,7 +277,7 @@ steps_weighed t c depth p (bucket h x m k rest) w =
     map-append (step_weight t c) (steps_of (depth + 1) (Some h.id) k) (steps_of depth p rest) ∙ (λ i. steps_weighed t c (depth + 1) (Some h.id) k w.1 i ++ steps_weighed t c depth p rest w.2 i) in
     (λ i. w.0.0 i ∷ below i)
 
--- so each node has them
+-- so each node has the weights that the table gives
 pub each_weighed : {A : _} (t : List Row) (c : List ℕ) (p : Option ℕ) (ns : List (Node A)) → All (HasSteps t p) ns → Weighed t c (items_of ns) → All (HasWeights t c) ns
 each_weighed t c p [] steps w = All-nil (HasWeights t c)
 each_weighed t c p (Device l ∷ ns) steps w =
@@ -288,7 +288,7 @@ each_weighed t c p (Bucket b ∷ ns) steps w =
     (ap (map (step_weight t c)) (All-head (HasSteps t p) (Bucket b) ns steps) ∙ steps_weighed t c 0 p (bucket b.value.header b.value.weight b.value.capacity b.value.kids none) (w.0, w.1, tt))
     (each_weighed t c p ns (All-tail (HasSteps t p) (Bucket b) ns steps) w.2)
 
--- and is no heavier than a bucket may be
+-- and no node is heavier than a bucket may be
 abbrev pub IsLight : {A : _} → List ℕ → Node A → Type 0
 IsLight c node = class_sum_in c (items_of (node ∷ [])) ≤ HEAVIEST_BUCKET
 
@@ -306,7 +306,7 @@ unplaced_are_weighed f t c ns are sound stands = subst (Weighed t c) (sym are) (
 pub kids_are_weighed : {A : _} (f : ForestData) (t : List Row) (c : List ℕ) (b : ℕ) (ns : List (Node A)) → IsSound f → Stands f t → Some (items_of ns) ≡ kids_in b (all_items f) → Weighed t c (items_of ns)
 kids_are_weighed f t c b ns sound stands e = weighed_kids t c (all_items f) (items_of ns) b (stands_weighed f t c sound stands) (sym e)
 
--- IN ORDER
+-- IN ORDER of ids
 map-flat_map : {X Y Z : Type 0} (f : Y → Z) (g : X → List Y) (xs : List X) → map f (flat_map g xs) ≡ flat_map (λ x. map f (g x)) xs
 map-flat_map f g [] = refl
 map-flat_map f g (x ∷ xs) = map-append f (g x) (flat_map g xs) ∙ ap (λ l. map f (g x) ++ l) (map-flat_map f g xs)
@@ -342,7 +342,7 @@ forest_found f t c u r is_u is_r stands =
     (λ i. (ap (λ n. is_some (class_weight_in c n)) is_u ∙ weight_is_found c f.unplaced) i || (ap (λ n. is_some (class_weight_in c n)) is_r ∙ weight_is_found c f.roots) i)
     ∙ sym (found-join c f.unplaced f.roots) ∙ sym (rows_found c None (all_items f)) ∙ ap (nat_lt 0) (reordered-count (has_class c) stands.same.rows)
 
--- a node that has one
+-- there is such a device if a node is one or has one below it
 or_true : (b : Bool) → (b || true) ≡ true
 or_true true = refl
 or_true false = refl
@@ -353,19 +353,19 @@ one_found c ns i x lt is h =
     weight_is_found c (items_of ns) ∙ ap (found c) (items_of-split ns i x lt is) ∙ found-join c (items_of (take i ns)) (join (items_of (x ∷ [])) rest)
     ∙ ap (λ z. found c (items_of (take i ns)) || z) (found-join c (items_of (x ∷ [])) rest ∙ ap (λ z. z || found c rest) (sym (weight_is_found c (items_of (x ∷ []))) ∙ h)) ∙ or_true (found c (items_of (take i ns)))
 
--- and no node so far has one
+-- if the first i nodes and node i have no such device, then the first i + 1 nodes have none
 pub none_found : {A : _} (c : List ℕ) (ns : List (Node A)) (i : ℕ) (x : Node A) → i < length ns → x ≡ get_or ns i x → is_some (class_weight_in c (items_of (take i ns))) ≡ false → is_some (class_weight_in c (items_of (x ∷ []))) ≡ false
     → is_some (class_weight_in c (items_of (take (i + 1) ns))) ≡ false
 none_found c ns i x lt is before own =
     weight_is_found c (items_of (take (i + 1) ns)) ∙ ap (found c) (items_of-taken ns i x lt is) ∙ found-join c (items_of (take i ns)) (items_of (x ∷ []))
     ∙ (λ k. (sym (weight_is_found c (items_of (take i ns))) ∙ before) k || (sym (weight_is_found c (items_of (x ∷ []))) ∙ own) k)
 
--- ONE NODE: its weights are those of its id's steps
+-- ONE NODE: its weights are the weights of the steps of its id
 pub item_weighed_at : {A : _} (t : List Row) (c : List ℕ) (i : ItemId) (x y : Node A) (start one : List (Option ℕ)) → start ≡ [] → one ≡ start ++ class_weights_in c (items_of (x ∷ [])) → x ≡ y → HasWeights t c y → node_id y ≡ i
     → one ≡ map (step_weight t c) (steps_at t (length t) 0 i)
 item_weighed_at t c i x y start one begun after is has same = after ∙ (λ k. begun k ++ class_weights_in c (items_of (is k ∷ []))) ∙ sym has ∙ ap (λ j. map (step_weight t c) (steps_at t (length t) 0 j)) same
 
--- each node whose references are a permutation of light nodes is light
+-- if the nodes are light, then the nodes to which the references point are light, too
 pub light_refs : {A : _} {X : Type 0} (c : List ℕ) (see : X → Node A) (ns : List (Node A)) (refs : List X) → IsPermutation ns (map see refs) → All (IsLight c) ns → All (λ x. class_sum_in c (items_of (see x ∷ [])) ≤ HEAVIEST_BUCKET) refs
 light_refs c see ns refs same h = All-unmap (IsLight c) see refs (All-permutation (IsLight c) ns (map see refs) same h)
 

@@ -1,4 +1,4 @@
--- What the trees of the empty map and of the plain example map are, computed.
+-- The trees of the empty map and of the plain example map, computed.
 use Rattle.std.proofs.Common.{◌≡◌, refl}
 use Rattle.std.specs.Prelude.{ℕ, List, [], ◌∷◌, Some, None, codes}
 use Rattle.std.specs.Fmt.{digits}
@@ -48,7 +48,7 @@ other = rows_of (record {
 abbrev pub setting : SettingData
 setting = record { kinds = type 0 (codes "osd") ∷ (type 1 (codes "host") ∷ (type 3 (codes "rack") ∷ (type 11 (codes "root") ∷ []))); tunables = []; rules = [] }
 
--- the map without anything: the heading alone
+-- the tree of a map without items: the heading alone
 empty_tree : tree_text (record { kinds = []; tunables = []; rules = [] }) [] ≡ codes "ID  CLASS  WEIGHT  TYPE NAME\n"
 unfolding tree_text tree_rows steps_text heading at_left root_numbers unplaced_numbers
 empty_tree = refl

@@ -1,4 +1,4 @@
--- A part of a table with one item more, or with one item put where it will be.
+-- A part of a table (`part_of`) after one more item is added, or after one more item is placed.
 use Rattle.std.proofs.Common.{◌≡◌, ℕ, Bool, true, false, List, [], ◌∷◌, ◌++◌, Option, Some, None, refl, sym, ap, subst, ◌∙◌}
 use Rattle.std.proofs.lemmas.List.Elements.{All-head, All-tail, All-weaker}
 use Rattle.std.specs.Prelude.{All, map, filter, not, ◌||◌, if◌then◌else◌}
@@ -16,7 +16,7 @@ use Rattle.crush_model.proofs.Changes.{kids-append, kids-filter}
 use Rattle.crush_model.proofs.Relocated.{All-kids}
 use Rattle.crush_print.proofs.PartTables.{bare, shown, shown-id, part_of, Lawful-part, row_of-part}
 
--- one filter after another
+-- applying one filter after another is applying one filter
 cons_if : {X : Type 0} (p s : X → Bool) (b : Bool) (x : X) (xs ys : List X) → (if b then p x else false) ≡ s x → filter p xs ≡ ys → filter p (if b then x ∷ xs else xs) ≡ (if s x then x ∷ ys else ys)
 cons_if p s true x xs ys e h = λ k. if e k then x ∷ h k else h k
 cons_if p s false x xs ys e h = λ k. if e k then x ∷ h k else h k
@@ -25,7 +25,7 @@ filter_fused : {X : Type 0} (p q s : X → Bool) → ((x : X) → (if q x then p
 filter_fused p q s h [] = refl
 filter_fused p q s h (x ∷ xs) = cons_if p s (q x) x (filter q xs) (filter s xs) (h x) (filter_fused p q s h xs)
 
--- what the filter lets pass is alike in both
+-- two filtered lists are equal if they are equal in the elements that pass
 same_if : {X : Type 0} (b c : Bool) (x y : X) (xs ys : List X) → b ≡ c → (c ≡ true → x ≡ y) → xs ≡ ys → (if b then x ∷ xs else xs) ≡ (if c then y ∷ ys else ys)
 same_if b true x y xs ys e h r = λ k. if e k then h refl k ∷ r k else r k
 same_if b false x y xs ys e h r = (λ k. if e k then x ∷ xs else xs) ∙ r
@@ -34,12 +34,12 @@ filter_alike : {X Y : Type 0} (s : Y → Bool) (f g : X → Y) → ((x : X) → 
 filter_alike s f g h e [] = refl
 filter_alike s f g h e (x ∷ xs) = same_if (s (f x)) (s (g x)) (f x) (g x) (filter s (map f xs)) (filter s (map g xs)) (h x) (e x) (filter_alike s f g h e xs)
 
--- where all pass, all stay
+-- if all elements pass a filter, then the list is unchanged
 filter_all : {X : Type 0} (p : X → Bool) (xs : List X) → All (λ x. p x ≡ true) xs → filter p xs ≡ xs
 filter_all p [] h = refl
 filter_all p (x ∷ xs) h = (λ k. if All-head (λ y. p y ≡ true) x xs h k then x ∷ filter p xs else filter p xs) ∙ ap (λ l. x ∷ l) (filter_all p xs (All-tail (λ y. p y ≡ true) x xs h))
 
--- one item more
+-- the property q, extended to the item i
 abbrev pub with_one : (ItemId → Bool) → ItemId → ItemId → Bool
 with_one q i j = q j || same_id j i
 
@@ -72,7 +72,7 @@ new_stays q i h j = by_id (same_id j i) refl
     by_id true e = if_none (q j || true) ∙ sym h ∙ ap q (sym (same_id_equal j i e))
     by_id false e = if_self (q j || false) ∙ or_false (q j)
 
--- what a row is that is where it will be
+-- the row of an item that is placed is the row of the table t
 shown_by : (b : Bool) (r : Row) → b ≡ true → (if b then r else bare r) ≡ r
 shown_by true r e = refl
 shown_by false r e = absurd (let no : false ≡ true = e in cc)
@@ -85,11 +85,11 @@ found_by : (b : Bool) (o : Option Row) (r x : Row) (f : Row → Row) → b ≡ t
 found_by b o r x f e h k = (λ j. if e j then option_map f (h j) else None) ∙ ap Some k
 
 module _ (t : List Row) (l : Lawful t) where
-  -- each item that is where it will be has its bucket there
+  -- if an item is placed in the part, then its bucket is in the part, too
   abbrev pub IsClosed : (ItemId → Bool) → (ItemId → Bool) → Type 0
   IsClosed q P = (i : ItemId) (p : ℕ) → q i ≡ true → P i ≡ true → parent_of t i ≡ Some p → q (Bucket p) ≡ true
 
-  -- a row that is declared comes last, bare
+  -- adding an item appends its row without a place
   pub part_more : (q P : ItemId → Bool) (i : ItemId) (r : Row) → IsClosed (with_one q i) P → q i ≡ false → P i ≡ false → row_of t i ≡ Some r → IsReordered (part_of q P t ++ bare r ∷ []) (part_of (with_one q i) P t)
   part_more q P i r closed new loose found =
       let all = Lawful-part P t l (with_one q i) closed in
@@ -99,7 +99,7 @@ module _ (t : List Row) (l : Lawful t) where
       (filter_fused (λ (x : Row). not (same_id x.id i)) (λ (x : Row). with_one q i x.id) (λ (x : Row). q x.id) (λ (x : Row). new_stays q i new x.id) (map (shown P) t))
       (last_row i (part_of (with_one q i) P t) (bare r) (all.ids i) there)
 
-  -- a row that is put where it will be comes last
+  -- placing an item moves its row to the end
   pub part_put : (q P : ItemId → Bool) (i : ItemId) (r : Row) → IsClosed q (with_one P i) → q i ≡ true → row_of t i ≡ Some r → IsReordered (without_row i (part_of q P t) ++ r ∷ []) (part_of q (with_one P i) t)
   part_put q P i r closed there found =
       let all = Lawful-part (with_one P i) t l q closed in
@@ -129,7 +129,7 @@ module _ (t : List Row) (l : Lawful t) where
           ∙ filter_alike s (shown (with_one P i)) (shown P) same_test same_row t
           ∙ sym (filter_fused (λ (x : Row). not (same_id x.id i)) (λ (x : Row). q x.id) s (λ x. refl) (map (shown P) t))
 
--- KIDS of a table with an item put last into a bucket
+-- THE ITEMS OF A BUCKET in a table in which an item was put at the end of a bucket
 other_kid : (u : List Row) (i : ItemId) (c : ℕ) (j : ItemId) → parent_of u i ≡ None → parent_of u j ≡ Some c → not (same_id j i) ≡ true
 other_kid u i c j none some = by_id (same_id j i) refl
   where

@@ -1,4 +1,4 @@
--- The sums of a part of a table: of a bucket below which all is where it will be, the sum is what it will be.
+-- The sums in a part of a table (`part_of`): a bucket below which all items are placed has the sum that it has in the whole table.
 use Rattle.std.proofs.Common.{◌≡◌, ℕ, zero, suc, ◌+◌, ◌≤◌, Bool, true, false, List, [], ◌∷◌, length, Option, Some, None, refl, sym, ap, ◌∙◌, arith}
 use Rattle.std.proofs.lemmas.List.Sums.{sum_by-cons}
 use Rattle.std.specs.Prelude.{map, filter, ◌||◌, ◌==◌, if◌then◌else◌}
@@ -18,7 +18,7 @@ sum_if : {X : Type 0} (p : X → Bool) (f : X → ℕ) (b : Bool) (x : X) (xs : 
 sum_if p f true x xs n e h = sum_by-cons f x (filter p xs) ∙ ap (λ m. f x + m) h
 sum_if p f false x xs n e h = h ∙ omega arith
 
--- the sum over what passes a filter
+-- the sum over the elements that pass a filter is the sum over all elements, in which an element that doesn't pass counts 0
 pub sum_by-filtered : {X : Type 0} (p : X → Bool) (f : X → ℕ) (xs : List X) → sum_by f (filter p xs) ≡ sum_by (λ x. if p x then f x else 0) xs
 sum_by-filtered p f [] = refl
 sum_by-filtered p f (x ∷ xs) = sum_if p f (p x) x xs (sum_by (λ y. if p y then f y else 0) xs) refl (sum_by-filtered p f xs) ∙ sym (sum_by-cons (λ y. if p y then f y else 0) x xs)
@@ -42,11 +42,11 @@ module _ (q P : ItemId → Bool) (D : ℕ → Bool) (t : List Row) (l : Lawful t
     (full : (c : ℕ) (i : ItemId) → D c ≡ true → parent_of t i ≡ Some c → P i ≡ true)
     (done : (j : ℕ) → P (Bucket j) ≡ true → D j ≡ true)
     (devices : (i : ItemId) → is_device_id i ≡ true → q i ≡ true) where
-  -- the parent of an item in the part
+  -- the parent of an item that is placed in the part
   parent_there : (i : ItemId) (p : ℕ) → q i ≡ true → P i ≡ true → parent_of t i ≡ Some p → parent_of (part_of q P t) i ≡ Some p
   parent_there i p a b e = parent_of-only q (map (shown P) t) i ∙ (λ k. if a k then parent_of (map (shown P) t) i else None) ∙ parent_shown P t l i ∙ (λ k. if b k then parent_of t i else None) ∙ e
 
-  -- whoever climbs to a bucket below which all is where it will be climbs there in the part too
+  -- if an item is below a bucket in t, and all items below this bucket are placed, then the item is below the bucket in the part, too
   abbrev Climbs : ℕ → ℕ → ItemId → Type 0
   Climbs c n i = (P i ≡ true) × (q i ≡ true → member c (climb (part_of q P t) n i) ≡ true)
 
@@ -99,7 +99,7 @@ module _ (q P : ItemId → Bool) (D : ℕ → Bool) (t : List Row) (l : Lawful t
       by_kind true e = (λ k. if (ap q (shown-id P r) ∙ devices r.id e) k then (if is_below (part_of q P t) c (shown P r).id then summed_weight (shown P r) else 0) else 0) ∙ device_same c d r e
       by_kind false e = both_weigh (q (shown P r).id) (is_below (part_of q P t) c (shown P r).id) (shown P r) r (bucket_light (shown P r) (ap is_device_id (shown-id P r) ∙ e)) (bucket_light r e) (is_below t c r.id)
 
-  -- THE SUM of a bucket below which all is where it will be
+  -- THE SUM of a bucket below which all items are placed
   pub sum_below-part : (c : ℕ) → D c ≡ true → sum_below (part_of q P t) c ≡ sum_below t c
   sum_below-part c d =
       sum_by-filtered (λ (x : Row). q x.id) (λ (x : Row). if is_below (part_of q P t) c x.id then summed_weight x else 0) (map (shown P) t)

@@ -1,4 +1,4 @@
--- A part of a table: some of its items are there, and some of these already where they will be, the others in no bucket.
+-- A part of a table t, as it is while a map is built again from its text: some items of t have been added, and some of these are already placed, which means that they have their row of t; the others are in no bucket.
 use Rattle.std.proofs.Common.{◌≡◌, ℕ, zero, suc, ◌≤◌, Bool, true, false, List, length, Option, Some, None, refl, sym, ap, subst, ◌∙◌, arith}
 use Rattle.std.proofs.lemmas.List.Elements.{All-map, All-weaker}
 use Rattle.std.proofs.lemmas.List.Sums.{sum_by-le-sum_by}
@@ -17,15 +17,15 @@ use Rattle.crush_model.proofs.Climbs.{times_in, member-times_in, times_in-member
 use Rattle.crush_model.proofs.Removed.{only, row_of-only, Lawful-only}
 use Rattle.crush_model.proofs.Moved.{row_id}
 
--- a row in no bucket
+-- a row without its place: in no bucket, and with the weight 0
 abbrev pub bare : Row → Row
 bare r = record r { parent = None; weight = 0 }
 
--- a row where it will be, or in no bucket
+-- the row itself if its item is placed (P), otherwise the row without its place
 abbrev pub shown : (ItemId → Bool) → Row → Row
 shown P r = if P r.id then r else bare r
 
--- the items for which q holds, of which those for which P holds are where they will be
+-- the part of t that has the items for which q is true; of these, the items for which P is true are placed
 abbrev pub part_of : (ItemId → Bool) → (ItemId → Bool) → List Row → List Row
 part_of q P t = only q (map (shown P) t)
 
@@ -64,7 +64,7 @@ total_by : (b : Bool) (r : Row) → (if is_some (if b then r else bare r).parent
 total_by true r = omega arith
 total_by false r = omega arith
 
--- a row keeps its form
+-- a row without its place still has the form of a row of its item
 bare_form : (i : ItemId) (r : Row) → IsRowOf i r → IsRowOf i (bare r)
 bare_form (Device d) r f = record { id = f.id; kind = f.kind; light = omega arith; unplaced = λ e. refl; alg = f.alg; class_ids = f.class_ids; class = f.class }
 bare_form (Bucket b) r f = record { some = f.some; most = f.most; kind_some = f.kind_some; kind_most = f.kind_most; weight = refl; class = f.class; alg = f.alg; class_ids = f.class_ids; few = f.few; classes = f.classes }
@@ -73,7 +73,7 @@ row_by : (b : Bool) (r : Row) → IsRow r → IsRow (if b then r else bare r)
 row_by true r h = h
 row_by false r h = record { name = h.name; form = bare_form r.id r h.form }
 
--- one climbs no further than before
+-- climbing from an item meets no bucket more often than before
 climb_if : (c : Bool) (o : Option ℕ) (j : ItemId) (f g : ℕ → List ℕ) → ((p : ℕ) → times_in j (f p) ≤ times_in j (g p)) → times_in j (then_up (if c then o else None) f) ≤ times_in j (then_up o g)
 climb_if false o j f g h = omega arith
 climb_if true None j f g h = omega arith
@@ -89,7 +89,7 @@ there_by : (b : Bool) (u : List Row) (r : Row) → IfSome r.parent (λ p. is_the
 there_by true u r h = h
 there_by false u r h = tt
 
--- where a parent is left, the item is where it will be
+-- if an item still has a parent, then the item is placed
 left_by : (b : Bool) (o : Option ℕ) (p : ℕ) → (if b then o else None) ≡ Some p → (b ≡ true) × (o ≡ Some p)
 left_by true o p e = (refl, e)
 left_by false o p e = absurd (let no : ◌≡◌ {A = Option ℕ} None (Some p) = e in cc)
@@ -144,10 +144,10 @@ module _ (P : ItemId → Bool) (t : List Row) (l : Lawful t) where
     still None h = h
     still (Some p) h = is_there-map (shown P) (shown-id P) t (Bucket p) ∙ h
 
-  -- A PART IS LAWFUL, where each item that is where it will be has its bucket there
+  -- A PART IS LAWFUL if the bucket of each placed item is in the part
   pub Lawful-part : (q : ItemId → Bool) → ((i : ItemId) (p : ℕ) → q i ≡ true → P i ≡ true → parent_of t i ≡ Some p → q (Bucket p) ≡ true) → Lawful (part_of q P t)
   Lawful-part q closed = Lawful-only q (map (shown P) t) (λ i p h e. let k = left_by (P i) (parent_of t i) p (sym (parent_shown i) ∙ e) in closed i p h k.0 k.1) Lawful-shown
 
-  -- the row of an item there
+  -- the row of an item in the part
   pub row_of-part : (q : ItemId → Bool) (i : ItemId) → row_of (part_of q P t) i ≡ (if q i then option_map (shown P) (row_of t i) else None)
   row_of-part q i = row_of-only q (map (shown P) t) i ∙ ap (λ o. if q i then o else None) (row_of-map (shown P) (shown-id P) t i)

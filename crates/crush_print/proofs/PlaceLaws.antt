@@ -1,4 +1,4 @@
--- The place of an item, by the nodes beside it.
+-- Finds an item among the nodes at its place, its siblings.
 use Rattle.std.proofs.Common.{◌≡◌, ℕ, zero, suc, ◌∷◌, ◌++◌, ◌+◌, ◌<◌, [], List, Bool, true, false, map, length, get_or, take, ap, sym, subst, refl, ◌∙◌, arith, ⊎_elim}
 use Rattle.std.specs.Prelude.{All, Option, None, Some, ◌&&◌, not, is_none, is_some, filter, flat_map, if◌then◌else◌, option_and_then, ◌==◌}
 use Rattle.std.specs.Option.{option_map, option_map_or}
@@ -24,7 +24,7 @@ use Rattle.crush_print.proofs.BelowLaws.{no_kids}
 some_is : {X : Type 0} (x y : X) → Some x ≡ Some y → x ≡ y
 some_is x y e = cc
 
--- AMONG ROWS: where none of those that meet a test has the id, the row that has it doesn't meet it
+-- AMONG ROWS: if none of the rows that pass the test P has the id i, then the row of i doesn't pass the test
 module _ (P : Row → Bool) (i : ItemId) where
   abbrev IsOther : ItemId → Type 0
   IsOther j = same_id j i ≡ false
@@ -50,7 +50,7 @@ module _ (P : Row → Bool) (i : ItemId) where
       (λ q. fails_among t r (sym (ap (λ z. if z then Some x else row_of t i) q.0) ∙ found) (others_left (P x) x t others))
       (same_id_tells x.id i)
 
--- AMONG NODES, which are those of the rows that meet the test
+-- AMONG NODES that have the ids of the rows that pass the test
 others_as_ids : {A : _} (i : ItemId) (ns : List (Node A)) → All (λ node. same_id (node_id node) i ≡ false) ns → All (λ j. same_id j i ≡ false) (map node_id ns)
 others_as_ids i [] others = All-nil (λ j. same_id j i ≡ false)
 others_as_ids i (x ∷ ns) others =
@@ -63,7 +63,7 @@ not_there P t i ns same others holds = by_row (row_of t i) refl where
   by_row None e = refl
   by_row (Some r) e = absurd (let yes : P r ≡ true = holds r e in let no : P r ≡ false = fails_among P i t r e (reordered-All (λ j. same_id j i ≡ false) same (others_as_ids i ns others)) in cc)
 
--- the parent of the row that an item has
+-- the parent of an item is the parent in its row
 own_parent : (t : List Row) (i : ItemId) (p : Option ℕ) (r : Row) → parent_of t i ≡ p → row_of t i ≡ Some r → r.parent ≡ p
 own_parent t i p r above found = sym (ap (option_and_then (λ (x : Row). x.parent)) found) ∙ above
 
@@ -86,7 +86,7 @@ not_among_unplaced t d ns ids above others =
     not_there (λ (r : Row). is_device_id r.id && is_none r.parent) t (DeviceItem d) ns ids others
     (λ r found. (λ k. is_device_id (own_id t (DeviceItem d) r found k) && is_none (own_parent t (DeviceItem d) None r above found k)))
 
--- AN ITEM THAT ISN'T THERE has no steps
+-- AN ITEM THAT THE TABLE DOESN'T HAVE has no steps
 no_step : (t : List Row) (depth : ℕ) (i : ItemId) → row_of t i ≡ None → step_at t depth i ≡ []
 unfolding step_at
 no_step t depth i absent = ap (λ o. option_map_or (λ (v : ViewData). record { depth = depth; item = v } ∷ []) (option_map (row_view t) o) []) absent
@@ -98,11 +98,11 @@ no_steps t zero depth (BucketItem b) parents absent = refl
 no_steps t (suc n) depth (BucketItem b) parents absent =
     (λ k. no_step t depth (BucketItem b) absent k ++ flat_map (steps_at t n (depth + 1)) (no_kids t t b parents (ap is_some absent) k))
 
--- ITS STEPS are those of the node that has its id
+-- THE STEPS of an item are the steps of the node that has its id
 pub item_walked : {A : _} (t : List Row) (i : ItemId) (p q : Option ℕ) (x y : Node A) (start one : List WalkStepData) → start ≡ [] → one ≡ start ++ steps_of 0 p (items_of (x ∷ [])) → p ≡ q → x ≡ y → HasSteps t q y → node_id y ≡ i
     → one ≡ steps_at t (length t) 0 i
 item_walked t i p q x y start one begun after above is has same = after ∙ (λ k. begun k ++ steps_of 0 (above k) (items_of (is k ∷ []))) ∙ sym has ∙ ap (steps_at t (length t) 0) same
 
--- none of those so far has the id, nor one more
+-- if a property is true of the first i elements and of element i, then it is true of the first i + 1 elements
 pub others_more : {X : Type 0} (P : X → Type 0) (xs : List X) (i : ℕ) (x : X) → i < length xs → x ≡ get_or xs i x → All P (take i xs) → P x → All P (take (i + 1) xs)
 others_more P xs i x lt is before here = subst (All P) (sym (take_more xs i x lt ∙ ap (λ y. take i xs ++ y ∷ []) (sym is))) (All-push P (take i xs) x before here)

@@ -72,7 +72,7 @@ rule_head_words r = codes "rule" ∷ r.name ∷ codes "{" ∷ codes "id" ∷ dec
 abbrev pub rule_words : List Row → RuleData → List (List ℕ)
 rule_words t r = rule_head_words r ++ size_words (codes "min_size") r.min_size ++ size_words (codes "max_size") r.max_size ++ flat_map (step_words t) r.steps ++ codes "}" ∷ []
 
--- what the row of an item has
+-- the words that are computed from the row of an item; none if the table doesn't have the item
 abbrev pub words_of : List Row → ItemId → (Row → List (List ℕ)) → List (List ℕ)
 words_of t i words = option_map_or words (row_of t i) []
 
@@ -82,7 +82,7 @@ kid_words form t i = words_of t i (λ (r : Row). item_words form r.name (item_we
 abbrev pub whole_words : WeightForm → SettingData → List Row → ℕ → List (List ℕ)
 whole_words form s t b = words_of t (Bucket b) (λ (r : Row). bucket_words (kind_text s r.kind) r (flat_map (kid_words form t) (kids t b)))
 
--- LINE BY LINE
+-- THE WORDS LINE BY LINE: each printed line has its words
 class_spells : (name : List ℕ) (class : Option (List ℕ)) → IsName name → IfSome class IsName → Spells (name ++ (class_text class ++ codes "\n")) (name ∷ class_words class)
 class_spells name None n k = spells_word name 10 [] [] n refl spells_nothing
 class_spells name (Some c) n k = spells_word name 32 _ _ n refl (spells_word (codes "class") 32 _ _ (fixed (codes "class") refl) refl (spells_word c 10 [] [] k refl spells_nothing))
@@ -164,7 +164,7 @@ bucket_spells form kind r b w items words e k n h light each =
     let ids : Spells (flat_map class_id_line r.class_ids) (flat_map class_id_words r.class_ids) = spells_all class_id_line class_id_words r.class_ids (All-weaker IsShadowId (λ c. Spells (class_id_line c) (class_id_words c)) class_id_spells r.class_ids h.class_ids) in
     spells_both _ _ _ _ (spells_both _ _ _ _ (spells_both _ _ _ _ (spells_both _ _ _ _ (head_spells kind r.name r.id b k n e (let v = h.most in omega (arith, v))) ids) (choice_spells form r w h.alg light)) each) brace_spells
 
--- a rule's steps
+-- the steps of a rule
 take_text_spells : (name : List ℕ) (class : Option (List ℕ)) → IsName name → IfSome class IsName → Spells (codes "\tstep take " ++ name ++ class_text class ++ codes "\n") (codes "step" ∷ codes "take" ∷ name ∷ class_words class)
 take_text_spells name class n k = simp append_assoc (spells_blank 9 _ _ refl refl (spells_word (codes "step") 32 _ _ (fixed (codes "step") refl) refl (spells_word (codes "take") 32 _ _ (fixed (codes "take") refl) refl (class_spells name class n k))))
 
@@ -197,7 +197,7 @@ set_spells : (name : List ℕ) (value : ℕ) → IsName name → value < 10 ^ 10
 unfolding set_line
 set_spells name value n v = set_text_spells name (decimal value) n (number_name value v)
 
--- what a step names is a name
+-- the words in a step that have to be names are names
 abbrev pub NamesOfStep : List Row → StepData → Type 0
 NamesOfStep t (take b class) = IsName (bucket_name t b) × IfSome class IsName
 NamesOfStep t (choose leaf firstn count kind) = IsCount count × IsName kind

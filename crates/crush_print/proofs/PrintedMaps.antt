@@ -1,4 +1,4 @@
--- What the empty map and the plain example map print, computed.
+-- The texts of the empty map and of the plain example map, computed.
 use Rattle.std.proofs.Common.{◌≡◌, refl}
 use Rattle.std.specs.Prelude.{ℕ, pos, negsuc, true, false, List, [], ◌∷◌, Some, None, codes}
 use Rattle.std.specs.Fmt.{digits}
@@ -39,12 +39,12 @@ example = rows_of (record {
 abbrev setting : SettingData
 setting = record { kinds = type 0 (codes "osd") ∷ (type 1 (codes "host") ∷ (type 3 (codes "rack") ∷ (type 11 (codes "root") ∷ []))); tunables = []; rules = [] }
 
--- the map without anything
+-- the text of a map without items
 empty_map : map_text Rounded (record { kinds = []; tunables = []; rules = [] }) [] ≡ codes "# begin crush map\n\n# devices\n\n# types\n\n# buckets\n\n# rules\n\n# end crush map\n"
 unfolding map_text tunable_section device_section kind_section bucket_section rule_section device_lines root_texts bucket_numbers device_numbers kind_numbers root_numbers
 empty_map = refl
 
--- the sections of the plain example map, and the whole of it
+-- the sections of the plain example map, and its whole text
 example_devices : device_section example ≡ codes "\n# devices\ndevice 0 osd.0\ndevice 1 osd.1\ndevice 2 osd.2\n"
 unfolding device_section device_lines device_numbers of_row device_line digits
 example_devices = refl
@@ -64,17 +64,17 @@ example_other : bucket_text Rounded setting example 3 ≡ codes "host h2 {\n\tid
 unfolding bucket_text of_row kids_lines item_line bucket_head bucket_choice bucket_lines kind_text digits
 example_other = refl
 
--- and the root above them
+-- and the root that holds both hosts
 example_root : bucket_text Rounded setting example 1 ≡ codes "root default {\n\tid -1\t\t# do not change unnecessarily\n\t# weight 2.50000\n\talg straw2\n\thash 0\t# rjenkins1\n\titem h1 weight 2.00000\n\titem h2 weight 0.50000\n}\n"
 unfolding bucket_text of_row kids_lines item_line bucket_head bucket_choice bucket_lines kind_text digits
 example_root = refl
 
--- all of it
+-- the whole text
 example_map : map_text Rounded setting example ≡ codes "# begin crush map\n\n# devices\ndevice 0 osd.0\ndevice 1 osd.1\ndevice 2 osd.2\n\n# types\ntype 0 osd\ntype 1 host\ntype 3 rack\ntype 11 root\n\n# buckets\nhost h1 {\n\tid -2\t\t# do not change unnecessarily\n\t# weight 2.00000\n\talg straw2\n\thash 0\t# rjenkins1\n\titem osd.0 weight 1.00000\n\titem osd.1 weight 1.00000\n}\nhost h2 {\n\tid -3\t\t# do not change unnecessarily\n\t# weight 0.50000\n\talg straw2\n\thash 0\t# rjenkins1\n\titem osd.2 weight 0.50000\n}\nroot default {\n\tid -1\t\t# do not change unnecessarily\n\t# weight 2.50000\n\talg straw2\n\thash 0\t# rjenkins1\n\titem h1 weight 2.00000\n\titem h2 weight 0.50000\n}\n\n# rules\n\n# end crush map\n"
 unfolding map_text tunable_section device_section kind_section bucket_section rule_section device_lines root_texts device_numbers kind_numbers root_numbers bucket_numbers bucket_text of_row kids_lines device_line kind_line item_line bucket_head bucket_choice bucket_lines kind_text digits
 example_map = refl
 
--- all of it with exact weights
+-- the whole text with exact weights
 exact_map : map_text Exact setting example ≡ codes "# begin crush map\n\n# devices\ndevice 0 osd.0\ndevice 1 osd.1\ndevice 2 osd.2\n\n# types\ntype 0 osd\ntype 1 host\ntype 3 rack\ntype 11 root\n\n# buckets\nhost h1 {\n\tid -2\t\t# do not change unnecessarily\n\t# weight 2.000000\n\talg straw2\n\thash 0\t# rjenkins1\n\titem osd.0 weight 1.000000\n\titem osd.1 weight 1.000000\n}\nhost h2 {\n\tid -3\t\t# do not change unnecessarily\n\t# weight 0.500000\n\talg straw2\n\thash 0\t# rjenkins1\n\titem osd.2 weight 0.500000\n}\nroot default {\n\tid -1\t\t# do not change unnecessarily\n\t# weight 2.500000\n\talg straw2\n\thash 0\t# rjenkins1\n\titem h1 weight 2.000000\n\titem h2 weight 0.500000\n}\n\n# rules\n\n# end crush map\n"
 unfolding map_text tunable_section device_section kind_section bucket_section rule_section device_lines root_texts device_numbers kind_numbers root_numbers bucket_numbers bucket_text of_row kids_lines device_line kind_line item_line bucket_head bucket_choice bucket_lines kind_text digits
 exact_map = refl
@@ -140,7 +140,7 @@ whole_rules : rule_section whole example ≡ codes "\n# rules\nrule replicated_r
 unfolding rule_section rule_lines rule_head size_line bucket_name take_line choose_line choice_text digits
 whole_rules = refl
 
--- a rule with both sizes and a step of each kind, over a bucket that has another name by now
+-- a rule with both sizes and a step of each kind; it takes a bucket that was renamed after the rule was read
 abbrev every_step : RuleData
 every_step = record {
   name = codes "ec";

@@ -1,4 +1,4 @@
--- The order of the printed buckets: each bucket of the table is there once, after those among its items.
+-- The order of the printed buckets: each bucket of the table is in it once, after the buckets among its items.
 use Rattle.std.proofs.Common.{◌≡◌, ℕ, zero, suc, ◌+◌, ◌≤◌, Bool, true, false, List, [], ◌∷◌, ◌++◌, length, Option, Some, None, refl, sym, ap, subst, ◌∙◌, arith, eq-eqb, ⊎_elim}
 use Rattle.std.proofs.lemmas.List.Sums.{sum_by-cons, sum_by-append}
 use Rattle.std.proofs.lemmas.Bool.Decides.{eqb_tells}
@@ -21,7 +21,7 @@ use Rattle.crush_print.specs.MapText.{root_number, root_numbers, bucket_numbers_
 use Rattle.crush_items.proofs.Sorting.{times, times-ascending}
 use Rattle.crush_print.proofs.PrintedTexts.{root_order}
 
--- no device is above an item
+-- no device is among the buckets above an item
 device_never : (d : ℕ) (xs : List ℕ) → times_in (Device d) xs ≡ 0
 device_never d [] = refl
 device_never d (x ∷ xs) = omega (arith, device_never d xs)
@@ -29,7 +29,7 @@ device_never d (x ∷ xs) = omega (arith, device_never d xs)
 one_time : (j b : ℕ) → times j (b ∷ []) ≡ one_if (b == j)
 one_time j b = sum_by-cons (λ x. one_if (x == j)) b [] ∙ omega arith
 
--- HOW OFTEN a bucket is in the order of another one: once, if it is that bucket or below it
+-- HOW OFTEN the bucket j is in the printed order of an item: once if it is this item or below it, and otherwise never
 module _ (t : List Row) (l : Lawful t) (j : ℕ) where
   no_order : (i : ItemId) → times j (bucket_numbers_at t zero i) ≡ 0
   no_order (Device d) = refl
@@ -47,7 +47,7 @@ module _ (t : List Row) (l : Lawful t) (j : ℕ) where
       ∙ sym (over_kids-kids t b (λ k. one_if (same_id k (Bucket j)) + times_in k (climb t m (Bucket j)))) ∙ climb_kids t b l.ids m (Bucket j) in
       omega (arith, below, one_time j b, sum_by-append (λ x. one_if (x == j)) (flat_map (bucket_numbers_at t (suc m)) (kids t b)) (b ∷ []))
 
-  -- behind its items, where there is room to climb to one
+  -- the bucket j is in the printed order of b's items as often as b is among the buckets above j
   pub below_times : (m b : ℕ) → times j (flat_map (bucket_numbers_at t (suc m)) (kids t b)) ≡ times_in (Bucket b) (climb t (suc m) (Bucket j))
   below_times m b =
       sum_by-flat_map (λ x. one_if (x == j)) (bucket_numbers_at t (suc m)) (kids t b)
@@ -109,7 +109,7 @@ module _ (t : List Row) (l : Lawful t) where
   root_gone None p e = absurd (let no : ◌≡◌ {A = Option ℕ} None (Some p) = e in cc)
   root_gone (Some r) p e = (ap (λ q. one_if (not (is_some q))) e, refl)
 
-  -- the roots from which one comes down to a bucket: one, if it is there
+  -- the number of roots at which the bucket is or below which it is: 1 if the table has the bucket
   abbrev from_roots : ℕ → ℕ → ℕ
   from_roots n j = sum_by (λ b. one_if (b == j) + times_in (Bucket b) (climb t n (Bucket j))) (root_numbers t)
 
@@ -150,7 +150,7 @@ module _ (t : List Row) (l : Lawful t) where
           let on : one_if (is_there t (Bucket p)) ≡ 1 = ap one_if (parent_is_there j p e) in
           omega (arith, split, root_times j, gone.0, rest p (omega (arith, long)), here, on)
 
-  -- fewer buckets stand above one than there are rows
+  -- a bucket has fewer buckets above it than the table has rows
   above_short : (b : ℕ) → is_there t (Bucket b) ≡ true → suc (length (above t (Bucket b))) ≤ length t
   above_short b there =
       let once : (r : Row) → times_in r.id (b ∷ above t (Bucket b)) ≤ 1 = λ r. times_in_once r.id (b ∷ above t (Bucket b)) each in
@@ -164,7 +164,7 @@ module _ (t : List Row) (l : Lawful t) where
           (λ p. let none : one_if (c == b) ≡ 0 = ap one_if p.0 in omega (arith, none, above_once t l (Bucket b) c))
           (eqb_tells c b)
 
-  -- EACH BUCKET is in the order once
+  -- EACH BUCKET is printed once
   climb_short : (m j : ℕ) → length t ≡ suc m → length (climb t (suc m) (Bucket j)) ≤ m
   climb_short m j e = by_there (is_there t (Bucket j)) refl
     where
@@ -199,7 +199,7 @@ module _ (t : List Row) (l : Lawful t) where
           ∙ sum_by-agree (λ b. times j (bucket_numbers_at t (length t) (Bucket b))) (λ b. one_if (b == j) + times_in (Bucket b) (climb t m (Bucket j))) (λ b. ap (λ n. times j (bucket_numbers_at t n (Bucket b))) e ∙ order_times t l j m (Bucket b)) (root_numbers t)
           ∙ comes_down m j (climb_short m j e)
 
--- BEHIND ITS ITEMS: of each bucket, the buckets among its items were seen before
+-- AFTER ITS ITEMS: when a bucket is printed, the buckets among its items have been printed before
 abbrev pub add : (ℕ → Bool) → ℕ → ℕ → Bool
 add seen b j = seen j || (b == j)
 
@@ -265,7 +265,7 @@ module _ (t : List Row) (l : Lawful t) where
   roots_ready [] seen = tt
   roots_ready (b ∷ rs) seen = ready_both t seen (bucket_numbers_at t (length t) (Bucket b)) (flat_map (λ c. bucket_numbers_at t (length t) (Bucket c)) rs) (order_ready (length t) (Bucket b) seen (omega arith)) (roots_ready rs (after seen (bucket_numbers_at t (length t) (Bucket b))))
 
-  -- EACH BUCKET is after those among its items
+  -- EACH BUCKET is printed after the buckets among its items
   pub root_order-ready : Ready t (λ _. false) (root_order t)
   unfolding bucket_numbers
   root_order-ready = roots_ready (root_numbers t) (λ _. false)

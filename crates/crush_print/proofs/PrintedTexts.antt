@@ -27,7 +27,7 @@ use Rattle.crush_print.proofs.PrintedLines.{tunable_words, device_words, kind_wo
 abbrev pub root_order : List Row → List ℕ
 root_order t = bucket_numbers t
 
--- THE TYPE of a number
+-- THE TYPE with a number
 pub record KindOf (s : SettingData) (n : ℕ) : Type 0 where
   pub kind : KindData
   pub found : find (λ (k : KindData). k.number == n) s.kinds ≡ Some kind
@@ -54,7 +54,7 @@ kind_text-is s n k = ap (λ (o : Option KindData). unwrap_or (option_map (λ (x 
 pub kind_text-name : (s : SettingData) (n : ℕ) → KindOf s n → IsName (kind_text s n)
 kind_text-name s n k = subst IsName (sym (kind_text-is s n k)) k.form.name
 
--- each number of a type is one
+-- each number in the list of type numbers is the number of a type
 or_right : (a b : Bool) → b ≡ true → (a || b) ≡ true
 or_right true b h = refl
 or_right false b h = h
@@ -81,7 +81,7 @@ pub known_numbers : (s : SettingData) → All (λ n. list_any (λ (k : KindData)
 unfolding kind_numbers
 known_numbers s = All-ascending (λ n. list_any (λ (k : KindData). k.number == n) s.kinds ≡ true) (map (λ (k : KindData). k.number) s.kinds) (own_numbers s.kinds)
 
--- the type of a name
+-- the type with a name
 name_found : (ks : List KindData) (n : List ℕ) → All IsKind ks → is_some (option_map (λ (k : KindData). k.number) (find (λ (k : KindData). bytes_eq k.name n) ks)) ≡ true → IsName n
 name_found [] n a h = absurd (let no : false ≡ true = h in cc)
 name_found (k ∷ ks) n a h = by_test (bytes_eq k.name n) refl h (λ r. name_found ks n (All-tail IsKind k ks a) r)
@@ -91,7 +91,7 @@ name_found (k ∷ ks) n a h = by_test (bytes_eq k.name n) refl h (λ r. name_fou
     by_test true e r rest = let form = All-head IsKind k ks a in subst IsName (bytes_equal k.name n e) form.name
     by_test false e r rest = rest r
 
--- what is true of all elements is true of those of a prefix and of those after it
+-- what is true of all elements of two joined lists is true of the elements of each list
 pub All-left : {X : Type 0} (P : X → Type 0) (xs ys : List X) → All P (xs ++ ys) → All P xs
 All-left P [] ys h = All-nil P
 All-left P (x ∷ xs) ys h = All-cons P x xs (All-head P x (xs ++ ys) h) (All-left P xs ys (All-tail P x (xs ++ ys) h))
@@ -101,7 +101,7 @@ All-right P [] ys h = h
 All-right P (x ∷ xs) ys h = All-right P xs ys (All-tail P x (xs ++ ys) h)
 
 module _ (s : SettingData) (t : List Row) (l : Lawful t) (f : Fits s t) where
-  -- of a rule's steps
+  -- the name of a bucket that a rule's step takes
   taken_name : (b : ℕ) → IsThere t b → IsName (bucket_name t b)
   taken_name b h = let n = named t b h in let row = All-row IsRow t l.rows (Bucket b) n.0 n.1 in subst IsName (sym n.2) row.name
 
@@ -122,7 +122,7 @@ module _ (s : SettingData) (t : List Row) (l : Lawful t) (f : Fits s t) where
       spells_both _ _ _ _ (rule_spells s t r rule (steps_names r.steps rule.steps (All-left (IsThere t) (flat_map bucket_taken r.steps) _ a)))
       (rules_spell rs (All-tail (IsRule s) r rs h) (All-right (IsThere t) (flat_map bucket_taken r.steps) _ a))
 
-  -- of an item's row
+  -- the words in the line of an item's row
   row_spells : (i : ItemId) (line : Row → List ℕ) (words : Row → List (List ℕ)) → ((r : Row) → row_of t i ≡ Some r → Spells (line r) (words r)) → Spells (of_row t i line) (words_of t i words)
   unfolding of_row
   row_spells i line words h = by_row (row_of t i) refl
@@ -153,7 +153,7 @@ module _ (s : SettingData) (t : List Row) (l : Lawful t) (f : Fits s t) where
   whole_spells form b = row_spells (Bucket b) _ (λ (r : Row). bucket_words (kind_text s r.kind) r (flat_map (kid_words form t) (kids t b)))
       (λ r e. let light = l.sums b in bucket_spells form (kind_text s r.kind) r b (sum_below t b) (kids_lines form t b) (flat_map (kid_words form t) (kids t b)) (row_id (Bucket b) t r e) (kind_text-name s r.kind (row_kind b r e)) (found_name (Bucket b) r e) (found_form (Bucket b) r e) (omega (arith, light)) (kids_spell form b))
 
-  -- THE WORDS of the map
+  -- THE WORDS of each section of the map
   pub tunables_spell : Spells (tunable_section s) (flat_map tunable_words s.tunables)
   unfolding tunable_section
   tunables_spell = spells_comment (codes " begin crush map") _ _ refl (spells_all tunable_line tunable_words s.tunables (All-weaker IsTunable (λ k. Spells (tunable_line k) (tunable_words k)) tunable_spells s.tunables f.setting.tunables))
@@ -179,7 +179,7 @@ module _ (s : SettingData) (t : List Row) (l : Lawful t) (f : Fits s t) where
   unfolding rule_section
   rules_section_spell = spells_blank 10 _ _ refl refl (spells_comment (codes " rules") _ _ refl (rules_spell s.rules f.setting.rules f.taken))
 
--- tunables, devices, types, buckets and rules
+-- the words of the tunables, devices, types, buckets and rules, one after the other
 abbrev pub map_words : WeightForm → SettingData → List Row → List (List ℕ)
 map_words form s t =
     flat_map tunable_words s.tunables ++ flat_map (λ d. words_of t (Device d) device_words) (device_numbers t) ++ flat_map (λ n. kind_words n (kind_text s n)) (kind_numbers s)
@@ -188,14 +188,14 @@ map_words form s t =
 end_spells : Spells (codes "\n# end crush map\n") []
 end_spells = spells_blank 10 _ _ refl refl (spells_comment (codes " end crush map") [] [] refl spells_nothing)
 
--- the printed text of a map has these words, whatever follows it
+-- the printed text of a map has these words, whatever text follows it
 pub map_text-spells : (form : WeightForm) (s : SettingData) (t : List Row) → Lawful t → Fits s t → Spells (map_text form s t) (map_words form s t)
 unfolding map_text
 map_text-spells form s t l f =
     let all = spells_both _ _ _ _ (spells_both _ _ _ _ (spells_both _ _ _ _ (spells_both _ _ _ _ (spells_both _ _ _ _ (tunables_spell s t l f) (devices_spell s t l f)) (kinds_spell s t l f)) (buckets_spell s t l f form)) (rules_section_spell s t l f)) end_spells in
     subst (λ ws. Spells (map_text form s t) ws) (append-nil _) all
 
--- and lines without words follow it
+-- and the text after it may be lines that have no words
 pub map_text-holds : (form : WeightForm) (s : SettingData) (t : List Row) → Lawful t → Fits s t → (rest : List ℕ) → Holds rest [] → Holds (map_text form s t ++ rest) (map_words form s t)
 map_text-holds form s t l f rest h =
     let all = map_text-spells form s t l f in

@@ -31,7 +31,7 @@ pub record Spells (text : List ℕ) (ws : List (List ℕ)) : Type 0 where
 pub spells_nothing : Spells [] []
 spells_nothing = record { before = λ rest more h. h }
 
--- two pieces, one after the other
+-- two pieces of text, one after the other
 pub spells_both : (a b : List ℕ) (x y : List (List ℕ)) → Spells a x → Spells b y → Spells (a ++ b) (x ++ y)
 spells_both a b x y f g = record {
   before = λ rest more h.
@@ -39,41 +39,41 @@ spells_both a b x y f g = record {
       (subst (λ (l : List ℕ). Holds l (x ++ (y ++ more))) (sym (append_assoc a b rest)) (f.before (b ++ rest) (y ++ more) (g.before rest more h)));
 }
 
--- a word, a blank and what follows them
+-- a word, a blank after it, and the text that follows
 pub spells_word : (w : List ℕ) (s : ℕ) (b : List ℕ) (y : List (List ℕ)) → IsName w → is_blank s ≡ true → Spells b y → Spells (w ++ s ∷ b) (w ∷ y)
 spells_word w s b y n k g = record {
   before = λ rest more h. subst (λ (l : List ℕ). Holds l (w ∷ (y ++ more))) (sym (append_assoc w (s ∷ b) rest)) (holds_word w s (b ++ rest) (y ++ more) n k (g.before rest more h));
 }
 
--- a blank
+-- a blank before a text
 pub spells_blank : (s : ℕ) (b : List ℕ) (y : List (List ℕ)) → is_blank s ≡ true → eqb s 35 ≡ false → Spells b y → Spells (s ∷ b) y
 spells_blank s b y k e g = record { before = λ rest more h. holds_blank s (b ++ rest) (y ++ more) k e (g.before rest more h) }
 
--- a brace
+-- a brace before a text
 pub spells_brace : (s : ℕ) (b : List ℕ) (y : List (List ℕ)) → is_blank s ≡ false → eqb s 35 ≡ false → is_brace s ≡ true → Spells b y → Spells (s ∷ b) ((s ∷ []) ∷ y)
 spells_brace s b y k e o g = record { before = λ rest more h. holds_brace s (b ++ rest) (y ++ more) k e o (g.before rest more h) }
 
--- a comment and its line feed
+-- a comment with its line feed before a text
 pub spells_comment : (c : List ℕ) (b : List ℕ) (y : List (List ℕ)) → list_all (λ x. not (eqb x 10)) c ≡ true → Spells b y → Spells (35 ∷ (c ++ 10 ∷ b)) y
 spells_comment c b y k g = record {
   before = λ rest more h. subst (λ (l : List ℕ). Holds (35 ∷ l) (y ++ more)) (sym (append_assoc c (10 ∷ b) rest)) (holds_comment c (b ++ rest) (y ++ more) k (g.before rest more h));
 }
 
--- line after line
+-- several lines, one after the other
 pub spells_all : {X : Type 0} (f : X → List ℕ) (g : X → List (List ℕ)) (xs : List X) → All (λ x. Spells (f x) (g x)) xs → Spells (flat_map f xs) (flat_map g xs)
 spells_all f g [] h = spells_nothing
 spells_all f g (x ∷ xs) h = spells_both (f x) (flat_map f xs) (g x) (flat_map g xs) (All-head (λ y. Spells (f y) (g y)) x xs h) (spells_all f g xs (All-tail (λ y. Spells (f y) (g y)) x xs h))
 
--- where each line has its words, so have all
+-- if each line has its words, then all lines together have all words
 pub spells_each : {X : Type 0} (f : X → List ℕ) (g : X → List (List ℕ)) (xs : List X) → ((x : X) → Spells (f x) (g x)) → Spells (flat_map f xs) (flat_map g xs)
 spells_each f g [] h = spells_nothing
 spells_each f g (x ∷ xs) h = spells_both (f x) (flat_map f xs) (g x) (flat_map g xs) (h x) (spells_each f g xs h)
 
--- WORDS that are printed. A fixed word
+-- WORDS that are printed are names: a fixed word
 pub fixed : (w : List ℕ) → is_name w ≡ true → IsName w
 fixed w h = is_name_holds w h
 
--- a digit is a byte of a name, and no line feed
+-- a digit is a byte that a name may have
 digit_byte : (b : ℕ) → 48 ≤ b → b ≤ 57 → is_name_byte b ≡ true
 digit_byte b lo hi = grind (arith, nat_tests)
 
@@ -87,7 +87,7 @@ number_name n h =
     let d = decimal_is_IsNumeral n (omega arith) in
     record { some = d.0.0; few = omega (arith, length-decimal-le 10 n (omega arith) h (omega arith)); allowed = all_digits (decimal n) d.0.1 }
 
--- a number below 0
+-- a negative number
 pub negative_name : (n : ℕ) → n < 10 ^ 10 → IsName (45 ∷ decimal n)
 negative_name n h =
     let d = decimal_is_IsNumeral n (omega arith) in
@@ -145,7 +145,7 @@ alg_name Straw = fixed (alg_text Straw) refl
 alg_name Straw2 = fixed (alg_text Straw2) refl
 alg_name Linked = fixed (alg_text Linked) refl
 
--- no byte of a name ends a line
+-- no byte of a name is a line feed
 stays_in_line : (b : ℕ) → is_name_byte b ≡ true → not (eqb b 10) ≡ true
 stays_in_line b h = grind (arith, nat_tests)
 

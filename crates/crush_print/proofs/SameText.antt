@@ -1,4 +1,4 @@
--- Tables that are the same, except for the order of their rows, print the same text.
+-- Two tables that are the same, except for the order of their rows, have the same text.
 use Rattle.std.proofs.Common.{◌≡◌, ◌<◌, ℕ, zero, suc, arith, List, [], ◌∷◌, ◌++◌, refl, ap, ◌∙◌}
 use Rattle.std.specs.Prelude.{flat_map, length, codes, unwrap_or}
 use Rattle.std.specs.Option.{option_map, option_map_or}
@@ -18,32 +18,32 @@ use Rattle.crush_print.specs.MapText.{device_number, root_number, device_numbers
 use Rattle.crush_items.proofs.Sorting.{ascending-reordered}
 
 module _ (form : WeightForm) (s : SettingData) (t u : List Row) (l : Lawful t) (same : Same t u) where
-  -- of an item
+  -- what is printed from an item's row is the same
   of_row-same : (i : ItemId) (f : Row → List ℕ) → of_row t i f ≡ of_row u i f
   unfolding of_row
   of_row-same i f = ap (λ o. option_map_or f o []) (row_of-same t u same.rows l.ids i)
 
-  -- of its line
+  -- the line of an item is the same
   item-same : (i : ItemId) → of_row t i (λ (r : Row). item_line form r.name (item_weight t i r.weight)) ≡ of_row u i (λ (r : Row). item_line form r.name (item_weight u i r.weight))
   item-same i = of_row-same i (λ (r : Row). item_line form r.name (item_weight t i r.weight)) ∙ (λ k. of_row u i (λ (r : Row). item_line form r.name (item_weight-same t u same.rows l.ids i r.weight k)))
 
-  -- of a bucket's items
+  -- the lines of a bucket's items are the same
   kids_lines-same : (b : ℕ) → kids_lines form t b ≡ kids_lines form u b
   unfolding kids_lines
   kids_lines-same b = λ k. flat_map (λ i. item-same i k) (same.kids b k)
 
-  -- of a bucket
+  -- the text of a bucket is the same
   bucket_text-same : (b : ℕ) → bucket_text form s t b ≡ bucket_text form s u b
   unfolding bucket_text
   bucket_text-same b = of_row-same (Bucket b) _ ∙ (λ k. of_row u (Bucket b) (λ (r : Row). bucket_lines form (kind_text s r.kind) r (sum_below-same t u same.rows l.ids b k) (kids_lines-same b k)))
 
-  -- the numbers of it and of the buckets below it
+  -- the numbers of an item and of the buckets below it are the same
   bucket_numbers_at-same : (n : ℕ) (i : ItemId) → bucket_numbers_at t n i ≡ bucket_numbers_at u n i
   bucket_numbers_at-same n (Device d) = refl
   bucket_numbers_at-same zero (Bucket b) = refl
   bucket_numbers_at-same (suc n) (Bucket b) = λ k. flat_map (λ i. bucket_numbers_at-same n i k) (same.kids b k) ++ b ∷ []
 
-  -- and those of all buckets
+  -- and the numbers of all buckets are the same
   bucket_numbers-same : bucket_numbers t ≡ bucket_numbers u
   unfolding bucket_numbers root_numbers
   bucket_numbers-same =
@@ -57,7 +57,7 @@ module _ (form : WeightForm) (s : SettingData) (t u : List Row) (l : Lawful t) (
   unfolding root_texts
   root_texts-same = λ k. flat_map (λ b. bucket_text-same b k) (bucket_numbers-same k)
 
-  -- of a taken bucket its name
+  -- the name of a bucket that a rule takes is the same
   bucket_name-same : (b : ℕ) → bucket_name t b ≡ bucket_name u b
   unfolding bucket_name
   bucket_name-same b = ap (λ o. unwrap_or (option_map (λ (r : Row). r.name) o) []) (row_of-same t u same.rows l.ids (Bucket b))
@@ -72,7 +72,7 @@ module _ (form : WeightForm) (s : SettingData) (t u : List Row) (l : Lawful t) (
   unfolding rule_lines
   rule_lines-same r = ap (λ l. rule_head r ++ size_line (codes "\tmin_size ") r.min_size ++ size_line (codes "\tmax_size ") r.max_size ++ l ++ codes "}\n") (λ k. flat_map (λ x. step_line-same x k) r.steps)
 
--- whatever the order of the rows
+-- so the text of the map is the same
 pub map_text-same : SameTablesPrintAlike
 unfolding map_text device_section bucket_section rule_section
 map_text-same form s t u l same =

@@ -1,4 +1,4 @@
--- Tables that are the same, except for the order of their rows, have the same tree.
+-- Two tables that are the same, except for the order of their rows, have the same tree.
 use Rattle.std.proofs.Common.{◌≡◌, ℕ, zero, suc, ◌+◌, List, [], ◌∷◌, ◌++◌, length, refl, ap, ◌∙◌}
 use Rattle.std.specs.Prelude.{flat_map}
 use Rattle.std.specs.Option.{option_map, option_map_or}

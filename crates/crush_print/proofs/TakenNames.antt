@@ -1,4 +1,4 @@
--- The buckets that rules take are printed by the names of their rows.
+-- A bucket that a rule takes is printed with the name in the bucket's row.
 use Rattle.std.proofs.Common.{◌≡◌, ℕ, true, false, List, [], Option, Some, None, refl, sym, ap, ◌∙◌}
 use Rattle.std.specs.Prelude.{is_some, unwrap_or}
 use Rattle.std.specs.Option.{option_map}

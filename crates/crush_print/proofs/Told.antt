@@ -1,4 +1,4 @@
--- What a table says of the items of a forest that stands for it, and so what it prints.
+-- What a table says about the items of a forest that represents the table, and so what is printed from the table.
 use Rattle.std.proofs.Common.{◌≡◌, ℕ, zero, suc, ◌+◌, ◌≤◌, List, [], ◌∷◌, ◌++◌, map, refl, ap, sym, ◌∙◌, arith}
 use Rattle.std.specs.Prelude.{flat_map, All, Option, Some, None}
 use Rattle.std.specs.Option.{option_map_or}
@@ -19,12 +19,12 @@ use Rattle.crush_print.specs.MapText.{of_row, kids_lines, bucket_text, bucket_nu
 use Rattle.crush_items.proofs.Told.{Told}
 pub use Rattle.crush_items.proofs.Told.{Told, root_ids, root_numbers_are, root_ids-join, size_le_rows, size_of-join, told_join, stands_told}
 
--- what an item that is there prints
+-- what is printed for an item that the table has
 row_prints : (t : List Row) (i : ItemId) (r : Row) (f : Row → List ℕ) → row_of t i ≡ Some r → of_row t i f ≡ f r
 unfolding of_row
 row_prints t i r f found = ap (λ o. option_map_or f o []) found
 
--- THE ITEMS' LINES
+-- THE LINES OF ITEMS that the table gives are those of the plain items
 ids_lines : (form : WeightForm) (t : List Row) (p : Option ℕ) (n : Items) → Told t p n → flat_map (λ i. of_row t i (λ (r : Row). item_line form r.name (item_weight t i r.weight))) (ids_of n) ≡ item_lines form n
 ids_lines form t p none told = refl
 ids_lines form t p (device d rest) told =
@@ -34,19 +34,19 @@ ids_lines form t p (bucket h w m k rest) told =
     ap (λ (l : List ℕ). l ++ flat_map (λ i. of_row t i (λ (r : Row). item_line form r.name (item_weight t i r.weight))) (ids_of rest)) (row_prints t (Bucket h.id) (bucket_row p h) (λ (r : Row). item_line form r.name (sum_below t h.id)) told.0 ∙ ap (item_line form h.name) told.2)
     ∙ ap (λ (l : List ℕ). item_line form h.name w ++ l) (ids_lines form t p rest told.4)
 
--- so the items of a bucket print their lines
+-- so the lines of a bucket's items that the table gives are those of its plain items
 kids_print : (form : WeightForm) (t : List Row) (p : Option ℕ) (b : ℕ) (n : Items) → kids t b ≡ ids_of n → Told t p n → kids_lines form t b ≡ item_lines form n
 unfolding kids_lines
 kids_print form t p b n are told = ap (flat_map (λ i. of_row t i (λ (r : Row). item_line form r.name (item_weight t i r.weight)))) are ∙ ids_lines form t p n told
 
--- A BUCKET
+-- THE TEXT OF A BUCKET that the table gives is the text of the plain bucket
 own_prints : (form : WeightForm) (s : SettingData) (t : List Row) (p : Option ℕ) (h : HeaderData) (w : ℕ) (k : Items) → row_of t (Bucket h.id) ≡ Some (bucket_row p h) → kids t h.id ≡ ids_of k → sum_below t h.id ≡ w → Told t (Some h.id) k → bucket_text form s t h.id ≡ bucket_lines form (kind_text s h.kind) (bucket_row None h) w (item_lines form k)
 unfolding bucket_text bucket_lines bucket_choice
 own_prints form s t p h w k row are sum told =
     row_prints t (Bucket h.id) (bucket_row p h) (λ (r : Row). bucket_lines form (kind_text s r.kind) r (sum_below t h.id) (kids_lines form t h.id)) row
     ∙ ap (λ n. bucket_lines form (kind_text s h.kind) (bucket_row p h) n (kids_lines form t h.id)) sum ∙ ap (bucket_lines form (kind_text s h.kind) (bucket_row p h) w) (kids_print form t (Some h.id) h.id k are told)
 
--- so does each bucket of the items
+-- the same for each bucket among the items or below them
 abbrev pub IsTold : WeightForm → SettingData → List Row → BucketData → Type 0
 IsTold form s t b = bucket_text form s t b.header.id ≡ own_text form s b
 
@@ -59,7 +59,7 @@ buckets_print form s t p (bucket h w m k rest) told =
     (All-append (IsTold form s t) (buckets_among k) (own ∷ []) (buckets_print form s t (Some h.id) k told.3) (All-cons (IsTold form s t) own [] (own_prints form s t p h w k told.0 told.1 told.2 told.3) (All-nil (IsTold form s t))))
     (buckets_print form s t p rest told.4)
 
--- THE BUCKETS, AS DEEP AS THEY ARE
+-- THE NUMBERS OF THE BUCKETS, if the walk may go deep enough
 abbrev pub bucket_id : BucketData → ℕ
 bucket_id b = b.header.id
 
@@ -78,17 +78,17 @@ same_line : (p : Option ℕ) (d : LeafData) → device_line (device_row p d) ≡
 unfolding device_line
 same_line p d = refl
 
--- a device's row prints its line, whatever its parent
+-- the line that is printed for a device is its own line, whatever its parent is
 abbrev pub IsPrinted : List Row → LeafData → Type 0
 IsPrinted t d = of_row t (Device d.id) device_line ≡ device_line (device_row None d)
 
--- so it is of all devices
+-- this is true of all devices among the items or below them
 pub leaves_print : (t : List Row) (p : Option ℕ) (n : Items) → Told t p n → All (IsPrinted t) (leaves n)
 leaves_print t p none told = All-nil (IsPrinted t)
 leaves_print t p (device d rest) told = All-cons (IsPrinted t) d (leaves rest) (row_prints t (Device d.id) (device_row p d) device_line told.0 ∙ same_line p d) (leaves_print t p rest told.1)
 leaves_print t p (bucket h w m k rest) told = All-append (IsPrinted t) (leaves k) (leaves rest) (leaves_print t (Some h.id) k told.3) (leaves_print t p rest told.4)
 
--- the numbers of the devices, in the order of the rows
+-- the numbers of the devices, in the order of the rows, are the ids of the plain devices
 pub leaf_numbers : (p : Option ℕ) (n : Items) → flat_map (λ (r : Row). device_number r.id) (rows p n) ≡ map (λ (d : LeafData). d.id) (leaves n)
 leaf_numbers p none = refl
 leaf_numbers p (device d rest) = ap (λ (l : List ℕ). d.id ∷ l) (leaf_numbers p rest)

@@ -1,4 +1,4 @@
--- What the devices of one class weigh among items as plain data, and which nodes have the weights that the table gives.
+-- The weights of the devices of one class, computed from plain items (`Items`), and when a node has the weights that the table gives.
 use Rattle.std.specs.Prelude.{◌≡◌, ℕ, ◌+◌, List, [], ◌∷◌, ◌++◌, Option, Some, None, if◌then◌else◌, bytes_eq, length, map}
 use Rattle.std.specs.Option.{option_eq}
 use Rattle.crush_model.specs.Items.{LeafData, Items, none, device, bucket}
@@ -8,7 +8,7 @@ use Rattle.crush_nodes.specs.declared.node.Node.{Node}
 use Rattle.crush_items.specs.Tree.{WalkStepData, steps_at}
 use Rattle.crush_print.specs.ClassWeights.{weight_of_class}
 
--- the sum of two weights, of which either can be missing
+-- the sum of two weights; if one of them is missing, the other weight
 abbrev pub together : Option ℕ → Option ℕ → Option ℕ
 together a None = a
 together None (Some b) = Some b
@@ -18,19 +18,19 @@ together (Some a) (Some b) = Some (a + b)
 abbrev pub leaf_weight : List ℕ → LeafData → Option ℕ
 leaf_weight c d = if option_eq bytes_eq d.class (Some c) then Some d.weight else None
 
--- the weight of all devices that have the class, at any depth; none if there is no such device
+-- the total weight of all devices of the class that are among the items or below them; none if there is no such device
 abbrev pub class_weight_in : List ℕ → Items → Option ℕ
 class_weight_in c none = None
 class_weight_in c (device d rest) = together (leaf_weight c d) (class_weight_in c rest)
 class_weight_in c (bucket h w m kids rest) = together (class_weight_in c kids) (class_weight_in c rest)
 
--- the same for each item by itself, at any depth, in the order of the tree
+-- for each item, and for each item below it, the total weight of the devices of the class there; the weights are in the order of the tree
 abbrev pub class_weights_in : List ℕ → Items → List (Option ℕ)
 class_weights_in c none = []
 class_weights_in c (device d rest) = leaf_weight c d ∷ class_weights_in c rest
 class_weights_in c (bucket h w m kids rest) = class_weight_in c kids ∷ (class_weights_in c kids ++ class_weights_in c rest)
 
--- what the table says of the class at the item of a step
+-- the weight that the table gives for the devices of the class that are the step's item or below it
 abbrev pub step_weight : List Row → List ℕ → WalkStepData → Option ℕ
 step_weight t c s = weight_of_class t c s.item.id
 

@@ -8,13 +8,13 @@ use Rattle.crush_print.specs.TreePart.{part_steps}
 use Rattle.crush_print.specs.TreeText.{steps_text}
 use Rattle.crush_print.specs.declared.part.TreePart.{TreePart}
 
--- the step with this weight, as a list; nothing without a weight
+-- the step with this weight, as a list; an empty list if there is no weight
 abbrev pub weighed : Option ℕ → WalkStepData → List WalkStepData
 weighed None s = []
 weighed (Some w) s = record s { item = record s.item { weight = w } } ∷ []
 
--- CLASS STEPS: the steps of the part, each with the weight that the devices of the class have there; without the steps of items that
--- neither are a device of the class nor have one below them
+-- CLASS STEPS: the steps of the part. The weight of each step is the total weight of all devices of the class that are its item or below it. If there is no such device,
+-- the step is left out
 unfoldable pub class_steps : TreePart → List ℕ → List Row → List WalkStepData
 class_steps p c t = flat_map (λ (s : WalkStepData). weighed (weight_of_class t c s.item.id) s) (part_steps p t)
 

@@ -1,4 +1,4 @@
--- What the devices of one class weigh, at each item of a table.
+-- The weights of the devices of one class, at each item of a table.
 use Rattle.std.specs.Prelude.{ℕ, Bool, false, List, Option, Some, None, if◌then◌else◌, nat_lt}
 use Rattle.std.specs.List.{count_by}
 use Rattle.crush_units.specs.declared.id.ItemId.{ItemId}
@@ -10,10 +10,10 @@ use Rattle.crush_model.specs.Table.{Row}
 abbrev pub is_class : List Row → List ℕ → Bool
 is_class t c = nat_lt 0 (count_by (has_class c) t)
 
--- whether the item is a device that has the class, or such a device is below the item
+-- whether the item is a device of the class, or has such a device below it
 abbrev pub has_class_at : List Row → ItemId → List ℕ → Bool
 has_class_at t i c = nat_lt 0 (count_by (λ (r : Row). if is_part t i r.id then has_class c r else false) t)
 
--- WEIGHT OF A CLASS: the weight of all devices of the class that are the item or below it; none if there is no such device
+-- WEIGHT OF A CLASS: the total weight of all devices of the class that are the item itself or below it; none if there is no such device
 abbrev pub weight_of_class : List Row → List ℕ → ItemId → Option ℕ
 weight_of_class t c i = if has_class_at t i c then Some (class_sum t i c) else None

@@ -12,7 +12,7 @@ use Rattle.crush_edits.specs.Setting.{TunableData}
 use Rattle.crush_print.specs.declared.weight_form.WeightForm.{WeightForm}
 use Rattle.crush_print.specs.declared.weight_form.WeightForm.TheVariants.{Rounded, Exact}
 
--- an item's id as it is printed: that of a bucket has a minus sign
+-- an item's id as it is printed; the id of a bucket has a minus sign
 abbrev pub id_text : ItemId → List ℕ
 id_text (Device d) = decimal d
 id_text (Bucket b) = 45 ∷ decimal b
@@ -39,7 +39,7 @@ device_line r = codes "device " ++ id_text r.id ++ codes " " ++ r.name ++ class_
 unfoldable pub kind_line : ℕ → List ℕ → List ℕ
 kind_line n name = codes "type " ++ decimal n ++ codes " " ++ name ++ codes "\n"
 
--- `item NAME weight W`, for an item with this name and this weight, which is written in this form
+-- `item NAME weight W`: the line of an item with this name and this weight; the weight is printed in the given form
 unfoldable pub item_line : WeightForm → List ℕ → ℕ → List ℕ
 item_line form name weight = codes "\titem " ++ name ++ codes " weight " ++ weight_in form weight ++ codes "\n"
 
@@ -47,14 +47,14 @@ item_line form name weight = codes "\titem " ++ name ++ codes " weight " ++ weig
 unfoldable pub class_id_line : ShadowData → List ℕ
 class_id_line c = codes "\tid " ++ id_text (Bucket c.id) ++ codes " class " ++ c.class ++ codes "\t\t# do not change unnecessarily\n"
 
--- the first lines of a bucket: its type's name, its name and `{`, and the line of its id
+-- the first lines of a bucket: its type, its name and `{`, and then the line of its id
 unfoldable pub bucket_head : List ℕ → List ℕ → ItemId → List ℕ
 bucket_head kind name id = kind ++ codes " " ++ name ++ codes " {\n\tid " ++ id_text id ++ codes "\t\t# do not change unnecessarily\n"
 
--- the lines of a bucket's weight, which is a comment, its algorithm and its hash
+-- three lines of a bucket: its weight, which is a comment, its algorithm, and its hash
 unfoldable pub bucket_choice : WeightForm → Row → ℕ → List ℕ
 bucket_choice form r weight = codes "\t# weight " ++ weight_in form weight ++ codes "\n\talg " ++ option_map_or alg_text r.alg [] ++ codes "\n\thash 0\t# rjenkins1\n"
 
--- the lines of a bucket, with these lines for its items
+-- all lines of a bucket; the last argument is the lines of its items
 unfoldable pub bucket_lines : WeightForm → List ℕ → Row → ℕ → List ℕ → List ℕ
 bucket_lines form kind r weight items = bucket_head kind r.name r.id ++ flat_map class_id_line r.class_ids ++ bucket_choice form r weight ++ items ++ codes "}\n"

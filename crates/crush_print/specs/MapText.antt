@@ -1,4 +1,4 @@
--- The text of a map, computed from its setting, its table and the form of its weights. docs/user/FORMATS.md has the same in words.
+-- The text of a map, computed from its setting, its table and the form of its weights. docs/user/FORMATS.md describes it in words.
 use Rattle.std.specs.Prelude.{◌≡◌, ℕ, zero, suc, List, [], ◌∷◌, ◌++◌, Some, length, All, map, flat_map, unwrap_or, codes}
 use Rattle.std.specs.Option.{option_map_or}
 use Rattle.crush_units.specs.declared.id.ItemId.{ItemId}
@@ -23,11 +23,11 @@ device_numbers t = ascending (flat_map (λ (r : Row). device_number r.id) t)
 unfoldable pub kind_numbers : SettingData → List ℕ
 kind_numbers s = ascending (map (λ (k : KindData). k.number) s.kinds)
 
--- what `line` gives for the row of the item i; nothing if the table doesn't have the item
+-- what the function `line` returns for the row of the item i; nothing if the table doesn't have the item
 unfoldable pub of_row : List Row → ItemId → (Row → List ℕ) → List ℕ
 of_row t i line = option_map_or line (row_of t i) []
 
--- the name of the type n; empty if the setting doesn't have the type
+-- the name of the type n; an empty name if the setting doesn't have the type
 unfoldable pub kind_text : SettingData → ℕ → List ℕ
 kind_text s n = unwrap_or (kind_name s n) []
 
@@ -39,13 +39,13 @@ kids_lines form t b = flat_map (λ i. of_row t i (λ (r : Row). item_line form r
 unfoldable pub bucket_text : WeightForm → SettingData → List Row → ℕ → List ℕ
 bucket_text form s t b = of_row t (Bucket b) (λ (r : Row). bucket_lines form (kind_text s r.kind) r (sum_below t b) (kids_lines form t b))
 
--- the numbers of the buckets at the item i and below it, at most n levels deep: each bucket after the buckets below it, and those in the order of its items
+-- the numbers of the buckets at the item i and below it, at most n levels down. Each bucket comes after the buckets below it, and these are in the order of its items
 abbrev pub bucket_numbers_at : List Row → ℕ → ItemId → List ℕ
 bucket_numbers_at t n (Device d) = []
 bucket_numbers_at t zero (Bucket b) = []
 bucket_numbers_at t (suc n) (Bucket b) = flat_map (bucket_numbers_at t n) (kids t b) ++ b ∷ []
 
--- the numbers of all buckets in the order of the text, root by root. The depth is bounded by the number of rows, which no root exceeds
+-- the numbers of all buckets in the order of the text, one root after the other. The walk goes at most as many levels down as the table has rows, which is enough for every root
 unfoldable pub bucket_numbers : List Row → List ℕ
 bucket_numbers t = flat_map (λ b. bucket_numbers_at t (length t) (Bucket b)) (root_numbers t)
 
@@ -57,23 +57,23 @@ device_lines t = flat_map (λ d. of_row t (Device d) device_line) (device_number
 unfoldable pub root_texts : WeightForm → SettingData → List Row → List ℕ
 root_texts form s t = flat_map (bucket_text form s t) (bucket_numbers t)
 
--- THE SECTIONS, each with its heading. The tunables, in the order in which they were declared
+-- THE SECTIONS, each with its heading. The section of the tunables, in the order in which they were declared
 unfoldable pub tunable_section : SettingData → List ℕ
 tunable_section s = codes "# begin crush map\n" ++ flat_map tunable_line s.tunables
 
--- the devices
+-- the section of the devices
 unfoldable pub device_section : List Row → List ℕ
 device_section t = codes "\n# devices\n" ++ device_lines t
 
--- the types
+-- the section of the types
 unfoldable pub kind_section : SettingData → List ℕ
 kind_section s = codes "\n# types\n" ++ flat_map (λ n. kind_line n (kind_text s n)) (kind_numbers s)
 
--- the buckets
+-- the section of the buckets
 unfoldable pub bucket_section : WeightForm → SettingData → List Row → List ℕ
 bucket_section form s t = codes "\n# buckets\n" ++ root_texts form s t
 
--- the rules, in the order in which they were declared, with the names that their buckets have in the table
+-- the section of the rules, in the order in which they were declared. A bucket that a rule takes has the name that it has in the table
 unfoldable pub rule_section : SettingData → List Row → List ℕ
 rule_section s t = codes "\n# rules\n" ++ flat_map (rule_lines t) s.rules
 
@@ -81,7 +81,7 @@ rule_section s t = codes "\n# rules\n" ++ flat_map (rule_lines t) s.rules
 unfoldable pub map_text : WeightForm → SettingData → List Row → List ℕ
 map_text form s t = tunable_section s ++ device_section t ++ kind_section s ++ bucket_section form s t ++ rule_section s t ++ codes "\n# end crush map\n"
 
--- the law: if a lawful table t has the same rows as the table u, except for their order, then both have the same text with every setting and each form of weights
+-- the law: if a lawful table t has the same rows as the table u, except for their order, then for every setting and each form of weights, both tables have the same text
 abbrev pub SameTablesPrintAlike : Type 0
 SameTablesPrintAlike = (form : WeightForm) (s : SettingData) (t u : List Row) → Lawful t → Same t u → map_text form s t ≡ map_text form s u
 

@@ -6,7 +6,7 @@ use Rattle.crush_model.specs.Table.{Row, name_of}
 use Rattle.crush_edits.specs.Setting.{StepData, take, choose, set, emit, RuleData}
 use Rattle.crush_print.specs.Lines.{class_text}
 
--- the name that the bucket b has in the table, even if the rule was read with another name; empty if the table doesn't have the bucket
+-- the name that the bucket b has in the table, even if the bucket had another name when the rule was read; an empty name if the table doesn't have the bucket
 unfoldable pub bucket_name : List Row → ℕ → List ℕ
 bucket_name t b = unwrap_or (name_of t (Bucket b)) []
 
@@ -20,7 +20,7 @@ choice_text leaf firstn =
     if leaf then (if firstn then codes "\tstep chooseleaf firstn " else codes "\tstep chooseleaf indep ")
     else (if firstn then codes "\tstep choose firstn " else codes "\tstep choose indep ")
 
--- `step choose firstn INT type NAME`, or the same with other first words, as above
+-- `step choose firstn INT type NAME`, or the same with the other first words of `choice_text`
 unfoldable pub choose_line : Bool → Bool → ℤ → List ℕ → List ℕ
 choose_line leaf firstn count kind = choice_text leaf firstn ++ signed_decimal count ++ codes " type " ++ kind ++ codes "\n"
 
@@ -35,11 +35,11 @@ step_line t (choose leaf firstn count kind) = choose_line leaf firstn count kind
 step_line t (set name value) = set_line name value
 step_line t emit = codes "\tstep emit\n"
 
--- `rule NAME {`, and the lines of the rule's id and of its `type` word
+-- `rule NAME {`, the line of the rule's id, and the line of its type
 unfoldable pub rule_head : RuleData → List ℕ
 rule_head r = codes "rule " ++ r.name ++ codes " {\n\tid " ++ decimal r.id ++ codes "\n\ttype " ++ r.kind ++ codes "\n"
 
--- the line of a size; nothing if the rule doesn't have the size
+-- the line of a pool size; nothing if the rule doesn't have this size
 unfoldable pub size_line : List ℕ → Option ℕ → List ℕ
 size_line key None = []
 size_line key (Some n) = key ++ decimal n ++ codes "\n"

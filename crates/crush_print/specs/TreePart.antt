@@ -1,4 +1,4 @@
--- A part of the tree of a map: an item with all below it, down to the buckets of a type.
+-- A part of the tree of a map: an item and all items below it, down to the buckets of a type.
 use Rattle.std.specs.Prelude.{◌≡◌, ℕ, Bool, false, List, [], ◌∷◌, Option, None, Some, if◌then◌else◌, length, nat_lt, ◌==◌}
 use Rattle.crush_units.specs.declared.id.ItemId.{ItemId}
 use Rattle.crush_model.specs.Table.{Row}
@@ -11,26 +11,26 @@ use Rattle.crush_print.specs.declared.part.TreePart.{TreePart}
 abbrev pub whole_tree : TreePart
 whole_tree = record { under = None; down_to = None }
 
--- UNDER an item: its own step, with the depth 0, and those of all items below it; without an item, the steps of the whole tree
+-- UNDER an item: the step of this item, with the depth 0, and the steps of all items below it. Without an item, the steps of the whole tree
 abbrev pub steps_under : Option ItemId → List Row → List WalkStepData
 steps_under None t = tree_rows t
 steps_under (Some i) t = steps_at t (length t) 0 i
 
--- DOWN TO a type: whether a step is deeper than `closed`, so that it is below the bucket of that depth; false without a depth
+-- DOWN TO a type: whether a step is deeper than `closed`, and so is below the bucket at this depth; false if there is no such bucket
 abbrev pub is_closed : Option ℕ → WalkStepData → Bool
 is_closed None s = false
 is_closed (Some depth) s = nat_lt depth s.depth
 
--- the depth of the step if its item has this type: the deeper steps that follow it without a gap are below it
+-- the step's depth if its item has this type, and otherwise none; the deeper steps directly after such a step are below its item
 abbrev pub closed_by : ℕ → WalkStepData → Option ℕ
 closed_by kind s = if s.item.kind == kind then Some s.depth else None
 
--- the steps without those that are below an item of this type. `closed` is the depth of the last step that was kept, if its item has the type
+-- the steps, except for those below an item of this type. `closed` is the depth of the last step that was kept, if its item has the type
 abbrev pub down_to : ℕ → Option ℕ → List WalkStepData → List WalkStepData
 down_to kind closed [] = []
 down_to kind closed (s ∷ rest) = if is_closed closed s then down_to kind closed rest else s ∷ down_to kind (closed_by kind s) rest
 
--- the same if there is a type, otherwise all steps
+-- the steps down to the type if there is one, otherwise all steps
 abbrev pub cut : Option ℕ → List WalkStepData → List WalkStepData
 cut None steps = steps
 cut (Some kind) steps = down_to kind None steps

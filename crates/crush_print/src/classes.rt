@@ -1,4 +1,4 @@
-//! What the devices of one class weigh, at each item of a map's tree.
+//! Computes the weight that the devices of one class have together, at each item of a map's tree.
 
 ghost use Rattle.std.specs.Prelude.{◌≡◌, ◌+◌, ◌≤◌, ◌∷◌, ◌++◌, [], List, OnOk, IfOk, All, None, Some, flat_map, is_some, unwrap_or, map as each};
 ghost use Rattle.std.specs.Option.{option_eq};
@@ -19,7 +19,8 @@ use crush_tree::{Bucket, Leaf, Node};
 use crush_units::{ItemId, Weight};
 use std::alloc::{AllocError, Allocator, Global};
 
-/// Whether a device of the map has the class. It visits each item until it finds such a device.
+/// Whether a device of the map has the class. Visits the items one after the other until it finds
+/// such a device.
 pub fn has_class<A: Allocator>(map: &CrushMap<A>, class: &str) -> bool
     ensures { (t : List Row) → Stands map.now.forest t → result ≡ is_class t class.now }
 {
@@ -29,7 +30,7 @@ pub fn has_class<A: Allocator>(map: &CrushMap<A>, class: &str) -> bool
     is_among(forest.unplaced(), class) || is_among(forest.roots(), class)
 }
 
-/// Whether a device among the nodes and all items below them has the class.
+/// Whether one of the nodes, or an item below one of them, is a device of the class.
 fn is_among<A: Allocator>(nodes: &[Node<A>], class: &[u8]) -> bool
     ensures { result ≡ is_some (class_weight_in class.now (items_of nodes.now)) }
 {
@@ -41,7 +42,7 @@ fn is_among<A: Allocator>(nodes: &[Node<A>], class: &[u8]) -> bool
     false
 }
 
-/// Whether the node is a device that has the class, or such a device is below it.
+/// Whether the node is a device of the class, or has such a device below it.
 fn is_in<A: Allocator>(node: &Node<A>, class: &[u8]) -> bool
     ensures { result ≡ is_some (class_weight_in class.now (items_of (node.now ∷ []))) }
 {
@@ -60,9 +61,10 @@ fn is_in<A: Allocator>(node: &Node<A>, class: &[u8]) -> bool
     }
 }
 
-/// Returns what the devices of the class weigh at each item of the map, in the order of the map's
-/// tree: the weight of all devices of the class that are the item or below it, or `None` if there
-/// is no such device. It visits each item once. An `Err` says that memory ran out.
+/// Returns a weight for each item of the map, in the order of the map's tree. An item's weight is
+/// the sum of the weights of all devices of the class that are the item itself or below it, or
+/// `None` if there is no such device. The function visits each item once, and fails only if memory
+/// runs out.
 pub fn class_weights<A: Allocator>(
     alloc: Global,
     map: &CrushMap<A>,
@@ -82,7 +84,8 @@ pub fn class_weights<A: Allocator>(
     Ok(weights)
 }
 
-/// Returns the same of one item and of all items below it; for `None`, of all items of the map.
+/// Returns the weights of [`class_weights`] for one item and all items below it. If `under` is
+/// `None`, returns the weights for all items of the map.
 pub(crate) fn weights_under<A: Allocator>(
     alloc: Global,
     map: &CrushMap<A>,
@@ -118,7 +121,7 @@ fn item_weights<A: Allocator>(
     }
 }
 
-/// Appends the weights of each node and of all items below it.
+/// Appends, for each node, the weights of the node and of all items below it.
 fn push_all_weights<A: Allocator>(
     nodes: &[&Node<A>],
     class: &[u8],
@@ -134,8 +137,8 @@ fn push_all_weights<A: Allocator>(
     Ok(())
 }
 
-/// Appends the weight of the node, and then those of all items below it. Returns the weight of the
-/// node.
+/// Appends the weight of the node, and then the weights of all items below it. Returns the weight
+/// of the node.
 fn push_weights<A: Allocator>(
     node: &Node<A>,
     class: &[u8],
@@ -176,7 +179,7 @@ pub(crate) fn copy_of(weight: &Option<Weight>) -> Option<Weight>
     }
 }
 
-/// Returns the sum of two weights, of which either can be missing.
+/// Returns the sum of two weights. If one of them is `None`, returns the other weight.
 fn together(sum: Option<Weight>, more: Option<Weight>) -> Option<Weight>
     requires { unwrap_or sum 0 + unwrap_or more 0 ≤ HEAVIEST_BUCKET }
     ensures { result ≡ together sum more }

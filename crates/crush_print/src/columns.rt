@@ -5,8 +5,8 @@ ghost use Rattle.crush_print.specs.TreeText.{spaces, at_left, at_right};
 
 use std::alloc::AllocError;
 
-/// Appends `count` spaces to `out`. An `Err` says that memory ran out; `out` may then have a part
-/// of them.
+/// Appends `count` spaces to `out`. Fails only if memory runs out; then `out` may have some of the
+/// spaces.
 pub fn push_spaces(count: usize, out: &mut Vec<u8>) -> Result<(), AllocError>
     ensures { OnOk result (out.new.items ≡ out.old.items ++ spaces count) }
 {
@@ -18,8 +18,9 @@ pub fn push_spaces(count: usize, out: &mut Vec<u8>) -> Result<(), AllocError>
     Ok(())
 }
 
-/// Appends the word to `out`, after as many spaces as fill a column of this width. A longer word is
-/// appended whole. An `Err` says that memory ran out.
+/// Appends spaces and then the word to `out`, so that both together fill a column of this width. A
+/// word that is longer than the column is appended whole, without spaces. Fails only if memory runs
+/// out.
 #[tactic(auto, unfolding(crate::specs::TreeText::at_right))]
 pub fn push_right(width: usize, word: &[u8], out: &mut Vec<u8>) -> Result<(), AllocError>
     ensures { OnOk result (out.new.items ≡ out.old.items ++ at_right width word.now) }
@@ -28,8 +29,9 @@ pub fn push_right(width: usize, word: &[u8], out: &mut Vec<u8>) -> Result<(), Al
     out.extend_from_slice(word)
 }
 
-/// Appends the word to `out`, and then as many spaces as fill a column of this width. A longer word
-/// is appended whole. An `Err` says that memory ran out.
+/// Appends the word and then spaces to `out`, so that both together fill a column of this width. A
+/// word that is longer than the column is appended whole, without spaces. Fails only if memory runs
+/// out.
 #[tactic(auto, unfolding(crate::specs::TreeText::at_left))]
 pub fn push_left(width: usize, word: &[u8], out: &mut Vec<u8>) -> Result<(), AllocError>
     ensures { OnOk result (out.new.items ≡ out.old.items ++ at_left width word.now) }

@@ -1,9 +1,9 @@
 //! Prints a map: as Ceph's text, and as a tree.
 //!
-//! [`write_map`] writes the text of a map, which `specs/MapText.antt` defines, with weights in the
-//! form that a [`WeightForm`] says. [`write_tree`] writes the map's tree for a person to read, which
-//! `specs/TreeText.antt` defines. [`devices`] and [`buckets`] return the ids in the order of the text, and [`walk`] returns the items in the order
-//! of the tree.
+//! [`write_map`] writes the text of a map, which `specs/MapText.antt` defines. A [`WeightForm`]
+//! says how many digits its weights have. [`write_tree`] writes the map's tree for a person to
+//! read, which `specs/TreeText.antt` defines. [`devices`] and [`buckets`] return the ids of a map
+//! in the order of its text, and [`walk`] returns the items of a map in the order of its tree.
 #![tactic(auto)]
 
 mod classes;

@@ -67,7 +67,7 @@ pub(crate) fn push_kind(number: u16, name: &[u8], out: &mut Vec<u8>) -> Result<(
     )
 }
 
-/// Appends `item NAME weight WEIGHT`, with the weight in this form.
+/// Appends `item NAME weight WEIGHT`, with the weight in the form `form`.
 #[tactic(auto, unfolding(crate::specs::Lines::item_line))]
 fn push_line(
     form: WeightForm,
@@ -91,7 +91,7 @@ fn push_line(
     )
 }
 
-/// Appends the line of an item, with the weight that it stores.
+/// Appends the line of an item of a bucket, with the weight that the item stores.
 fn push_item<A: Allocator>(
     form: WeightForm,
     node: &Node<A>,
@@ -174,7 +174,7 @@ fn push_head<A: Allocator>(
     )
 }
 
-/// Appends the lines of a bucket's weight, which is a comment, its algorithm and its hash.
+/// Appends three lines of a bucket: its weight, which is a comment, its algorithm, and its hash.
 #[tactic(auto, unfolding(crate::specs::Lines::bucket_choice))]
 fn push_choice<A: Allocator>(
     form: WeightForm,
@@ -200,7 +200,7 @@ fn push_choice<A: Allocator>(
     )
 }
 
-/// Appends all lines of a bucket whose type has the name `kind`, with weights in this form.
+/// Appends all lines of a bucket whose type has the name `kind`, with weights in the form `form`.
 pub(crate) fn push_bucket<A: Allocator>(
     form: WeightForm,
     kind: &[u8],

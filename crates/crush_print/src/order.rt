@@ -17,8 +17,8 @@ use crush_tree::{Bucket, Forest, Leaf, Node};
 use crush_units::{BucketId, DeviceId};
 use std::alloc::{AllocError, Allocator, Global};
 
-/// Returns the ids of all devices of a map in ascending order, as the map's text has them. An `Err`
-/// says that memory ran out. It sorts the devices.
+/// Returns the ids of all devices of a map in ascending order, which is their order in the map's
+/// text. The function sorts the devices, and fails only if memory runs out.
 pub fn devices<A: Allocator>(alloc: Global, map: &CrushMap<A>) -> Result<Vec<DeviceId>, AllocError>
     ensures { IfOk result (λ devices. (t : List Row) → Stands map.now.forest t
         → devices.items ≡ device_numbers t) }
@@ -27,9 +27,10 @@ pub fn devices<A: Allocator>(alloc: Global, map: &CrushMap<A>) -> Result<Vec<Dev
     ids_of_devices(alloc, devices.as_slice())
 }
 
-/// Returns the ids of all buckets of a map in the order of its text: from the root nearest to -1
-/// downward, and each bucket after the buckets below it, which are in the order of its items. An
-/// `Err` says that memory ran out. It sorts the roots.
+/// Returns the ids of all buckets of a map in the order of the map's text. The trees of the roots
+/// come one after the other, from the root nearest to -1 downward. In a tree, each bucket comes
+/// after the buckets below it, and these are in the order of the bucket's items. The function sorts
+/// the roots, and fails only if memory runs out.
 pub fn buckets<A: Allocator>(alloc: Global, map: &CrushMap<A>) -> Result<Vec<BucketId>, AllocError>
     ensures { IfOk result (λ buckets. (t : List Row) → Stands map.now.forest t
         → buckets.items ≡ bucket_numbers t) }
@@ -74,7 +75,7 @@ pub(crate) fn devices_in_order<A: Allocator>(
     Ok(devices)
 }
 
-/// Appends to `found` the devices among the nodes and below them, at any depth.
+/// Appends to `found` all devices that are among the nodes or below them, at any depth.
 fn find_devices<'a, A: Allocator>(
     nodes: &'a [Node<A>],
     found: &mut Vec<&'a Leaf<A>>,
@@ -94,7 +95,7 @@ fn find_devices<'a, A: Allocator>(
     Ok(())
 }
 
-/// Returns all buckets of the forest in the order of [`buckets`].
+/// Returns all buckets of the forest, in the order in which [`buckets`] returns them.
 pub(crate) fn buckets_in_order<A: Allocator>(
     alloc: Global,
     forest: &Forest<A>,
@@ -110,7 +111,8 @@ pub(crate) fn buckets_in_order<A: Allocator>(
     buckets_below(alloc, roots.as_slice())
 }
 
-/// Returns the buckets among the nodes and below them, each after those below it.
+/// Returns the buckets that are among the nodes or below them. Each bucket comes after the buckets
+/// below it.
 fn buckets_below<'a, A: Allocator>(
     alloc: Global,
     nodes: &[&'a Node<A>],

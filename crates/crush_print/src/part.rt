@@ -1,4 +1,4 @@
-//! A walk of a part of a map's tree: one item with what is below it, down to the buckets of a type.
+//! Walks a part of a map's tree: one item and all items below it, down to the buckets of a type.
 
 ghost use Rattle.std.specs.Prelude.{◌≡◌, ◌<◌, ◌≤◌, ◌^◌, ◌∷◌, ◌++◌, [], ℕ, List, All, IfNone, IfOk, IfSome, None, Some, false, length, slice_index_or, map as each};
 ghost use Rattle.crush_units.specs.declared.limits.TheConstants.{HEAVIEST_BUCKET};
@@ -25,8 +25,8 @@ use std::alloc::{AllocError, Allocator, Global};
 pub struct TreePart {
     /// The item at the top of the part; `None` for the whole tree.
     pub under: Option<ItemId>,
-    /// A type: the part doesn't have the items below buckets of this type. `None` if it has all
-    /// items.
+    /// A type of buckets: the items below buckets of this type aren't in the part. If this is
+    /// `None`, no items are left out.
     pub down_to: Option<TypeId>,
 }
 
@@ -44,10 +44,11 @@ impl TreePart {
 
 /// Returns the items of a part of a map, in the order of the map's tree.
 ///
-/// If the part has a top item, these are that item, with the depth 0, and all items below it; there
-/// are none if the map doesn't have the item. Otherwise they are the items of [`walk`]. The items
-/// below a bucket of the type `down_to` are then left out. An `Err` says that memory ran out. With
-/// a top item, only its siblings and the items below it are visited.
+/// If `under` is an item, these are this item, with the depth 0, and all items below it; if the map
+/// doesn't have the item, there are none. If `under` is `None`, these are the items that [`walk`]
+/// returns. If `down_to` is a type, the items below buckets of this type are left out. The function
+/// fails only if memory runs out. With `under`, it visits only the siblings of this item and the
+/// items below it.
 #[tactic(auto, unfolding(crate::specs::TreePart::part_steps))]
 pub fn walk_part<A: Allocator>(
     alloc: Global,
@@ -61,7 +62,7 @@ pub fn walk_part<A: Allocator>(
     cut(alloc, steps, part.down_to)
 }
 
-/// Returns the item and all items below it; for `None`, all items of the map.
+/// Returns the item and all items below it. If `under` is `None`, returns all items of the map.
 pub(crate) fn walk_under<A: Allocator>(
     alloc: Global,
     map: &CrushMap<A>,
@@ -97,7 +98,7 @@ fn walk_item<'a, A: Allocator>(
     }
 }
 
-/// Returns the nodes among which the item is, if the map has it.
+/// Returns the siblings of the item, and the item itself among them if the map has it.
 pub(crate) fn beside<'a, A: Allocator>(map: &'a CrushMap<A>, id: &ItemId) -> &'a [Node<A>]
     ensures few { size_of (items_of result.now) < 2 ^ 31 }
     ensures steps { (t : List Row) → Stands map.now.forest t
@@ -116,7 +117,7 @@ pub(crate) fn beside<'a, A: Allocator>(map: &'a CrushMap<A>, id: &ItemId) -> &'a
     }
 }
 
-/// Returns the items of a bucket; none if the map doesn't have the bucket.
+/// Returns the items of a bucket, or no items if the map doesn't have the bucket.
 fn nodes_in<A: Allocator>(map: &CrushMap<A>, bucket: BucketId) -> &[Node<A>]
     ensures few { size_of (items_of result.now) < 2 ^ 31 }
     ensures steps { (t : List Row) → Stands map.now.forest t
@@ -135,7 +136,8 @@ fn nodes_in<A: Allocator>(map: &CrushMap<A>, bucket: BucketId) -> &[Node<A>]
     }
 }
 
-/// Returns the unplaced devices if `id` is that of a device, otherwise the roots.
+/// Returns the unplaced devices if `id` is the id of a device, and the roots if it is the id of a
+/// bucket.
 fn tops_like<'a, A: Allocator>(map: &'a CrushMap<A>, id: &ItemId) -> &'a [Node<A>]
     ensures few { size_of (items_of result.now) < 2 ^ 31 }
     ensures steps { (t : List Row) → Stands map.now.forest t
@@ -156,7 +158,7 @@ fn tops_like<'a, A: Allocator>(map: &'a CrushMap<A>, id: &ItemId) -> &'a [Node<A
     }
 }
 
-/// Returns the index of the node with this id.
+/// Returns the index of the node with this id, or `None` if none of the nodes has it.
 pub(crate) fn place_of<A: Allocator>(nodes: &[Node<A>], id: &ItemId) -> Option<usize>
     ensures within { IfSome result (λ k. k < length nodes.now) }
     ensures id { IfSome result (λ k. (d : _) → node_id (slice_index_or nodes.now k d) ≡ id.now) }
@@ -171,7 +173,7 @@ pub(crate) fn place_of<A: Allocator>(nodes: &[Node<A>], id: &ItemId) -> Option<u
     None
 }
 
-/// Returns the steps without those below a bucket of the type `kind`.
+/// Returns the steps, except for those below a bucket of the type `kind`.
 fn cut<A: Allocator>(
     alloc: Global,
     steps: Vec<WalkStep<'_, A>>,
@@ -201,8 +203,9 @@ fn steps_down_to<'a, A: Allocator>(
     Ok(kept)
 }
 
-/// Appends the step to `kept`, unless it is below the bucket whose depth is `closed`. Returns the
-/// depth of the bucket below which the steps after this one are left out, if there is one.
+/// Appends the step to `kept`, unless the step is below a bucket of the type `kind`. `closed` is
+/// the depth of the last such bucket, or `None` if the step can't be below one. Returns `closed`
+/// for the next step.
 fn keep_step<'a, A: Allocator>(
     step: &WalkStep<'a, A>,
     kind: TypeId,
@@ -232,7 +235,7 @@ fn copy_of<'a, A: Allocator>(step: &WalkStep<'a, A>) -> WalkStep<'a, A>
     }
 }
 
-/// Whether the step is deeper than `closed`, so that it is below the bucket of that depth.
+/// Whether the step is deeper than `closed`, which means that it is below the bucket at this depth.
 pub(crate) fn is_closed<A: Allocator>(closed: Option<u32>, step: &WalkStep<'_, A>) -> bool
     ensures { result ≡ is_closed closed (walk_step_data step.now) }
 {
@@ -242,7 +245,7 @@ pub(crate) fn is_closed<A: Allocator>(closed: Option<u32>, step: &WalkStep<'_, A
     }
 }
 
-/// Returns the step's depth if its item has the type `kind`.
+/// Returns the step's depth if its item has the type `kind`, and `None` otherwise.
 pub(crate) fn closed_by<A: Allocator>(kind: TypeId, step: &WalkStep<'_, A>) -> Option<u32>
     ensures { result ≡ closed_by kind (walk_step_data step.now) }
 {

@@ -24,12 +24,14 @@ use std::alloc::{AllocError, Allocator, Global};
 use std::io::Write;
 use tunables::push_tunables;
 
-/// Writes the map's text, in Ceph's form: its tunables, devices, types, buckets and rules, and
-/// fixed lines between them, with all weights in this form. docs/user/FORMATS.md has the text.
+/// Writes the text of a map in Ceph's form: its tunables, devices, types, buckets and rules, with
+/// fixed lines between them. `form` is the form of all weights. docs/user/FORMATS.md describes the
+/// text.
 ///
-/// A rule's step that takes a bucket has the name that the bucket has now. The whole text is put
-/// together in memory of `alloc` before anything is written. After `OutOfMemory` nothing is
-/// written; after any other fault, a prefix of the text that isn't the whole.
+/// If a step of a rule takes a bucket, the step names the bucket by its present name. The whole
+/// text is created in memory of `alloc` before anything is written. If this fails with
+/// `OutOfMemory`, nothing is written. After any other fault, a proper prefix of the text has been
+/// written: the text from its beginning up to some byte before its end.
 pub fn write_map<A: Allocator, W: Write>(
     alloc: Global,
     map: &CrushMap<A>,
@@ -48,25 +50,26 @@ pub fn write_map<A: Allocator, W: Write>(
     put(out, text.as_slice())
 }
 
-/// The law that two maps with the same setting and the same rows have the same text, in whatever
-/// order their rows are.
+/// Proves that two maps with the same setting and the same rows have the same text, even if their
+/// rows are in different orders. Does nothing at run time.
 pub fn same_tables_print_alike()
     ensures { SameTablesPrintAlike }
 {}
 
-/// The law that each bucket that a rule takes is printed with the name of its row, if the setting
-/// fits the table.
+/// Proves that if a rule takes a bucket and the setting fits the table, then the rule is printed
+/// with the name that the bucket has in the table. Does nothing at run time.
 pub fn taken_buckets_are_named()
     ensures { TakenBucketsAreNamed }
 {}
 
-/// How many bytes a usual device adds to the text.
+/// How many bytes a typical device adds to the text.
 const USUAL_DEVICE: usize = 56;
 
-/// How many bytes a usual bucket adds to the text.
+/// How many bytes a typical bucket adds to the text.
 const USUAL_BUCKET: usize = 112;
 
-/// Returns the text of the map, with weights in this form. Memory for it is allocated once, unless it is longer than usual.
+/// Returns the text of the map, with weights in the form `form`. Memory is allocated once, for a
+/// text of the typical length; only a longer text needs more allocations.
 fn map_text<A: Allocator>(
     alloc: Global,
     map: &CrushMap<A>,
@@ -82,7 +85,7 @@ fn map_text<A: Allocator>(
     Ok(text)
 }
 
-/// Appends the text of the map, with weights in this form.
+/// Appends the text of the map, with weights in the form `form`.
 fn push_map<A: Allocator>(
     alloc: Global,
     map: &CrushMap<A>,

@@ -26,7 +26,7 @@ use crush_units::{ItemId, Weight, WriteFault, put};
 use std::alloc::{AllocError, Allocator, Global};
 use std::io::Write;
 
-/// The widths of the columns before the names, in bytes.
+/// The widths, in bytes, of the three columns before the column of the names.
 #[derive(Clone, Copy, Debug)]
 pub(crate) struct Widths {
     pub id: usize,
@@ -35,8 +35,9 @@ pub(crate) struct Widths {
 }
 
 /// Writes the tree of a map as text: a heading, and a line for each item in the order of [`walk`].
-/// The whole text is put together in memory first. After `OutOfMemory` nothing is written; after
-/// any other fault, a prefix of the text that isn't the whole.
+/// The whole text is created in memory before anything is written. If this fails with
+/// `OutOfMemory`, nothing is written. After any other fault, a proper prefix of the text has been
+/// written: the text from its beginning up to some byte before its end.
 pub fn write_tree<A: Allocator, W: Write>(
     alloc: Global,
     map: &CrushMap<A>,
@@ -55,8 +56,8 @@ pub fn write_tree<A: Allocator, W: Write>(
 }
 
 /// Writes a part of the tree of a map as text: a heading, and a line for each item in the order of
-/// [`walk_part`]. After a fault the same is written as by [`write_tree`]: nothing after
-/// `OutOfMemory`, otherwise a prefix of the text that isn't the whole.
+/// [`walk_part`]. After `OutOfMemory` nothing has been written. After any other fault, a proper
+/// prefix of the text has been written, as by [`write_tree`].
 pub fn write_tree_part<A: Allocator, W: Write>(
     alloc: Global,
     map: &CrushMap<A>,
@@ -75,10 +76,11 @@ pub fn write_tree_part<A: Allocator, W: Write>(
     put(out, text.as_slice())
 }
 
-/// Writes a part of the tree of a map as [`write_tree_part`] does, but only the devices of one class
-/// count: the weight of a line is that of all devices of the class that are the item or below it.
-/// An item without such a device has no line. After a fault the same is written as by
-/// [`write_tree`]: nothing after `OutOfMemory`, otherwise a prefix of the text that isn't the whole.
+/// Writes a part of the tree of a map as [`write_tree_part`] does, but counts only the devices of
+/// one class. The weight in an item's line is the sum of the weights of all devices of the class
+/// that are the item itself or below it. An item without such a device has no line. After
+/// `OutOfMemory` nothing has been written. After any other fault, a proper prefix of the text has
+/// been written, as by [`write_tree`].
 pub fn write_tree_of_class<A: Allocator, W: Write>(
     alloc: Global,
     map: &CrushMap<A>,
@@ -98,13 +100,13 @@ pub fn write_tree_of_class<A: Allocator, W: Write>(
     put(out, text.as_slice())
 }
 
-/// The law that [`TreePart::whole`] is the whole tree.
+/// Proves that the part [`TreePart::whole`] is the whole tree. Does nothing at run time.
 pub fn whole_tree_is_a_part()
     ensures { WholeTreeIsAPart }
 {}
 
-/// The law that two maps with the same setting and the same rows have the same tree, in whatever
-/// order their rows are.
+/// Proves that two maps with the same setting and the same rows have the same tree, even if their
+/// rows are in different orders. Does nothing at run time.
 pub fn same_tables_have_one_tree()
     ensures { SameTablesHaveOneTree }
 {}
@@ -211,8 +213,8 @@ fn push_line(
     )
 }
 
-/// Returns the id at the right end of a column of this width, in bytes. A longer id is whole. An
-/// `Err` says that memory ran out.
+/// Returns the id at the right end of a column of this width in bytes. An id that is longer than
+/// the column is returned whole. Fails only if memory runs out.
 pub fn id_column(alloc: Global, width: usize, id: ItemId) -> Result<Vec<u8>, AllocError>
     ensures { IfOk result (λ column. column.items ≡ at_right width (id_text id)) }
 {
@@ -242,7 +244,7 @@ fn weight_column(alloc: Global, width: usize, weight: Weight) -> Result<Vec<u8>,
     Ok(column)
 }
 
-/// Returns the last column: the indent, the type of a bucket, and the name.
+/// Returns the words of the last column: the indent, the type of a bucket, and the name.
 fn name_column(
     alloc: Global,
     setting: &Setting,
@@ -279,15 +281,15 @@ fn push_heading(alloc: Global, widths: &Widths, out: &mut Vec<u8>) -> Result<(),
     )
 }
 
-/// Returns the greater of `width` and the word's length, in bytes.
+/// Returns the greater of two numbers of bytes: `width` and the length of the word.
 pub fn wider(width: usize, word: &[u8]) -> usize
     ensures { result ≡ max width (length word.now) }
 {
     width.max(word.len())
 }
 
-/// Returns the greater of `width` and the length of the printed id, in bytes. An `Err` says that
-/// memory ran out.
+/// Returns the greater of two numbers of bytes: `width` and the length of the printed id. Fails
+/// only if memory runs out.
 pub fn wider_id(alloc: Global, width: usize, id: ItemId) -> Result<usize, AllocError>
     ensures { IfOk result (λ wider. wider ≡ max width (length (id_text id))) }
 {
@@ -304,7 +306,7 @@ fn wider_weight(alloc: Global, width: usize, weight: Weight) -> Result<usize, Al
     Ok(wider(width, word.as_slice()))
 }
 
-/// Returns the least widths in which the headings and the words of all lines fit.
+/// Returns the smallest widths of the columns in which the headings and the words of all lines fit.
 fn widths_of(alloc: Global, lines: &[TreeLine<'_>]) -> Result<Widths, AllocError>
     ensures { IfOk result (λ widths. widths ≡ widths_of (each line_data lines.now)) }
 {

@@ -1,4 +1,4 @@
-//! The lines of a tree, before they are written.
+//! Collects the lines of a tree before they are written.
 
 ghost use Rattle.std.specs.Prelude.{◌≡◌, ◌<◌, ◌∷◌, ◌++◌, List, Option, ℕ, None, OnOk, IfOk, flat_map, get_or, length, map as each};
 ghost use Rattle.crush_print.specs.ClassTree.{weighed};
@@ -21,7 +21,7 @@ pub(crate) struct TreeLine<'a> {
     pub view: View<'a>,
 }
 
-/// Returns a line for each step, with the weight that the map has.
+/// Returns a line for each step, with the weight that the item has in the map.
 pub(crate) fn lines_of<'a, A: Allocator>(
     alloc: Global,
     steps: &[WalkStep<'a, A>],
@@ -41,9 +41,9 @@ pub(crate) fn lines_of<'a, A: Allocator>(
     Ok(lines)
 }
 
-/// Returns a line for each step that has a weight in `weights`, with this weight in place of the
-/// step's own. `weights` has the weight of a step at the position of the step. Steps below a bucket
-/// of the type `kind` have no line.
+/// Returns a line for each step that has a weight in `weights`, and shows this weight instead of
+/// the item's own weight. The weight of a step is at the same position in `weights` as the step is
+/// in `steps`. Steps below a bucket of the type `kind` have no line.
 pub(crate) fn weighed_lines<'a, A: Allocator>(
     alloc: Global,
     steps: &[WalkStep<'a, A>],
@@ -94,9 +94,9 @@ fn lines_down_to<'a, A: Allocator>(
     Ok(lines)
 }
 
-/// Appends the line of the step to `lines`, unless the step is below the bucket whose depth is
-/// `closed`. Returns the depth of the bucket below which the steps after this one have no line, if
-/// there is one.
+/// Appends the line of the step to `lines`, unless the step is below a bucket of the type `kind`.
+/// `closed` is the depth of the last such bucket, or `None` if the step can't be below one. Returns
+/// `closed` for the next step.
 fn push_open<'a, A: Allocator>(
     step: &WalkStep<'a, A>,
     weight: Option<Weight>,
@@ -116,7 +116,7 @@ fn push_open<'a, A: Allocator>(
     Ok(closed_by(kind, step))
 }
 
-/// Appends the line of the step to `lines`, with this weight; appends nothing without a weight.
+/// Appends the line of the step with this weight to `lines`. Appends nothing if there is no weight.
 fn push_line<'a, A: Allocator>(
     step: &WalkStep<'a, A>,
     weight: Option<Weight>,
@@ -140,7 +140,7 @@ fn push_line<'a, A: Allocator>(
     Ok(())
 }
 
-/// Returns the weight at this position; `None` if there are fewer.
+/// Returns the weight at this position, or `None` if `weights` has no such position.
 fn weight_at(weights: &[Option<Weight>], at: usize) -> Option<Weight>
     ensures { (d : Option ℕ) → at < length weights.now → result ≡ get_or weights.now at d }
 {

@@ -1,18 +1,18 @@
-//! The forms in which a map's text has its weights.
+//! The forms in which weights are printed in a map's text.
 
 ghost use Rattle.std.specs.Prelude.{◌≡◌, ◌≤◌, take};
 ghost use Rattle.crush_print.specs.Lines.{weight_in};
 
 use crush_units::Weight;
 
-/// How a map's text has its weights. Both forms are read as the same weights by this library.
+/// How weights are printed in a map's text. This library reads the same weight from both forms.
 #[derive(Clone, Copy, Debug, PartialEq, Eq)]
 pub enum WeightForm {
     /// With five digits after the point, rounded to the nearest such number, as `crushtool -d`
     /// prints weights.
     Rounded,
-    /// With six digits after the point, so that a program that rounds down to units, as
-    /// `crushtool -c` does, reads the same weight.
+    /// With six digits after the point. A program that rounds a weight down to units when it reads
+    /// the weight, as `crushtool -c` does, then gets the same weight.
     Exact,
 }
 

@@ -1,4 +1,4 @@
-//! Appends the words of a line of a tree. An `Err` says that memory ran out.
+//! Appends the words of a line of a tree. Each function fails only if memory runs out.
 
 ghost use Rattle.std.specs.Prelude.{◌≡◌, [], ◌++◌, OnOk, flat_map, unwrap_or};
 ghost use Rattle.std.specs.Option.{option_map};
@@ -20,7 +20,7 @@ pub fn push_all(parts: &[&[u8]], out: &mut Vec<u8>) -> Result<(), AllocError>
     put_all(out, parts).map_err(|_| AllocError)
 }
 
-/// Appends the id to `out` as a decimal number. That of a bucket is below 0.
+/// Appends the id to `out` as a decimal number. The id of a bucket is negative.
 pub fn push_id(id: ItemId, out: &mut Vec<u8>) -> Result<(), AllocError>
     ensures { OnOk result (out.new.items ≡ out.old.items ++ id_text id) }
 {
@@ -37,7 +37,7 @@ pub fn push_id(id: ItemId, out: &mut Vec<u8>) -> Result<(), AllocError>
     }
 }
 
-/// Returns the bytes of the text; none for `None`.
+/// Returns the bytes of the text, or no bytes for `None`.
 pub fn bytes_of<'a>(text: Option<&'a str>) -> &'a [u8]
     ensures { result.now ≡ unwrap_or (option_map (λ c. c.now) text.entry) [] }
 {
@@ -56,7 +56,7 @@ pub fn push_weight(weight: Weight, out: &mut Vec<u8>) -> Result<(), AllocError>
     push_all(&[&room[..len]], out)
 }
 
-/// Returns the name of the type; empty if the setting doesn't have the type.
+/// Returns the name of the type, or an empty name if the setting doesn't have the type.
 #[tactic(auto, unfolding(crate::specs::MapText::kind_text))]
 fn kind_name(setting: &Setting, number: TypeId) -> &[u8]
     ensures { result.now ≡ kind_text setting.now number }
@@ -67,15 +67,15 @@ fn kind_name(setting: &Setting, number: TypeId) -> &[u8]
     }
 }
 
-/// Appends the indent of an item of this depth to `out`: four spaces for each level, but at most 64
-/// spaces.
+/// Appends the indent of an item of this depth to `out`: four spaces for each level, but never more
+/// than 64 spaces.
 pub fn push_indent(depth: u32, out: &mut Vec<u8>) -> Result<(), AllocError>
     ensures { OnOk result (out.new.items ≡ out.old.items ++ indent depth) }
 {
     push_spaces(4 * depth.min(16) as usize, out)
 }
 
-/// Appends the name of a bucket's type and a space to `out`; appends nothing for a device.
+/// Appends the name of a bucket's type and a space to `out`. Appends nothing for a device.
 pub fn push_kind(
     setting: &Setting,
     id: ItemId,

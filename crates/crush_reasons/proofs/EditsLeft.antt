@@ -1,4 +1,4 @@
--- The lines of the edits that are left behind the entries of a history.
+-- The lines of the edits that are left after the entries of a history.
 use Rattle.std.proofs.Common.{◌≡◌, ℕ, zero, suc, ◌+◌, ◌<◌, ◌≤◌, ◌==◌, List, [], ◌∷◌, ◌++◌, cond, drop, length, take, get_or, refl, subst, sym, ap, ◌∙◌, arith, ⊎_elim}
 use Rattle.std.proofs.lemmas.Bool.Decides.{eqb_tells, leb_tells}
 use Rattle.std.proofs.lemmas.List.{drop-drop, get_or-set_other, get_or-set_same, take_more}
@@ -11,14 +11,14 @@ use Rattle.crush_reasons.specs.EditsLeft.{AreLeft, edits_given, entry_place, hea
 use Rattle.crush_reasons.specs.Place.{OriginData}
 use Rattle.crush_reasons.specs.Replay.{edits_of}
 
--- how many an entry has of an operator
+-- how many edits of an operator an entry has
 abbrev given : ℕ → EntryData → ℕ
 given o e = cond (e.operator == o) (length (edits_of e.call)) 0
 
 given-more : (o : ℕ) (h : List EntryData) (e : EntryData) → edits_given o (h ++ e ∷ []) ≡ edits_given o h + given o e
 given-more o h e = let one = sum_by-append (λ (x : EntryData). cond (x.operator == o) (length (edits_of x.call)) 0) h (e ∷ []) in omega (arith, one)
 
--- an element that is set, and another
+-- an index beyond the end of a list: the list has no element there, and setting an element there changes nothing
 past : {X : Type 0} (xs : List X) (i : ℕ) (d : X) → length xs ≤ i → get_or xs i d ≡ d
 past [] i d le = refl
 past (x ∷ xs) zero d le = absurd (omega (arith, le))
@@ -36,7 +36,7 @@ drop-nil : (n : ℕ) → drop n no_lines ≡ no_lines
 drop-nil zero = refl
 drop-nil (suc n) = refl
 
--- what is left of an operator behind one entry more
+-- the lines that are left for the operator of an entry, after this entry
 own_left : (left : List (List ℕ)) (e : EntryData) → slice_index_or (left_behind left e) e.operator [] ≡ drop (length (edits_of e.call)) (slice_index_or left e.operator [])
 own_left left e = ⊎_elim
     (λ p. let none = past left e.operator [] p.1 in
@@ -64,11 +64,11 @@ left_taken sections left more entries i e are is lt at =
     subst (λ (l : List (List ℕ)). AreLeft sections l (take (i + 1) entries)) (sym is)
     (subst (AreLeft sections (left_behind left e)) (sym (take_more entries i e lt ∙ ap (λ (x : Entry). take i entries ++ x ∷ []) (sym at))) (left_more sections left (take i entries) e are))
 
--- before the first entry all are
+-- before the first entry, all lines are left
 pub all_left : (sections left : List (List ℕ)) → left ≡ sections → AreLeft sections left []
 all_left sections left is = λ o. ap (λ (l : List (List ℕ)). slice_index_or l o []) is
 
--- so the refused edit of an entry stands where the lines that are left say
+-- so the refused edit of an entry has the place that the lines that are left give
 get-drop : (n k : ℕ) (xs : List ℕ) → slice_get (drop n xs) k ≡ slice_get xs (n + k)
 get-drop zero k xs = ap (slice_get xs) (omega arith)
 get-drop (suc n) k [] = refl

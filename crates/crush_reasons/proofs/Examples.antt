@@ -1,4 +1,4 @@
--- What is told of worked edits, histories and texts.
+-- The lines and sentences for worked edits, histories and texts.
 use Rattle.std.proofs.Common.{◌≡◌, ℕ, Bool, true, false, List, [], ◌∷◌, ◌++◌, refl}
 use Rattle.std.specs.Fmt.{digits}
 use Rattle.std.specs.Prelude.{None, codes}
@@ -22,7 +22,9 @@ use Rattle.crush_text.specs.declared.expected.Expected.TheVariants.{IdOrAlg, Sta
 use Rattle.crush_text.specs.declared.expected.Optional.TheVariants.{Nothing}
 use Rattle.crush_text.specs.declared.fault.TextFaultKind.TheVariants.{Ended, UnknownType}
 use Rattle.crush_history.specs.Ceph.{ceph_heading, ceph_line}
-use Rattle.crush_reasons.specs.Ceph.{ceph_text, edits_for_ceph}
+use Rattle.crush_ceph.specs.CephText.{ceph_text as ceph_text_of_edits}
+use Rattle.crush_ceph.specs.Steps.{ceph_steps}
+use Rattle.crush_reasons.specs.Ceph.{ceph_text}
 use Rattle.crush_reasons.specs.Explained.{explained_behind, explained_text}
 use Rattle.crush_reasons.specs.Fault.{fault_line, fault_text, line_fault_index, line_fault_reason, line_shown, word_place}
 use Rattle.crush_script.specs.Keyword.{form_of, keyword_of}
@@ -40,7 +42,7 @@ use Rattle.crush_reasons.specs.Shown.{told}
 use Rattle.crush_reasons.specs.Around.{further}
 use Rattle.crush_script.specs.Lines.{behind_words}
 
--- the plain example map with a rule that takes its root
+-- the setting of the plain example map, with a rule that takes the map's root
 abbrev ruled : SettingData
 ruled = record setting { rules = (record { name = codes "fast"; id = 0; kind = codes "replicated"; min_size = None; max_size = None; steps = take 1 None ∷ emit ∷ [] }) ∷ [] }
 
@@ -55,7 +57,7 @@ entry call reply = record { operator = 0; call = call; reply = reply }
 abbrev changed : Bool → ℕ → Reply
 changed is made = Done (record { changed = is; made = made })
 
--- of four commands two changed the map
+-- two of these four commands changed the map
 two_commands : (s : SettingData) (t : List Row) → ceph_text s t (
     entry (One (Reweight (codes "osd.0") 131072)) (changed true 0)
     ∷ entry (One (Reweight (codes "osd.0") 131072)) (changed false 0)
@@ -63,35 +65,35 @@ two_commands : (s : SettingData) (t : List Row) → ceph_text s t (
     ∷ entry (One (Move (codes "h2") (pair (codes "rack") (codes "r1") ∷ pair (codes "root") (codes "default") ∷ []))) (changed true 1)
     ∷ [])
     ≡ codes "# 2 commands\nceph osd crush reweight osd.0 2.000000\nceph osd crush move h2 rack=r1 root=default\n"
-unfolding ceph_text ceph_heading edits_for_ceph digits
+unfolding ceph_text ceph_text_of_edits ceph_heading ceph_steps digits
 two_commands s t = refl
 
--- a device that no bucket holds is added, and then it is set
+-- the first `set` of a device that no bucket holds becomes an `add`, and the second `set` stays a `set`
 set_twice : ceph_text setting example (
     entry (One (Update 3 (codes "osd.3") 65536 (pair (codes "host") (codes "h1") ∷ []))) (changed true 0)
     ∷ entry (One (Update 3 (codes "osd.3") 131072 (pair (codes "host") (codes "h2") ∷ []))) (changed true 0)
     ∷ [])
     ≡ codes "# 2 commands\nceph osd crush add osd.3 1.000000 host=h1\nceph osd crush set osd.3 2.000000 host=h2\n"
-unfolding ceph_text ceph_heading edits_for_ceph digits
+unfolding ceph_text ceph_text_of_edits ceph_heading ceph_steps digits
 set_twice = refl
 
--- a class, and a swap
+-- the lines for an edit of a class and for a swap
 class_line : ceph_line (SetClass (codes "osd.0") (codes "ssd")) ≡ codes "ceph osd crush set-device-class ssd osd.0\n"
 class_line = refl
 
 swap_line : ceph_line (Swap (codes "h1") (codes "h2")) ≡ codes "ceph osd crush swap-bucket h1 h2 --yes-i-really-mean-it\n"
 swap_line = refl
 
--- a batch that changed the map has all its edits, one that was refused none
+-- a batch that changed the map has a line for each of its edits, and a refused batch has no lines
 batches : (s : SettingData) (t : List Row) → ceph_text s t (
     entry (Batch (Reweight (codes "osd.0") 131072 ∷ Remove (codes "osd.1") ∷ [])) (Dones (record { edits = 2; changed = 1; made = 0 }))
     ∷ entry (Batch (Remove (codes "osd.2") ∷ Remove (codes "default") ∷ [])) (BatchRefused 1 NotEmpty)
     ∷ [])
     ≡ codes "# 2 commands\nceph osd crush reweight osd.0 2.000000\nceph osd crush rm osd.1\n"
-unfolding ceph_text ceph_heading edits_for_ceph digits
+unfolding ceph_text ceph_text_of_edits ceph_heading ceph_steps digits
 batches s t = refl
 
--- refused lines with their reasons, each by the table before it
+-- refused entries with their reasons; each reason depends on the table before its entry
 explained : explained_text setting example (codes "a" ∷ []) 1 (
     entry (One (Remove (codes "default"))) (Refused NotEmpty)
     ∷ entry (One (Remove (codes "osd.0"))) (changed true 0)
@@ -103,14 +105,14 @@ explained : explained_text setting example (codes "a" ∷ []) 1 (
 unfolding explained_behind line_head line_end items_said table_after_edits digits
 explained = refl
 
--- names with a letter more, less and other, and in another case
+-- names that differ by a missing letter, by an extra letter, by another letter, or in upper and lower case; and names that aren't similar
 nearly : (is_near (codes "stor1") (codes "stor01") ≡ true) × (is_near (codes "osd.22") (codes "osd.2") ≡ true) × (is_near (codes "h9") (codes "h1") ≡ true) × (is_near (codes "DEFAULT") (codes "default") ≡ true)
 nearly = (refl, refl, refl, refl)
 
 far : (is_near (codes "h9") (codes "h12") ≡ false) × (is_near (codes "ab") (codes "ba") ≡ false) × (is_near (codes "a") (codes "abc") ≡ false)
 far = (refl, refl, refl)
 
--- the first in the order of the tree
+-- two names are similar, and the reason suggests the first of them in the order of the tree; and a name to which no name is similar
 two_near : edit_reason true setting example (Remove (codes "h9")) NoSuchItem ≡ codes "h9 isn't there: is it h1?"
 unfolding tree_rows step_at steps_at root_numbers unplaced_numbers
 two_near = refl
@@ -119,11 +121,11 @@ none_near : edit_reason true setting example (Remove (codes "rack1")) NoSuchItem
 unfolding tree_rows step_at steps_at root_numbers unplaced_numbers
 none_near = refl
 
--- none is looked for
+-- the map isn't searched for a similar name
 not_looked : edit_reason false setting example (Remove (codes "h9")) NoSuchItem ≡ codes "h9 isn't there"
 not_looked = refl
 
--- what is in the way
+-- reasons that say what the map has at the name for which an edit was refused
 taken : edit_reason true ruled example (Remove (codes "default")) InUse ≡ codes "the rule fast takes default"
 taken = refl
 
@@ -143,7 +145,7 @@ twice : edit_reason true setting example (Move (codes "h1") (pair (codes "host")
     ≡ codes "host: a location names each type and each bucket once, and not the type of devices"
 twice = refl
 
--- a type that isn't declared, behind a tab in a second line
+-- a type that isn't declared, which comes after a tab on the second line
 unknown_type : fault_text (record { name = []; before = 0 }) (codes "type 0 osd\n\thots h2 {\n}\n") (job.Text (record { kind = UnknownType; place = 12; expected = Statement false Nothing }))
     ≡ codes "  line 2, column 2\n     hots h2 {\n     ^\n  no type named `hots` is declared above\n"
 unfolding column_line digits form_of keyword_of told words_in split up_to_long
@@ -155,7 +157,7 @@ no_command : fault_text (record { name = codes "alice.txt"; before = 0 }) (codes
 unfolding column_line from_line digits behind_words line_shown line_fault_index line_fault_reason word_place no_word near_command first_command meant_text told
 no_command = refl
 
--- a line of the second file of a job, and one that was put before that file's first
+-- a line of the second file of a job, and a line that the program put before the first line of that file
 second_file : fault_text (record { name = codes "b.txt"; before = 2 }) (codes "%operator a\n%operator b\nrm x\nfly y\n") (job.NoSuchCommand 4)
     ≡ codes "  b.txt line 2, column 1\n    fly y\n    ^\n  `fly` is not a command: see --help\n"
 unfolding column_line from_line digits behind_words line_shown line_fault_index line_fault_reason word_place no_word near_command first_command meant_text told
@@ -176,11 +178,11 @@ escaped_head : command_head (record { name = 27 ∷ codes "[31mb.txt"; before = 
 unfolding command_head digits
 escaped_head = refl
 
--- the line at which a flaw of a text stands
+-- the number of the line with a fault of the map's text
 third_line : fault_line (codes "a\nb\nc\n") (job.Text (record { kind = UnknownType; place = 4; expected = Statement false Nothing })) ≡ 3
 third_line = refl
 
--- a word of a command that doesn't fit, and a map that is cut
+-- a word that doesn't fit in a command, a word that is missing from a command, and (last in this file) a map's text that is cut
 comma : fault_text (record { name = []; before = 0 }) (codes "%operator a\nreweight osd.0 1,5\n") (job.BadLine 2 (bad.Word (record { word = 2; due = due.Weight })))
     ≡ codes "  line 2, column 16\n    reweight osd.0 1,5\n                   ^\n  reweight NAME WEIGHT: `1,5` is not a weight: did you mean 1.5?\n"
 unfolding column_line from_line digits form_of keyword_of behind_words line_shown line_fault_index line_fault_reason word_place misfit_text form_head form_in_line told is_weight is_mistyped with_point
@@ -191,7 +193,7 @@ missing : fault_text (record { name = []; before = 0 }) (codes "%operator a\nadd
 unfolding number_line from_line digits form_of keyword_of behind_words line_shown line_fault_index line_fault_reason misfit_text form_head form_in_line
 missing = refl
 
--- commands that are near to a word
+-- commands that are similar to a word, and one that isn't
 near_commands : (is_near_command (codes "rewieght") (codes "reweight") ≡ true) × (is_near_command (codes "reweigt") (codes "reweight") ≡ true) × (is_near_command (codes "rm") (codes "mr") ≡ true) × (is_near_command (codes "rm") (codes "set") ≡ false)
 near_commands = (refl, refl, refl, refl)
 

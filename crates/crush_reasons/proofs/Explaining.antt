@@ -1,4 +1,4 @@
--- The lines of refused entries with their reasons, one entry more.
+-- The lines of refused entries with their reasons, for a history that grows by one entry.
 use Rattle.std.proofs.Common.{◌≡◌, ℕ, ◌+◌, ◌<◌, List, [], ◌∷◌, ◌++◌, length, take, get_or, refl, subst, sym, ap, ◌∙◌, append_assoc, arith}
 use Rattle.std.proofs.lemmas.List.{append-nil, take_more, length-take-le}
 use Rattle.std.specs.Prelude.{slice_index_or}
@@ -14,11 +14,11 @@ use Rattle.crush_reasons.specs.Replay.{changing_edits, history_edits, table_afte
 use Rattle.crush_reasons.proofs.Lines.{two_pushed}
 use Rattle.crush_reasons.proofs.Replays.{edits-take, none-made, table-append}
 
--- where the edits of operators stand
+-- the place of each edit of each operator, as it is printed
 abbrev Heads : Type 0
 Heads = ℕ → ℕ → List ℕ
 
--- the lines, and behind them what one entry more has
+-- the lines of a history, followed by the lines of one more entry
 explained-push : (head : Heads) (s : SettingData) (t : List Row) (names : List (List ℕ)) (n : ℕ) (b h : List EntryData) (e : EntryData)
     → explained_behind head s t names n b (h ++ e ∷ []) ≡ explained_behind head s t names n b h ++ explained_line s (table_after_edits s t (history_edits h)) (n + length h) (slice_index_or names e.operator []) (entry_head head (b ++ h) e) e
 unfolding explained_behind table_after_edits
@@ -39,7 +39,7 @@ explained-push head s t names n b (f ∷ h) e =
     ∙ ap (λ (k : List EntryData). others ++ line (table_after_edits s t (history_edits (f ∷ h))) (n + length (f ∷ h)) k) (append_assoc b (f ∷ []) h))
     ∙ sym (append_assoc own others _)
 
--- of the first entries, one more
+-- the same for the first entries of a list, and the next entry of the list
 explained-take : (head : Heads) (s : SettingData) (t : List Row) (names : List (List ℕ)) (entries : List Entry) (i : ℕ) (e : Entry) → i < length entries → e ≡ get_or entries i e
     → explained_behind head s t names 1 [] (take (i + 1) entries)
     ≡ explained_behind head s t names 1 [] (take i entries)
@@ -54,7 +54,7 @@ explained-take head s t names entries i e h is =
     ∙ ap (λ (z : Entry). before ++ explained_line s u (1 + length so_far) (slice_index_or names z.operator []) (entry_head head so_far z) z) (sym is)
     ∙ ap (λ n. before ++ explained_line s u n (slice_index_or names e.operator []) (entry_head head so_far e) e) (omega (arith, long))
 
--- NONE are explained
+-- NO ENTRY: no entries were applied, and no lines were appended
 pub none_explained : (head : Heads) (names : List (List ℕ)) (m : MapData) (x : List ℕ) → AreExplained head names m m x x []
 unfolding explained_behind
 none_explained head names m x = record {
@@ -63,7 +63,7 @@ none_explained head names m x = record {
   lines = λ t st. sym (append-nil x);
 }
 
--- ONE MORE is explained by the map before it, and made
+-- ONE MORE ENTRY: its lines were appended for the map before the entry, and then its edits were applied to the map
 pub more_explained : (head : Heads) (names : List (List ℕ)) (old mid new : MapData) (x y z : List ℕ) (entries : List Entry) (i : ℕ) (e : Entry) (name : List ℕ) (place : HeadData)
     → AreExplained head names old mid x y (take i entries)
     → new.setting ≡ mid.setting

@@ -1,4 +1,4 @@
--- Behind the edits of a legal history stands the table after its calls.
+-- The edits of a legal history that changed the map lead to the table after the history's calls.
 use Rattle.std.proofs.Common.{◌≡◌, ℕ, ◌==◌, Bool, true, false, List, [], ◌∷◌, cond, refl, sym, ap, ◌∙◌}
 use Rattle.crush_model.specs.Table.{Row}
 use Rattle.crush_edits.specs.declared.edit.Edit.{Edit}
@@ -11,11 +11,12 @@ use Rattle.crush_history.specs.declared.call.Call.{Call}
 use Rattle.crush_history.specs.declared.call.Call.TheVariants.{One, Batch, Guarded}
 use Rattle.crush_history.specs.History.{Counted, EntryData, IsLegalBehind, batch_outcome, call_outcome, counted_after, edit_outcome, guarded_outcome, is_change, later, untouched}
 use Rattle.crush_history.proofs.Unchanged.{no_change_keeps}
-use Rattle.crush_reasons.specs.Replay.{changing_edits, edits_of, history_edits, table_after_edit, table_after_edits}
+use Rattle.crush_ceph.specs.ForCeph.{table_after_edit}
+use Rattle.crush_reasons.specs.Replay.{changing_edits, edits_of, history_edits, table_after_edits}
 use Rattle.crush_reasons.specs.LawReplay.{LeadsToTableAfter}
 use Rattle.crush_reasons.proofs.Replays.{table-append}
 
--- A BATCH that is done was made edit by edit
+-- A BATCH that succeeded leads to the same table as its edits, applied one after the other
 behind_batch : (s : SettingData) (es : List Edit) (d e : Dones) (t u : List Row) → batch_from s es d t ≡ batch_done e u → table_after_edits s t es ≡ u
 unfolding table_after_edits
 behind_batch s [] d e t u is = cc
@@ -34,20 +35,20 @@ behind_guarded : (s : SettingData) (t : List Row) (n : ℕ) (es : List Edit) (fr
 behind_guarded s t n es true changes = behind_outcome s t es (batch s t es) refl changes
 behind_guarded s t n es false changes = absurd cc
 
--- A CALL that is a change
+-- A CALL that changed the map leads to the same table as its edits
 behind_changing : (s : SettingData) (t : List Row) (n : ℕ) (c : Call) → is_change (call_outcome s t n c).reply ≡ true → table_after_edits s t (edits_of c) ≡ (call_outcome s t n c).table
 unfolding table_after_edits
 behind_changing s t n (One e) changes = refl
 behind_changing s t n (Batch es) changes = behind_outcome s t es (batch s t es) refl changes
 behind_changing s t n (Guarded seen es) changes = behind_guarded s t n es (seen == n) changes
 
--- and whatever it is
+-- the same for any call: a call that changed nothing has no edits here
 behind_call : (s : SettingData) (t : List Row) (n : ℕ) (c : Call) (changed : Bool) → is_change (call_outcome s t n c).reply ≡ changed → table_after_edits s t (cond changed (edits_of c) []) ≡ (call_outcome s t n c).table
 unfolding table_after_edits
 behind_call s t n c true is = behind_changing s t n c is
 behind_call s t n c false is = sym (no_change_keeps s t n c is)
 
--- A HISTORY
+-- A HISTORY leads to the same table as its edits that changed the map
 behind_history : (s : SettingData) (q : Counted) (h : List EntryData) → IsLegalBehind s q h → table_after_edits s q.table (history_edits h) ≡ (counted_after s q h).table
 unfolding table_after_edits counted_after IsLegalBehind
 behind_history s q [] legal = refl

@@ -2,7 +2,6 @@ pub mod EditsLeft
 pub mod Explaining
 pub mod Replays
 pub mod LawReplay
-pub mod CephLines
 pub mod Lines
 pub mod Examples
 pub mod Naming

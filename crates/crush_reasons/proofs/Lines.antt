@@ -1,4 +1,4 @@
--- What stands from a line on, one line further, and parts that are pushed one after the other.
+-- The rest of a text from a line on, for one line more; and parts that are appended one after the other.
 use Rattle.std.proofs.Common.{◌≡◌, ℕ, ◌+◌, ◌<◌, ◌==◌, Bool, true, false, not, suc, List, [], ◌∷◌, ◌++◌, length, take, get_or, refl, ap, ◌∙◌, append_assoc, arith}
 use Rattle.std.proofs.lemmas.List.{reverse-append, take_more}
 use Rattle.std.specs.Prelude.{if◌then◌else◌, reverse}
@@ -21,7 +21,7 @@ then_pushed old a b whole one two e f g = two_pushed old a whole one two e (f �
 pub three_pushed : (old a b c one two three : List ℕ) → one ≡ old ++ a → two ≡ one ++ b → three ≡ two ++ c → three ≡ old ++ (a ++ b ++ c)
 three_pushed old a b c one two three e f g = g ∙ ap (λ (l : List ℕ). l ++ c) (two_pushed old a b one two e f) ∙ append_assoc old (a ++ b) c
 
--- how many bytes stand behind the last line feed, one byte further
+-- how many bytes come after the last line feed, for one byte more
 pub feed-take : (bytes : List ℕ) (i : ℕ) → i < length bytes
     → behind_feed (take (i + 1) bytes) ≡ (if get_or bytes i 0 == 10 then 0 else behind_feed (take i bytes) + 1)
 feed-take bytes i lt =

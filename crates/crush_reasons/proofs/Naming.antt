@@ -14,7 +14,7 @@ use Rattle.crush_model.proofs.Tested.{bytes_equal}
 use Rattle.crush_edits.specs.Stops.{bucket_named, number_of}
 use Rattle.crush_apply.proofs.Found.{there_by_name}
 
--- bytes that are no text name nothing
+-- if bytes aren't UTF-8, then no item has them as its name
 pub no_name : (t : List Row) (n : List ℕ) → All IsRow t → (IsUtf8 n → ⊥) → id_named t n ≡ None
 no_name [] n rows bad = refl
 no_name (r ∷ t) n rows bad = by_name (no_name t n (All-tail IsRow r t rows) bad) (bytes_eq r.name n) refl where
@@ -22,12 +22,12 @@ no_name (r ∷ t) n rows bad = by_name (no_name t n (All-tail IsRow r t rows) ba
   by_name others true is = absurd (bad (subst IsUtf8 (bytes_equal r.name n is) (are_name_bytes_utf8 r.name (All-head IsRow r t rows).name.allowed)))
   by_name others false is = others
 
--- a test of what elements are seen as
+-- whether an element of a list passes a test doesn't depend on where the elements are converted to plain data, before the test or in it
 pub any_seen : {X Y : Type 0} (test : Y → Bool) (seen : X → Y) (xs : List X) → list_any (λ x. test (seen x)) xs ≡ list_any test (map seen xs)
 any_seen test seen [] = refl
 any_seen test seen (x ∷ xs) = ap (λ (b : Bool). test (seen x) || b) (any_seen test seen xs)
 
--- the bucket of a name is there
+-- if a bucket has the name, then the bucket is in the table
 bucket_is : (o : Option ItemId) (b : ℕ) → option_and_then number_of o ≡ Some b → o ≡ Some (Bucket b)
 bucket_is None b e = absurd cc
 bucket_is (Some (Device d)) b e = absurd cc

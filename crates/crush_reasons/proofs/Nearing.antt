@@ -1,4 +1,4 @@
--- How far two names are the same, one letter further.
+-- How many bytes two names have in common, for one byte more.
 use Rattle.std.proofs.Common.{◌≡◌, ℕ, ◌+◌, ◌≤◌, ◌<◌, ◌==◌, Bool, true, false, List, [], ◌∷◌, length, drop, get_or, refl, ap, ◌∙◌, arith}
 use Rattle.std.proofs.lemmas.List.{at_drop_all, drop-drop, drop_more}
 use Rattle.std.specs.Prelude.{if◌then◌else◌}

@@ -1,4 +1,4 @@
--- The sums of a forest's buckets are those of its table, one for each.
+-- The sums of a forest's buckets are those of the forest's table, with one sum for each bucket.
 use Rattle.std.proofs.Common.{◌≡◌, ℕ, zero, suc, ◌+◌, ◌<◌, ◌≤◌, ◌==◌, List, [], ◌∷◌, ◌++◌, length, get_or, take, ap, sym, subst, ◌∙◌, refl, arith, append_assoc, ⊎_elim, Less, Equal, Greater}
 use Rattle.std.specs.Prelude.{All, Option, None, Some}
 use Rattle.std.specs.List.{sum_by}
@@ -28,19 +28,19 @@ use Rattle.crush_print.proofs.Told.{Told, stands_told}
 use Rattle.crush_reasons.specs.Sums.{AreSums, sum, sums_of}
 use Rattle.crush_reasons.specs.declared.sums.Sum.{Sum}
 
--- the sums of the items of both
+-- the sums of two lists of items
 sums-join : (a b : Items) → sums_of (join a b) ≡ sums_of a ++ sums_of b
 sums-join none b = refl
 sums-join (device d rest) b = sums-join rest b
 sums-join (bucket h w m k rest) b =
     ap (λ (l : List Sum). sums_of k ++ (sum h.id w ∷ l)) (sums-join rest b) ∙ sym (append_assoc (sums_of k) (sum h.id w ∷ sums_of rest) (sums_of b))
 
--- one item more
+-- the sums of the first nodes of a list, and of one more node
 pub sums-more : {A : _} (ns : List (Node A)) (i : ℕ) (x : Node A) → i < length ns → x ≡ get_or ns i x
     → sums_of (items_of (take (i + 1) ns)) ≡ sums_of (items_of (take i ns)) ++ sums_of (items_of (x ∷ []))
 sums-more ns i x lt is = ap sums_of (items_of-taken ns i x lt is) ∙ sums-join (items_of (take i ns)) (items_of (x ∷ []))
 
--- a bucket's sums are its own and those of its items
+-- the sums for a bucket are the sums for its items, followed by the bucket's own sum
 pub bucket_summed : {A : _} (x : Node A) (b : _) (k : Items) (d : BucketData) → x ≡ Bucket b → d ≡ b.value → k ≡ d.kids
     → sums_of k ++ sum d.header.id d.weight ∷ [] ≡ sums_of (items_of (x ∷ []))
 bucket_summed x b k d at same kids_are =
@@ -48,7 +48,7 @@ bucket_summed x b k d at same kids_are =
     ∙ ap (λ (e : BucketData). sums_of e.kids ++ sum e.header.id e.weight ∷ []) same
     ∙ ap (λ y. sums_of (items_of (y ∷ []))) (sym at)
 
--- devices have none
+-- devices have no sums
 no_sums : (n : Items) → OnlyDevices n → sums_of n ≡ []
 no_sums none only = refl
 no_sums (device d rest) only = no_sums rest only
@@ -57,7 +57,7 @@ no_sums (bucket h w m k rest) only = absurd only
 pub roots_summed : (f : ForestData) → OnlyDevices f.unplaced → sums_of f.roots ≡ sums_of (all_items f)
 roots_summed f only = sym (sums-join f.unplaced f.roots ∙ ap (λ (l : List Sum). l ++ sums_of f.roots) (no_sums f.unplaced only))
 
--- WHAT THE TABLE SAYS of a bucket's weight is its sum
+-- THE WEIGHT that the table has for a bucket is its sum
 abbrev pub IsTold : List Row → Sum → Type 0
 IsTold t s = weight_of t (BucketItem s.bucket) ≡ Some s.weight
 
@@ -70,7 +70,7 @@ sums_told t p (bucket h w m k rest) told =
     (ap (λ (o : Option Row). option_map (item_weight t (BucketItem h.id)) (option_map (λ (r : Row). r.weight) o)) told.0 ∙ ap Some told.2)
     (sums_told t p rest told.4))
 
--- and there is one for each bucket
+-- there is one sum for each bucket of the table
 abbrev hits : ℕ → List Sum → ℕ
 hits b sums = sum_by (λ (s : Sum). one_if (s.bucket == b)) sums
 
@@ -96,11 +96,11 @@ sorted_sums f t xs ys stands are same up = record {
   rising = up;
 }
 
--- A SEARCH by id
+-- A SEARCH for a sum by its bucket's id
 comparisons_rise : (xs : List Sum) (k : ℕ) → IsNonDecreasingBy (λ (s : Sum). s.bucket) xs → IsNonDecreasingBy (λ (s : Sum). ordering_index (nat_cmp s.bucket k)) xs
 comparisons_rise xs k up i j d le lt = let rise : (get_or xs i d).bucket ≤ (get_or xs j d).bucket = up i j d le lt in grind (arith, nat_tests)
 
--- a bucket that is there is told
+-- if the search finds a sum, it is the weight of the bucket in the table
 told_at : (t : List Row) (sums : List Sum) (i : ℕ) (d : Sum) → All (IsTold t) sums → i < length sums → IsTold t (get_or sums i d)
 told_at t [] i d all lt = absurd (omega (arith, lt))
 told_at t (x ∷ sums) zero d all lt = All-head (IsTold t) x sums all
@@ -111,7 +111,7 @@ found_here t sums b k at x are key lt is equal =
     let same : (get_or sums at x).bucket ≡ b = ranked _ k _ (sym (equal x)) ∙ key in
     ap (λ (s : Sum). Some s.weight) is ∙ sym (told_at t sums at x are.told lt) ∙ ap (λ i. weight_of t (BucketItem i)) same
 
--- and one that has no sum isn't there
+-- if the search finds no sum, the table doesn't have the bucket
 none_has : (sums : List Sum) (b : ℕ) → ((j : ℕ) (d : Sum) → j < length sums → (get_or sums j d).bucket ≡ b → ⊥) → hits b sums ≡ 0
 none_has [] b other = refl
 none_has (x ∷ sums) b other = ⊎_elim

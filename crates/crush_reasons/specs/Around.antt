@@ -1,14 +1,14 @@
--- Which bucket or rule of a map's text is around a place, and where a bucket is defined.
+-- Which bucket or rule of a map's text is open at a place, and where a bucket is defined. A place is the index of a byte of the text, from 0.
 use Rattle.std.specs.Prelude.{ℕ, false, ◌&&◌, ◌||◌, not, List, [], ◌∷◌, bytes_eq, codes, if◌then◌else◌, take}
 use Rattle.crush_units.specs.Words.{Word, words}
 use Rattle.crush_reasons.specs.declared.around.Around.{Around}
 use Rattle.crush_reasons.specs.declared.around.Search.{Search}
 
--- before the first word
+-- what is known of a place before the first word was read
 abbrev pub nothing_yet : Around
 nothing_yet = record { is_open = false; head = 0; before = 0; last = 0 }
 
--- after one word more: `{` opens the bucket or the rule that begins with the two words before it, and `}` closes it
+-- what is known after one more word: `{` opens the bucket or the rule that begins with the two words before the `{`, and `}` closes it
 abbrev pub one_further : Around → Word → Around
 one_further a w = record {
   is_open = bytes_eq w.text (codes "{") || (a.is_open && not (bytes_eq w.text (codes "}")));
@@ -25,11 +25,11 @@ further a (w ∷ ws) = further (one_further a w) ws
 abbrev pub around_at : List ℕ → ℕ → Around
 around_at bytes place = further nothing_yet (words 0 (take place bytes)).words
 
--- before the first word, of the search for a bucket
+-- the state of the search for a bucket, before the first word was read
 abbrev pub nothing_seen : Search
 nothing_seen = record { is_name = false; is_rule = false; last = 0; found = 0 }
 
--- after one word more: a bucket is defined where its name, which doesn't follow `rule`, comes before `{`
+-- the state of the search after one more word: a bucket is defined if its name comes just before `{`, and the word before the name isn't `rule`
 abbrev pub looked_further : List ℕ → Search → Word → Search
 looked_further name s w = record {
   is_name = bytes_eq w.text name && not s.is_rule;
@@ -42,6 +42,6 @@ unfoldable pub looked_for : List ℕ → Search → List Word → Search
 looked_for name s [] = s
 looked_for name s (w ∷ ws) = looked_for name (looked_further name s w) ws
 
--- WHERE A BUCKET IS DEFINED: the place of the name of the last bucket with this name, or 0
+-- WHERE A BUCKET IS DEFINED: the place of the name in the last definition of a bucket with this name, or 0 if there is none
 abbrev pub defined_at : List ℕ → List ℕ → ℕ
 defined_at bytes name = (looked_for name nothing_seen (words 0 bytes).words).found

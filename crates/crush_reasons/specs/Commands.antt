@@ -1,4 +1,4 @@
--- What is told of a line whose first word is no command.
+-- The reason for a line of a script whose first word isn't a command.
 use Rattle.std.specs.Prelude.{ℕ, ◌+◌, Bool, ◌&&◌, ◌||◌, List, [], ◌∷◌, ◌++◌, Option, Some, None, bytes_eq, codes, drop, find, if◌then◌else◌}
 use Rattle.crush_script.specs.declared.keyword.Keyword.TheVariants.{Place, Move, SwapBucket, Reweight, ReweightSubtree, Rm, AddBucket, RenameBucket, SetDeviceClass, RmDeviceClass}
 use Rattle.crush_script.specs.declared.keyword.Placement.TheVariants.{Add, Set, CreateOrMove}
@@ -7,7 +7,7 @@ use Rattle.crush_script.specs.Lines.{word_in_line}
 use Rattle.crush_reasons.specs.Near.{is_one_off, same_heads, shared}
 use Rattle.crush_reasons.specs.Shown.{told}
 
--- whether two words are the same but for two bytes beside one another, which are exchanged
+-- whether two words are the same, except that two neighbouring bytes are exchanged
 abbrev pub is_swapped : List ℕ → List ℕ → Bool
 is_swapped a b =
     same_heads (drop (shared a b) a) (drop (shared a b + 1) b) && same_heads (drop (shared a b + 1) a) (drop (shared a b) b)
@@ -16,14 +16,14 @@ is_swapped a b =
 abbrev pub is_near_command : List ℕ → List ℕ → Bool
 is_near_command a b = is_one_off a b || is_swapped a b
 
--- the words of all commands, with those of a batch
+-- the words of all commands, and the words `begin` and `commit` of a batch
 abbrev pub commands : List (List ℕ)
 commands =
     keyword_word (Place Add) ∷ (keyword_word (Place Set) ∷ (keyword_word (Place CreateOrMove) ∷ (keyword_word Move ∷ (keyword_word SwapBucket
     ∷ (keyword_word Reweight ∷ (keyword_word ReweightSubtree ∷ (keyword_word Rm ∷ (keyword_word AddBucket ∷ (keyword_word RenameBucket
     ∷ (keyword_word SetDeviceClass ∷ (keyword_word RmDeviceClass ∷ (codes "begin" ∷ (codes "commit" ∷ [])))))))))))))
 
--- the first of some words that is near
+-- the first of these commands that is similar to a word
 unfoldable pub first_command : List ℕ → List (List ℕ) → Option (List ℕ)
 first_command word words = find (λ (w : List ℕ). is_near_command word w) words
 
@@ -34,16 +34,16 @@ unfoldable pub meant_text : Option (List ℕ) → List ℕ
 meant_text None = codes "see --help"
 meant_text (Some command) = codes "did you mean " ++ command ++ codes "?"
 
--- whether a line begins with the words before a command of Ceph's own
+-- whether a line begins with `ceph osd crush`, the words with which Ceph's own commands begin
 abbrev pub is_of_ceph : List ℕ → Bool
 is_of_ceph line =
     bytes_eq (word_in_line 0 line) (codes "ceph") && (bytes_eq (word_in_line 1 line) (codes "osd") && bytes_eq (word_in_line 2 line) (codes "crush"))
 
--- what is told of a word that is no command
+-- the reason for a word that isn't a command
 unfoldable pub no_word : List ℕ → List ℕ
 no_word word = told word ++ codes " is not a command: " ++ meant_text (near_command word)
 
--- NO COMMAND: the reason for a line whose first word is no command
+-- NO COMMAND: the reason for a line whose first word isn't a command
 abbrev pub no_command : List ℕ → List ℕ
 no_command line =
     if is_of_ceph line then codes "leave out `ceph osd crush`"

@@ -1,4 +1,4 @@
--- The lines of a job from which the refused edits of batches come.
+-- The lines of a job that have the refused edits of batches.
 use Rattle.std.specs.Prelude.{◌≡◌, ℕ, ◌+◌, ◌==◌, Bool, List, [], Option, None, Some, drop, if◌then◌else◌, length, map, nat_lt, set, slice_get, slice_index_or}
 use Rattle.std.specs.List.{sum_by}
 use Rattle.std.specs.Option.{option_map_or}
@@ -13,24 +13,24 @@ use Rattle.crush_reasons.specs.declared.near.TheConstants.{MOST_LOOKS}
 use Rattle.crush_reasons.specs.Place.{OriginData, command_head, origin_data}
 use Rattle.crush_reasons.specs.Replay.{edits_of}
 
--- how many edits an operator has in the calls of these entries
+-- how many edits the calls of this operator have in these entries
 abbrev pub edits_given : ℕ → List EntryData → ℕ
 edits_given operator h = sum_by (λ (e : EntryData). if e.operator == operator then length (edits_of e.call) else 0) h
 
--- which edit of a batch was refused, counted from 0
+-- the index of the edit of a batch that was refused, from 0; none if the reply isn't the refusal of an edit of a batch
 abbrev pub refused_index : Reply → Option ℕ
 refused_index (BatchRefused index r) = Some index
 refused_index reply = None
 
--- the place of the refused edit of the entry that follows the entries `before`: among its operator's edits, it comes after the edits in the calls of these entries
+-- the place of the refused edit of the entry `e`, which follows the entries `before`. `head` gives the place of the edit that has a given number among the edits of an operator. The edits that the operator has in the entries `before` come first
 abbrev pub entry_place : (ℕ → ℕ → List ℕ) → List EntryData → EntryData → List ℕ
 entry_place head before e = option_map_or (λ index. head e.operator (edits_given e.operator before + index)) (refused_index e.reply) []
 
--- whether similar names are looked for in the entry after these entries: only for the first refused entries, because each search goes through all names
+-- whether the map is searched for a similar name, to explain the entry that follows the entries `before`. The map is searched only for the first refused entries, because each search goes through all names
 abbrev pub looks_behind : List EntryData → Bool
 looks_behind before = nat_lt (refusals before) MOST_LOOKS
 
--- HEAD of the entry that follows these entries
+-- HEAD: what the reason for an entry depends on, besides the entry and the map: the place of the refused edit of a batch, and whether the map is searched for similar names
 pub record HeadData : Type 0 where
   pub place : List ℕ
   pub looks : Bool
@@ -38,33 +38,33 @@ pub record HeadData : Type 0 where
 abbrev pub entry_head : (ℕ → ℕ → List ℕ) → List EntryData → EntryData → HeadData
 entry_head head before e = record { place = entry_place head before e; looks = looks_behind before }
 
--- EDIT LINE: the line of the edit with this number, counted from 0, of this operator, given the lines of each operator's edits; none if there are fewer edits
+-- EDIT LINE: the line of the edit of this operator with this number, counted from 0; none if the operator has fewer edits. `sections` has, for each operator, the lines of the operator's edits
 abbrev pub line_in : List (List ℕ) → ℕ → ℕ → Option ℕ
 line_in sections operator k = slice_get (slice_index_or sections operator []) k
 
--- the place of the line from which an edit comes: the name of its file, and the line's number there
+-- the place of an edit that is on this line: the name of the line's file, and the line's number in this file
 abbrev pub line_place : (ℕ → OriginData) → Option ℕ → List ℕ
 line_place origin line = option_map_or (λ n. command_head (origin n) n) line []
 
 abbrev pub head_in : (ℕ → OriginData) → List (List ℕ) → ℕ → ℕ → List ℕ
 head_in origin sections operator k = line_place origin (line_in sections operator k)
 
--- LEFT: for each operator, the lines `left` are the lines of its section, without those of the edits of a history
+-- LEFT: for each operator, `left` has the lines of the operator's edits that are in `sections`, except for the edits in the entries `h`, which come first
 abbrev pub AreLeft : List (List ℕ) → List (List ℕ) → List EntryData → Type 0
 AreLeft sections left h = (operator : ℕ) → slice_index_or left operator [] ≡ drop (edits_given operator h) (slice_index_or sections operator [])
 
 abbrev pub lines_left : EditsLeft → List (List ℕ)
 lines_left left = map (λ l. l.now) left.lines.items
 
--- the place of the refused edit of an entry, if the edits that are left for its operator begin with those of the entry
+-- the place of the refused edit of an entry, if `left` has, for each operator, the lines of the edits from this entry on
 abbrev pub head_left : (ℕ → OriginData) → List (List ℕ) → EntryData → List ℕ
 head_left origin left e = option_map_or (λ index. line_place origin (line_in left e.operator index)) (refused_index e.reply) []
 
--- the lines that are left after one more entry
+-- the lines that are left after one more entry: the lines of its edits are removed from the lines of its operator
 abbrev pub left_behind : List (List ℕ) → EntryData → List (List ℕ)
 left_behind left e = set left e.operator (drop (length (edits_of e.call)) (slice_index_or left e.operator []))
 
--- the place of the refused edit of a batch, or nothing if it isn't known
+-- the place of the refused edit of a batch as it is printed; empty if it isn't known
 abbrev pub told_place : Option EditPlace → List ℕ
 told_place None = []
 told_place (Some p) = command_head (origin_data p.origin) p.line

@@ -20,7 +20,7 @@ use Rattle.crush_reasons.specs.Replay.{history_edits, table_after_edits, table_a
 use Rattle.crush_reasons.specs.Shown.{reason_line}
 use Rattle.crush_reasons.specs.Sentences.{refusal_sentence, reply_sentence, stale_sentence}
 
--- the reason for a refused edit of a batch: the edit's place, its command, and the reason for the edit alone
+-- the reason for a refused edit of a batch, without the edit's place: the edit's command, and the reason for the edit alone
 abbrev pub refused_reason : Bool → SettingData → List Row → Edit → Refusal → List ℕ
 refused_reason looks s t e r = edit_text e ++ codes ": " ++ edit_reason looks s t e r
 
@@ -28,11 +28,11 @@ abbrev pub first_reason : SettingData → List Row → HeadData → List Edit �
 first_reason s t head [] r = refusal_sentence r
 first_reason s t head (e ∷ es) r = head.place ++ refused_reason head.looks s t e r
 
--- the reason depends on the table that the edits before the refused one have made
+-- the reason for a batch in which the edit with this index was refused. It depends on the table after the edits that come before the refused one
 abbrev pub batched_reason : SettingData → List Row → HeadData → List Edit → ℕ → Refusal → List ℕ
 batched_reason s t head es index r = first_reason s (table_after_edits s t (take index es)) head (drop index es) r
 
--- the reason for a guarded batch that came too late: if the batch names more changes than there were, what the number counts; otherwise how to go on
+-- the reason for a guarded batch that names another number of changes than there were. If it names more changes, the reason says what the number counts. Otherwise the reason says how to go on
 unfoldable pub so_far : ℕ → List ℕ
 so_far count = codes " counts the changes of this run: so far there were " ++ decimal count
 
@@ -42,7 +42,7 @@ too_high seen count = decimal seen ++ so_far count
 abbrev pub stale_reason : ℕ → ℕ → List ℕ
 stale_reason seen count = if nat_lt count seen then too_high seen count else stale_sentence
 
--- REASON for a call that was refused for this setting and table, if its entry has this head
+-- REASON for a call that was refused when the map had this setting and this table, if its entry has this head
 abbrev pub call_reason : SettingData → List Row → HeadData → Call → Reply → List ℕ
 call_reason s t head (One e) (Refused r) = edit_reason head.looks s t e r
 call_reason s t head (Batch es) (BatchRefused index r) = batched_reason s t head es index r
@@ -50,32 +50,32 @@ call_reason s t head (Guarded seen es) (BatchRefused index r) = batched_reason s
 call_reason s t head (Guarded seen es) (Stale count) = stale_reason seen count
 call_reason s t head call reply = reply_sentence reply
 
--- the line of a refused entry, and the reason on the next line; nothing for any other entry
+-- the history line of a refused entry, and the reason on the next line; nothing for an entry that wasn't refused
 abbrev pub explained_line : SettingData → List Row → ℕ → List ℕ → HeadData → EntryData → List ℕ
 explained_line s t number operator head e =
     if is_refused e.reply then entry_text number operator e ++ reason_line (call_reason s t head e.call e.reply) else []
 
--- these lines for a history before which the map had this setting and this table. Each entry has its number in the history, and the
--- reason depends on the table before it. The entries `before` come before this history.
+-- these lines for all entries of a history before which the map had this setting and this table. Each entry has its number in the history,
+-- and its reason depends on the table before it. The entries `before` come before this history.
 unfoldable pub explained_behind : (ℕ → ℕ → List ℕ) → SettingData → List Row → List (List ℕ) → ℕ → List EntryData → List EntryData → List ℕ
 explained_behind head s t names number before [] = []
 explained_behind head s t names number before (e ∷ h) =
     explained_line s t number (slice_index_or names e.operator []) (entry_head head before e) e
     ++ explained_behind head s (table_after_entry s t e) names (number + 1) (before ++ e ∷ []) h
 
--- EXPLAINED JOB: these lines for the history of a job, given the lines of each operator's edits and the origins of the job's lines
+-- EXPLAINED JOB: these lines for the history of a job. `origin` gives the file of each line, and `lines` has the lines of each operator's edits
 abbrev pub explained_job : (ℕ → OriginData) → List (List ℕ) → SettingData → List Row → List (List ℕ) → List EntryData → List ℕ
 explained_job origin lines s t names h = explained_behind (head_in origin lines) s t names 1 [] h
 
--- EXPLAINED TEXT: these lines for a history whose text isn't known
+-- EXPLAINED TEXT: these lines for a history if the text of its job isn't known, so that no edit has a place
 abbrev pub no_head : ℕ → ℕ → List ℕ
 no_head operator k = []
 
 abbrev pub explained_text : SettingData → List Row → List (List ℕ) → ℕ → List EntryData → List ℕ
 explained_text s t names number h = explained_behind no_head s t names number [] h
 
--- EXPLAINED: the entries of a history were applied to a map, which then represents the table after them, and their lines with reasons were
--- appended to a text
+-- EXPLAINED: the entries of a history were applied to the map `old`, the map `new` represents the table after them, and their lines with
+-- reasons were appended to a text
 pub record AreExplained (head : ℕ → ℕ → List ℕ) (names : List (List ℕ)) (old new : MapData) (before behind : List ℕ) (h : List EntryData) : Type 0 where
   pub setting : new.setting ≡ old.setting
   pub stands : (t : List Row) → Stands old.forest t → Stands new.forest (table_after_edits old.setting t (history_edits h))

@@ -16,7 +16,7 @@ use Rattle.crush_reasons.specs.Around.{around_at, defined_at}
 use Rattle.crush_reasons.specs.Place.{OriginData, behind_feed, last_line, own_line}
 use Rattle.crush_reasons.specs.Shown.{told}
 
--- the first of these words, or nothing
+-- the first of these words, or an empty word if there is none
 abbrev pub first_of : List Word → List ℕ
 first_of [] = []
 first_of (w ∷ ws) = w.text
@@ -31,7 +31,7 @@ two_of [] = []
 two_of (v ∷ []) = v.text
 two_of (v ∷ w ∷ ws) = v.text ++ codes " " ++ w.text
 
--- the number, in its file, of the line of a place
+-- the number that the line of a place has in its file
 abbrev pub line_of : OriginData → List ℕ → ℕ → ℕ
 line_of origin bytes place = own_line origin (last_line (take place bytes))
 
@@ -109,7 +109,7 @@ abbrev pub range_text : Expected → List ℕ
 range_text (expect.Number most) = number_text most
 range_text e = range_words e
 
--- a number, an id, a name or a class that another line has already
+-- the sentence for a number, an id, a name or a class that another line already has
 abbrev pub same_id : Expected → List ℕ
 same_id expect.TypeNumber = codes "another type has this number"
 same_id expect.DeviceId = codes "another device has this id"
@@ -123,7 +123,7 @@ same_name expect.IdClass = codes "another `id` line of this bucket has this clas
 same_name expect.RuleName = codes "another rule has this name"
 same_name e = codes "another device or bucket has this name"
 
--- a word that isn't a weight. `crushtool -d` prints the 32 bits of a bucket's weight as a signed number
+-- the sentence for a word that isn't a weight. `crushtool -d` prints the 32 bits of a bucket's weight as a signed number
 abbrev pub begins_with_minus : List ℕ → Bool
 begins_with_minus [] = false
 begins_with_minus (b ∷ rest) = b == 45
@@ -135,13 +135,13 @@ weight_range e = codes "expected a weight from 0 to 65535.99998"
 abbrev pub bad_weight : List ℕ → Expected → List ℕ
 bad_weight word e = if begins_with_minus word then codes "crushtool -d prints a bucket's weight of 32768 and more as a negative number: write 0, and the sum of the bucket's items takes its place" else weight_range e
 
--- A PART OF CEPH'S GRAMMAR that isn't supported
+-- the sentence for A PART OF CEPH'S GRAMMAR that isn't supported
 abbrev pub left_out : Expected → List ℕ
 left_out expect.StepWord = codes "maps with MSR rules (choosemsr) can't be edited here"
 left_out (expect.ItemOrEnd or) = codes "`pos` isn't supported: if the items are already in the order of these numbers, remove each `pos` and its number"
 left_out e = codes "maps with weight sets (choose_args) can't be edited here; removing them moves data"
 
--- one more than a map may have, by the first word of the statement
+-- the sentence for one statement more than a map may have; `word` is the first word of this statement
 unfoldable pub most_statements : List ℕ → List ℕ
 most_statements word =
     if bytes_eq word (codes "tunable") then codes "a map has at most 64 tunables"
@@ -155,31 +155,31 @@ too_many word expect.IdOrAlg = codes "a bucket has at most 16 class ids"
 too_many word (expect.StepOrEnd or) = codes "a rule has at most 64 steps"
 too_many word e = most_statements word
 
--- whether the word at a place is the first of its line
+-- whether the word that follows these bytes is the first word of its line
 abbrev pub begins_line : List ℕ → Bool
 begins_line before = list_all is_blank (drop (length before - behind_feed before) before)
 
--- whether it is the first word of a line, and the first word of a command
+-- whether the word at this place is the first word of its line, and is the first word of a command
 abbrev pub is_command : List ℕ → ℕ → Bool
 is_command bytes place = begins_line (take place bytes) && is_some (form_of (word_at bytes place))
 
--- whether a device without a class comes just before
+-- whether the text declares a device without a class just before the fault
 abbrev pub can_be_class : Expected → Bool
 can_be_class (expect.Statement late optional.Class) = true
 can_be_class e = false
 
--- AN UNKNOWN TYPE: a word on the line of a device may have been meant as `class`
+-- AN UNKNOWN TYPE: if the word is on the line of a device, the reason asks whether `class` was meant
 abbrev pub type_hint : List ℕ → ℕ → Expected → List ℕ
 type_hint bytes place e = if can_be_class e && not (begins_line (take place bytes)) then codes "; did you mean `class`?" else []
 
--- a word that no type has, or the first word of a command, or of what `ceph osd tree` prints
+-- the sentence for a word that isn't the name of a type. The word may begin a command, or the output of `ceph osd tree`
 abbrev pub unknown_type : List ℕ → ℕ → Expected → List ℕ
 unknown_type bytes place e =
     if is_command bytes place then codes "this looks like a command: commands go below a line `%operator NAME`"
     else if bytes_eq (word_at bytes place) (codes "ID") then codes "this looks like the output of `ceph osd tree`: a text map is the output of `crushtool -d`"
     else codes "no type named " ++ told (word_at bytes place) ++ codes " is declared above" ++ type_hint bytes place e
 
--- AN UNKNOWN ITEM OR BUCKET, which may be defined below
+-- AN UNKNOWN ITEM OR BUCKET, which may be defined further below in the text
 unfoldable pub below_at : ℕ → List ℕ
 below_at line = codes " is defined below, at line " ++ decimal line ++ codes ": move that bucket up"
 
@@ -191,14 +191,14 @@ missing origin bytes place sentence =
     if nat_lt place (defined_at bytes (word_at bytes place)) then defined_below origin bytes (word_at bytes place) (defined_at bytes (word_at bytes place))
     else sentence
 
--- A TEXT THAT ISN'T A MAP: a byte order mark, what `gzip` writes, or anything else
+-- A TEXT THAT ISN'T A MAP: it begins with a byte order mark, or with the bytes with which `gzip` begins a file, or with anything else
 abbrev pub not_begun : List ℕ → List ℕ
 not_begun bytes =
     if starts_with nat_eq bytes (239 ∷ 187 ∷ 191 ∷ []) then codes "the text begins with a byte order mark: save it without one"
     else if starts_with nat_eq bytes (31 ∷ 139 ∷ []) then codes "this file is compressed with gzip: unpack it first"
     else codes "this is not a text map: use `crushtool -d` to make one"
 
--- a byte that no word may have, or a word that is too long
+-- the sentence for a byte that no word may have, or for a word that is too long
 abbrev pub begins_word : List ℕ → Bool
 begins_word [] = false
 begins_word (b ∷ rest) = is_name_byte b
@@ -209,7 +209,7 @@ bad_word bytes place e =
     else if begins_word (drop place bytes) then codes "a word has at most 255 characters"
     else codes "this character can't be in a word: letters, digits, `-`, `_` and `.` only; expected " ++ expected_text e
 
--- the sentence if another word is expected
+-- the sentence for a word at whose place another word is expected
 abbrev pub inside : OriginData → List ℕ → Around → List ℕ
 inside origin bytes a = if a.is_open then codes " (in " ++ open_text origin bytes a.head ++ codes ")" else []
 
@@ -219,18 +219,18 @@ unexpected origin bytes e a = codes "unexpected word: expected " ++ expected_tex
 abbrev pub no_word : OriginData → List ℕ → ℕ → Expected → List ℕ
 no_word origin bytes place e = if place == 0 then not_begun bytes else unexpected origin bytes e (around_at bytes place)
 
--- the sentence if the text ends inside a statement, in no bucket and no rule
+-- the sentence for a text that ends inside a statement, but outside of all buckets and rules
 unfoldable pub too_early : Expected → List ℕ
 too_early e = codes "the text ends too early: expected " ++ expected_text e
 
--- the sentence if the text ends inside a bucket or a rule
+-- the sentence for a text that ends inside a bucket or a rule
 unfoldable pub not_closed : OriginData → List ℕ → ℕ → List ℕ
 not_closed origin bytes head = open_text origin bytes head ++ codes ", is not closed"
 
 abbrev pub unclosed : OriginData → List ℕ → Expected → Around → List ℕ
 unclosed origin bytes e a = if a.is_open then not_closed origin bytes a.head else too_early e
 
--- the sentence for a fault, if it depends on no more than what is expected and the word at the fault's place
+-- the sentence for a fault, if the sentence depends only on the kind of the fault, on what is expected, and on the word at the fault's place
 abbrev pub word_sentence : TextFaultKind → List ℕ → Expected → List ℕ
 word_sentence text.BadWeight word e = bad_weight word e
 word_sentence text.DuplicateId word e = same_id e
@@ -253,7 +253,7 @@ flaw_reason origin bytes text.UnknownItem place e = missing origin bytes place (
 flaw_reason origin bytes text.UnknownBucketInRule place e = missing origin bytes place (codes "no finished bucket above has this name")
 flaw_reason origin bytes kind place e = word_sentence kind (word_at bytes place) e
 
--- the place that is shown for a fault; if the text ends too early, the place of its last word
+-- the place that messages show for a fault; if the text ends too early, the place of its last word
 abbrev pub flaw_place : List ℕ → TextFaultKind → ℕ → ℕ
 flaw_place bytes text.Ended place = (around_at bytes place).last
 flaw_place bytes kind place = place

@@ -1,11 +1,11 @@
--- The law of the edits that changed a map.
+-- The law about the edits that changed a map.
 use Rattle.std.specs.Prelude.{◌≡◌, List}
 use Rattle.crush_model.specs.Table.{Row}
 use Rattle.crush_edits.specs.Setting.{SettingData}
 use Rattle.crush_history.specs.History.{EntryData, IsLegal, table_after}
 use Rattle.crush_reasons.specs.Replay.{history_edits, table_after_edits}
 
--- the edits of a legal history lead to the table after its calls. So the edits of each beginning of the history lead to the table
--- before the next call
+-- If the history is legal, its edits that changed the map lead from the table before its first call to the table after its last call. This
+-- also holds for each beginning of the history, so the edits of a beginning lead to the table before the next call
 abbrev pub LeadsToTableAfter : Type 0
 LeadsToTableAfter = (s : SettingData) (t : List Row) (h : List EntryData) → IsLegal s t h → table_after_edits s t (history_edits h) ≡ table_after s t h

@@ -1,4 +1,4 @@
--- What is told of a line that can't be at its place: the form of its command and the first word that doesn't fit, or another reason.
+-- The reason why a line of a script isn't allowed at its place: the form of its command and the first word that doesn't fit, or another reason.
 use Rattle.std.specs.Prelude.{ℕ, ◌-◌, ◌==◌, Bool, true, false, not, ◌&&◌, ◌||◌, List, ◌++◌, Option, Some, None, Result, Ok, Err, bytes_eq, codes, decimal, drop, if◌then◌else◌, length, nat_le, nat_lt, slice_index, take}
 use Rattle.std.specs.Char.{is_ascii_alphabetic, is_ascii_digit}
 use Rattle.std.specs.List.{list_all, position_or_len}
@@ -23,21 +23,21 @@ use Rattle.crush_reasons.specs.Shown.{told}
 abbrev pub is_quote : ℕ → Bool
 is_quote b = b == 34 || b == 39
 
--- a word without the quotation marks at both ends
+-- a word without its first and last byte if both are quotation marks, and otherwise the whole word
 abbrev pub is_quoted : List ℕ → Bool
 is_quoted word = nat_lt 1 (length word) && (is_quote (slice_index word 0) && is_quote (slice_index word (length word - 1)))
 
 abbrev pub bare : List ℕ → List ℕ
 bare word = if is_quoted word then take (length word - 2) (drop 1 word) else word
 
--- OF NO NAME: the word without quotation marks, if that is a name
+-- A WORD THAT ISN'T A NAME: the reason suggests the word without quotation marks, if that is a name
 abbrev pub name_meant : List ℕ → List ℕ
 name_meant meant = if is_name meant then codes " is not a name: did you mean " ++ meant ++ codes "?" else codes " is not a name: use letters, digits, `-`, `_` and `.`, at most 255"
 
 abbrev pub no_name : List ℕ → List ℕ
 no_name word = told word ++ name_meant (bare word)
 
--- OF NO DEVICE: the device with its number, if it has one
+-- A WORD THAT ISN'T A DEVICE: the reason suggests the device whose number the word has, if it has a number
 abbrev pub digits_of : List ℕ → List ℕ
 digits_of word = if nat_le 4 (length word) && bytes_eq (take 4 word) (codes "osd.") then drop 4 word else word
 
@@ -51,7 +51,7 @@ device_meant digits = number_meant (if is_number LAST_DEVICE_ID digits then Some
 abbrev pub no_device : List ℕ → List ℕ
 no_device word = told word ++ codes " is not a device: " ++ device_meant (digits_of (bare word))
 
--- OF NO WEIGHT: whether a text is a weight
+-- A WORD THAT ISN'T A WEIGHT. The first definition says whether a text is a weight
 abbrev pub is_read : Result ℕ WeightFault → Bool
 is_read (Ok units) = true
 is_read (Err fault) = false
@@ -59,7 +59,7 @@ is_read (Err fault) = false
 unfoldable pub is_weight : List ℕ → Bool
 is_weight word = is_read (weight_of_text word)
 
--- whether a comma is in the place of the point of a weight, or no digit is before the point; and this weight with its point
+-- whether a word looks like a weight that has a comma in place of the point, or no digit before the point; and the suggestion to write this weight with a point
 abbrev pub is_separator : ℕ → Bool
 is_separator b = b == 44 || b == 46
 
@@ -81,7 +81,7 @@ front_of whole = if length whole == 0 then codes "0" else whole
 unfoldable pub with_point : List ℕ → List ℕ
 with_point word = codes "did you mean " ++ (front_of (whole_of word) ++ (codes "." ++ (parts_of word ++ codes "?")))
 
--- whether letters follow a weight, as in `4T` or `3.6TiB`
+-- whether a word is a weight followed by letters, such as `4T` or `3.6TiB`
 abbrev pub is_of_number : ℕ → Bool
 is_of_number b = is_ascii_digit b || b == 46
 
@@ -91,7 +91,7 @@ unit_at word = position_or_len (λ b. not (is_of_number b)) word
 unfoldable pub has_unit : List ℕ → Bool
 has_unit word = nat_lt (unit_at word) (length word) && (is_weight (take (unit_at word) word) && list_all is_ascii_alphabetic (drop (unit_at word) word))
 
--- what may be meant by a word that is neither a weight nor too large a number; the word has no quotation marks at both ends
+-- what a word may mean that is neither a weight nor too large a number. `word` is that word without quotation marks at its ends
 abbrev pub weight_meant : List ℕ → List ℕ
 weight_meant word =
     if is_weight word then codes "did you mean " ++ word ++ codes "?"
@@ -117,7 +117,7 @@ weight_said word = if is_large word then codes " is too large: weights are in Ti
 abbrev pub no_weight : List ℕ → List ℕ
 no_weight word = told word ++ weight_said word
 
--- A WORD THAT ISN'T WHAT IS DUE
+-- THE REASON for a word that isn't what is required
 abbrev pub wrong_text : Due → List ℕ → List ℕ
 wrong_text due.Device word = no_device word
 wrong_text due.Weight word = no_weight word
@@ -128,11 +128,11 @@ wrong_text due.At word = codes "unexpected word " ++ told word ++ codes ": expec
 wrong_text due.Changes word = told word ++ codes " is not a number of changes: expected 0 to 65536"
 wrong_text due.End word = codes "unexpected extra word " ++ told word
 
--- THE MISFIT of a line with this form: the word that is there isn't what is due, or the form's word is missing
+-- THE MISFIT of a line: the reason says that a word of the command's form is missing from the line, or that the word that is there isn't what is required
 unfoldable pub misfit_text : Misfit → List ℕ → List ℕ → List ℕ
 misfit_text m form word = if length word == 0 then word_in_line m.word form ++ codes " is missing" else wrong_text m.due word
 
--- the form of a line, if its first word has one, before such a text
+-- the form of the command that is the line's first word, which comes before the reason; nothing if the first word isn't a command
 unfoldable pub form_head : List ℕ → List ℕ
 form_head form = if length form == 0 then form else form ++ codes ": "
 
@@ -142,7 +142,7 @@ form_in_line line = option_map_or form_text (form_of (word_in_line 0 line)) (cod
 abbrev pub word_reason : Misfit → List ℕ → List ℕ
 word_reason m line = form_head (form_in_line line) ++ misfit_text m (form_in_line line) (word_in_line m.word line)
 
--- WHY A LINE can't be at its place
+-- THE REASON why a line isn't allowed at its place
 abbrev pub line_reason : BadLine → List ℕ → List ℕ
 line_reason (bad.Word m) line = word_reason m line
 line_reason bad.NoOperator line = codes "a line that begins with % must be `%operator NAME`"
@@ -150,7 +150,7 @@ line_reason bad.BatchOpen line = codes "a batch is already open: end it with `co
 line_reason bad.NoBatch line = codes "no batch is open: start one with `begin`"
 line_reason bad.BatchFull line = codes "a batch has at most 65536 edits"
 
--- THE WORD that doesn't fit: its index in the line, if the line has it
+-- THE INDEX of the word that doesn't fit, from 0; none if the line is too short to have this word
 abbrev pub index_in_line : ℕ → List ℕ → Option ℕ
 index_in_line index line = if length (word_in_line index line) == 0 then None else Some index
 

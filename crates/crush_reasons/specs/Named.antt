@@ -1,4 +1,4 @@
--- The reason for a refused edit: the name that was in its way in the map, and what was wrong with it.
+-- The reason for a refused edit: the name because of which the edit was refused, and what is wrong with this name.
 use Rattle.std.specs.Prelude.{Bool, List, ◌++◌, ℕ, Option, None, Some, codes, option_and_then}
 use Rattle.crush_model.specs.Table.{Row}
 use Rattle.crush_edits.specs.declared.edit.Edit.{Edit}
@@ -11,7 +11,7 @@ use Rattle.crush_apply.specs.Culprit.{culprit}
 use Rattle.crush_reasons.specs.Sentences.{refusal_sentence}
 use Rattle.crush_reasons.specs.Way.{absent_reason, bound_said, class_named, held_count, held_said, holder_name, location_of, loop_reason, moved_name, placed_said, taken_reason, taking_rule, type_reason}
 
--- WHAT IS SAID after the name, if it depends on the refusal alone; nothing for a refusal that isn't about an item, or whose reason depends on the map
+-- THE WORDS AFTER THE NAME, if they depend only on the refusal; none for a refusal that isn't about an item, and for a refusal whose reason depends on the map
 abbrev pub said_of : Refusal → Option (List ℕ)
 said_of refusal.BadName = Some (codes " is the device, and a bucket of the location")
 said_of refusal.BadLocation = Some (codes ": a location names each type and each bucket once, and not the type of devices")
@@ -26,7 +26,7 @@ said_of refusal.NotDirectory = Some (codes " is a device: only a bucket gets ano
 said_of refusal.AlreadyRenamed = Some (codes " is there and the first name is gone, as if it had been done before")
 said_of r = None
 
--- the same for an edit of a class, which only a device can have
+-- the same words for an edit of a class, because only a device can have a class
 abbrev pub said_of_class : Refusal → Option (List ℕ)
 said_of_class refusal.NotADevice = Some (codes " is a bucket: a class is a device's")
 said_of_class r = said_of r
@@ -36,12 +36,12 @@ said_by (SetClass n c) r = said_of_class r
 said_by (RemoveClass n) r = said_of_class r
 said_by e r = said_of r
 
--- the name and what is said after it, or otherwise the sentence of the refusal
+-- the name and the words after it; if there are no such words, the sentence of the refusal
 abbrev pub named_or : List ℕ → Option (List ℕ) → List ℕ → List ℕ
 named_or n None sentence = sentence
 named_or n (Some said) sentence = n ++ said
 
--- REASON for an edit that was refused for this setting and table, if the refusal is about this name; `looks` says whether similar names are looked for
+-- REASON for an edit that was refused when the map had this setting and this table. `n` is the name that the refusal is about, and `looks` says whether the map is searched for similar names
 abbrev pub reason_of : Bool → SettingData → List Row → Edit → List ℕ → Refusal → List ℕ
 reason_of looks s t e n refusal.NoSuchItem = absent_reason looks t n
 reason_of looks s t e n refusal.NotEmpty = n ++ held_said (held_count t n)

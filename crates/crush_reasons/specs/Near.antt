@@ -11,30 +11,30 @@ same_heads [] b = false
 same_heads (x ∷ a) [] = false
 same_heads (x ∷ a) (y ∷ b) = x == y
 
--- how many bytes they have in common before the first byte that differs
+-- how many bytes two names have in common before the first byte that differs
 abbrev pub shared : List ℕ → List ℕ → ℕ
 shared [] b = 0
 shared (x ∷ a) [] = 0
 shared (x ∷ a) (y ∷ b) = if x == y then 1 + shared a b else 0
 
--- ONE BYTE differs there, or one of the names has one more byte there, and the rest of both is the same
+-- ONE BYTE DIFFERS at the first place where the names aren't the same, or one of the names has one more byte at this place; and the rest of both names is the same
 abbrev pub is_one_off : List ℕ → List ℕ → Bool
 is_one_off a b =
     bytes_eq (drop (shared a b + 1) a) (drop (shared a b + 1) b)
     || (bytes_eq (drop (shared a b + 1) a) (drop (shared a b) b) || bytes_eq (drop (shared a b) a) (drop (shared a b + 1) b))
 
--- NEAR: this holds, or they differ only in upper and lower case
+-- SIMILAR: at most one byte differs as above, or the names differ only in upper and lower case
 abbrev pub is_near : List ℕ → List ℕ → Bool
 is_near a b = is_one_off a b || str_eq_ignore_ascii_case a b
 
--- the name of the first of these items whose name is similar
+-- the first name of these items that is similar to the name n
 abbrev pub first_near : List ℕ → List WalkStepData → Option (List ℕ)
 first_near n steps = option_map (λ (s : WalkStepData). s.item.name) (find (λ (s : WalkStepData). is_near n s.item.name) steps)
 
--- the same for all items of a table, in the order of its tree
+-- the first similar name among all items of a table, in the order of the table's tree
 abbrev pub near_name : List Row → List ℕ → Option (List ℕ)
 near_name t n = first_near n (tree_rows t)
 
--- the same, if similar names are looked for
+-- this name, if `looks` says that the map is searched for similar names; otherwise none
 abbrev pub near_if : Bool → List Row → List ℕ → Option (List ℕ)
 near_if looks t n = if looks then near_name t n else None

@@ -1,12 +1,12 @@
--- The edits of a history that changed the map, applied once more to a copy of the map before the history.
+-- Those edits of a history that changed the map, and the table to which they lead if they are applied once more.
 use Rattle.std.specs.Prelude.{List, [], ◌∷◌, if◌then◌else◌, flat_map}
 use Rattle.crush_model.specs.Table.{Row}
 use Rattle.crush_edits.specs.declared.edit.Edit.{Edit}
-use Rattle.crush_edits.specs.Edit.{edit}
 use Rattle.crush_edits.specs.Setting.{SettingData}
 use Rattle.crush_history.specs.declared.call.Call.{Call}
 use Rattle.crush_history.specs.declared.call.Call.TheVariants.{One, Batch, Guarded}
-use Rattle.crush_history.specs.History.{EntryData, edit_outcome, is_change}
+use Rattle.crush_history.specs.History.{EntryData, is_change}
+use Rattle.crush_ceph.specs.ForCeph.{table_after_edit}
 
 -- the edits of a call, in order
 abbrev pub edits_of : Call → List Edit
@@ -14,17 +14,13 @@ edits_of (One e) = e ∷ []
 edits_of (Batch es) = es
 edits_of (Guarded seen es) = es
 
--- the edits of an entry, which are all edits if the entry is a batch, if it changed the map; no edits of any other entry
+-- the edits of an entry, if the entry changed the map; otherwise none. If the entry is a batch, these are all its edits
 abbrev pub changing_edits : EntryData → List Edit
 changing_edits e = if is_change e.reply then edits_of e.call else []
 
 -- these edits of all entries of a history, in their order
 abbrev pub history_edits : List EntryData → List Edit
 history_edits h = flat_map changing_edits h
-
--- the table after an edit; an edit that is refused leaves it as it is
-abbrev pub table_after_edit : SettingData → List Row → Edit → List Row
-table_after_edit s t e = (edit_outcome t (edit s t e)).table
 
 -- the table after edits that are applied one after the other
 unfoldable pub table_after_edits : SettingData → List Row → List Edit → List Row

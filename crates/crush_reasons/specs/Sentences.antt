@@ -7,7 +7,7 @@ use Rattle.crush_edits.specs.declared.refusal.Refusal.TheVariants as refusal
 use Rattle.crush_script.specs.declared.fault.JobFault.{JobFault}
 use Rattle.crush_script.specs.declared.fault.JobFault.TheVariants as job
 
--- FAULTS OF A JOB. `Flaws` defines the sentences for a fault of the map's text
+-- FAULTS OF A JOB. `Flaws.antt` defines the sentences for faults of the map's text, which have no sentence here
 abbrev pub job_sentence : JobFault → List ℕ
 job_sentence (job.BadLine number why) = codes "the line doesn't have the form that its first word requires"
 job_sentence (job.NoSuchCommand number) = codes "the first word of a line must be a command: see --help"
@@ -43,11 +43,11 @@ refusal_sentence refusal.NoRoom = codes "a map has at most 4096 buckets and 6553
 refusal_sentence refusal.SumTooLarge = codes "a bucket weighs at most 65535.99998, and all devices 134217727.99998"
 refusal_sentence refusal.ClassBound = codes "the device has another class: rm-device-class takes it away"
 
--- the sentence for a guarded batch that came too late
+-- the sentence for a guarded batch that was refused because the map has changed
 abbrev pub stale_sentence : List ℕ
 stale_sentence = codes "the map has changed since: look at it again, and name the number of changes that is told"
 
--- the sentence for a reply that is a refusal; nothing for any other reply
+-- the sentence for a reply that is a refusal; an empty text for any other reply
 abbrev pub reply_sentence : Reply → List ℕ
 reply_sentence (Done d) = []
 reply_sentence (Dones d) = []

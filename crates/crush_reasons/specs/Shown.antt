@@ -5,7 +5,7 @@ use Rattle.std.specs.Prelude.{ℕ, ◌==◌, ◌&&◌, ◌||◌, List, ◌++◌,
 abbrev pub shown_byte : ℕ → ℕ
 shown_byte b = if nat_lt 31 b && nat_lt b 127 then b else if b == 9 || b == 13 then 32 else 63
 
--- a word as it is shown: in backquotes, and at most 72 bytes of it
+-- a word as it is shown: in backquotes, and only its first 72 bytes
 unfoldable pub told : List ℕ → List ℕ
 told word = codes "`" ++ map shown_byte (take (min (length word) 72) word) ++ codes "`"
 

@@ -1,4 +1,4 @@
--- What a map has of an item that is in the way of an edit.
+-- The reasons for refusals that depend on the map, such as which bucket holds an item.
 use Rattle.std.specs.Prelude.{ℕ, ◌==◌, List, [], ◌++◌, Option, None, Some, Bool, bytes_eq, codes, decimal, find, if◌then◌else◌, length, option_and_then, unwrap_or}
 use Rattle.std.specs.List.{list_any}
 use Rattle.std.specs.Option.{option_map, option_map_or}
@@ -11,7 +11,7 @@ use Rattle.crush_edits.specs.Setting.{RuleData, SettingData, StepData, bucket_ta
 use Rattle.crush_edits.specs.Stops.{bucket_named}
 use Rattle.crush_reasons.specs.Near.{near_if}
 
--- the reason for a name that the map doesn't have, with a similar name of the map if one was looked for and found
+-- the reason for a name that the map doesn't have. If a similar name was searched for and found, the reason suggests it
 abbrev pub near_asked : Option (List ℕ) → List ℕ
 near_asked None = []
 near_asked (Some near) = codes ": is it " ++ near ++ codes "?"
@@ -22,7 +22,7 @@ asked_reason n near = n ++ codes " isn't there" ++ near_asked near
 abbrev pub absent_reason : Bool → List Row → List ℕ → List ℕ
 absent_reason looks t n = asked_reason n (near_if looks t n)
 
--- how many items a bucket holds
+-- how many items the bucket with this name holds
 abbrev pub held_count : List Row → List ℕ → ℕ
 held_count t n = option_map_or (λ b. length (kids t b)) (bucket_named t n) 0
 
@@ -32,7 +32,7 @@ items_said count = codes " holds " ++ decimal count ++ codes " items: move or re
 abbrev pub held_said : ℕ → List ℕ
 held_said count = if count == 1 then codes " holds 1 item: move or remove it first" else items_said count
 
--- the first rule that has a step which takes the bucket, with or without a class
+-- whether a step of a rule takes the bucket, with or without a class; and the first rule that has such a step
 abbrev pub takes_it : ℕ → RuleData → Bool
 takes_it b r = list_any (λ (x : StepData). member b (bucket_taken x)) r.steps
 
@@ -43,7 +43,7 @@ abbrev pub taken_reason : List ℕ → Option (List ℕ) → List ℕ
 taken_reason n None = n ++ codes " is taken by a rule"
 taken_reason n (Some rule) = codes "the rule " ++ rule ++ codes " takes " ++ n
 
--- the bucket that holds an item
+-- the name of the bucket that holds an item
 abbrev pub holder_name : List Row → List ℕ → Option (List ℕ)
 holder_name t n = option_and_then (λ b. name_of t (Bucket b)) (option_and_then (parent_of t) (id_named t n))
 
@@ -59,14 +59,14 @@ abbrev pub bound_said : Option (List ℕ) → List ℕ
 bound_said None = codes " has another class: rm-device-class takes it away"
 bound_said (Some class) = codes " has the class " ++ class ++ codes ": rm-device-class takes it away"
 
--- THE BUCKET AT WHICH A ROUTE ENDS is below the item that is to be moved there, or is this item
+-- THE LOCATION OF A MOVE ends in the bucket that is moved, or in a bucket below it
 abbrev pub below_reason : List ℕ → List ℕ → List ℕ
 below_reason n end = end ++ codes " stands below " ++ n ++ codes ": a bucket cannot come below itself"
 
 abbrev pub loop_reason : List ℕ → List ℕ → List ℕ
 loop_reason n end = if bytes_eq n end then n ++ codes " cannot come into itself" else below_reason n end
 
--- this bucket has another type than the pair that names it
+-- the bucket's type isn't the type that the pair with the bucket's name has
 abbrev pub type_of_item : SettingData → List Row → List ℕ → List ℕ
 type_of_item s t n = unwrap_or (option_and_then (kind_name s) (option_and_then (kind_of t) (id_named t n))) []
 
@@ -87,7 +87,7 @@ location_of (Update d n w l) = Some l
 location_of (Move n l) = Some l
 location_of e = None
 
--- the reason of any other edit: the type of the new bucket is in the way
+-- the reason if the edit has no location: the type of the bucket that the edit makes is the type of devices
 abbrev pub kind_reason : List ℕ → List ℕ
 kind_reason kind = kind ++ codes " is the type of devices"
 
@@ -95,7 +95,7 @@ abbrev pub type_reason : SettingData → List Row → Option (List Pair) → Lis
 type_reason s t (Some l) end = end_reason s t l end
 type_reason s t None kind = kind_reason kind
 
--- the name of the bucket that is moved, which only a `move` has
+-- the name of the bucket that is moved; empty if the edit isn't a `move`
 abbrev pub moved_name : Edit → List ℕ
 moved_name (Move n l) = n
 moved_name e = []

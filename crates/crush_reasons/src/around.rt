@@ -1,4 +1,5 @@
-//! Says which bucket or rule of a map's text is around a place, and where a bucket is defined.
+//! Finds the bucket or rule of a map's text that is open at a place, and the place where a bucket
+//! is defined. A place is the index of a byte of the text, from 0.
 
 ghost use Rattle.std.specs.Prelude.{◌≡◌};
 ghost use Rattle.crush_units.specs.Words.{words};
@@ -7,16 +8,16 @@ ghost use Rattle.crush_reasons.specs.Around.{around_at, defined_at, further, loo
 use crate::words::{next_placed, up_to};
 use crush_units::Reader;
 
-/// What the words before a place say, if none of them has a fault.
+/// What the words before a place of a map's text say about this place, if none of them has a fault.
 #[derive(Clone, Copy)]
 pub(crate) struct Around {
     /// Whether the place is between the braces of a bucket or a rule.
     pub(crate) is_open: bool,
-    /// The place of the first word of this bucket or rule.
+    /// The place of the first word of the bucket or rule that was opened last, or 0 if none was.
     pub(crate) head: usize,
-    /// The place of the word before the last word.
+    /// Where the second-to-last word before the given place begins, or 0 if there is none.
     pub(crate) before: usize,
-    /// The place of the last word.
+    /// Where the last word before the given place begins, or 0 if there is none.
     pub(crate) last: usize,
 }
 
@@ -58,16 +59,17 @@ pub(crate) fn around_at(bytes: &[u8], place: usize) -> Around
     go_through(up_to(place, bytes))
 }
 
-/// What the words so far say about the bucket with a name.
+/// The state of the search for the bucket with a given name, after the words that were read so far.
 #[derive(Clone, Copy)]
 pub(crate) struct Search {
-    /// Whether the last word is this name and the word before it isn't `rule`.
+    /// Whether the last word that was read is this name, and the word before it isn't `rule`.
     pub(crate) is_name: bool,
-    /// Whether the last word is `rule`.
+    /// Whether the last word that was read is `rule`.
     pub(crate) is_rule: bool,
-    /// The place of the last word.
+    /// The place of the last word that was read.
     pub(crate) last: usize,
-    /// The place of the name of the last bucket that has it, or 0.
+    /// The place of the name in the last definition of such a bucket, or 0 if there was none so
+    /// far.
     pub(crate) found: usize,
 }
 
@@ -89,7 +91,8 @@ impl Search {
     }
 }
 
-/// Returns the place of the name of the last bucket with this name, or 0 if there is none.
+/// Returns the place of the name in the last definition of a bucket with this name, or 0 if the
+/// text defines no such bucket.
 #[tactic(auto, unfolding(crate::specs::Around::looked_for))]
 pub(crate) fn defined_at(bytes: &[u8], name: &[u8]) -> usize
     ensures { result ≡ defined_at bytes.now name.now }

@@ -1,4 +1,5 @@
-//! Says what may be meant by a line whose first word isn't a command.
+//! Writes the reason for a line of a script whose first word isn't a command, with the command that
+//! may be meant.
 
 ghost use Rattle.std.specs.Prelude.{◌≡◌, ◌++◌, OnOk, map as each};
 ghost use Rattle.std.specs.Option.{option_map};
@@ -52,7 +53,8 @@ fn first_command(word: &[u8], commands: &[&'static str]) -> Option<&'static str>
     None
 }
 
-/// Returns the first command that is similar to a word.
+/// Returns the first of the commands below that is similar to a word: one byte differs, one byte is
+/// missing or extra, or two neighbouring bytes are exchanged.
 fn near_command(word: &[u8]) -> Option<&'static str>
     ensures { option_map (λ near. near.now) result ≡ near_command word.now }
 {

@@ -1,4 +1,4 @@
-//! Finds the line of a job from which the refused edit of a batch comes.
+//! Finds the line of a job that has the refused edit of a batch.
 
 ghost use Rattle.std.specs.Prelude.{◌≡◌, ◌++◌, IfOk, OnOk, drop, map as each, slice_get, slice_index_or, []};
 ghost use Rattle.crush_reasons.specs.EditsLeft.{head_left, left_behind, line_in, line_place, lines_left, refused_index, told_place};
@@ -37,8 +37,8 @@ fn refused_index(reply: Reply) -> Option<usize>
     }
 }
 
-/// For each section of a job, the lines of the edits that come after those of the entries seen so
-/// far.
+/// For each section of a job, the numbers of the lines whose edits come after the edits of the
+/// entries that were passed so far.
 #[derive(Drop)]
 pub(crate) struct EditsLeft<'a> {
     lines: Vec<&'a [u32]>,
@@ -68,7 +68,8 @@ impl<'a> EditsLeft<'a> {
         }
     }
 
-    /// Returns the line of the edit at `index`, which counts from 0 among the edits that are left.
+    /// Returns the number of the line of one of the operator's edits that are left. `index` counts
+    /// these edits from 0.
     fn line(&self, operator: usize, index: usize) -> Option<u32>
         ensures { result ≡ line_in (lines_left self.now) operator index }
     {

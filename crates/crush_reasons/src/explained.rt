@@ -1,4 +1,4 @@
-//! Returns the history lines of refused entries, each with its reason.
+//! Writes the history lines of refused entries, each with its reason.
 
 ghost use Rattle.std.specs.Prelude.{◌≡◌, ◌<◌, ◌^◌, ◌++◌, List, [], IfOk, OnOk, drop, length, map as each, take};
 ghost use Rattle.crush_model.specs.Stands.{Stands};
@@ -65,8 +65,10 @@ fn before_edit(index: usize, edits: &[Edit]) -> &[Edit]
     }
 }
 
-/// What is known of an entry before its reason is looked for. `place` is the place of the refused
-/// edit of a batch. `looks` says whether similar names are looked for.
+/// What the line of an entry and its reason depend on, besides the entry and the map. `number` is
+/// the entry's number in the history. `operator` is the name of the entry's operator. `place` is
+/// the place of the refused edit of a batch. `looks` says whether to search the map for similar
+/// names.
 #[derive(Clone, Copy)]
 struct EntryHead<'a> {
     number: u32,
@@ -111,8 +113,8 @@ fn push_first(
     }
 }
 
-/// Appends the reason for a refused batch. Applies the edits before the refused one to a copy of
-/// the map, because the reason depends on the map at that moment.
+/// Appends the reason for a batch in which an edit was refused. This reason depends on the map just
+/// before the refused edit, so the edits before it are first applied to a copy of the map.
 fn push_batched(
     alloc: Global,
     map: &CrushMap<Global>,
@@ -153,8 +155,9 @@ fn push_too_high(seen: u32, count: u32, text: &mut Vec<u8>) -> Result<(), AllocE
     push_so_far(count, text)
 }
 
-/// Appends the reason for a batch that came too late. `seen` is the number of changes that the batch
-/// names, and `count` is the number of changes that there were.
+/// Appends the reason for a guarded batch that was refused because the history had another number
+/// of changes than the batch names. `seen` is the number that the batch names, and `count` is the
+/// number of changes that there were.
 fn push_stale(seen: u32, count: u32, text: &mut Vec<u8>) -> Result<(), AllocError>
     ensures { OnOk result (text.new.items ≡ text.old.items ++ stale_reason seen count) }
 {
@@ -223,7 +226,8 @@ fn push_explained(
     push_reply(alloc, map, head, &entry.call, entry.reply, text)
 }
 
-/// Appends the lines of an entry that was refused, and applies an entry that changed the map.
+/// If the entry was refused, appends its history line and its reason. If the entry changed the map,
+/// applies its edits to `map`.
 fn push_made(
     alloc: Global,
     map: &mut CrushMap<Global>,
@@ -285,13 +289,14 @@ struct Subject<'a, O> {
 /// Returns the history lines of the refused entries, each with its reason on the next line.
 ///
 /// A history line has the number that the entry has in the whole history. The line with the reason
-/// begins with two spaces. The reason says which name is in the way, and what the map has of this
-/// name at that moment. For a batch, the line begins with the place of the refused edit, which is
-/// `FILE:LINE: `, or `line LINE: ` without a file, and with the edit's command. For the first 256
-/// refused entries, the whole map is searched for a name that is similar to a missing one.
+/// begins with two spaces. If the refusal is about a name, the reason has this name, and says what
+/// the map has under this name just before the refused edit. If an edit of a batch was refused, the
+/// reason begins with the place of this edit and with its command. The place is `FILE:LINE: `, or
+/// `line LINE: ` if no file is named. If the map has no item with the name, the reason can suggest
+/// a similar name. The map is searched for similar names only for the first 256 refused entries.
 ///
-/// `opening` is the map before the first call. `scripts` are the scripts of the job whose lines are
-/// `lines`, in the order of its sections. Fails if memory runs out.
+/// `opening` is the map before the first call. `scripts` are the scripts of the job, in the order
+/// of its sections, and `lines` describes the lines of this job. Fails if memory runs out.
 pub fn explained_job<O: Locates>(
     alloc: Global,
     lines: JobLines<'_, O>,
@@ -314,8 +319,8 @@ pub fn explained_job<O: Locates>(
     explained(alloc, opening, &told, entries)
 }
 
-/// Returns the same lines as [`explained_job`] for a history whose text isn't known, without the
-/// places of refused edits.
+/// Returns the same lines as [`explained_job`], but without the places of refused edits. Use this
+/// function if the text of the job isn't known.
 pub fn explained_text(
     alloc: Global,
     opening: CrushMap<Global>,

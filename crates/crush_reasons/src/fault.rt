@@ -1,4 +1,4 @@
-//! Returns the place of a fault of a job, and what is wanted there.
+//! Explains a fault of a job: shows its place, and says what is expected there.
 
 ghost use Rattle.std.specs.Prelude.{◌≡◌, ◌<◌, ◌^◌, ◌++◌, IfOk, OnOk, length};
 ghost use Rattle.crush_text.specs.declared.fault.TextFault.{TextFault};
@@ -15,7 +15,7 @@ use crush_script::{JobFault, placed_word};
 use crush_text::TextFault;
 use std::alloc::{AllocError, Global};
 
-/// Appends the reason for a fault of a line that the job's files have.
+/// Appends the reason for a fault of a line that comes from a file of the job.
 fn push_own_reason(fault: JobFault, line: &[u8], text: &mut Vec<u8>) -> Result<(), AllocError>
     ensures { OnOk result (text.new.items ≡ text.old.items ++ own_reason fault line.now) }
 {
@@ -27,7 +27,8 @@ fn push_own_reason(fault: JobFault, line: &[u8], text: &mut Vec<u8>) -> Result<(
     }
 }
 
-/// Returns the reason for a fault of a line that was put before a script.
+/// Returns the reason for a fault of a line `%operator NAME` that the program itself put before a
+/// file's script. NAME is made of the file's name.
 fn put_reason(fault: JobFault) -> &'static str
     ensures { result.now ≡ put_reason fault }
 {
@@ -43,7 +44,8 @@ fn put_reason(fault: JobFault) -> &'static str
     }
 }
 
-/// Appends the reason for a fault of a line. `own` is the number of the line in its file.
+/// Appends the reason for a fault of a line. `own` is the number of the line in its file, or 0 if
+/// the program itself put the line before the file.
 #[tactic(auto, unfolding(crate::specs::Fault::line_fault_reason))]
 fn push_line_fault_reason(
     own: usize,
@@ -82,7 +84,8 @@ fn line_fault_index(own: usize, fault: JobFault, line: &[u8]) -> Option<usize>
     }
 }
 
-/// Returns the place of the word of a line with this index. The place is a byte of the job.
+/// Returns the place of a word of a line: the index in the job of the word's first byte. `index`
+/// counts the words of the line from 0.
 #[tactic(auto, unfolding(crate::specs::Fault::word_place))]
 fn word_place(bytes: &[u8], line: usize, index: usize) -> usize
     requires { length bytes.now < 2 ^ 32 }
@@ -92,7 +95,8 @@ fn word_place(bytes: &[u8], line: usize, index: usize) -> usize
     bytes.len().saturating_sub(rest.len()) + placed_word(first_line(rest), index).place
 }
 
-/// Appends a line of the job, with a sign below the word with this index if there is one.
+/// Appends a line of the job with its number. If there is an `index`, also appends the column of
+/// the word with this index, and a `^` below this word.
 #[tactic(auto, unfolding(crate::specs::Fault::line_shown))]
 fn push_line_shown(
     origin: Origin<'_>,
@@ -170,10 +174,10 @@ fn push_fault(
     }
 }
 
-/// Returns the number of the line that has a fault, from 1 in the whole job, or 0 if the fault has
-/// no line.
+/// Returns the number of the line that has a fault, or 0 if the fault has no line. Lines count from
+/// 1 in the whole job.
 ///
-/// If the map's text ends too early, this is the last line that has a word.
+/// If the map's text ends too early, the result is the last line that has a word.
 pub fn fault_line(bytes: &[u8], fault: JobFault) -> usize
     requires { length bytes.now < 2 ^ 32 }
     ensures { result ≡ fault_line bytes.now fault }
@@ -190,17 +194,17 @@ pub fn fault_line(bytes: &[u8], fault: JobFault) -> usize
     }
 }
 
-/// Returns the place of a fault of a job, followed by a sentence that says what is wanted.
+/// Returns the place of a fault of a job, followed by a sentence that says what is expected.
 ///
-/// For a fault of the map's text, the text has the line's number, the column, a part of the line,
-/// and `^` below the place. For a line of a script with a word that doesn't fit, it has the same of
-/// this word. For any other fault of a line, it has the line's number and the line. For a fault
-/// without a place, such as too many bytes, it has the sentence alone.
+/// For a fault of the map's text, and for a word that doesn't fit in a line of a script, the result
+/// has the line's number, the column, a part of the line, and `^` below the place. For any other
+/// fault of a line, the result has the line's number and the line. For a fault without a place,
+/// such as too many bytes, the result has the sentence alone.
 ///
 /// `bytes` are the whole job. The line's number counts from 1 in the file of `origin`, and is 0 for
-/// a line that was put before the file's first line. Columns count from 1. At most 72 bytes of the
-/// line are shown, from its beginning or from 40 bytes before the place. `shown_byte` says how
-/// each byte of the line and of the file's name is shown. Fails if memory runs out.
+/// a line that the program put before the file's first line. Columns count from 1. At most 72 bytes
+/// of the line are shown, from its beginning or from 40 bytes before the place. `shown_byte` says
+/// how each byte of the line and of the file's name is shown. Fails if memory runs out.
 pub fn fault_text(
     alloc: Global,
     origin: Origin<'_>,
@@ -216,8 +220,8 @@ pub fn fault_text(
     Ok(text)
 }
 
-/// Returns the place of a flaw of a map's text as [`fault_text`] does, but without the sentence that
-/// follows it. `bytes` are the whole job. Fails if memory runs out.
+/// Returns the place of a fault of a map's text as [`fault_text`] does, but without the sentence
+/// after it. `bytes` are the whole job. Fails if memory runs out.
 pub fn flaw_place_text(
     alloc: Global,
     origin: Origin<'_>,

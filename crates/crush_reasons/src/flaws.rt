@@ -50,7 +50,8 @@ fn push_two(bytes: &[u8], place: usize, text: &mut Vec<u8>) -> Result<(), AllocE
     push_all(&[b" ".as_slice(), second.text], text)
 }
 
-/// Returns the number, in its file, of the line of a place.
+/// Returns the number of the line that has this place. The number counts the lines of the file from
+/// which the line comes.
 fn line_of(origin: Origin<'_>, bytes: &[u8], place: usize) -> usize
     requires { length bytes.now < 2 ^ 32 }
     ensures { result ≡ line_of (origin_data origin.entry) bytes.now place }
@@ -120,7 +121,9 @@ fn step_words(or: Optional) -> &'static str
     }
 }
 
-/// Returns the words that are expected, if they are no keyword that stands alone.
+/// Returns a phrase that names the words or the kind of word that may be at the place of the fault.
+/// Returns an empty phrase if memory ran out, and if only one keyword may be there. `push_expected`
+/// prints this keyword itself.
 fn expected_words(expected: Expected) -> &'static str
     ensures { result.now ≡ expected_words expected }
 {
@@ -190,8 +193,8 @@ fn push_number(most: u32, text: &mut Vec<u8>) -> Result<(), AllocError>
     }
 }
 
-/// Returns the numbers that are expected, if they don't begin at 0 and end at a number that differs
-/// from place to place.
+/// Returns the sentence that says which numbers are expected. `push_range` itself prints the
+/// sentence for [`Expected::Number`], which has a greatest number of its own.
 fn range_words(expected: Expected) -> &'static str
     ensures { result.now ≡ range_words expected }
 {
@@ -319,7 +322,8 @@ fn is_command(bytes: &[u8], place: usize) -> bool
     begins_line(up_to(place, bytes)) && Form::read(word_at(bytes, place)).is_some()
 }
 
-/// Whether a device without a class comes just before.
+/// Whether the text declares a device without a class just before the fault, so that the word
+/// `class` may follow.
 fn can_be_class(expected: Expected) -> bool
     ensures { result ≡ can_be_class expected }
 {
@@ -404,8 +408,8 @@ fn push_defined_below(
     push_below_at(line, text)
 }
 
-/// Appends where the bucket that the word at the place names is defined, if that is below. Otherwise
-/// appends the sentence.
+/// If the word at the place names a bucket that is defined further below, appends where that is.
+/// Otherwise appends the sentence.
 fn push_missing(
     origin: Origin<'_>,
     bytes: &[u8],
@@ -438,7 +442,8 @@ fn is_zipped(bytes: &[u8]) -> bool
     matches!(bytes, [0x1F, 0x8B, ..])
 }
 
-/// Returns the sentence for a text whose first byte has the fault.
+/// Returns the sentence for a text that has its fault at the first byte, so that it isn't a map's
+/// text at all.
 fn not_begun(bytes: &[u8]) -> &'static str
     ensures { result.now ≡ not_begun bytes.now }
 {
@@ -634,8 +639,8 @@ pub(crate) fn push_flaw_reason(
     }
 }
 
-/// Returns the place that is shown for a fault. If the text ends too early, this is the place of its
-/// last word.
+/// Returns the place that messages show for a fault. If the text ends too early, this is the place
+/// of its last word.
 pub(crate) fn flaw_place(bytes: &[u8], fault: TextFault) -> usize
     ensures { result ≡ flaw_place bytes.now fault.kind fault.place }
 {

@@ -1,9 +1,14 @@
-//! Explains faults and refusals, and returns the commands of a history as Ceph's own commands.
+//! Explains faults and refusals to operators, and prints the commands of a history as Ceph's own
+//! commands.
 //!
-//! `specs/Sentences.antt` defines the sentences. `crush_run` prints the reasons for `--explain`, and
-//! the commands for `--as-ceph`. A function that explains a history takes the map before the first
-//! call, and applies the commands of the history to this map once more. All functions fail only if
-//! memory runs out.
+//! A *fault* is the reason why a text or a job is rejected, and a *refusal* is the reason why an
+//! edit is refused. `specs/Sentences.antt` defines a sentence for each refusal, and for each fault
+//! except for the faults of a map's text. `specs/Flaws.antt` defines the sentences for these. With
+//! `--explain`, `crush_input` prints reasons with the functions of this crate. With `--as-ceph`,
+//! `crush_run` prints the history's commands as Ceph's own commands with the function [`ceph_text`]
+//! of this crate. A function that explains a history takes the map before the
+//! first call, and applies the commands of the history to this map once more. All functions fail
+//! only if memory runs out.
 #![tactic(auto)]
 
 mod around;

@@ -9,22 +9,22 @@ use crate::place::Origin;
 pub trait Locates {
     ghost origin: { Self → ℕ → OriginData };
 
-    /// Returns the origin of a line of the job. Lines count from 1.
+    /// Returns the file from which a line of the job comes. Lines count from 1.
     fn at(&self, line: usize) -> Origin<'_>
         ensures { origin_data result ≡ origin self.now line };
 }
 
-/// The lines of a job that say edits, and the origins of all its lines.
+/// The lines of a job that have edits, and the file from which each line of the job comes.
 #[derive(Clone, Copy)]
 pub struct JobLines<'a, O> {
-    /// For each script of the job, the numbers of the lines that say its edits, from 1 in the whole
-    /// job: the `lines` of a parsed job.
+    /// For each script of the job, the numbers of the lines that have its edits. Lines count from 1
+    /// in the whole job. The parser of jobs returns these numbers in the field `lines` of a job.
     pub edits: &'a [Vec<u32>],
     /// Says from which file each line comes.
     pub origins: &'a O,
 }
 
-/// Says of each line that it comes from no file.
+/// Says that no line comes from a file.
 #[derive(Clone, Copy, Drop)]
 pub(crate) struct Nowhere;
 

@@ -1,4 +1,5 @@
-//! Says why a line can't be at its place: the first word that doesn't fit, or another reason.
+//! Says why a line of a script isn't allowed at its place: it names the first word that doesn't
+//! fit, or another reason.
 
 ghost use Rattle.std.specs.Prelude.{◌≡◌, ◌++◌, ◌≤◌, OnOk, length};
 ghost use Rattle.std.specs.List.{list_all};
@@ -30,7 +31,8 @@ fn is_quoted(word: &[u8]) -> bool
     is_quote(word[0]) && is_quote(word[word.len() - 1])
 }
 
-/// Returns a word without the quotation marks at both ends.
+/// Returns a word without its first and its last byte if both are quotation marks, and otherwise
+/// the whole word.
 fn bare(word: &[u8]) -> &[u8]
     ensures { result.now ≡ bare word.now }
 {
@@ -67,7 +69,7 @@ fn push_no_name(word: &[u8], text: &mut Vec<u8>) -> Result<(), AllocError>
     push_name_meant(bare(word), text)
 }
 
-/// Returns what follows after `osd.`, or the whole word if it doesn't begin so.
+/// Returns the rest of the word after `osd.`, or the whole word if it doesn't begin with `osd.`.
 fn digits_of(word: &[u8]) -> &[u8]
     ensures { result.now ≡ digits_of word.now }
 {
@@ -118,7 +120,7 @@ fn is_separator(byte: u8) -> bool
     byte == b',' || byte == b'.'
 }
 
-/// Returns the place of the first comma or point, or the length if there is none.
+/// Returns the place of the first comma or point, or the length of the word if it has none.
 fn point_at(word: &[u8]) -> usize
     ensures place { result ≡ point_at word.now }
     ensures within { result ≤ length word.now }
@@ -159,7 +161,8 @@ fn are_digits(most: usize, text: &[u8]) -> bool
     !text.is_empty() && text.len() <= most && all_digits(text)
 }
 
-/// Whether a comma is in the place of the point of a weight, or no digit is before the point.
+/// Whether the word looks like a weight that has a comma in place of the point, or no digit before
+/// the point.
 #[tactic(auto, unfolding(crate::specs::Misfit::is_mistyped))]
 fn is_mistyped(word: &[u8]) -> bool
     ensures { result ≡ is_mistyped word.now }
@@ -208,8 +211,8 @@ fn is_of_number(byte: u8) -> bool
     byte.is_ascii_digit() || byte == b'.'
 }
 
-/// Returns the place of the first byte that is neither a digit nor a point, or the length if there
-/// is none.
+/// Returns the place of the first byte that is neither a digit nor a point, or the length of the
+/// word if it has no such byte.
 fn unit_at(word: &[u8]) -> usize
     ensures place { result ≡ unit_at word.now }
     ensures within { result ≤ length word.now }
@@ -228,7 +231,7 @@ fn all_letters(text: &[u8]) -> bool
     text.iter().all(|byte| byte.is_ascii_alphabetic())
 }
 
-/// Whether letters follow a weight, as in `4T` or `3.6TiB`.
+/// Whether the word is a weight followed by letters, such as `4T` or `3.6TiB`.
 #[tactic(auto, unfolding(crate::specs::Misfit::has_unit))]
 fn has_unit(word: &[u8]) -> bool
     ensures { result ≡ has_unit word.now }
@@ -388,7 +391,7 @@ fn push_word_reason(misfit: Misfit, line: &[u8], text: &mut Vec<u8>) -> Result<(
     push_misfit(misfit, form, placed_word(line, misfit.word).text, text)
 }
 
-/// Appends why a line can't be at its place.
+/// Appends the reason why a line isn't allowed at its place.
 pub(crate) fn push_line_reason(
     why: BadLine,
     line: &[u8],
@@ -419,8 +422,8 @@ fn index_in_line(index: usize, line: &[u8]) -> Option<usize>
     }
 }
 
-/// Returns the index of the word that doesn't fit. Returns `None` if the line doesn't have this
-/// word, or if the reason is another one.
+/// Returns the index of the word that doesn't fit, from 0. Returns `None` if the line is too short
+/// to have this word, or if the reason isn't about a word.
 pub(crate) fn misfit_index(why: BadLine, line: &[u8]) -> Option<usize>
     ensures { result ≡ misfit_index why line.now }
 {

@@ -1,4 +1,4 @@
-//! Says why the name that is in the way of a refused edit is in its way.
+//! Says because of which name an edit was refused, and what is wrong with this name.
 
 ghost use Rattle.std.specs.Prelude.{◌≡◌, ◌++◌, List, None, OnOk, Some, MatchOption};
 ghost use Rattle.crush_model.specs.Stands.{Stands};
@@ -16,8 +16,8 @@ use crush_map::CrushMap;
 use crush_units::Name;
 use std::alloc::{AllocError, Global};
 
-/// Returns what is said after the name, or `None` if the refusal isn't about an item, or if the
-/// reason depends on the map.
+/// Returns the words that follow the name in the reason. Returns `None` if the refusal isn't about
+/// an item, or if these words depend on the map.
 fn said_of(refusal: Refusal) -> Option<&'static str>
     ensures { MatchOption result (said_of refusal ≡ None) (λ said. said_of refusal ≡ Some said.now) }
 {
@@ -102,7 +102,8 @@ fn push_reason_of(
     }
 }
 
-/// Appends the reason for a refused edit. `looks` says whether similar names are looked for.
+/// Appends the reason for a refused edit. `looks` says whether to search the map for a name that is
+/// similar to a missing one.
 pub(crate) fn push_edit_reason(
     alloc: Global,
     looks: bool,

@@ -1,4 +1,4 @@
-//! Finds a name of the map that is similar to a missing one.
+//! Finds a name of the map that is similar to a name that the map doesn't have.
 
 ghost use Rattle.std.specs.Prelude.{◌≡◌, ◌≤◌, ◌<◌, List, IfOk, IsTrue, drop, length, map as each};
 ghost use Rattle.std.specs.Option.{option_map};
@@ -13,8 +13,8 @@ use crush_map::CrushMap;
 use crush_print::{WalkStep, walk};
 use std::alloc::{AllocError, Global};
 
-/// For how many refused entries similar names are looked for. Each search goes through all names of
-/// the map, and up to 65,536 entries may be refused.
+/// For how many refused entries the map is searched for similar names. There is a limit because
+/// each search goes through all names of the map, and up to 65,536 entries may be refused.
 pub(crate) const MOST_LOOKS: usize = 256;
 
 fn same_at(a: &[u8], b: &[u8], place: usize) -> bool
@@ -36,7 +36,8 @@ pub(crate) fn shared(a: &[u8], b: &[u8]) -> usize
     count
 }
 
-/// Whether at most one byte differs, or one name has one byte more than the other.
+/// Whether the two names differ in at most one byte, or one name is the other name with one more
+/// byte.
 pub(crate) fn is_one_off(a: &[u8], b: &[u8]) -> bool
     ensures { result ≡ is_one_off a.now b.now }
 {
@@ -76,7 +77,7 @@ fn first_near<'a>(steps: &[WalkStep<'a, Global>], name: &str) -> Option<&'a str>
     None
 }
 
-/// Returns the first similar name, in the order of the map's tree.
+/// Returns the first name of the map that is similar to this name, in the order of the map's tree.
 fn near_name<'a>(
     alloc: Global,
     map: &'a CrushMap<Global>,

@@ -1,4 +1,4 @@
-//! Shows lines of a job, and places in a text.
+//! Shows lines of a job, and places in a text. A place is the index of a byte of the text, from 0.
 
 ghost use Rattle.std.specs.Prelude.{◌≡◌, ◌≤◌, ◌<◌, ◌^◌, ◌+◌, ◌++◌, ◌==◌, OnOk, if◌then◌else◌, length, replicate};
 ghost use Rattle.crush_reasons.specs.Place.{at_place, behind_feed, behind_line, column_line, command_head, first_line, from_line, last_line, line_at, named_head, name_head, number_line, origin_data, own_line, place_text, shown_line, sign_line, to_feed};
@@ -9,21 +9,21 @@ use crush_script::line_feeds;
 use itoa::Buffer;
 use std::alloc::AllocError;
 
-/// The most bytes of a line that are shown before the place.
+/// How many bytes of a line are shown before a place at most.
 const MOST_BEFORE: usize = 40;
 
-/// The file that a line of a job comes from.
+/// The file from which a line of a job comes.
 #[derive(Clone, Copy)]
 pub struct Origin<'a> {
-    /// The name of the file, or empty if no file is to be named.
+    /// The name of the file. It is empty if messages name no file.
     pub name: &'a [u8],
     /// How many lines of the job come before the file's first line.
     pub before: usize,
 }
 
 impl<'a> Origin<'a> {
-    /// Returns the number of a line of the job in its file, from 1. It is 0 for a line that was put
-    /// before the file's first line.
+    /// Returns the number that a line of the job has in its file, from 1. Returns 0 for a line that
+    /// the program put before the file's first line. `line` is the line's number in the job.
     pub(crate) fn own_line(self, line: usize) -> usize
         ensures { result ≡ own_line (origin_data self.entry) line }
     {
@@ -31,7 +31,7 @@ impl<'a> Origin<'a> {
     }
 }
 
-/// Returns how many bytes come before the first line feed.
+/// Returns how many bytes come before the first line feed. Counts all bytes if there is none.
 pub(crate) fn to_feed(bytes: &[u8]) -> usize
     ensures value { result ≡ to_feed bytes.now }
     ensures within { result ≤ length bytes.now }
@@ -52,7 +52,7 @@ fn further(behind: usize, byte: u8) -> usize
     if byte == b'\n' { 0 } else { behind + 1 }
 }
 
-/// Returns how many bytes come after the last line feed.
+/// Returns how many bytes come after the last line feed. Counts all bytes if there is none.
 pub(crate) fn behind_feed(bytes: &[u8]) -> usize
     requires { length bytes.now < 2 ^ 32 }
     ensures value { result ≡ behind_feed bytes.now }
@@ -65,7 +65,8 @@ pub(crate) fn behind_feed(bytes: &[u8]) -> usize
     behind
 }
 
-/// Returns the number of the line in which these bytes of a job end, from 1.
+/// Returns the number of the line in which `before` ends. `before` is the beginning of a job. Lines
+/// count from 1.
 pub(crate) fn last_line(before: &[u8]) -> usize
     requires { length before.now < 2 ^ 32 }
     ensures { result ≡ last_line before.now }
@@ -199,7 +200,7 @@ pub(crate) fn behind_line(bytes: &[u8]) -> &[u8]
     }
 }
 
-/// Returns the bytes from the beginning of a line on. Lines count from 0.
+/// Returns the rest of the bytes, which begins with this line. Lines count from 0.
 fn from_line(line: usize, bytes: &[u8]) -> &[u8]
     ensures { result.now ≡ from_line line bytes.now }
 {
@@ -210,7 +211,7 @@ fn from_line(line: usize, bytes: &[u8]) -> &[u8]
     rest
 }
 
-/// Returns the bytes from the beginning of a line on. Lines count from 1.
+/// Returns the rest of the bytes, which begins with this line. Lines count from 1.
 pub(crate) fn line_at(bytes: &[u8], line: usize) -> &[u8]
     ensures { result.now ≡ line_at bytes.now line }
 {
@@ -244,7 +245,8 @@ fn push_named_head(name: &[u8], line: usize, text: &mut Vec<u8>) -> Result<(), A
     }
 }
 
-/// Appends the place of a command. `line` is the line's number in the whole job.
+/// Appends the place of a command, as `FILE:LINE: ` or `line LINE: `. `line` is the line's number
+/// in the whole job.
 #[tactic(auto, unfolding(crate::specs::Place::command_head))]
 pub(crate) fn push_command_head(
     origin: Origin<'_>,

@@ -1,20 +1,21 @@
-//! Applies the edits of a history that changed the map once more.
+//! Applies once more those edits of a history that changed the map.
 
 ghost use Rattle.std.specs.Prelude.{◌≡◌, ◌≤◌, List, OnOk, length};
 ghost use Rattle.crush_units.specs.declared.limits.TheConstants.{MOST_EDITS};
 ghost use Rattle.crush_model.specs.Stands.{Stands};
 ghost use Rattle.crush_model.specs.Table.{Row};
 ghost use Rattle.crush_reasons.specs.LawReplay.{LeadsToTableAfter};
-ghost use Rattle.crush_reasons.specs.Replay.{changing_edits, edits_of, table_after_edit, table_after_edits, table_after_entry};
+ghost use Rattle.crush_reasons.specs.Replay.{changing_edits, edits_of, table_after_edits, table_after_entry};
 
-use crush_edits::{Edit, EditFault};
+use crush_ceph::redo_edit;
+use crush_edits::Edit;
 use crush_history::{Call, Entry, is_change};
 use crush_map::CrushMap;
 use std::alloc::{AllocError, Global};
 use std::slice;
 
-/// A law: if the edits that changed a map are applied one after the other to the map before its
-/// history, the result is the map after the history.
+/// A law: if the edits of a history that changed the map are applied, one after the other, to the
+/// map before the history, then the result is the map after the history.
 pub fn edits_lead_to_the_map_after()
     ensures { LeadsToTableAfter }
 {}
@@ -41,26 +42,13 @@ pub(crate) fn changing_edits(entry: &Entry) -> &[Edit]
     }
 }
 
-/// Applies an edit. An edit that is refused leaves the map as it is.
-pub(crate) fn make_edit(map: &mut CrushMap<Global>, edit: &Edit) -> Result<(), AllocError>
-    ensures stands { OnOk result ((t : List Row) → Stands map.old.forest t
-        → Stands map.new.forest (table_after_edit map.old.setting t edit.now)) }
-    ensures setting { map.new.setting ≡ map.old.setting }
-{
-    match map.apply(edit) {
-        Ok(_) => Ok(()),
-        Err(EditFault::Refused(_)) => Ok(()),
-        Err(EditFault::OutOfMemory) => Err(AllocError),
-    }
-}
-
 pub(crate) fn make_edits(map: &mut CrushMap<Global>, edits: &[Edit]) -> Result<(), AllocError>
     ensures stands { OnOk result ((t : List Row) → Stands map.old.forest t
         → Stands map.new.forest (table_after_edits map.old.setting t edits.now)) }
     ensures setting { map.new.setting ≡ map.old.setting }
 {
     for edit in edits {
-        make_edit(map, edit)?;
+        redo_edit(map, edit)?;
     }
     Ok(())
 }

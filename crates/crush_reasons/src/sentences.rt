@@ -7,12 +7,12 @@ use crush_edits::Refusal;
 use crush_history::Reply;
 use crush_script::JobFault;
 
-/// The sentence for a guarded batch that came too late.
+/// The sentence for a guarded batch that was refused because the map has changed.
 pub(crate) const STALE: &str =
     "the map has changed since: look at it again, and name the number of changes that is told";
 
-/// Returns the sentence for a fault of a job, and nothing for a fault of the map's text, whose
-/// sentence depends on the text.
+/// Returns the sentence for a fault of a job. For a fault of the map's text, returns an empty text,
+/// because that sentence depends on the map's text.
 pub fn job_sentence(fault: JobFault) -> &'static str
     ensures { result.now ≡ job_sentence fault }
 {
@@ -70,7 +70,7 @@ pub fn refusal_sentence(refusal: Refusal) -> &'static str
     }
 }
 
-/// Returns the sentence for a reply that is a refusal, and nothing for any other reply.
+/// Returns the sentence for a reply that is a refusal. Returns an empty text for any other reply.
 pub fn reply_sentence(reply: Reply) -> &'static str
     ensures { result.now ≡ reply_sentence reply }
 {

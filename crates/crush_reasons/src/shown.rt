@@ -33,7 +33,7 @@ pub(crate) fn push_shown(bytes: &[u8], text: &mut Vec<u8>) -> Result<(), AllocEr
     Ok(())
 }
 
-/// Appends a word in backquotes, of which at most 72 bytes are shown.
+/// Appends a word in backquotes. Only the first 72 bytes of the word are shown.
 #[tactic(auto, unfolding(crate::specs::Shown::told))]
 pub(crate) fn push_told(word: &[u8], text: &mut Vec<u8>) -> Result<(), AllocError>
     ensures { OnOk result (text.new.items ≡ text.old.items ++ told word.now) }

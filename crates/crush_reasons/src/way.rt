@@ -1,4 +1,4 @@
-//! Says what the map has of an item that is in the way of an edit.
+//! Writes the reasons for refusals that depend on the map, such as which bucket holds an item.
 
 ghost use Rattle.std.specs.Prelude.{◌≡◌, ◌++◌, List, OnOk, find, map as each, option_and_then};
 ghost use Rattle.std.specs.List.{list_any};
@@ -126,7 +126,7 @@ fn steps_take(steps: &[KeptStep], bucket: BucketId) -> bool
     steps.iter().any(|step| step_takes(step, bucket))
 }
 
-/// Whether a step of the rule takes the bucket, with or without a class.
+/// Whether a step of the rule takes this bucket, with or without a class.
 fn takes_it(rule: &KeptRule, bucket: BucketId) -> bool
     ensures { result ≡ takes_it bucket (rule_data rule.now) }
 {
@@ -271,7 +271,7 @@ pub(crate) fn push_loop(name: &[u8], end: &[u8], text: &mut Vec<u8>) -> Result<(
     }
 }
 
-/// Returns the name of the item's type, or nothing if the map has no such item or type.
+/// Returns the name of the item's type. Returns an empty name if the map has no such item or type.
 fn type_of_item<'a>(map: &'a CrushMap<Global>, name: &Name<Global>) -> &'a [u8]
     ensures { (t : List Row) → Stands map.now.forest t
         → result.now ≡ type_of_item map.now.setting t name.now }
@@ -291,7 +291,8 @@ fn kind_name_of<'a>(map: &'a CrushMap<Global>, name: &Name<Global>) -> Option<&'
     map.setting().kind_name(map.kind_of(id)?)
 }
 
-/// Returns the type in the first pair that names this bucket, or nothing if no pair does.
+/// Returns the type in the first pair `TYPE=NAME` of the location that names this bucket. Returns
+/// an empty name if no pair names it.
 fn type_of_pair<'a>(at: &'a Location, name: &Name<Global>) -> &'a [u8]
     ensures { result.now ≡ type_of_pair at.now name.now }
 {

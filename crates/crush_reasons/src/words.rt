@@ -40,7 +40,7 @@ pub(crate) fn up_to(place: usize, bytes: &[u8]) -> &[u8]
     }
 }
 
-/// Returns the bytes from a place on, or no bytes if the place is beyond their end.
+/// Returns the bytes from a place to the end, or no bytes if the place is beyond their end.
 pub(crate) fn from_place(place: usize, bytes: &[u8]) -> &[u8]
     ensures { result.now ≡ drop place bytes.now }
 {

@@ -1,4 +1,4 @@
-//! Lists the weights of buckets in a map's text that aren't the sums.
+//! Lists the buckets whose weight in a map's text isn't the sum of the weights of their devices.
 
 ghost use Rattle.std.specs.Prelude.{◌≡◌, ◌<◌, ◌==◌, ◌∷◌, ◌++◌, List, [], IfOk, IsTrue, MatchOption, OnOk, bytes_eq, if◌then◌else◌, length};
 ghost use Rattle.std.specs.List.{list_any};
@@ -21,7 +21,7 @@ fn is(word: &[u8], key: &[u8]) -> bool
     word == key
 }
 
-/// Whether what follows a word is between braces.
+/// Whether the text after a word is between braces. `inside` says whether the word itself is.
 fn is_inside(inside: bool, word: &[u8]) -> bool
     ensures { result ≡ is_inside inside word.now }
 {
@@ -142,8 +142,9 @@ fn next_word<'a>(reader: &mut Reader<'a>) -> Option<&'a [u8]>
     }
 }
 
-/// A position in a text. `item`, `name` and `key` are three consecutive words, `inside` says whether
-/// the first of them is between braces, and `reader` has the words that follow.
+/// A position in a text. `item`, `name` and `key` are three consecutive words, `inside` says
+/// whether the first of these words is between braces, and `reader` reads the words that follow
+/// them.
 #[derive(Drop)]
 struct Scan<'a> {
     inside: bool,
@@ -167,8 +168,8 @@ impl<'a> Scan<'a> {
         }
     }
 
-    /// Appends the line of an item if the three words and `weight`, the word after them, are `item
-    /// NAME weight W` between braces.
+    /// `weight` is the word after the three words. Appends the line for a bucket, if these four
+    /// words are `item NAME weight W` between braces, and if the sum of the bucket NAME isn't W.
     fn push_first(
         &self,
         summed: &SummedMap<'_>,
@@ -185,8 +186,8 @@ impl<'a> Scan<'a> {
         }
     }
 
-    /// Moves on by one word, and appends the line of the words that it leaves. Returns `false` if no
-    /// word follows the three.
+    /// Moves on by one word. Appends the line for a bucket, if the word that is left behind begins
+    /// an item whose weight isn't the sum. Returns `false` if no word follows the three words.
     fn push_next(&mut self, summed: &SummedMap<'_>, text: &mut Vec<u8>) -> Result<bool, AllocError>
         ensures goes { IfOk result (λ more. (t : List Row) → IsSummed summed.now t
             → text.new.items ++ (if more then lines_left t self.new else [])
@@ -237,12 +238,13 @@ fn push_returns(bytes: &[u8], text: &mut Vec<u8>) -> Result<(), AllocError>
     )
 }
 
-/// Returns a line for each bucket whose weight in a map's text isn't the sum.
+/// Returns a line for each bucket whose weight in a map's text isn't the sum of the weights of all
+/// devices below it.
 ///
-/// The line is `NAME: W was written, the sum is SUM`. There is one for each `item NAME weight W`
-/// between braces if NAME is a bucket of the map that weighs something else, in the order of the
-/// text. W is the word of the text, and SUM has five decimals. If the text has carriage returns and
-/// no line feed, a line that says so comes first.
+/// The line is `NAME: W was written, the sum is SUM`. There is a line for each `item NAME weight W`
+/// between braces in which NAME is a bucket of the map, and W is a weight that isn't the bucket's
+/// sum. The lines are in the order of the text. W is printed as in the text, and SUM has five
+/// decimals. If the text has carriage returns and no line feed, a line that says so comes first.
 ///
 /// `map` is the map that was read from `bytes`. Fails if memory runs out.
 pub fn written_text(

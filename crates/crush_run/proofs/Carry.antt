@@ -1,4 +1,4 @@
--- The history at the close has exactly the calls of the scripts.
+-- The history that the editor returns when it is closed has exactly the calls of the scripts.
 use Rattle.std.proofs.Common.{◌≡◌, ℕ, zero, suc, ◌<◌, ◌≤◌, List, [], ◌∷◌, length, get_or, refl, sym, ap, ◌∙◌, arith}
 use Rattle.std.proofs.lemmas.List.{get_or_past}
 use mathlib.Core.Logic.{dite}

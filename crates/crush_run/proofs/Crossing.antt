@@ -1,4 +1,4 @@
--- All that a worker takes with it may be sent to another thread.
+-- Everything that the closure of a worker owns may be sent to another thread.
 use denote.RattleType.{RattleType}
 use denote.Param.{param}
 use denote.Param.Send.{IsSend, IsSync, sendable}
@@ -28,7 +28,7 @@ alloc_sent : IsSend Global.the_row
 alloc_sent = search (sendable, crosses) depth 20
 
 module _ (R G N : RattleType) (g : Desk.Ghosts N.Denot) (l : Ledger.Ghosts N.Denot) (o : KeptOpening.Ghosts WithoutSnapshot.the_row.Denot) (a b c : NamedLft) where
-  -- what a worker's closure owns: references to the runtime, the editor and the gate, and the allocator, the seat and the calls
+  -- the types of everything that the closure of a worker owns: references to the runtime, the editor and the gate, and the allocator, the seat and the calls
   abbrev pub owned : List RattleType
   owned = (shr_ref_field a (param 2 R) tt).row ∷ Global.the_row ∷ (shr_ref_field b (Editor.the_row (param 0 N) WithoutSnapshot.the_row g l o) tt).row
       ∷ (shr_ref_field c (param 1 G) tt).row ∷ Seat.the_row (param 0 N) g l ∷ Vec.the_row Call.the_row Global.the_row GlobalImpl.ghosts ∷ []
@@ -40,10 +40,10 @@ module _ (R G N : RattleType) (g : Desk.Ghosts N.Denot) (l : Ledger.Ghosts N.Den
   calls_sent = search (call_send, sendable, crosses) depth 20
 
   module _ (rt : IsSync (param 2 R)) (gate : IsSync (param 1 G)) where
-    -- each of them may be sent to another thread
+    -- a value of each of these types may be sent to another thread
     owned_send : FieldsHave IsSend (parts owned)
     owned_send = (search (rt, sendable), (search (alloc_sent, sendable), (search (editor_shared, sendable), (search (gate, sendable), (search (seat_send, sendable), (search (calls_sent, sendable), tt))))))
 
-    -- so may the closure
+    -- so the closure may be sent to another thread
     pub worker_send : (name : Sym) → IsSend (TupleAt name owned)
     worker_send name = declared_send (type_at name owned) owned_send

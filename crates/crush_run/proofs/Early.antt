@@ -1,4 +1,4 @@
--- Faults that come before there is a history, and their notes.
+-- Faults that are possible before there is a history, and their notes.
 use Rattle.std.proofs.Common.{◌≡◌, ℕ, Bool, List, [], Option, Result, Err}
 use Rattle.crush_model.specs.Table.{Row}
 use Rattle.crush_edits.specs.Setting.{SettingData}
@@ -14,7 +14,7 @@ use Rattle.crush_run.specs.Planned.{IsWhole}
 use Rattle.crush_run.specs.Stages.{IsEarlyFault, IsScriptsFault}
 use Rattle.crush_input.specs.Stages.{IsInputFault, IsNoJob, IsReadFault}
 
--- such a fault says nothing of a strict run's refused entries
+-- after such a fault, what IsStrict promises about refused entries holds for any history
 strict_of_early : (X : Type 0) (strict : Bool) (h : List EntryData) (f : RunFault) → IsEarlyFault f → IsStrict {X = X} strict h (Err f)
 strict_of_early X strict h (run.Job j) early = tt
 strict_of_early X strict h run.Read early = tt
@@ -32,7 +32,7 @@ strict_of_early X strict h (run.SecondMap w s) early = tt
 pub early_strict : {X : Type 0} (strict : Bool) (h : List EntryData) (r : Result X RunFault) (f : RunFault) → r ≡ Err f → IsEarlyFault f → IsStrict strict h r
 early_strict {X = X} strict h r f is early = rw is (strict_of_early X strict h f early)
 
--- nor of entries that made buckets
+-- after such a fault, what IsNoMake promises about created buckets holds for any history
 make_of_early : (X : Type 0) (no_make : Bool) (h : List EntryData) (f : RunFault) → IsEarlyFault f → IsNoMake {X = X} no_make h (Err f)
 make_of_early X no_make h (run.Job j) early = tt
 make_of_early X no_make h run.Read early = tt
@@ -50,7 +50,7 @@ make_of_early X no_make h (run.SecondMap w s) early = tt
 pub early_make : {X : Type 0} (no_make : Bool) (h : List EntryData) (r : Result X RunFault) (f : RunFault) → r ≡ Err f → IsEarlyFault f → IsNoMake no_make h r
 early_make {X = X} no_make h r f is early = rw is (make_of_early X no_make h f early)
 
--- nor of names that the map doesn't have
+-- after such a fault, what IsFound promises about names holds for any map
 found_of_early : (X : Type 0) (what : Output) (s : SettingData) (t : List Row) (f : RunFault) → IsEarlyFault f → IsFound {X = X} what s t (Err f)
 found_of_early X what s t (run.Job j) early = tt
 found_of_early X what s t run.Read early = tt
@@ -68,7 +68,7 @@ found_of_early X what s t (run.SecondMap w o) early = tt
 pub early_found : {X : Type 0} (what : Output) (s : SettingData) (t : List Row) (r : Result X RunFault) (f : RunFault) → r ≡ Err f → IsEarlyFault f → IsFound what s t r
 early_found {X = X} what s t r f is early = rw is (found_of_early X what s t f early)
 
--- nor of differences that remain after a plan
+-- after such a fault, what IsWhole promises about remaining differences holds for any plan
 whole_of_early : (X : Type 0) (strict : Bool) (rest : List ℕ) (f : RunFault) → IsEarlyFault f → IsWhole {X = X} strict rest (Err f)
 whole_of_early X strict rest (run.Job j) early = tt
 whole_of_early X strict rest run.Read early = tt
@@ -86,7 +86,7 @@ whole_of_early X strict rest (run.SecondMap w s) early = tt
 pub early_whole : {X : Type 0} (strict : Bool) (rest : List ℕ) (r : Result X RunFault) (f : RunFault) → r ≡ Err f → IsEarlyFault f → IsWhole strict rest r
 early_whole {X = X} strict rest r f is early = rw is (whole_of_early X strict rest f early)
 
--- nor of the notes of a history
+-- after such a fault, what AreNotesOfHistory promises about notes holds for any history
 told_of_early : (X : Type 0) (mode : Mode) (text : TextData) (s : SettingData) (t : List Row) (names : List (List ℕ)) (h : List EntryData) (rest : List ℕ) (f : RunFault) (notes : List ℕ) → IsEarlyFault f → AreNotesOfHistory {X = X} mode text s t names h rest (Err f) notes
 told_of_early X mode text s t names h rest (run.Job j) notes early = tt
 told_of_early X mode text s t names h rest run.Read notes early = tt
@@ -104,7 +104,7 @@ told_of_early X mode text s t names h rest (run.SecondMap w o) notes early = tt
 pub early_told : {X : Type 0} (mode : Mode) (text : TextData) (s : SettingData) (t : List Row) (names : List (List ℕ)) (h : List EntryData) (rest : List ℕ) (r : Result X RunFault) (f : RunFault) (notes : List ℕ) → r ≡ Err f → IsEarlyFault f → AreNotesOfHistory mode text s t names h rest r notes
 early_told {X = X} mode text s t names h rest r f notes is early = rw is (told_of_early X mode text s t names h rest f notes early)
 
--- a fault of the reader or of the scripts has no notes
+-- a fault of reading the bytes has no notes, and neither has a fault of running the scripts
 noted_of_input : (explain : Bool) (origin : ℕ → OriginData) (all : Option (List ℕ)) (f : RunFault) (notes : List ℕ) → IsInputFault f → notes ≡ [] → AreNotesOfFault explain origin all f notes
 noted_of_input explain origin all (run.Job j) notes h none = absurd h
 noted_of_input explain origin all run.Read notes h none = none
@@ -139,7 +139,7 @@ noted_of_scripts explain in_turn origin all (run.SecondMap w s) notes h none = a
 pub scripts_noted : {X : Type 0} (explain in_turn : Bool) (origin : ℕ → OriginData) (all : Option (List ℕ)) (r : Result X RunFault) (f : RunFault) (notes : List ℕ) → r ≡ Err f → IsScriptsFault in_turn f → notes ≡ [] → AreNotesOfResult explain origin all r notes
 scripts_noted explain in_turn origin all r f notes is h none = rw is (noted_of_scripts explain in_turn origin all f notes h none)
 
--- faults that come before there is a history
+-- these faults are possible before there is a history: faults of reading the bytes, faults of parsing them, and faults of running the scripts
 pub early_of_input : (f : RunFault) → IsInputFault f → IsEarlyFault f
 early_of_input (run.Job j) h = absurd h
 early_of_input run.Read h = tt

@@ -5,7 +5,7 @@ use Rattle.crush_history.specs.HistoryText.{names_of}
 use Rattle.crush_history.specs.Script.{ScriptData, script_data, scripts_data}
 use Rattle.crush_history.specs.declared.script.Script.{Script}
 
--- the names after one more script are the names before it, followed by its name
+-- with one more script, the names are the names before, followed by the name of this script
 names-push : (ys : List Script) (y : Script) → names_of (scripts_data (ys ++ y ∷ [])) ≡ names_of (scripts_data ys) ++ y.name ∷ []
 names-push ys y = ap names_of (map_push script_data ys y) ∙ map_push (λ (x : ScriptData). x.name) (scripts_data ys) (script_data y)
 

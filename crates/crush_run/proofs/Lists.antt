@@ -22,7 +22,7 @@ module _ {A : Type 0} where
       let l : length xs ≡ k = omega arith in
       subst (P k) (sym (ap (λ (j : ℕ). get_or (xs ++ x ∷ []) j d) (sym l) ∙ get_or-append_seam xs x [] d)) (subst (λ (j : ℕ). P j x) e here))
 
-  -- the element at an index, whatever the default
+  -- a list has the same element at an index, whatever the default value is
   pub element_at : (xs : List A) (k : ℕ) → k < length xs → (x : A) × ((d : A) → get_or xs k d ≡ x)
   element_at [] k less = absurd (omega arith)
   element_at (x ∷ xs) zero less = (x, λ d. refl)

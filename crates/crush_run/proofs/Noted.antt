@@ -1,4 +1,4 @@
--- The notes of an ending, and of a history.
+-- The notes of an end of a run, and of a history.
 use Rattle.std.proofs.Common.{◌≡◌, ℕ, ◌+◌, Bool, true, false, cond, List, [], ◌∷◌, ◌++◌, Option, Some, None, Result, Ok, Err, refl, sym, ap, subst, ◌∙◌, arith}
 use Rattle.std.specs.Prelude.{IfErr, IfSome, slice_index_or}
 use Rattle.crush_map.specs.MapData.{MapData}
@@ -25,7 +25,7 @@ use Rattle.crush_run.specs.Stages.{AreEndNotes, CompletedRunEnds, IsWritingFault
 use Rattle.crush_input.proofs.Noted.{from_same, place_of_all}
 use Rattle.crush_run.proofs.Written.{keeps_same}
 
--- the notes of a run of the bytes that were read are those of a run of all bytes
+-- the notes for the bytes that were read are the notes for all bytes
 pub ending_of_all : (mode : Mode) (o : ℕ → OriginData) (all : Option (List ℕ)) (bytes : List ℕ) (r : Result Summary RunFault) (notes : List ℕ) → IfSome all (IsInput bytes) → IfErr r (IsRunFault mode (Some bytes))
     → AreNotesOfResult mode.explain o (Some bytes) r notes → AreNotesOfResult mode.explain o all r notes
 ending_of_all mode o all bytes (Ok s) notes input h told = told
@@ -66,7 +66,7 @@ quiet_notes : (mode : Mode) (text : TextData) (s : SettingData) (t : List Row) (
     → mode.explain ≡ false → notes ≡ []
 quiet_notes mode text s t names h notes plain none is quiet = is quiet ∙ (λ i. quiet_refused mode text s t names h none quiet i ++ plain quiet i)
 
--- a run that was out of memory before anything was written
+-- how a run ends that ran out of memory before anything was written
 pub memory_ends : (mode : Mode) (what : Output) (plan : PlanData) (adjusted : ℕ) (kept : Option MapData) (m : MapData) (text : TextData) (names : List (List ℕ)) (h : List EntryData) (r : Result Summary RunFault) (old : Option (List ℕ)) (notes : List ℕ) → r ≡ Err run.Memory → notes ≡ []
     → CompletedRunEnds mode what plan adjusted kept m text names h r old old notes
 memory_ends mode what plan adjusted kept m text names h r old notes is none = record {
@@ -82,7 +82,7 @@ memory_ends mode what plan adjusted kept m text names h r old notes is none = re
   noted = λ origin all. rw is none;
 }
 
--- a run with reasons needs the map as it was read
+-- a run that explains needs the map as it was read
 pub explained_needs : (mode : Mode) (what : Output) → mode.explain ≡ true → needs_opening mode what ≡ true
 explained_needs mode output.Map on = on
 explained_needs mode (output.Tree part) on = on
@@ -91,7 +91,7 @@ explained_needs mode (output.Changes old) on = on
 explained_needs mode output.AsCeph on = refl
 explained_needs mode (output.To w) on = on
 
--- the notes that are chosen for a result are those of the history and this result
+-- the prepared notes that are chosen for a result are those of the history and this result
 pub told_of_end : (mode : Mode) (text : TextData) (s : SettingData) (t : List Row) (names : List (List ℕ)) (h : List EntryData) (rest : List ℕ) (r : Result Summary RunFault) (noted : EndNotes) (notes : List ℕ) → AreEndNotes mode text s t names h rest noted
     → IsNoMake mode.no_make h r → IsWhole mode.strict rest r → notes ≡ notes_after r noted → AreNotesOfHistory mode text s t names h rest r notes
 told_of_end mode text s t names h rest (Ok x) noted notes are made whole is = is ∙ are.calls
@@ -108,7 +108,7 @@ told_of_end mode text s t names h rest (Err run.NoType) noted notes are made who
 told_of_end mode text s t names h rest (Err run.NoClass) noted notes are made whole is = is ∙ are.calls
 told_of_end mode text s t names h rest (Err (run.SecondMap w o)) noted notes are made whole is = tt
 
--- and without `explain` there are none, except those of what ended the run
+-- without `explain`, there are no notes except for those about what ended the run
 pub noted_of_end : (mode : Mode) (text : TextData) (s : SettingData) (t : List Row) (names : List (List ℕ)) (h : List EntryData) (rest : List ℕ) (r : Result Summary RunFault) (noted : EndNotes) (notes : List ℕ) (origin : ℕ → OriginData) (all : Option (List ℕ))
     → (mode.explain ≡ false → AreEndNotes mode text s t names h rest noted) → IfErr r (IsWritingFault mode) → IsStrict mode.strict h r → (mode.explain ≡ false → text.weights ≡ []) → notes ≡ notes_after r noted → AreNotesOfResult mode.explain origin all r notes
 noted_of_end mode text s t names h rest (Ok x) noted notes origin all are may strict plain is = quiet_notes mode text s t names h notes plain strict (λ quiet. is ∙ (are quiet).calls)

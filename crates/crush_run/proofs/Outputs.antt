@@ -1,4 +1,4 @@
--- How a run ends that a command line selects.
+-- How a run ends if a command line selects its job and its output.
 use Rattle.std.proofs.Common.{◌≡◌, ℕ, Bool, List, [], Option, None, Result, Ok, Err, subst}
 use Rattle.std.specs.Prelude.{IfOk, IfErr, IfSome}
 use Rattle.crush_script.specs.Job.{HasJob, JobData}
@@ -21,7 +21,7 @@ use Rattle.crush_run.specs.Run.{Ends}
 use Rattle.crush_run.specs.Stages.{IsEarlyFault, IsOutcomeFault}
 use Rattle.crush_input.specs.Stages.{IsReadFault}
 
--- a fault of another map comes before there is a history
+-- a fault of another map is possible before there is a history
 early_of_map : (why : SecondMap) (all : Option (List ℕ)) (f : RunFault) → IsMapFault why all f → IsEarlyFault f
 early_of_map why all (run.Job j) h = absurd h
 early_of_map why all run.Read h = absurd h
@@ -44,7 +44,7 @@ early_of_output content (output_spec.Changes words) f h = early_of_map second.Si
 early_of_output content output_spec.AsCeph f h = absurd h
 early_of_output content (output_spec.To words) f h = early_of_map second.To (content words.map.bytes.items) f h
 
--- nothing is said of the output of a run that ended early
+-- if a run ended before there was a history, nothing is said of its output
 ended_before : (content : List ℕ → Option (List ℕ)) (options : Options) (origin : ℕ → OriginData) (bytes : List ℕ) (job : JobData) (f : RunFault) (old new : Option (List ℕ)) (notes : List ℕ) → IsEarlyFault f → EndsAsOptionsSay content options origin bytes job (Err f) old new notes
 ended_before content options origin bytes job (run.Job j) old new notes early = tt
 ended_before content options origin bytes job run.Read old new notes early = tt
@@ -63,7 +63,7 @@ pub ended_before_output : (content : List ℕ → Option (List ℕ)) (options : 
     → EndsAsOptionsSay content options origin bytes job r old new notes
 ended_before_output content options origin bytes job r f old new notes is early = rw is (ended_before content options origin bytes job f old new notes early)
 
--- a run with the selected output ends as EndsAsWanted says
+-- a run with the selected output ends as EndsAsOptionsSay says
 ended : (content : List ℕ → Option (List ℕ)) (options : Options) (what : Output) (origin : ℕ → OriginData) (bytes : List ℕ) (job : JobData) (r : Result Summary RunFault) (old new : Option (List ℕ)) (notes : List ℕ) → IsOutputOf content options.output_spec what
     → Ends options.mode what job (text_of options.mode.explain origin bytes job.table) r old new notes → EndsAsOptionsSay content options origin bytes job r old new notes
 ended content options what origin bytes job (Ok s) old new notes is ends = record { what = what; output = is; ends = ends }
@@ -114,7 +114,7 @@ fault_of_map content options why all own run.NoType has output h = absurd h
 fault_of_map content options why all own run.NoClass has output h = absurd h
 fault_of_map content options why all own (run.SecondMap w s) has output h = (has, output)
 
--- a fault of the selected output is a fault of another map, or may be one
+-- a fault of the selected output is a fault of another map
 output_is_map : (content : List ℕ → Option (List ℕ)) (what : OutputSpec) (f : RunFault) → IsOutputFault content what f → (why : SecondMap) × (own : Option (List ℕ)) × IsMapFault why own f
 output_is_map content output_spec.Map f h = absurd h
 output_is_map content (output_spec.Tree part) f h = (second.Since, None, rw h tt)
@@ -144,12 +144,12 @@ options_fault_of_outcome content options all (Err run.NoType) has h = has
 options_fault_of_outcome content options all (Err run.NoClass) has h = has
 options_fault_of_outcome content options all (Err (run.SecondMap w s)) has h = absurd h
 
--- if the bytes are a job, then this holds after success too
+-- if the bytes are a job, then they are a job after success too
 pub job_where_done : {X : Type 0} (r : Result X RunFault) (all : Option (List ℕ)) → IfSome all HasJob → IfOk r (λ _. IfSome all HasJob)
 job_where_done (Ok x) all has = has
 job_where_done (Err f) all has = tt
 
--- the notes of a run are as the options select
+-- the notes of a run are those that the options select
 pub ending_as_wanted : (content : List ℕ → Option (List ℕ)) (options : Options) (input : Option (List ℕ)) (r : Result Summary RunFault) (notes : List ℕ) → IfErr r (IsOutcomeFault options.mode)
     → AreNotesOfResult options.mode.explain (job_origin content options input) (job_bytes content options input) r notes → AreNotesForOptions content options input r notes
 ending_as_wanted content options input (Ok s) notes h told = told
@@ -166,7 +166,7 @@ ending_as_wanted content options input (Err run.NoType) notes h told = told
 ending_as_wanted content options input (Err run.NoClass) notes h told = told
 ending_as_wanted content options input (Err (run.SecondMap w s)) notes h told = absurd h
 
--- the notes of a fault of the selected output, which can only be a fault of another map, are as the options select
+-- a fault of the selected output can only be a fault of another map. Its notes are those that the options select
 noted_of_map : (content : List ℕ → Option (List ℕ)) (options : Options) (why : SecondMap) (input own : Option (List ℕ)) (name : List ℕ) (f : RunFault) (notes : List ℕ) → IsMapFault why own f → AreNotesOfSecondMap options.mode.explain name own f notes
     → AreNotesOfOutputFault content options.mode.explain options.output_spec f notes → AreNotesForOptions content options input (Err f) notes
 noted_of_map content options why input own name (run.Job j) notes may told output = absurd may

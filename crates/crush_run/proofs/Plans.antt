@@ -1,4 +1,4 @@
--- That there is a plan.
+-- For each output there is a plan.
 use Rattle.std.proofs.Common.{ℕ, List, [], Option, refl, inl}
 use Rattle.std.specs.List.{count_by}
 use Rattle.crush_model.specs.Forest.{rows_of}

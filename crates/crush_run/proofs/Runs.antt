@@ -39,13 +39,13 @@ pub copy_stands : {E : Type 0} (m : MapData) (r : Result MapData E) → IfOk r (
 copy_stands m (Ok copy) same stands = λ s t is. record { setting = same ∙ is.setting; forest = stands t is.forest }
 copy_stands m (Err e) same stands = tt
 
--- the turns of the scripts are a run, in turn and at once
+-- the history in which the scripts run one after the other is the history of a run, both in turn and at the same time
 pub turns_run : (in_turn : Bool) (job : JobData) → IsRunOf in_turn job (turns job.setting job.table job.scripts)
 turns_run in_turn job =
     let law = turns_are_history job.setting job.table job.scripts in
     record { legal = law.legal; calls = law.calls; order = λ _. refl }
 
--- so scripts that ran in turn have run
+-- so scripts that ran one after the other have run as HaveRun says
 pub in_turn_runs : (in_turn : Bool) (m : MapData) (scripts : List ScriptData) (after : MapData) (h : List EntryData)
     → ((s : SettingData) (t : List Row) → MapStands m s t → (h ≡ turns s t scripts) × MapStands after s (table_after s t (turns s t scripts))) → RunsScripts in_turn m scripts after h
 in_turn_runs in_turn m scripts after h ran job stands is =
@@ -56,7 +56,7 @@ in_turn_runs in_turn m scripts after h ran job stands is =
       stands = subst (λ (x : List EntryData). MapStands after job.setting (table_after job.setting job.table x)) (sym told.0) told.1;
     }
 
--- and so have scripts that ran at the same time
+-- scripts that ran at the same time have also run as HaveRun says
 pub at_once_runs : (in_turn : Bool) (m : MapData) (scripts : List ScriptData) (after : MapData) (h : List EntryData)
     → in_turn ≡ false → MakesAll m after h → ((k : ℕ) → calls_of (of_operator k h) ≡ calls_at scripts k) → RunsScripts in_turn m scripts after h
 at_once_runs in_turn m scripts after h not_in_turn all calls job stands is =
@@ -76,14 +76,14 @@ no_calls [] k past = refl
 no_calls (x ∷ xs) zero past = absurd (omega arith)
 no_calls (x ∷ xs) (suc k) past = no_calls xs k (omega arith)
 
--- the calls of an operator, if the first entry is its own and if it isn't
+-- the calls of an operator, if the first entry is the operator's own, and if it is the entry of another operator
 own_entry : (k : ℕ) (e : EntryData) (h : List EntryData) → (e.operator == k) ≡ true → calls_of (of_operator k (e ∷ h)) ≡ e.call ∷ calls_of (of_operator k h)
 own_entry k e h own = rw own refl
 
 other_entry : (k : ℕ) (e : EntryData) (h : List EntryData) → (e.operator == k) ≡ false → calls_of (of_operator k (e ∷ h)) ≡ calls_of (of_operator k h)
 other_entry k e h other = rw other refl
 
--- if the operators from number n on have no entry, then the first entry is of an operator below n, and so are the others
+-- if the operators from the number n on have no entries, then the operator of the first entry is below n, and these operators have no entries after the first entry either
 first_below : (n : ℕ) (e : EntryData) (h : List EntryData) → ((k : ℕ) → n ≤ k → calls_of (of_operator k (e ∷ h)) ≡ []) → (k : ℕ) → n ≤ k → (e.operator == k) ≡ false
 first_below n e h none k past = at (e.operator == k) refl
   where
@@ -104,11 +104,11 @@ entries_below n (e ∷ h) none =
         let other = first_below n e h none e.operator from in
         absurd cc
 
--- so the entries of a run are of its scripts
+-- so each entry of a run is of an operator who has a script
 pub entries_of_scripts : (scripts : List Script) (h : List EntryData) → ((k : ℕ) → calls_of (of_operator k h) ≡ calls_at (scripts_data scripts) k) → AreOf (length scripts) h
 entries_of_scripts scripts h calls = entries_below (length scripts) h (λ k past. calls k ∙ no_calls (scripts_data scripts) k (omega (arith, past, length-map scripts script_data)))
 
--- a run that ended early, and has written nothing, ends as Ends says, with the history of its scripts in turn
+-- if a run ended before there was a history and has written nothing, then it ends as Ends says. Its history is the one in which the scripts run one after the other
 pub ended_early : (mode : Mode) (output : Output) (job : JobData) (text : TextData) (r : Result Summary RunFault) (f : RunFault) (old : Option (List ℕ)) (notes : List ℕ) → r ≡ Err f → IsEarlyFault f
     → Ends mode output job text r old old notes
 ended_early mode output job text r f old notes is early =

@@ -1,4 +1,4 @@
--- Faults of a run: those of the bytes that were read, and of all bytes that there were to read.
+-- Faults of a run: the faults for the bytes that were read are also faults for all bytes of the input.
 use Rattle.std.proofs.Common.{◌≡◌, ℕ, List, Option, Some, Result, Ok, Err}
 use Rattle.std.specs.Prelude.{IfOk, IfErr, IfSome}
 use Rattle.crush_script.specs.Job.{HasJob}
@@ -49,7 +49,7 @@ run_fault_of_job mode (Err run.NoType) all has h = has
 run_fault_of_job mode (Err run.NoClass) all has h = has
 run_fault_of_job mode (Err (run.SecondMap w s)) all has h = absurd h
 
--- a fault of the scripts is one of the outcome
+-- a fault of running the scripts is a fault with which a run may fail after its job was parsed
 pub outcome_fault_of_scripts : (mode : Mode) (f : RunFault) → IsScriptsFault mode.in_turn f → IsOutcomeFault mode f
 outcome_fault_of_scripts mode (run.Job f) h = h
 outcome_fault_of_scripts mode run.Read h = h
@@ -64,7 +64,7 @@ outcome_fault_of_scripts mode run.NoType h = absurd h
 outcome_fault_of_scripts mode run.NoClass h = absurd h
 outcome_fault_of_scripts mode (run.SecondMap w s) h = h
 
--- and so is a fault of the write
+-- a fault that is possible after there is a history is also such a fault
 pub outcome_fault_of_writing : (mode : Mode) (r : Result Summary RunFault) → IfErr r (IsWritingFault mode) → IfErr r (IsOutcomeFault mode)
 outcome_fault_of_writing mode (Ok s) h = tt
 outcome_fault_of_writing mode (Err (run.Job f)) h = h
@@ -80,7 +80,7 @@ outcome_fault_of_writing mode (Err run.NoType) h = h
 outcome_fault_of_writing mode (Err run.NoClass) h = h
 outcome_fault_of_writing mode (Err (run.SecondMap w s)) h = h
 
--- a fault of reading may come with any bytes
+-- a fault of reading is possible with any bytes
 pub run_fault_of_input : (mode : Mode) (f : RunFault) (all : Option (List ℕ)) → IsInputFault f → IsRunFault mode all f
 run_fault_of_input mode (run.Job f) all h = absurd h
 run_fault_of_input mode run.Read all h = tt
@@ -95,7 +95,7 @@ run_fault_of_input mode run.NoType all h = absurd h
 run_fault_of_input mode run.NoClass all h = absurd h
 run_fault_of_input mode (run.SecondMap w s) all h = absurd h
 
--- bytes that are no job have a fault of the run
+-- a fault with which parsing a job may fail is a fault with which a run may fail
 pub run_fault_of_no_job : (mode : Mode) (f : RunFault) (all : Option (List ℕ)) → IsNoJob all f → IsRunFault mode all f
 run_fault_of_no_job mode (run.Job f) all h = h
 run_fault_of_no_job mode run.Read all h = tt

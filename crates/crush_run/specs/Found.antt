@@ -1,6 +1,7 @@
--- The item and the type that the command line names, in the map after the scripts.
-use Rattle.std.specs.Prelude.{◌≡◌, List, Bool, true, false, ℕ, Option, None, Some, Result, Ok, Err, is_some}
+-- The item, the type and the class that the command line names, in the map after the scripts.
+use Rattle.std.specs.Prelude.{◌≡◌, List, Bool, true, false, ℕ, Option, None, Some, Result, Ok, Err, is_some, ◌&&◌, ◌||◌}
 use Rattle.crush_units.specs.declared.id.ItemId.{ItemId}
+use Rattle.crush_model.specs.Forest.{rows_of}
 use Rattle.crush_model.specs.Table.{Row, id_named, is_named}
 use Rattle.crush_edits.specs.Setting.{SettingData, kind_number}
 use Rattle.crush_print.specs.ClassWeights.{is_class}
@@ -26,45 +27,55 @@ down_to_of (output.Tree part) = name_text part.down_to
 down_to_of (output.Changes old) = name_text old.part.down_to
 down_to_of what = None
 
--- the name of the class whose devices alone count in a tree, if there is one
+-- the name of the class whose devices alone are counted in a tree, if there is one
 abbrev pub class_of : Output → Option (List ℕ)
 class_of (output.Tree part) = name_text part.class
+class_of (output.Changes old) = name_text old.part.class
 class_of what = None
 
--- the id of the item that has the name in the table t, if a name is given and an item has it
+-- the id of the item with this name in the table t; none if no name is given or no item has the name
 abbrev pub named_item : List Row → Option (List ℕ) → Option ItemId
 named_item t None = None
 named_item t (Some name) = id_named t name
 
--- the number of the type that has the name in the setting s, if a name is given and a type has it
+-- the number of the type with this name in the setting s; none if no name is given or no type has the name
 abbrev pub named_kind : SettingData → Option (List ℕ) → Option ℕ
 named_kind s None = None
 named_kind s (Some name) = kind_number s name
 
--- THE PART OF THE TREE that the words select, with the item's id and the type's number for their names
+-- THE PART OF THE TREE that the command line selects: the item's id and the type's number instead of their names
 abbrev pub part_of : TreePartSpec → SettingData → List Row → TreePart
 part_of words s t = record { under = named_item t (name_text words.under); down_to = named_kind s (name_text words.down_to) }
 
--- whether the table has an item of the name, if a name is given; true without a name
+-- whether the table has an item with the name; true if no name is given
 abbrev pub has_item : Option (List ℕ) → List Row → Bool
 has_item None t = true
 has_item (Some name) t = is_named t name
 
--- whether the setting has a type of the name, if a name is given; true without a name
+-- whether the setting has a type with the name; true if no name is given
 abbrev pub has_kind : Option (List ℕ) → SettingData → Bool
 has_kind None s = true
 has_kind (Some name) s = is_some (kind_number s name)
 
--- whether a device of the table has the class of the name, if a name is given; true without a name
+-- whether a device of the table has the class; true if no class is given
 abbrev pub has_class : Option (List ℕ) → List Row → Bool
 has_class None t = true
 has_class (Some name) t = is_class t name
 
--- the named item, the named type and the named class exist, as far as names are given
+-- whether a class is given for a tree of what has changed, and a device of the old map has this class
+abbrev pub had_class : Output → Bool
+had_class (output.Changes old) = is_some (name_text old.part.class) && has_class (name_text old.part.class) (rows_of old.map.forest)
+had_class what = false
+
+-- whether a device of the table has the given class, or no class is given. For a tree of what has changed, it is enough that a device of the old map has the class
+abbrev pub has_class_of : Output → List Row → Bool
+has_class_of what t = has_class (class_of what) t || had_class what
+
+-- the item, the type and the class exist, if their names are given
 pub record AreThere (what : Output) (s : SettingData) (t : List Row) : Type 0 where
   pub item : has_item (under_of what) t ≡ true
   pub kind : has_kind (down_to_of what) s ≡ true
-  pub class : has_class (class_of what) t ≡ true
+  pub class : has_class_of what t ≡ true
 
 -- FOUND: the result of a run agrees with the names. If the run succeeds, fails to write, or ends because differences remain after its plan,
 -- then all names exist. If it ends with NoItem, then no item has the name. If it ends with NoType, then the item exists and no type has
@@ -75,10 +86,10 @@ IsFound what s t (Err run.Write) = AreThere what s t
 IsFound what s t (Err (run.Differs n)) = AreThere what s t
 IsFound what s t (Err run.NoItem) = has_item (under_of what) t ≡ false
 IsFound what s t (Err run.NoType) = (has_item (under_of what) t ≡ true) × (has_kind (down_to_of what) s ≡ false)
-IsFound what s t (Err run.NoClass) = (has_item (under_of what) t ≡ true) × (has_kind (down_to_of what) s ≡ true) × (has_class (class_of what) t ≡ false)
+IsFound what s t (Err run.NoClass) = (has_item (under_of what) t ≡ true) × (has_kind (down_to_of what) s ≡ true) × (has_class_of what t ≡ false)
 IsFound what s t (Err fault) = Unit {0}
 
--- the faults of the look-up: NoItem, NoType or NoClass
+-- the faults of the search for names: NoItem, NoType or NoClass
 abbrev pub IsFindFault : RunFault → Type 0
 IsFindFault run.NoItem = Unit {0}
 IsFindFault run.NoType = Unit {0}

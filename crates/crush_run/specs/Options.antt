@@ -1,4 +1,4 @@
--- How a run ends that a command line selects.
+-- How a run ends if a command line selects its job and its output.
 use Rattle.std.specs.Prelude.{ℕ, List, Option, Result, Ok, Err, IfSome}
 use Rattle.crush_script.specs.Job.{HasJob, JobData}
 use Rattle.crush_options.specs.declared.parsed_options.Options.{Options}
@@ -11,19 +11,19 @@ use Rattle.crush_input.specs.Notes.{text_of}
 use Rattle.crush_run.specs.Run.{Ends, IsRunFault}
 use Rattle.crush_input.specs.Options.{IsOutputFault, IsOutputOf}
 
--- when a run may end with this fault. A fault of another map is possible only if the bytes are a job, and must be a fault of that map's file. Each other fault is possible as in any run of a job.
+-- in which cases a run may end with this fault. A fault of the second map is possible only if the bytes are a job, and it must be a fault of that map's file. Any other fault is possible as in any run of a job.
 abbrev pub IsOptionsFault : (List ℕ → Option (List ℕ)) → Options → Option (List ℕ) → RunFault → Type 0
 IsOptionsFault content options all (run.SecondMap which fault) = IfSome all HasJob × IsOutputFault content options.output_spec (run.SecondMap which fault)
 IsOptionsFault content options all fault = IsRunFault options.mode all fault
 
--- there is an output as the words select it, and the run of the job ends as Ends says for this output. Its notes refer to the text of these bytes; `origin` says from which file each line comes.
+-- there is an output that is as the options select it, and the run of the job ends as Ends says for this output. The notes of the run refer to the text of these bytes. `origin` says from which file each line comes.
 pub record EndsWithOutput (content : List ℕ → Option (List ℕ)) (options : Options) (origin : ℕ → OriginData) (bytes : List ℕ) (job : JobData) (result : Result Summary RunFault) (old new : Option (List ℕ)) (notes : List ℕ) : Type 0 where
   pub what : Output
   pub output : IsOutputOf content options.output_spec what
   pub ends : Ends options.mode what job (text_of options.mode.explain origin bytes job.table) result old new notes
 
--- ENDS AS SELECTED: the run ends as EndsOutput says, if it succeeded, failed to write, was strict and met refusals or differences, was to
--- make no buckets and made some, or has a map without the item or the type that the words name. Nothing is said of any other end.
+-- ENDS AS SELECTED: the run ends as EndsWithOutput says if it succeeds, if it fails to write, or if it ends because of refused calls, of differences that remain,
+-- of buckets that were created in spite of `--no-make`, or of a name that the map doesn't have. If the run ends in any other way, nothing is said.
 abbrev pub EndsAsOptionsSay : (List ℕ → Option (List ℕ)) → Options → (ℕ → OriginData) → List ℕ → JobData → Result Summary RunFault → Option (List ℕ) → Option (List ℕ) → List ℕ → Type 0
 EndsAsOptionsSay content options origin bytes job (Ok s) old new notes = EndsWithOutput content options origin bytes job (Ok s) old new notes
 EndsAsOptionsSay content options origin bytes job (Err run.Write) old new notes = EndsWithOutput content options origin bytes job (Err run.Write) old new notes

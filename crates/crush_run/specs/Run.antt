@@ -1,4 +1,4 @@
--- The run of a job: what its contract says of it, on one page.
+-- The run of a job: what its contract promises, on one page.
 use Rattle.std.specs.Prelude.{◌≡◌, ◌==◌, ℕ, Option, Result, IfOk, IfSome, List, Bool, true, false, ◌&&◌, ◌||◌, not, length, nat_lt, None, Some}
 use Rattle.crush_units.specs.declared.id.ItemId.{ItemId}
 use Rattle.crush_model.specs.Forest.{rows_of}
@@ -38,42 +38,42 @@ pub record IsRunOf (in_turn : Bool) (job : JobData) (h : List EntryData) : Type 
 abbrev pub output_of : Mode → Output → PlanData → JobData → List EntryData → List ℕ
 output_of mode what plan job h = written_text mode what plan job.setting job.table (table_after job.setting job.table h) (names_of job.scripts) h
 
--- whether anything has changed between two maps, with items matched by id: an item or the setting, or, if a part is given, an item of that part
+-- whether anything has changed between two maps, with items matched by id. If a part is given, only changes of the items of this part are counted; otherwise changes of all items and of the setting
 abbrev pub is_changed_by_id : Option ItemId → PlainMap → PlainMap → Bool
 is_changed_by_id None old new = is_changed old new
 is_changed_by_id (Some i) old new = is_part_changed i old new
 
 -- whether anything has changed between two maps. The first argument says whether items are matched by name. If a name is given, then only
--- the part below the item of that name counts; matched by id, that is the item that has the name in the new map.
+-- the part below the item with this name is compared. If items are matched by id, this item is the one that has the name in the new map.
 abbrev pub has_changed : Bool → Option (List ℕ) → PlainMap → PlainMap → Bool
 has_changed false under old new = is_changed_by_id (named_item new.table under) old new
 has_changed true under old new = is_changed_by_name under old new
 
--- DIFFERS: whether there is something to report of the map with this setting and this table, which it has after the history h. For changes
--- since another map: whether anything has changed. For a plan: whether it has a command or leaves a difference. For any other output:
--- whether an entry of h changed the map.
+-- DIFFERS: whether there is something to report about the map that has this setting and this table after the history h. If the output is
+-- the changes since another map: whether anything has changed. If it is a plan: whether the plan has an edit or leaves a difference. For any
+-- other output: whether an entry of h changed the map.
 abbrev pub differs_of : Output → PlanData → SettingData → List Row → List EntryData → Bool
 differs_of (output.Since old) plan s t h = has_changed old.by_name (name_text old.under) (plain_map old.map.setting (rows_of old.map.forest)) (plain_map s t)
 differs_of (output.Changes old) plan s t h = is_changed_by_id (named_item t (name_text old.part.under)) (plain_map old.map.setting (rows_of old.map.forest)) (plain_map s t)
 differs_of (output.To target) plan s t h = not (length plan.edits == 0) || not (length plan.rest == 0)
 differs_of what plan s t h = nat_lt 0 (changes h)
 
--- SUMMARY: the number of written weights that were replaced, the number of calls, the number of calls that changed the map, and whether the
--- run differs
+-- SUMMARY: the number of bucket weights in the map's text that were replaced by sums, the number of calls, the number of calls that changed
+-- the map, and whether there is something to report
 abbrev pub summed : ℕ → Bool → List EntryData → Summary
 summed adjusted differs h = record { adjusted = adjusted; calls = length h; changes = changes h; differs = differs }
 
--- the summary of a run of the job with the history h; it differs only if the exit status is to show that
+-- the summary of a run of the job with the history h. It says that there is something to report only if the exit status has to show this
 abbrev pub summary_of : Mode → Output → PlanData → JobData → List EntryData → Summary
 summary_of mode what plan job h =
     summed job.adjusted (mode.exit_code && differs_of what plan job.setting (table_after job.setting job.table h) h) h
 
 -- ENDS: how a run of the job ends. There is a history of such a run, and a plan if one is selected, such that:
--- `writes`: after success the whole output is written, after a failed write a prefix of it that isn't the whole, otherwise nothing;
--- `summary`: after success the summary is that of the history;
--- `strict`, `no_make`, `found`, `whole`: the result agrees with the refused entries, the entries that made more buckets than they ask for,
--- the names that the map has, and the differences that remain after the plan;
--- `noted`: the notes are those of the history and this result, and refer to this text.
+-- `writes`: after success, the whole output is written. After a failed write, a proper prefix of the output is written. Otherwise nothing is written;
+-- `summary`: after success, the summary is that of the history;
+-- `strict`, `no_make`, `found`, `whole`: the result agrees with the refused entries, with the entries that created more buckets than they
+-- have `add-bucket` commands, with the names that the map has, and with the differences that remain after the plan;
+-- `noted`: the notes are those of the history and of this result, and refer to this text.
 pub record Ends (mode : Mode) (what : Output) (job : JobData) (text : TextData) (result : Result Summary RunFault) (old new : Option (List ℕ)) (notes : List ℕ) : Type 0 where
   pub history : List EntryData
   pub run : IsRunOf mode.in_turn job history
@@ -87,10 +87,10 @@ pub record Ends (mode : Mode) (what : Output) (job : JobData) (text : TextData) 
   pub whole : IsWhole mode.strict plan.rest result
   pub noted : AreNotesOfHistory mode text job.setting job.table (names_of job.scripts) history plan.rest result notes
 
--- when a run may end with this fault; `all` has the bytes, if they are known. Job: the bytes have this fault, which isn't out of memory. Write,
--- Thread, Refused, Made, Differs, NoItem, NoType, NoClass: the bytes are a job. Thread: the run isn't in turn. Refused and Differs: the run is
--- strict. Made: the run is to make no buckets. Read and Memory: always possible. A fault of another map: never, because a run of a job
--- reads no other map.
+-- in which cases a run may end with this fault; `all` has the bytes of the job, if they are known. Job: the bytes have this fault, and the fault
+-- isn't out of memory. Write, Thread, Refused, Made, Differs, NoItem, NoType, NoClass: the bytes are a job. Thread: also, the run isn't in turn.
+-- Refused and Differs: also, the run is strict. Made: also, the run has `--no-make`. Read and Memory: always possible. A fault of another map:
+-- never possible, because a run of a job reads no other map.
 abbrev pub IsRunFault : Mode → Option (List ℕ) → RunFault → Type 0
 IsRunFault mode all (run.Job fault) = IsRefusal all fault
 IsRunFault mode all run.Write = IfSome all HasJob

@@ -1,4 +1,4 @@
--- The stages of a run of a job: what each of them yields, and with which faults it may fail.
+-- The stages of a run of a job: the result of each stage, and the faults with which it may fail.
 use Rattle.std.specs.Prelude.{◌≡◌, ◌≢◌, ℕ, List, [], ◌++◌, Bool, false, true, ◌&&◌, Option, Result, Ok, Err, IfOk, IfErr}
 use Rattle.std.specs.Io.KnownBytes.{Keeps}
 use Rattle.crush_model.specs.Stands.{Stands}
@@ -24,19 +24,19 @@ use Rattle.crush_run.specs.Output.{IsWritten, written_text}
 use Rattle.crush_run.specs.Planned.{IsWhole}
 use Rattle.crush_run.specs.Run.{IsRunOf, differs_of, summed}
 
--- the faults while the scripts run at the same time
+-- the faults with which running the scripts at the same time may fail
 abbrev pub IsAtOnceFault : RunFault → Type 0
 IsAtOnceFault run.Memory = Unit {0}
 IsAtOnceFault run.Thread = Unit {0}
 IsAtOnceFault fault = ⊥
 
--- the faults while the scripts run. In turn they need no thread.
+-- the faults with which running the scripts may fail. If they run in turn, no thread is needed
 abbrev pub IsScriptsFault : Bool → RunFault → Type 0
 IsScriptsFault in_turn run.Memory = Unit {0}
 IsScriptsFault in_turn run.Thread = in_turn ≡ false
 IsScriptsFault in_turn fault = ⊥
 
--- the faults after the job is parsed
+-- the faults with which a run may fail after its job was parsed
 abbrev pub IsOutcomeFault : Mode → RunFault → Type 0
 IsOutcomeFault mode run.Write = Unit {0}
 IsOutcomeFault mode run.Memory = Unit {0}
@@ -49,7 +49,7 @@ IsOutcomeFault mode run.NoType = Unit {0}
 IsOutcomeFault mode run.NoClass = Unit {0}
 IsOutcomeFault mode fault = ⊥
 
--- the faults before there is a history: all but those of the checks and of the write
+-- the faults that are possible before there is a history: all except the faults of the checks and of the write
 abbrev pub IsEarlyFault : RunFault → Type 0
 IsEarlyFault run.Write = ⊥
 IsEarlyFault (run.Refused n) = ⊥
@@ -60,7 +60,7 @@ IsEarlyFault run.NoType = ⊥
 IsEarlyFault run.NoClass = ⊥
 IsEarlyFault fault = Unit {0}
 
--- the faults of the checks, which come after the history and before anything is written
+-- the faults of the checks, which are made when there is a history, but before anything is written
 abbrev pub IsCheckFault : Mode → RunFault → Type 0
 IsCheckFault mode (run.Refused n) = mode.strict ≡ true
 IsCheckFault mode (run.Made n) = mode.no_make ≡ true
@@ -70,7 +70,7 @@ IsCheckFault mode run.NoType = Unit {0}
 IsCheckFault mode run.NoClass = Unit {0}
 IsCheckFault mode fault = ⊥
 
--- the faults after there is a history
+-- the faults that are possible after there is a history
 abbrev pub IsWritingFault : Mode → RunFault → Type 0
 IsWritingFault mode run.Write = Unit {0}
 IsWritingFault mode run.Memory = Unit {0}
@@ -87,11 +87,11 @@ pub record HaveRun (in_turn : Bool) (job : JobData) (after : MapData) (h : List 
   pub run : IsRunOf in_turn job h
   pub stands : MapStands after job.setting (table_after job.setting job.table h)
 
--- running the scripts on the map gave the map `after` and the history h: this is such a run of any job that has this map and these scripts
+-- running these scripts on the map resulted in the map `after` and the history h. For each job that has this map and these scripts, h is the history of a run, and `after` is the map after it
 abbrev pub RunsScripts : Bool → MapData → List ScriptData → MapData → List EntryData → Type 0
 RunsScripts in_turn map scripts after h = (job : JobData) → MapStands map job.setting job.table → scripts ≡ job.scripts → HaveRun in_turn job after h
 
--- whether a run needs the map as it was read after its scripts have run: to explain refusals, or to print the commands that changed it
+-- whether a run still needs the map as it was read after its scripts have run: to explain refusals, or to print the commands that changed the map
 abbrev pub needs_opening : Mode → Output → Bool
 needs_opening mode output.AsCeph = true
 needs_opening mode what = mode.explain
@@ -100,15 +100,16 @@ needs_opening mode what = mode.explain
 abbrev pub IsOpening : Mode → Output → Option MapData → SettingData → List Row → Type 0
 IsOpening mode what kept s t = needs_opening mode what ≡ true → IsKept kept s t
 
--- the notes that are prepared for the possible ends of a run, whose map had this setting and this table before the first call: `calls` are
--- the notes of its history; `made`, if the run is to make no buckets, are the lines of the calls that made more buckets than they ask for,
--- followed by these; `whole`, if the run is strict, are these, followed by the lines of the differences that remain after its plan
+-- the notes that are prepared for the possible ends of a run, whose map had this setting and this table before the first call. `calls` are
+-- the notes of the run's history. If the run has `--no-make`, then `made` are the lines of the calls that created more buckets than they have
+-- `add-bucket` commands, followed by `calls`. If the run is strict, then `whole` are `calls`, followed by the lines of the differences that
+-- remain after the plan
 pub record AreEndNotes (mode : Mode) (text : TextData) (s : SettingData) (t : List Row) (names : List (List ℕ)) (h : List EntryData) (rest : List ℕ) (end_notes : EndNotes) : Type 0 where
   pub calls : end_notes.calls.items ≡ history_notes mode text s t names h
   pub made : mode.no_make ≡ true → end_notes.made.items ≡ made_text names 1 h ++ history_notes mode text s t names h
   pub whole : mode.strict ≡ true → end_notes.whole.items ≡ history_notes mode text s t names h ++ rest
 
--- which of these notes are printed after this fault; none if the fault isn't listed
+-- which of the prepared notes are printed after this fault; none after a fault that isn't listed
 abbrev pub notes_after_fault : RunFault → EndNotes → List ℕ
 notes_after_fault run.Write end_notes = end_notes.calls.items
 notes_after_fault (run.Refused n) end_notes = end_notes.calls.items
@@ -119,16 +120,17 @@ notes_after_fault run.NoType end_notes = end_notes.calls.items
 notes_after_fault run.NoClass end_notes = end_notes.calls.items
 notes_after_fault fault end_notes = []
 
--- which of these notes are printed after this result
+-- which of the prepared notes are printed after this result
 abbrev pub notes_after : Result Summary RunFault → EndNotes → List ℕ
 notes_after (Ok s) end_notes = end_notes.calls.items
 notes_after (Err fault) end_notes = notes_after_fault fault end_notes
 
--- how a run ends that has a map m, a history h and a plan. `writes`: the output is written, or a part of it, as IsWritten says. `summary`:
--- after success the summary is that of the history. `nothing`: nothing is written unless the run succeeds or fails to write. `fault`: which
--- faults are possible. `strict`, `no_make`, `found`, `whole`: the result agrees with the refused entries, the entries that made more buckets
--- than they ask for, the names that the map has, and the differences that remain. `told`: the notes are those of this history and result.
--- `noted`: the notes are allowed for this result, wherever the lines come from.
+-- how a run ends after its scripts have resulted in a map m, a history h and a plan. `writes`: the output is written, or a part of it, as
+-- IsWritten says. `summary`: after success, the summary is that of the history. `nothing`: nothing is written unless the run succeeds or fails
+-- to write. `fault`: which faults are possible. `strict`, `no_make`, `found`, `whole`: the result agrees with the refused entries, with the
+-- entries that created more buckets than they have `add-bucket` commands, with the names that the map has, and with the differences that
+-- remain. `told`: the notes are those of this history and this result. `noted`: the notes are allowed for this result, from whichever files
+-- the lines come.
 pub record CompletedRunEnds (mode : Mode) (what : Output) (plan : PlanData) (adjusted : ℕ) (kept : Option MapData) (m : MapData) (text : TextData) (names : List (List ℕ)) (h : List EntryData) (result : Result Summary RunFault) (old new : Option (List ℕ)) (notes : List ℕ) : Type 0 where
   pub writes : (o t : List Row) → IsOpening mode what kept m.setting o → Stands m.forest t → IsWritten result old new (written_text mode what plan m.setting o t names h)
   pub summary : IfOk result (λ (s : Summary). (t : List Row) → Stands m.forest t → s ≡ summed adjusted (mode.exit_code && differs_of what plan m.setting t h) h)

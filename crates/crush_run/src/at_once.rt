@@ -17,9 +17,10 @@ use std::marker::Brand;
 use std::sync::Wait;
 use std::thread::Threads;
 
-/// Runs the scripts at the same time, and returns the map after them and the history. No copy of
-/// the map before them is kept. If a worker can't be started, those that run finish, and the fault
-/// is [`RunFault::Thread`]. The only other fault is [`RunFault::Memory`].
+/// Runs the scripts at the same time, and returns the history and the map after the scripts.
+/// Doesn't keep a copy of the map before them. If a worker can't be started, the workers that are
+/// already running finish their scripts, and the call fails with [`RunFault::Thread`]. The only
+/// other fault is [`RunFault::Memory`].
 pub(crate) fn run_at_once<G: Gate + Sync, R: Threads + Wait + Sync>(
     rt: &R,
     alloc: Global,
@@ -40,7 +41,7 @@ pub(crate) fn run_at_once<G: Gate + Sync, R: Threads + Wait + Sync>(
     }
 }
 
-/// Runs the scripts with the editor that has the name `N`.
+/// Runs the scripts with an editor. `N` is the type that names this editor in contracts.
 fn operate<N: Desk + Send + Sync, G: Gate + Sync, R: Threads + Wait + Sync>(
     rt: &R,
     alloc: Global,
@@ -72,8 +73,8 @@ fn operate<N: Desk + Send + Sync, G: Gate + Sync, R: Threads + Wait + Sync>(
     Ok(editor.close(seats))
 }
 
-/// Returns the seats of the workers, or [`RunFault::Memory`] if a worker stopped early. Out of
-/// memory is its only reason to stop, because a history has room for all the calls of a job.
+/// Returns the seats of the workers, or [`RunFault::Memory`] if a worker stopped early. A worker
+/// stops early only if memory runs out, because a history has room for all the calls of a job.
 fn gather<N: Desk>(alloc: Global, finished: Vec<Finished<N>>) -> Result<Vec<Seat<N>>, RunFault>
     ensures count { IfOk result (λ seats. vec_len seats ≡ vec_len finished) }
     ensures each { IfOk result (λ seats. (k : ℕ) (d : _) (e : _) → k < vec_len seats

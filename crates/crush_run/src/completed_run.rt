@@ -1,4 +1,4 @@
-//! What there is after the scripts of a job have run.
+//! The results of a job's scripts, after all of them have run.
 
 use crush_history::{Entry, Script};
 use crush_input::KeptText;
@@ -6,21 +6,23 @@ use crush_map::CrushMap;
 use crush_plan::Plan;
 use std::alloc::Global;
 
-/// What the checks, the output and the notes of a run are made from.
+/// The results of a run's scripts. The checks, the output and the notes of the run are made from
+/// these results.
 #[derive(Drop)]
 pub(crate) struct CompletedRun<'a> {
-    /// How many written bucket weights weren't the sum of the bucket's items, and were replaced.
+    /// How many bucket weights in the map's text weren't the sum of the bucket's items, and were
+    /// replaced by the sum.
     pub(crate) adjusted: u32,
     /// A copy of the map as it was read, if the run needs it.
     pub(crate) opening: &'a Option<CrushMap<Global>>,
     /// The map after the scripts.
     pub(crate) map: &'a CrushMap<Global>,
-    /// The plan that leads to the wanted map; empty if no map is wanted.
+    /// The plan that leads to the wanted map. If no map is wanted, the plan is empty.
     pub(crate) plan: &'a Plan,
     /// The scripts with their names, but without their calls, which are in `entries`.
     pub(crate) scripts: &'a [Script],
-    /// The history.
+    /// The entries of the history.
     pub(crate) entries: &'a [Entry],
-    /// The job's text, as far as the notes need it.
+    /// The part of the job's text that the notes need.
     pub(crate) text: &'a KeptText<'a>,
 }

@@ -1,4 +1,4 @@
-//! Whether a run has a change or a difference to report, for the exit status.
+//! Decides the exit status for `--exit-code`: whether a run has a change or a difference to report.
 
 ghost use Rattle.std.specs.Prelude.{◌≡◌, ◌≤◌, ◌&&◌, List, IfOk, length, true};
 ghost use Rattle.crush_input.specs.Options.{name_text};
@@ -57,8 +57,9 @@ fn has_changed(alloc: Global, old: &OldMap, map: &CrushMap<Global>) -> Result<bo
     is_changed_by_id(alloc, under, &old.map, map)
 }
 
-/// Whether there is something to report: for changes since another map, a change; for a plan, a
-/// command or a difference that remains; for any other output, a call that changed the map.
+/// Whether there is something to report. For the changes since another map: whether anything has
+/// changed. For a plan: whether the plan has an edit or leaves a difference. For any other output:
+/// whether a call changed the map.
 fn differs(alloc: Global, output: &Output, completed: &CompletedRun<'_>) -> Result<bool, AllocError>
     requires { length completed.now.entries.now ≤ MOST_ENTRIES }
     ensures { IfOk result (λ differs. (t : List Row) → Stands completed.now.map.now.forest t
@@ -82,7 +83,8 @@ fn differs(alloc: Global, output: &Output, completed: &CompletedRun<'_>) -> Resu
     }
 }
 
-/// The same, or `false` if the request doesn't select this status.
+/// Whether there is something to report, as [`differs`] says. Returns `false` if the request
+/// doesn't have `--exit-code`.
 pub(crate) fn differs_if_requested(
     alloc: Global,
     request: &Request,

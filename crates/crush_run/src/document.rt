@@ -1,4 +1,4 @@
-//! The output of a run for a program: one JSON document.
+//! Writes the output of a run for a program to read: one JSON document.
 
 ghost use Rattle.std.specs.Prelude.{◌≡◌, ◌≤◌, List, Err, IfSome, is_some, length, true};
 ghost use Rattle.std.specs.Option.{option_map};
@@ -64,9 +64,10 @@ fn write_changed<W: Write>(
     write_since_document(alloc, old, map, under, history, writer)
 }
 
-/// Writes the output as one JSON document, which contains the history if the request selects it.
-/// The document of changes always matches items by id, and a tree of changes is written as the same
-/// document as a list of changes. Ceph's own commands have no document, and are written as text.
+/// Writes the output as one JSON document, which contains the history if the request asks for it.
+/// The document of changes always matches items by their ids. A tree of changes has the same
+/// document as a list of changes. There is no document for Ceph's own commands, so they are written
+/// as text.
 pub(crate) fn write_document<W: Write>(
     alloc: Global,
     request: &Request,

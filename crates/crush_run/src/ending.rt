@@ -1,4 +1,4 @@
-//! How a run ended, and the notes that are printed after the one line on standard error.
+//! How a run ended, and the notes that are printed on standard error after its first line.
 
 ghost use Rattle.std.specs.Prelude.{◌≡◌, [], Err};
 
@@ -10,14 +10,15 @@ use std::alloc::Global;
 pub struct Ending {
     /// What the run did, or why it failed.
     pub outcome: Result<Summary, RunFault>,
-    /// The lines that are printed after the one line on standard error. If the run has `explain`,
-    /// they explain a fault and each refused call, and list the written weights that aren't sums.
-    /// If `strict` or `no_make` ended the run, they list what ended it. Otherwise there are none.
+    /// The lines that are printed on standard error after the first line. If the run has `explain`,
+    /// the lines explain a fault and each refused call, and list the bucket weights in the map's
+    /// text that aren't sums. If `strict` or `no_make` ended the run, the lines list the reasons
+    /// for this end. In all other cases there are no lines.
     pub notes: Vec<u8>,
 }
 
 impl Ending {
-    /// The ending with this fault, without notes.
+    /// Returns the ending of a run that failed with this fault, without notes.
     pub(crate) fn without_notes(alloc: Global, fault: RunFault) -> Ending
         ensures outcome { result.outcome ≡ Err fault }
         ensures quiet { result.notes.items ≡ [] }
@@ -28,7 +29,7 @@ impl Ending {
         }
     }
 
-    /// The ending of a run that stopped before its scripts ran.
+    /// Returns the ending of a run that stopped before its scripts ran.
     pub(crate) fn of_aborted(aborted: Aborted) -> Ending
         ensures outcome { result.outcome ≡ Err aborted.fault }
         ensures notes { result.notes.items ≡ aborted.notes.items }

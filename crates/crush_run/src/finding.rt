@@ -1,12 +1,13 @@
-//! Looks up the item of `--under`, the type of `--down-to` and the class of `--class` in the map
-//! after the scripts.
+//! Searches the map after the scripts for the names of `--under` (an item), `--down-to` (a type)
+//! and `--class` (a class). For a tree of what has changed, the class may be in the old map instead.
 
-ghost use Rattle.std.specs.Prelude.{◌≡◌, List, IfErr};
+ghost use Rattle.std.specs.Prelude.{◌≡◌, ◌&&◌, List, IfErr, is_some};
 ghost use Rattle.std.specs.Option.{option_map};
 ghost use Rattle.crush_input.specs.Options.{name_text};
+ghost use Rattle.crush_model.specs.Forest.{rows_of};
 ghost use Rattle.crush_model.specs.Stands.{Stands};
 ghost use Rattle.crush_model.specs.Table.{Row};
-ghost use Rattle.crush_run.specs.Found.{IsFindFault, IsFound, class_of, down_to_of, has_class, has_item, has_kind, named_item, named_kind, part_of, under_of};
+ghost use Rattle.crush_run.specs.Found.{IsFindFault, IsFound, class_of, down_to_of, has_class, had_class, has_class_of, has_item, has_kind, named_item, named_kind, part_of, under_of};
 
 use crush_input::{Output, RunFault};
 use crush_map::CrushMap;
@@ -51,6 +52,7 @@ fn class_of(output: &Output) -> Option<&str>
 {
     match output {
         Output::Tree(part) => name_of(&part.class),
+        Output::Changes(old) => name_of(&old.part.class),
         _ => None,
     }
 }
@@ -75,7 +77,7 @@ fn named_kind(name: Option<&str>, map: &CrushMap<Global>) -> Option<TypeId>
     }
 }
 
-/// The part of the tree that is printed. A name that the map doesn't have counts as not given.
+/// Returns the part of the tree that is printed. A name that the map doesn't have is ignored.
 pub(crate) fn part_of(words: &TreePartSpec, map: &CrushMap<Global>) -> TreePart
     ensures { (t : List Row) → Stands map.now.forest t
         → result ≡ part_of words.now map.now.setting t }
@@ -116,7 +118,38 @@ fn has_class(name: Option<&str>, map: &CrushMap<Global>) -> bool
     }
 }
 
-/// Fails if the map doesn't have the named item, or else the named type, or else the named class.
+/// Whether a class is given for a tree of what has changed, and a device of the old map has this
+/// class.
+fn had_class(output: &Output) -> bool
+    ensures { result ≡ had_class output.now }
+{
+    match output {
+        Output::Changes(old) => is_class_of(name_of(&old.part.class), &old.map),
+        _ => false,
+    }
+}
+
+/// Whether a class is given, and a device of the map has it.
+fn is_class_of(name: Option<&str>, map: &CrushMap<Global>) -> bool
+    ensures { result ≡ (is_some name.entry && has_class (option_map (λ name. name.now) name.entry) (rows_of map.now.forest)) }
+{
+    map.forest().recall_invariant();
+    match name {
+        Some(name) => crush_print::has_class(map, name),
+        None => false,
+    }
+}
+
+/// Whether a device of the map has the given class, or no class is given. For a tree of what has
+/// changed, it is enough that a device of the old map has the class.
+fn has_class_of(output: &Output, map: &CrushMap<Global>) -> bool
+    ensures { (t : List Row) → Stands map.now.forest t → result ≡ has_class_of output.now t }
+{
+    has_class(class_of(output), map) || had_class(output)
+}
+
+/// Fails if the map doesn't have a name that the output needs. The item is tested first, then the
+/// type, and then the class.
 pub(crate) fn check_found(output: &Output, map: &CrushMap<Global>) -> Result<(), RunFault>
     ensures found { (t : List Row) → Stands map.now.forest t
         → IsFound output.now map.now.setting t result }
@@ -128,7 +161,7 @@ pub(crate) fn check_found(output: &Output, map: &CrushMap<Global>) -> Result<(),
     if !has_kind(down_to_of(output), map) {
         return Err(RunFault::NoType);
     }
-    if !has_class(class_of(output), map) {
+    if !has_class_of(output, map) {
         return Err(RunFault::NoClass);
     }
     Ok(())

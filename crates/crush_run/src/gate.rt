@@ -2,14 +2,14 @@
 
 use std::sync::Wait;
 
-/// Code that runs before and after each call of a script. Its arguments are the operator's number
-/// and the number of the call in the operator's script, both from 0. Tests use a gate to force an
-/// order of calls; no clause of a contract mentions it.
+/// Code that runs before and after each call of a script. Its methods get the operator's number and
+/// the number of the call in the operator's script, both from 0. Tests use a gate to force an order
+/// of calls. No contract depends on the gate.
 pub trait Gate {
     /// Runs before the call is submitted. It may wait, and so delay the call.
     fn before<R: Wait>(&self, rt: &R, operator: usize, number: usize);
 
-    /// Runs after the call was submitted, even if the call met a fault.
+    /// Runs after the call was submitted, even if the call failed.
     fn after<R: Wait>(&self, rt: &R, operator: usize, number: usize);
 }
 

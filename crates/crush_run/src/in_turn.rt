@@ -17,7 +17,7 @@ use crush_map::CrushMap;
 use std::alloc::Global;
 use std::sync::Wait;
 
-/// What the scripts share when they run one after the other.
+/// The values that all scripts use when they run one after the other.
 #[derive(Drop)]
 struct InTurn<'t, G, R> {
     rt: &'t R,
@@ -26,8 +26,8 @@ struct InTurn<'t, G, R> {
 }
 
 impl<'t, G: Gate, R: Wait> InTurn<'t, G, R> {
-    /// Makes the calls of one script in order, and stops with [`RunFault::Memory`] at the first
-    /// call for which there is no memory. Each call is moved into its entry of the history.
+    /// Makes the calls of one script in order. Stops with [`RunFault::Memory`] at the first call
+    /// for which there is no memory. Each call is moved into its entry of the history.
     fn run_script(
         &self,
         book: &mut Book<Global, WithoutSnapshot>,
@@ -60,8 +60,8 @@ impl<'t, G: Gate, R: Wait> InTurn<'t, G, R> {
     }
 }
 
-/// Runs the scripts one after the other on one book, without a lock and without threads. The only
-/// fault is [`RunFault::Memory`], because a history has room for all the calls of a job.
+/// Runs the scripts one after the other on one book, without a lock and without threads. It fails
+/// only with [`RunFault::Memory`], because a history has room for all the calls of a job.
 pub(crate) fn run_in_turn<G: Gate, R: Wait>(
     rt: &R,
     alloc: Global,

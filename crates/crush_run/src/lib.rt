@@ -1,10 +1,10 @@
 //! Runs a job, from the bytes that are read to the bytes that are written.
 //!
-//! [`run_options`] runs the job that a command line selects; [`run_job`] runs the job that a reader
-//! contains. `crush_script` parses a job, `crush_editor` runs its scripts, and `crush_print`,
-//! `crush_since`, `crush_reasons`, `crush_plan` or `crush_json` write the output.
-//! `crush_input` reports how the run ended. `specs/Output.antt` says what is written, and
-//! `specs/Run.antt` says how a run ends.
+//! [`run_options`] runs the job that a command line selects, and [`run_job`] runs a job that it
+//! reads from a reader. `crush_script` parses a job, `crush_editor` runs its scripts, and
+//! `crush_print`, `crush_since`, `crush_reasons`, `crush_plan` or `crush_json` writes the output.
+//! `crush_input` reports how the run ended. `specs/Output.antt` defines what is written, and
+//! `specs/Run.antt` defines how a run ends.
 #![tactic(auto)]
 
 mod at_once;

@@ -19,19 +19,20 @@ use std::sync::Wait;
 use std::thread::Threads;
 
 /// Runs a job as [`run_job`](crate::run_job) does. The job is read from the file that the options
-/// name, or from `input` if they name none. The scripts of further files are appended to it.
-/// Together all these may be as long as one job. If a file can't be opened or read, then the fault
-/// is [`RunFault::Read`].
+/// name, or from `input` if they name no file. The scripts of further files are appended to the
+/// job. All these bytes together may be at most as many as one job may have. If a file can't be
+/// opened or read, the fault is [`RunFault::Read`].
 ///
-/// The map of `--since` or `--to` is read after the job. Its file may be as long as a job. If the
-/// map can't be read, then the fault is [`RunFault::SecondMap`].
+/// If the command line has `--since` or `--to`, the map of this option is read after the job. The
+/// file of this map may have as many bytes as a job. If the map can't be read, the fault is
+/// [`RunFault::SecondMap`].
 ///
 /// Before a script is appended, a line feed is added if the job so far doesn't end in one. The line
-/// `%operator NAME` is added too, unless the first line of the script that has a word begins a
-/// section. NAME is the last part of the file's path, up to its first `.`. If that isn't a valid
-/// operator name, then the line is `%operator` alone, which the parser rejects as
-/// [`BadLine`](crush_script::JobFault::BadLine). With scripts in files, the reasons give the place
-/// of a fault in its own file.
+/// `%operator NAME` is added too, unless the script already begins with a line that starts with
+/// `%`. (Empty lines and comments before that line don't count.) NAME is the last part of the
+/// file's path, up to its first `.`. If NAME isn't a valid operator name, the line is `%operator`
+/// alone, which the parser rejects as [`BadLine`](crush_script::JobFault::BadLine). If scripts come
+/// from files, the notes about a fault give the place of the fault in the file that has it.
 pub fn run_options<H, F, R, W>(
     rt: &H,
     files: &F,

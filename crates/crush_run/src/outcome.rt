@@ -1,4 +1,4 @@
-//! The end of a run whose scripts have run: its checks, its output and its notes.
+//! Ends a run whose scripts have run: checks it, and writes its output and its notes.
 
 ghost use Rattle.std.specs.Prelude.{◌≡◌, ◌≢◌, ◌≤◌, ◌&&◌, List, [], Err, IfErr, IfOk, false, is_some, length, true};
 ghost use Rattle.std.specs.Io.KnownBytes.{Keeps};
@@ -33,16 +33,17 @@ use crush_units::WriteFault;
 use std::alloc::{AllocError, Global};
 use std::io::Write;
 
-/// The notes of a run, one text for each of the ways in which it can end.
+/// The notes of a run. There are several texts because the notes depend on how the run ends.
 #[derive(Drop)]
 pub(crate) struct EndNotes {
-    /// For all ends but the next two: the notes of the refused calls and of the written weights.
+    /// The notes about the refused calls, and about bucket weights in the map's text that aren't
+    /// sums. These are the notes of each end that isn't one of the next two.
     pub(crate) calls: Vec<u8>,
-    /// For an end with [`RunFault::Made`]: the calls that made more buckets than they have
-    /// `add-bucket`s, followed by `calls`.
+    /// The notes of an end with [`RunFault::Made`]: the calls that created more buckets than they
+    /// have `add-bucket` commands, followed by `calls`.
     pub(crate) made: Vec<u8>,
-    /// For an end with [`RunFault::Differs`]: `calls`, followed by the differences that remain
-    /// after the plan.
+    /// The notes of an end with [`RunFault::Differs`]: `calls`, followed by the differences that
+    /// remain after the plan.
     pub(crate) whole: Vec<u8>,
 }
 
@@ -58,8 +59,9 @@ fn summary_of(completed: &CompletedRun<'_>, differs: bool) -> Summary
     }
 }
 
-/// Checks what the request demands, in this order: no refusals, no buckets made, all names found,
-/// no difference left.
+/// Checks the conditions of the request, in this order: no call was refused, no call created more
+/// buckets than it has `add-bucket` commands, the map has all names, and no difference remains
+/// after the plan. A condition that the request doesn't ask for is not checked.
 fn check_conditions(request: &Request, completed: &CompletedRun<'_>) -> Result<(), RunFault>
     requires { length completed.now.entries.now ≤ MOST_ENTRIES }
     ensures fault { IfErr result (IsCheckFault request.now.mode) }
@@ -101,7 +103,7 @@ fn write_output<W: Write>(
     write_text(alloc, request, completed, writer)
 }
 
-/// Checks what the request demands, and writes the output if nothing is wrong.
+/// Checks the conditions of the request. If all of them are true, writes the output.
 fn write_outcome<W: Write>(
     alloc: Global,
     request: &Request,
@@ -214,8 +216,9 @@ fn end_with(alloc: Global, outcome: Result<Summary, RunFault>, end_notes: EndNot
     }
 }
 
-/// Makes the notes, checks what the request demands, and writes the output. The notes are made
-/// before anything is written, so that memory can't run out for them later.
+/// Creates the notes, checks the conditions of the request, and writes the output. The notes are
+/// created before anything is written, so that a run that has written something can't run out of
+/// memory for its notes.
 pub(crate) fn end_run<W: Write>(
     alloc: Global,
     request: &Request,

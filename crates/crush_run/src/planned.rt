@@ -1,18 +1,17 @@
-//! The plan of a run: the edits that lead from the map after the scripts to a wanted map.
+//! Finds the plan of a run: the edits that lead from the map after the scripts to a wanted map.
 
 ghost use Rattle.std.specs.Prelude.{◌≡◌, ◌++◌, [], Err, IfErr, IfOk, List, true};
 ghost use Rattle.std.specs.Io.KnownBytes.{Keeps};
 ghost use Rattle.crush_model.specs.Stands.{Stands};
 ghost use Rattle.crush_model.specs.Table.{Row};
 ghost use Rattle.crush_plan.specs.Plan.{plan_data};
-ghost use Rattle.crush_plan.specs.PlanText.{plan_text};
 ghost use Rattle.crush_run.specs.Output.{IsPut};
-ghost use Rattle.crush_run.specs.Planned.{IsDiffersFault, IsPlanned, IsWhole, plan_words};
+ghost use Rattle.crush_run.specs.Planned.{IsDiffersFault, IsPlanned, IsWhole, text_of_plan};
 
 use crate::finding::name_of;
 use crush_input::{Output, RunFault, TargetMap};
 use crush_map::CrushMap;
-use crush_plan::{Identity, Plan, PlanWords, find_plan, plan_text};
+use crush_plan::{Identity, Plan, ceph_plan_text, find_plan, plan_text};
 use crush_since::Counts;
 use crush_units::{WriteFault, put};
 use std::alloc::{AllocError, Global};
@@ -23,16 +22,6 @@ fn identity_of(target: &TargetMap) -> Identity {
         Identity::Names
     } else {
         Identity::Ids
-    }
-}
-
-fn plan_words(as_ceph: bool) -> PlanWords
-    ensures { result ≡ plan_words as_ceph }
-{
-    if as_ceph {
-        PlanWords::Ceph
-    } else {
-        PlanWords::Script
     }
 }
 
@@ -49,8 +38,8 @@ fn no_plan(alloc: Global) -> Plan
     }
 }
 
-/// Returns the plan that leads from the map to the wanted map, or an empty plan if no map is
-/// wanted.
+/// Returns the plan that leads from the map to the wanted map. If no map is wanted, returns an
+/// empty plan.
 pub(crate) fn plan_if_requested(
     alloc: Global,
     output: &Output,
@@ -80,8 +69,8 @@ pub(crate) fn check_whole(strict: bool, plan: &Plan) -> Result<(), RunFault>
     Err(RunFault::Differs(plan.count_differences()))
 }
 
-/// Returns the notes of a strict run, followed by a line for each difference that remains after the
-/// plan. Returns nothing if the run isn't strict.
+/// Returns the notes of a strict run: `notes`, followed by a line for each difference that remains
+/// after the plan. If the run isn't strict, returns no notes.
 pub(crate) fn whole_notes(
     alloc: Global,
     strict: bool,
@@ -99,19 +88,40 @@ pub(crate) fn whole_notes(
     Ok(lines)
 }
 
-/// Writes the text of the plan, with its commands as lines of a script or as Ceph's own.
+/// Returns the text of the plan, which starts from the map: Ceph's own commands, or lines of a
+/// script.
+fn text_of_plan(
+    alloc: Global,
+    as_ceph: bool,
+    map: &CrushMap<Global>,
+    plan: &Plan,
+) -> Result<Vec<u8>, AllocError>
+    ensures { IfOk result (λ text. (t : List Row) → Stands map.now.forest t
+        → text.items ≡ text_of_plan as_ceph map.now.setting t (plan_data plan.now)) }
+{
+    if as_ceph {
+        ceph_plan_text(alloc, map, plan)
+    } else {
+        plan_text(alloc, plan)
+    }
+}
+
+/// Writes the text of the plan. Its edits are written as lines of a script or as Ceph's own
+/// commands. `map` is the map from which the plan starts.
 pub(crate) fn write_plan<W: Write>(
     alloc: Global,
     as_ceph: bool,
+    map: &CrushMap<Global>,
     plan: &Plan,
     writer: &mut W,
 ) -> Result<(), WriteFault>
-    ensures writes { IsPut result (W.contents writer.old) (W.contents writer.new)
-        (plan_text (plan_words as_ceph) (plan_data plan.now)) }
+    ensures writes { (t : List Row) → Stands map.now.forest t
+        → IsPut result (W.contents writer.old) (W.contents writer.new)
+        (text_of_plan as_ceph map.now.setting t (plan_data plan.now)) }
     ensures none { result ≡ Err WriteFault.OutOfMemory
         → Keeps (W.contents writer.old) (W.contents writer.new) }
 {
-    let Ok(text) = plan_text(alloc, plan, plan_words(as_ceph)) else {
+    let Ok(text) = text_of_plan(alloc, as_ceph, map, plan) else {
         return Err(WriteFault::OutOfMemory);
     };
     put(writer, text.as_slice())

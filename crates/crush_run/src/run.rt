@@ -1,5 +1,5 @@
-//! The run of a job that is read from a reader. Its later stages, from the parsed job on, are also
-//! those of [`crate::run_options`].
+//! Runs a job that is read from a reader. [`crate::run_options`] uses functions of this module
+//! after it has parsed its job.
 
 ghost use Rattle.std.specs.Prelude.{◌≡◌, ◌≢◌, ◌≤◌, ℕ, List, [], Option, Some, IfOk, IfErr, IfSome, false, is_some, length, true};
 ghost use Rattle.std.specs.Io.KnownBytes.{Keeps};
@@ -36,8 +36,8 @@ use std::random::RandomSource;
 use std::sync::Wait;
 use std::thread::Threads;
 
-/// Returns scripts with the same names and without calls. A run moves the calls into its history,
-/// and needs the names for its output.
+/// Returns scripts with the names of these scripts, but without calls. A run moves the calls into
+/// its history, but needs the names for its output.
 fn scripts_without_calls(alloc: Global, scripts: &[Script]) -> Result<Vec<Script>, AllocError>
     ensures count { IfOk result (λ copies. length copies.items ≡ length scripts.now) }
     ensures names { IfOk result (λ copies. names_of (scripts_data copies.items)
@@ -61,8 +61,8 @@ fn copy_of(map: &CrushMap<Global>) -> Result<CrushMap<Global>, AllocError>
     map.try_copy()
 }
 
-/// Returns a copy of the map as it was read, if the run needs it after its scripts: to explain
-/// refusals, or to print Ceph's own commands.
+/// Returns a copy of the map before its scripts run, if the run needs this copy after the scripts.
+/// A run needs the copy to explain refusals and to print Ceph's own commands.
 fn opening_if_needed(
     request: &Request,
     map: &CrushMap<Global>,
@@ -78,7 +78,8 @@ fn opening_if_needed(
     Ok(None)
 }
 
-/// Runs the scripts, one after the other or at the same time. Without scripts there are no threads.
+/// Runs the scripts, one after the other or at the same time. If there are no scripts, no threads
+/// are created.
 fn run_scripts<H: AllocGlobal + Threads + Wait + Sync, G: Gate + Sync>(
     rt: &H,
     gate: &G,
@@ -100,7 +101,7 @@ fn run_scripts<H: AllocGlobal + Threads + Wait + Sync, G: Gate + Sync>(
     run_at_once(rt, alloc, gate, map, scripts)
 }
 
-/// Runs the scripts of a parsed job, and writes what the request selects.
+/// Runs the scripts of a parsed job, and writes the output that the request selects.
 pub(crate) fn run_parsed_job<H: AllocGlobal + Threads + Wait + Sync, G: Gate + Sync, W: Write>(
     rt: &H,
     gate: &G,
@@ -160,7 +161,7 @@ pub(crate) fn run_parsed_job<H: AllocGlobal + Threads + Wait + Sync, G: Gate + S
     end_run(alloc, request, &completed, writer)
 }
 
-/// Parses the bytes of a job, and runs it.
+/// Parses the bytes of a job, and runs the job.
 fn run_bytes<H, G, W>(rt: &H, gate: &G, request: &Request, bytes: Vec<u8>, writer: &mut W) -> Ending
 where
     H: AllocGlobal + RandomSource + Threads + Wait + Sync,
@@ -183,32 +184,34 @@ where
     }
 }
 
-/// Reads a job, runs the scripts of its operators, and writes what the request selects.
+/// Reads a job, runs the scripts of its operators, and writes the output that the request selects.
 ///
-/// If the request is `in_turn`, then the scripts run one after the other, and the output is a
-/// function of the bytes that were read, unless it is a plan. Otherwise each operator has a thread
-/// of its own, and the only order of its calls is that of its script. The gate is called before and
-/// after each call.
+/// If the request has `in_turn`, the scripts run one after the other. Then the output is a function
+/// of the bytes that were read, unless the output is a plan. If the request doesn't have `in_turn`,
+/// each operator has a thread of its own. Then the calls of one operator are made in the order of
+/// its script, but the calls of different operators can be made in any order. The gate is called
+/// before and after each call.
 ///
-/// If the run fails, then nothing was written, except after [`RunFault::Write`]: then a prefix of
-/// the output was written, but not all of it. The other faults are:
+/// If the run fails, nothing was written, except after [`RunFault::Write`]. Then a proper prefix of
+/// the output was written: a beginning, but not all of it. The other faults are:
 ///
-/// - [`RunFault::Read`]: the reader failed.
+/// - [`RunFault::Read`]: reading failed.
 /// - [`RunFault::Job`]: the bytes aren't a job.
-/// - [`RunFault::Thread`]: a thread couldn't be started. In turn none is needed.
-/// - [`RunFault::Refused`]: the run is `strict`, and a call was refused.
-/// - [`RunFault::Made`]: the run is `no_make`, and a call made more buckets than it has
-///   `add-bucket`s.
+/// - [`RunFault::Thread`]: a thread couldn't be started. A run with `in_turn` starts no threads.
+/// - [`RunFault::Refused`]: the request has `strict`, and a call was refused.
+/// - [`RunFault::Made`]: the request has `no_make`, and a call created more buckets than it has
+///   `add-bucket` commands.
 /// - [`RunFault::NoItem`], [`RunFault::NoType`], [`RunFault::NoClass`]: the map after the scripts
-///   doesn't have a name that the request gives.
-/// - [`RunFault::Differs`]: the run is `strict`, and its plan leaves differences.
+///   doesn't have the item, the type or the class that the request names.
+/// - [`RunFault::Differs`]: the request has `strict`, and differences remain after the plan.
 /// - [`RunFault::Memory`]: memory ran out.
 ///
-/// All calls are made before a run ends for one of the checks from `Refused` to `Differs`. The
-/// reader is asked for at most 16,777,217 bytes in total, in at most as many reads.
+/// The checks from `Refused` to `Differs` are made after all calls. The run requests at most
+/// 16,777,217 bytes from the reader, in at most 16,777,217 reads.
 ///
-/// Names may come from strangers, so they are hashed with random keys of the system, or without
-/// keys if the system provides none. The output doesn't depend on the keys.
+/// Names may come from an untrusted source, so they are hashed with random keys of the system. If
+/// the system provides no keys, the names are hashed without keys. The output doesn't depend on the
+/// keys.
 pub fn run_job<H, G, R, W>(
     rt: &H,
     gate: &G,

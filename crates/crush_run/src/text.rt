@@ -1,4 +1,4 @@
-//! The output of a run for a person: text.
+//! Writes the output of a run for a person to read: text.
 
 ghost use Rattle.std.specs.Prelude.{◌≡◌, ◌≤◌, List, Err, IfErr, IfOk, is_some, length, true};
 ghost use Rattle.std.specs.Io.KnownBytes.{Keeps};
@@ -15,7 +15,7 @@ ghost use Rattle.crush_edits.specs.Setting.{SettingData};
 ghost use Rattle.crush_input.specs.Notes.{IsKept};
 ghost use Rattle.crush_reasons.specs.Ceph.{ceph_text};
 ghost use Rattle.crush_plan.specs.Plan.{plan_data};
-ghost use Rattle.crush_run.specs.Output.{IsPut, changed_by_id, changed_by_name, changed_text, lines_if_requested, form_of, main_text, person_text, tree_text_of};
+ghost use Rattle.crush_run.specs.Output.{IsPut, changed_by_id, changed_by_name, changed_text, changed_tree_text, lines_if_requested, form_of, main_text, person_text, tree_text_of};
 ghost use Rattle.crush_run.specs.Found.{part_of};
 ghost use Rattle.crush_run.specs.Stages.{IsOpening, needs_opening};
 ghost use Rattle.crush_units.specs.declared.limits.TheConstants.{MOST_ENTRIES};
@@ -24,13 +24,14 @@ use crate::completed_run::CompletedRun;
 use crate::finding::{name_of, named_item, part_of};
 use crate::planned::write_plan;
 use crush_history::{Entry, Script, history_text};
-use crush_input::{OldMap, Output, Request};
+use crush_input::{OldMap, OldTree, Output, Request};
 use crush_map::CrushMap;
 use crush_options::{Mode, TreePartSpec};
 use crush_print::{WeightForm, write_map, write_tree_of_class, write_tree_part};
 use crush_reasons::ceph_text;
 use crush_since::{
-    since_part_text, write_changes, write_since, write_since_by_name, write_since_by_name_part,
+    since_part_text, write_changes, write_changes_of_class, write_since, write_since_by_name,
+    write_since_by_name_part,
 };
 use crush_units::{ItemId, WriteFault, put};
 use std::alloc::{AllocError, Global};
@@ -186,7 +187,7 @@ fn write_tree<W: Write>(
     }
 }
 
-/// Returns the form in which the map's text has its weights.
+/// Returns the form in which weights are printed in the map's text.
 fn form_of(mode: &Mode) -> WeightForm
     ensures { result ≡ form_of mode.now.exact }
 {
@@ -194,6 +195,30 @@ fn form_of(mode: &Mode) -> WeightForm
         WeightForm::Exact
     } else {
         WeightForm::Rounded
+    }
+}
+
+/// Writes the tree of what has changed since the old map.
+fn write_changed_tree<W: Write>(
+    alloc: Global,
+    old: &OldTree,
+    map: &CrushMap<Global>,
+    writer: &mut W,
+) -> Result<(), WriteFault>
+    ensures writes { (t : List Row) → Stands map.now.forest t
+        → IsPut result (W.contents writer.old) (W.contents writer.new)
+        (changed_tree_text (name_text old.now.part.class) (part_of old.now.part map.now.setting t)
+        (plain_map old.now.map.setting (rows_of old.now.map.forest)) (plain_map map.now.setting t)) }
+    ensures none { result ≡ Err WriteFault.OutOfMemory
+        → Keeps (W.contents writer.old) (W.contents writer.new) }
+{
+    old.map.forest().recall_invariant();
+    let part = part_of(&old.part, map);
+    match &old.part.class {
+        Some(class) => {
+            write_changes_of_class(alloc, &old.map, map, part, class.as_str(), writer)
+        }
+        None => write_changes(alloc, &old.map, map, part, writer),
     }
 }
 
@@ -218,18 +243,17 @@ fn write_output<W: Write>(
         Output::Map => write_map(alloc, completed.map, form_of(&request.mode), writer),
         Output::Tree(words) => write_tree(alloc, words, completed.map, writer),
         Output::Since(old) => write_changed(alloc, old, completed.map, writer),
-        Output::Changes(old) => {
-            old.map.forest().recall_invariant();
-            let part = part_of(&old.part, completed.map);
-            write_changes(alloc, &old.map, completed.map, part, writer)
-        }
+        Output::Changes(old) => write_changed_tree(alloc, old, completed.map, writer),
         Output::AsCeph => write_ceph(alloc, completed, writer),
-        Output::To(target) => write_plan(alloc, target.as_ceph, completed.plan, writer),
+        Output::To(target) => {
+            write_plan(alloc, target.as_ceph, completed.map, completed.plan, writer)
+        },
     }
 }
 
-/// Writes the output as text, followed by the lines of the history if the request selects them. The
-/// lines are made first, so that memory can't run out after a part of the output was written.
+/// Writes the output as text, followed by the lines of the history if the request asks for them.
+/// The lines are created first, so that memory can't run out for them after a part of the output
+/// was written.
 pub(crate) fn write_text<W: Write>(
     alloc: Global,
     request: &Request,

@@ -1,5 +1,5 @@
-//! The work of one worker, which makes the calls of one operator in order, and what all workers
-//! share.
+//! The work of a worker, which makes the calls of one operator in order, and the data that all
+//! workers share.
 
 ghost use Rattle.std.specs.Prelude.{◌≡◌, []};
 ghost use Rattle.crush_run.specs.Script.{HasRun};
@@ -12,16 +12,17 @@ use std::snapshot::Snapshot;
 use std::sync::Wait;
 use std::thread::Promise;
 
-/// The result of a worker: its seat, with a slip for each answered call, and the fault that stopped
-/// it, if any.
+/// The result of a worker. The seat has a slip for each answered call, that is, a copy of the call
+/// with its reply. If a fault stopped the worker, the result also has this fault.
 #[derive(Drop)]
 pub(crate) struct Finished<N: Desk> {
     pub(crate) seat: Seat<N>,
     pub(crate) fault: Option<SubmitFault>,
 }
 
-/// What a worker promises: to make the calls of an operator's script with the operator's seat. The
-/// worker owns the calls; this snapshot of them has no data at run time, and is for contracts only.
+/// The promise of a worker to make the calls of an operator's script with the operator's seat. The
+/// worker itself owns the calls. The snapshot of the calls in this type is only for contracts, and
+/// has no data when the program runs.
 #[derive(Drop)]
 pub(crate) struct Task {
     /// The operator's number, from 0.
@@ -39,15 +40,15 @@ impl<N: Desk> Promise<Finished<N>> for Task {
 #[derive(Drop)]
 pub(crate) struct Crew<'s, N: Desk, G, R> {
     pub(crate) rt: &'s R,
-    /// The memory for their slips.
+    /// The memory in which the slips of the calls are stored.
     pub(crate) alloc: Global,
     pub(crate) editor: &'s Editor<N, WithoutSnapshot>,
     pub(crate) gate: &'s G,
 }
 
 impl<'s, N: Desk, G: Gate, R: Wait> Crew<'s, N, G, R> {
-    /// Makes the calls in order with this seat, and stops at the first call that meets a fault.
-    /// Each call is moved into its entry of the history.
+    /// Makes the calls in order with this seat. Stops at the first call that fails. A call that
+    /// succeeds is moved into its entry of the history.
     pub(crate) fn work(&self, mut seat: Seat<N>, calls: Vec<Call>) -> Finished<N>
         requires { seat.slips ≡ [] }
         ensures { HasRun seat.operator calls.items result.seat result.fault }

@@ -17,7 +17,7 @@ use std::thread;
 use std::thread::{PromisedHandle, Scope, Threads};
 
 impl<'s, N: Desk + Send + Sync, G: Gate + Sync, R: Threads + Wait + Sync> Crew<'s, N, G, R> {
-    /// Starts the worker for one seat. Returns `None` if no thread can be created.
+    /// Starts the worker of one seat. Returns `None` if no thread can be created.
     fn start<E>(
         &self,
         scope: &Scope<'s, E>,
@@ -48,8 +48,9 @@ impl<'s, N: Desk + Send + Sync, G: Gate + Sync, R: Threads + Wait + Sync> Crew<'
         scope.spawn_with(task, job).ok()
     }
 
-    /// Starts a worker for each seat, with the script at the same position. If a worker can't be
-    /// started, returns a fault, while those that were started go on.
+    /// Starts a worker for each seat. The worker runs the script that has the same position as its
+    /// seat. If a worker can't be started, returns a fault, and the workers that were already
+    /// started continue.
     fn start_all<E>(
         &self,
         scope: &Scope<'s, E>,
@@ -81,8 +82,9 @@ impl<'s, N: Desk + Send + Sync, G: Gate + Sync, R: Threads + Wait + Sync> Crew<'
         Ok(handles)
     }
 
-    /// Starts a worker for each script, waits for all that were started, and returns their results.
-    /// If a worker couldn't be started, the fault is [`RunFault::Thread`], whatever the others met.
+    /// Starts a worker for each script, waits for all workers that were started, and returns their
+    /// results. If a worker couldn't be started, the fault is [`RunFault::Thread`], even if other
+    /// workers stopped with another fault.
     pub(crate) fn run_all(
         &self,
         seats: Vec<Seat<N>>,

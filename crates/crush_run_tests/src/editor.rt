@@ -1,5 +1,6 @@
-//! What operators read of one editor, and what its closed history has. Weights are in 65536ths: the
-//! devices weigh 1, 1 and 0.5, 163840 in all, and each call sets one of the first two to 2.
+//! Tests what operators read from an editor, and which history the editor has when it is closed.
+//! Weights are in units of 1/65536. The devices weigh 1, 1 and 0.5, which are 163840 units in
+//! total, and each call sets the weight of one of the first two devices to 2.
 
 ghost use Rattle.std.specs.Prelude.{◌≡◌, ◌<◌, ◌≤◌};
 ghost use Rattle.crush_units.specs.declared.limits.TheConstants.{MOST_OPERATORS};

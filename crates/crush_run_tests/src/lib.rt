@@ -1,5 +1,5 @@
-//! Tests of runs and of the editor in them: `run` is of `crush_options`, `crush_input` and
-//! `crush_run`, `editor` of `crush_editor` and `crush_gauge`.
+//! Tests runs, and the editor that runs use. `run` tests `crush_options`, `crush_input` and
+//! `crush_run`, and `editor` tests `crush_editor` and `crush_gauge`.
 #![tactic(auto)]
 
 #[cfg(test)]

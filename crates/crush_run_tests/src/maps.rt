@@ -1,4 +1,4 @@
-//! The map from which runs and editors begin.
+//! Has the map with which the tests of runs and editors start.
 
 pub const PLAIN: &[u8] = b"\
     # begin crush map\n\

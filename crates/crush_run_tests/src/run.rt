@@ -1,6 +1,6 @@
-//! Tests of `crush_options`, `crush_input` and `crush_run`: a call of each public function, and what
-//! the sessions of `tests/runs/` can't show, such as streams that fail, gates, and files that no file
-//! system has.
+//! Tests `crush_options`, `crush_input` and `crush_run`. The tests call each public function. They
+//! also have the cases that the files of `tests/runs/` can't show, for instance streams that fail,
+//! gates, and files that no file system can have.
 
 use crate::maps::PLAIN;
 use crush_input::{Words, report};
@@ -90,7 +90,8 @@ fn writes(
         && out.ends_with(lines)
 }
 
-/// One operator at once is as one in turn.
+/// If there is only one operator, a run in which operators work at once has the same result as a
+/// run in which they work in turn.
 #[test]
 fn runs_one_operator_at_once(rt: HostRuntime) {
     let job = joined(&rt, PLAIN, b"%operator a\nreweight osd.2 1.0\n");

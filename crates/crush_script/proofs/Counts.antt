@@ -1,4 +1,4 @@
--- Numbers of changes: what is printed of one is read as it.
+-- A printed number of changes is read back as the same number.
 use Rattle.std.proofs.Common.{◌≡◌, ℕ, ◌<◌, ◌≤◌, ◌&&◌, ◌==◌, Bool, true, false, cond, List, [], ◌∷◌, Option, Some, None, Ok, length, nat_le, refl, ap, ◌∙◌, arith, rules, tests}
 use Rattle.std.specs.Prelude.{decimal, not}
 use Rattle.std.specs.List.{list_all}

@@ -44,7 +44,7 @@ leading_zero = refl
 no_digits : device_named (codes "osd.") ≡ None
 no_digits = refl
 
--- each command
+-- one line for each command
 one_weight : command (codes "reweight" ∷ (codes "osd.2" ∷ (codes "1.0" ∷ []))) ≡ Ok (Edit (Reweight (codes "osd.2") UNITS_OF_ONE))
 unfolding name_at weight_at end_at with_pair with_pairs location_at placing_at located_at one_name_at two_names_at name_and_weight_at keyword_of edit_at count_at begin_at command
 one_weight = refl
@@ -61,7 +61,7 @@ one_choice : command (codes "create-or-move" ∷ (codes "osd.0" ∷ (codes "5.0"
 unfolding name_at weight_at end_at with_pair with_pairs location_at placing_at located_at one_name_at two_names_at name_and_weight_at keyword_of edit_at count_at begin_at command
 one_choice = refl
 
--- an empty location is read, and refused as an edit
+-- a command without pairs can be read; later, the edit is refused because its location is empty
 no_location : command (codes "add" ∷ (codes "osd.3" ∷ (codes "1" ∷ []))) ≡ Ok (Edit (Insert 3 (codes "osd.3") UNITS_OF_ONE []))
 unfolding name_at weight_at end_at with_pair with_pairs location_at placing_at located_at one_name_at two_names_at name_and_weight_at keyword_of edit_at count_at begin_at command
 no_location = refl
@@ -110,7 +110,7 @@ a_commit : command (codes "commit" ∷ []) ≡ Ok Commit
 unfolding name_at weight_at end_at with_pair with_pairs location_at placing_at located_at one_name_at two_names_at name_and_weight_at keyword_of edit_at count_at begin_at command
 a_commit = refl
 
--- lines that aren't of their form
+-- lines that don't have the form of their command
 begin_with_more : command (codes "begin" ∷ (codes "x" ∷ [])) ≡ Err (misfit 1 due.At)
 unfolding name_at weight_at end_at with_pair with_pairs location_at placing_at located_at one_name_at two_names_at name_and_weight_at keyword_of edit_at count_at begin_at command
 begin_with_more = refl
@@ -164,7 +164,7 @@ two_operators : operator (codes "%operator" ∷ (codes "a" ∷ (codes "b" ∷ []
 unfolding name_at end_at one_name_at operator
 two_operators = refl
 
--- 19 digits behind the point are no weight
+-- a number with 19 digits after the point isn't a weight
 nineteen_digits : command (codes "reweight" ∷ (codes "osd.0" ∷ (codes "0.0000000000000000001" ∷ []))) ≡ Err (misfit 2 due.Weight)
 unfolding name_at weight_at end_at with_pair with_pairs location_at placing_at located_at one_name_at two_names_at name_and_weight_at keyword_of edit_at count_at begin_at command
 nineteen_digits = refl
@@ -186,7 +186,7 @@ seventeen_pairs : located_at (codes "h" ∷ (codes "t0=b" ∷ (codes "t1=b" ∷ 
 unfolding name_at with_pair with_pairs location_at located_at
 seventeen_pairs = refl
 
--- a job whose third line is no command
+-- a job whose third line isn't a command
 abbrev pub flying : List ℕ
 flying = codes "type 1 host\n%operator a\nfly x"
 
@@ -197,7 +197,7 @@ flying_fault : sections_of (flying) ≡ Err (job.NoSuchCommand 3)
 unfolding lines words_between_blanks name_at weight_at end_at with_pair with_pairs location_at placing_at located_at one_name_at two_names_at name_and_weight_at keyword_of edit_at count_at begin_at command operator with_line with_lines
 flying_fault = refl
 
--- sections of one name, and a batch that is open where a section begins, at the end, and at a faulty line
+-- two sections with the same name; and a batch that is still open where a section begins, at the end of the job, and at a faulty line
 same_operator : sections_of (codes "%operator a\n\n%operator a") ≡ Err (job.DuplicateOperator 3)
 unfolding lines words_between_blanks name_at weight_at end_at with_pair with_pairs location_at placing_at located_at one_name_at two_names_at name_and_weight_at keyword_of edit_at count_at begin_at command operator with_line with_lines
 same_operator = refl
@@ -232,7 +232,7 @@ two_scripts : sections_of (codes "%operator a\nbegin\nrm x\n\nrm y\ncommit\nrm z
 unfolding lines words_between_blanks name_at weight_at end_at with_pair with_pairs location_at placing_at located_at one_name_at two_names_at name_and_weight_at keyword_of edit_at count_at begin_at command operator with_line with_lines
 two_scripts = refl
 
--- a batch that names a number of changes: digits, however many, up to MOST_ENTRIES, and nothing else
+-- a batch that names a number of changes: any number of digits, with a value up to MOST_ENTRIES, and nothing else
 a_guard : command (codes "begin" ∷ (codes "at" ∷ (codes "3" ∷ []))) ≡ Ok (Begin (Some 3))
 unfolding end_at count_at begin_at command
 a_guard = refl

@@ -16,24 +16,24 @@ use Rattle.crush_script.specs.Lines.{line_words, begins_section}
 use Rattle.crush_history.specs.Script.{ScriptData, call_count}
 use Rattle.crush_script.specs.Sections.{SectionsData, no_sections, call_in_last, in_line, without_batch, closed, has_operator, with_section, counted, with_call, with_number, batch_call, with_edit, with_begin, with_commit, with_command, with_line, with_lines}
 
--- a batch that is open is one call
+-- an open batch counts as one call
 abbrev open_calls : Option BegunBatch → ℕ
 open_calls None = 0
 open_calls (Some b) = 1
 
--- the calls are counted, and they and the scripts are few
+-- the counter of calls is at least their number, and the counter and the number of scripts are within their limits
 record IsFew (s : SectionsData) : Type 0 where
   counted : call_count s.scripts + open_calls s.begun ≤ s.calls
   few : s.calls ≤ MOST_CALLS
   scripts : length s.scripts ≤ MOST_OPERATORS
 
--- the same where one more is counted already
+-- the same, if one more call is already counted
 record IsFewer (s : SectionsData) : Type 0 where
   counted : call_count s.scripts + open_calls s.begun + 1 ≤ s.calls
   few : s.calls ≤ MOST_CALLS
   scripts : length s.scripts ≤ MOST_OPERATORS
 
--- the last script has one more call, if there is one
+-- adding a call to the last script adds at most one call
 call_count-call_in_last : (c : Call) (scripts : List ScriptData) → call_count (call_in_last c scripts) ≤ call_count scripts + 1
 call_count-call_in_last c [] = omega arith
 call_count-call_in_last c (s ∷ []) = omega (arith, length-append s.calls (c ∷ []))
@@ -112,7 +112,7 @@ lines_few number s [] few = closed_few s few
 lines_few number s (text ∷ rest) few =
     bind-if_ok_at (with_line number s text) (λ next. with_lines (number + 1) next rest) IsFew IsFew (line_few number s text few) (λ next h. lines_few (number + 1) next rest h)
 
--- however the lines of a job go on, its scripts are few and have few calls
+-- after all lines of a job, the number of scripts and the number of calls are within their limits
 all_few : (number : ℕ) (lines : List (List ℕ)) (s : SectionsData) → with_lines number no_sections lines ≡ Ok s → IsFew s
 all_few number lines s is = if_ok-at (with_lines number no_sections lines) s IsFew is (lines_few number no_sections lines (record { counted = omega arith; few = omega arith; scripts = omega arith }))
 

@@ -42,7 +42,7 @@ no_command m e = cc
 no_section : {X : Type 0} (m : Misfit) → ◌≡◌ {A = Result X LineFault} (Err NoOperator) (Err (Word m)) → ⊥
 no_section m e = cc
 
--- the first word of some words is judged: it is due, and some words after it complete it; or it isn't, whatever follows
+-- the first word fits (`Fits`): it has the required form, and with certain words after it the line can be read; or it doesn't fit (`Stops`), and the line can't be read, whatever follows
 record Fits {X : Type 0} (parse : Parse X) (d : Due) (w : List ℕ) : Type 0 where
   is_due : IsDue d w
   more : List (List ℕ)
@@ -68,7 +68,7 @@ module _ {X : Type 0} (parse : Parse X) (k : ℕ) (d : Due) (judges : Judges par
     by (inl f) = f.is_due
     by (inr s) = absurd (no_ok _ _ (s.same more) ok)
 
-  -- no word is there, or one that doesn't fit
+  -- the word is missing, or it is there and doesn't fit
   missing : may_end d ≡ false → FirstMisfit parse [] 0 d
   missing goes_on = record {
     within = omega arith;
@@ -87,7 +87,7 @@ module _ {X : Type 0} (parse : Parse X) (k : ℕ) (d : Due) (judges : Judges par
     wrong = λ less more ok. no_ok _ _ (s.same more) ok;
   }
 
--- the words of a line from the one with index k on have a misfit
+-- the words of a line from index k on have a first misfit
 record Misfits {X : Type 0} (parse : Parse X) (k : ℕ) (words : List (List ℕ)) (m : Misfit) : Type 0 where
   index : ℕ
   place : m.word ≡ k + index
@@ -101,7 +101,7 @@ here parse k d words m told is =
     let same : ◌≡◌ {A = Misfit} (record { word = k; due = d }) m = cc in
     record { index = 0; place = omega (arith, ap (λ (x : Misfit). x.word) same); first = subst (λ (x : Misfit). FirstMisfit parse words 0 x.due) same is }
 
--- the first word fits, and what follows is read in another way
+-- if the first word fits, and the words after it are read by `next`, then the first misfit of `next` is the first misfit of the line
 passes : {X : Type 0} (parse next : Parse X) (k : ℕ) (w : List ℕ) (rest : List (List ℕ)) (m : Misfit) → ((r : List (List ℕ)) → parse (w ∷ r) ≡ next r) → Misfits next (k + 1) rest m → Misfits parse k (w ∷ rest) m
 passes parse next k w rest m same is = record {
   index = suc is.index;
@@ -115,7 +115,7 @@ passes parse next k w rest m same is = record {
   };
 }
 
--- the same for a value that is made of what was read
+-- the same if the value is computed from the value that was read
 abbrev made : {X Y : Type 0} → Parse X → (X → Y) → Parse Y
 made parse f words = parse words >>= (λ x. Ok (f x))
 
@@ -157,7 +157,7 @@ end_tells k value (w ∷ rest) m told =
     let s = end_stops k value w in
     here (end_at k value) k due.End (w ∷ rest) m (sym (s.same rest) ∙ told) (wrong_word (end_at k value) k due.End (λ v. inr (end_stops k value v)) (λ e. end_ok k value) w rest s)
 
--- A NAME, and then words that are read in a way in which they can be completed
+-- A NAME, followed by words that are read by a parser that accepts certain words
 record Completes {X : Type 0} (parse : Parse X) : Type 0 where
   more : List (List ℕ)
   whole : IsOk (parse more)
@@ -316,7 +316,7 @@ located_tells : Tells located_at 1
 unfolding located_at
 located_tells = name_tells 1 (λ n. made (location_at 2) (named n)) (λ n. made_completes (location_at 2) (named n) (location_completes 2)) (λ n. makes (location_at 2) (named n) 2 (location_tells 2))
 
--- A DEVICE, which is a name too
+-- A DEVICE, whose word is also a name
 abbrev put : ℕ → List ℕ → ℕ → List Pair → Placing
 put d n w l = record { device = d; name = n; weight = w; at = l }
 
@@ -454,7 +454,7 @@ by_keyword : (o : Option Keyword) → Tells (edit_by o) 1
 by_keyword None words m told = absurd (no_command m told)
 by_keyword (Some k) words m told = edit_tells k words m told
 
--- what is read behind the first word
+-- how the words after the first word are read
 abbrev behind_first : Bool → Bool → Option Keyword → Parse Command
 behind_first begins commits k rest = cond begins (begin_at rest) (cond commits (end_at 1 says.Commit rest) (edit_by k rest >>= λ edit. Ok (says.Edit edit)))
 

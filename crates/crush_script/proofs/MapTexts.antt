@@ -7,7 +7,7 @@ use Rattle.crush_units.specs.Words.{Word, Stop, ended, bad, is_blank, is_brace, 
 use Rattle.crush_script.specs.Lines.{length_to_section}
 use Rattle.crush_script.specs.ScriptsText.{MapTextsHaveNoSection}
 
--- what ends the words that are short enough ends all
+-- if reading stops at the end of the text although words that are too long stop it, then it also stops there without this check
 stop_of_all : (ws : List Word) (stop : Stop) (q : ℕ) → (up_to_long ws stop).stop ≡ ended q → stop ≡ ended q
 unfolding up_to_long
 stop_of_all [] stop q h = h
@@ -17,7 +17,7 @@ stop_of_all (w ∷ ws) stop q h = by_test (nat_lt LONGEST_NAME (length w.text)) 
     by_test true h more = absurd cc
     by_test false h more = more h
 
--- a byte before words that end with the text is no `%`, and the words behind it end so too
+-- if the words of a text end with the text, then its first byte isn't `%`, and the words after this byte also end with the text
 record Goes (p b : ℕ) (bs : List ℕ) (q : ℕ) : Type 0 where
   other : (b == 37) ≡ false
   more : (split (p + 1) bs).stop ≡ ended q
@@ -34,7 +34,7 @@ goes p b bs q h = by_byte (is_blank b) (is_brace b) (is_name_byte b) (begins_wit
     by_byte false false true false e f g h = record { other = grind (arith, nat_tests); more = h }
     by_byte false false false y e f g h = absurd cc
 
--- a byte that begins no section
+-- a byte that doesn't begin a section
 one_more : (starts : Bool) (b : ℕ) (bs : List ℕ) → (starts && (b == 37)) ≡ false → length_to_section (b == 10) bs ≡ length bs → length_to_section starts (b ∷ bs) ≡ length (b ∷ bs)
 one_more starts b bs other h = rw other (omega (arith, h))
 
@@ -42,11 +42,11 @@ never : (v : Bool) → (v && false) ≡ false
 never true = refl
 never false = refl
 
--- what holds of the bytes behind one, inside a comment or not
+-- what has to be true of the bytes after the first byte, inside a comment or not
 abbrev Rest : Bool → ℕ → List ℕ → ℕ → Type 0
 Rest starts p bytes q = (inside : Bool) → (starts && inside) ≡ false → (split p (without_comments inside bytes)).stop ≡ ended q → length_to_section starts bytes ≡ length bytes
 
--- where the words end with the text, no line begins with `%`: one that begins inside a comment isn't seen as one
+-- if the words end with the text, then no line begins with `%`; a line never begins inside a comment
 no_section : (inside starts : Bool) (p : ℕ) (bytes : List ℕ) (q : ℕ) → (starts && inside) ≡ false → (split p (without_comments inside bytes)).stop ≡ ended q → length_to_section starts bytes ≡ length bytes
 no_section inside starts p [] q apart h = refl
 no_section true true p (b ∷ bs) q apart h = absurd (true≢false apart)

@@ -1,4 +1,4 @@
--- What is printed of an edit is read as that edit.
+-- A printed edit is read back as the same edit.
 use Rattle.std.proofs.Common.{◌≡◌, ℕ, suc, ◌+◌, ◌/◌, ◌<◌, ◌≤◌, ◌^◌, true, List, [], ◌∷◌, ◌++◌, Some, Ok, length, map, take, drop, get_or, refl, sym, ap, ◌∙◌, arith, append_assoc, length-append}
 use Rattle.std.specs.Prelude.{codes, decimal}
 use Rattle.std.specs.List.{list_all}
@@ -123,7 +123,7 @@ pairs (p ∷ l) names =
 of_location : (l : List Pair) → IsLocation l → ArePairs l
 of_location l is = pairs l (λ k d h. (is.kinds k d h, is.names k d h))
 
--- what is printed, as words with one space between them
+-- the printed text consists of words with one space between them
 pairs-joined : (v : List ℕ) (l : List Pair) → v ++ pairs_text l ≡ joined v (map pair_word l)
 pairs-joined v [] = append-nil v
 pairs-joined v (p ∷ l) =
@@ -152,7 +152,7 @@ placing-joined first n v l =
     grouped : (a b c d : List ℕ) → (a ++ (32 ∷ (b ++ (32 ∷ c)))) ++ d ≡ a ++ (32 ∷ (b ++ (32 ∷ (c ++ d))))
     grouped a b c d = append_assoc a (32 ∷ (b ++ (32 ∷ c))) d ∙ ap (λ (r : List ℕ). a ++ 32 ∷ r) (append_assoc b (32 ∷ c) d)
 
--- the words behind the first, read
+-- reading the words after the first word
 placing_read : (d : ℕ) (n v : List ℕ) (w : ℕ) (l : List Pair) → IsName n → device_named n ≡ Some d → weight_of_text v ≡ Ok w → ArePairs l → length l ≤ MOST_PAIRS
     → placing_at (n ∷ (v ∷ map pair_word l)) ≡ Ok (record { device = d; name = n; weight = w; at = l })
 unfolding placing_at name_at weight_at location_at
@@ -174,7 +174,7 @@ weighed_read : (n v : List ℕ) (w : ℕ) → IsName n → weight_of_text v ≡ 
 unfolding name_and_weight_at name_at weight_at end_at
 weighed_read n v w name weight = let x = is_name_true n name in rw (x, weight) refl
 
--- what is printed of an edit, as words that say it
+-- the words of a printed edit, which are parsed as this edit
 pub record IsPrinted (e : Edit) : Type 0 where
   pub first : List ℕ
   pub words : List (List ℕ)
@@ -230,7 +230,7 @@ printed (RemoveClass n) is =
     let reads = one_name_read n is in
     said (codes "rm-device-class") (n ∷ []) (RemoveClass n) (one-joined (codes "rm-device-class") n) (omega arith) refl (name_word n is, tt) (rw reads refl)
 
--- a line of words says what the words say
+-- a printed line is parsed as its words are parsed
 pub printed_is_read : PrintedIsRead
 printed_is_read e is =
     let p = printed e is in

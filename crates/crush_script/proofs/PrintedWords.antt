@@ -1,4 +1,4 @@
--- Words with one space between them, and the words of that line.
+-- A line that consists of words with one space between them, and the words that are read from it.
 use Rattle.std.proofs.Common.{◌≡◌, ℕ, zero, suc, ◌-◌, ◌<◌, ◌&&◌, ◌||◌, ◌==◌, Bool, true, false, not, cond, List, [], ◌∷◌, ◌++◌, length, take, filter, get_or, refl, sym, ap, ◌∙◌, ltb, arith, rules, tests}
 use Rattle.std.specs.List.{list_all, slice_split, prefix_len}
 use Rattle.std.proofs.lemmas.Bool.{false≢true}
@@ -8,7 +8,7 @@ use Rattle.crush_units.specs.Name.{is_name_byte}
 use Rattle.crush_script.specs.Lines.{is_space_or_tab, words_between_blanks, without_comment, without_return, line_words}
 use Rattle.crush_script.proofs.Cuts.{kept}
 
--- the bytes of the words that are printed, and those of a line of them
+-- the bytes that printed words may have, and the bytes that a line of printed words may have
 abbrev pub is_word_byte : ℕ → Bool
 is_word_byte b = is_name_byte b || b == 61 || b == 37
 
@@ -19,7 +19,7 @@ pub record IsWord (word : List ℕ) : Type 0 where
   pub some : 0 < length word
   pub bytes : list_all is_word_byte word ≡ true
 
--- each of several words
+-- each text in a list is a printed word
 abbrev pub AreWords : List (List ℕ) → Type 0
 AreWords [] = Unit {0}
 AreWords (word ∷ words) = IsWord word × AreWords words
@@ -28,7 +28,7 @@ abbrev pub joined : List ℕ → List (List ℕ) → List ℕ
 joined word [] = word
 joined word (next ∷ words) = word ++ 32 ∷ joined next words
 
--- a byte that passes a test is none that doesn't
+-- a byte that passes a test differs from a number that doesn't
 pub never : (p : ℕ → Bool) (b n : ℕ) → p n ≡ false → p b ≡ true → (b == n) ≡ false
 never p b n fails passes = at (b == n) refl
   where
@@ -46,7 +46,7 @@ no_blank b h =
     let tab = never is_word_byte b 9 refl h in
     rw (space, tab) refl
 
--- one word, with and without more behind it
+-- splitting a line at its blanks gives the first word, and then the words of the rest, if there is a rest
 split_word : (word rest : List ℕ) → list_all is_word_byte word ≡ true → slice_split is_space_or_tab (word ++ 32 ∷ rest) ≡ word ∷ slice_split is_space_or_tab rest
 split_word [] rest h = refl
 split_word (b ∷ bs) rest h =
@@ -71,7 +71,7 @@ words-joined word (next ∷ words) is others =
     ap (filter is_some_word) (split_word word (joined next words) is.bytes) ∙ kept word (slice_split is_space_or_tab (joined next words)) is.some
     ∙ ap (λ (r : List (List ℕ)). word ∷ r) (words-joined next words others.0 others.1)
 
--- the bytes of the line
+-- the bytes of a line of printed words
 line_byte : (b : ℕ) → is_word_byte b ≡ true → is_line_byte b ≡ true
 line_byte b h = rw h refl
 
@@ -87,7 +87,7 @@ bytes-joined word [] is others = line_bytes word is.bytes
 bytes-joined word (next ∷ words) is others =
     list_all-append is_line_byte word (32 ∷ joined next words) ∙ rw (line_bytes word is.bytes, bytes-joined next words others.0 others.1) refl
 
--- nothing of such a line is a comment or a return
+-- such a line has no comment and no carriage return
 abbrev is_text : ℕ → Bool
 is_text b = not (b == 35)
 

@@ -1,4 +1,4 @@
--- The edits that lines say are of the forms that are printed and read.
+-- Each edit that is parsed from a line is an edit that a command can express.
 use Rattle.std.proofs.Common.{◌≡◌, ℕ, ◌+◌, ◌<◌, ◌≤◌, ◌^◌, ◌&&◌, Bool, true, false, cond, List, [], ◌∷◌, ◌++◌, Option, Some, None, Result, Ok, Err, length, nat_lt, nat_le, refl, arith, length-append}
 use Rattle.std.proofs.lemmas.Bool.Decides.{nat_tests}
 use Rattle.std.proofs.lemmas.List.Elements.{All-nil, All-push}
@@ -30,7 +30,7 @@ use Rattle.crush_script.specs.Command.{misfit, name_at, read_weight, weight_at, 
 use Rattle.crush_script.specs.Printed.{ReadIsSaid}
 use Rattle.crush_script.proofs.Oks.{bind-if_ok_at, if_ok-either, if_ok-then, if_ok-passed, if_ok-at}
 
--- WORDS: a name
+-- WORDS that were read have the required form: a name
 name_said : (index : ℕ) (d : Due) (words : List (List ℕ)) → IfOk (name_at index d words) (λ r. IsName r.value)
 unfolding name_at
 name_said index d [] = tt
@@ -85,7 +85,7 @@ location_said : (first : ℕ) (words : List (List ℕ)) → IfOk (location_at fi
 unfolding location_at
 location_said first words = pairs_said first [] words (record { few = omega arith; kinds = All-nil (λ (q : Pair). IsName q.kind); names = All-nil (λ (q : Pair). IsName q.name) })
 
--- no word is left
+-- the end of the line
 end_said : {X : Type 0} (index : ℕ) (value : X) (words : List (List ℕ)) (P : X → Type 0) → P value → IfOk (end_at index value words) P
 unfolding end_at
 end_said index value [] P h = h
@@ -151,7 +151,7 @@ edit_said first rest = at (keyword_of first)
     at None = tt
     at (Some keyword) = edit_of_said keyword rest
 
--- a line that begins no section, and has an edit
+-- what is true of a parsed line that doesn't begin a section
 abbrev pub HasSaid : Command → Type 0
 HasSaid says.Nothing = Unit {0}
 HasSaid (says.Edit e) = IsSaid e

@@ -1,4 +1,4 @@
--- The scripts of a job are of the forms that are printed and read.
+-- The scripts of a job are scripts that sections can express.
 use Rattle.std.proofs.Common.{◌≡◌, ℕ, zero, suc, ◌+◌, ◌<◌, ◌≤◌, ◌||◌, Bool, true, false, List, [], ◌∷◌, ◌++◌, Option, Some, None, Result, Ok, Err, length, nat_le, refl, ap, sym, ◌∙◌, subst, arith, rules, tests, length-append}
 use Rattle.std.proofs.lemmas.List.Elements.{All-nil, All-cons, All-head, All-tail, All-push}
 use Rattle.std.proofs.lemmas.List.{get_or-map, length-map, map-append}
@@ -28,17 +28,17 @@ use Rattle.crush_script.proofs.Oks.{bind-if_ok_at, if_ok-either, if_ok-else, if_
 use Rattle.crush_script.proofs.Few.{calls_few, scripts_few}
 use Rattle.crush_script.proofs.Said.{HasSaid, command_said, operator_said}
 
--- no two scripts have one name
+-- no two scripts have the same name
 abbrev AreApart : List ScriptData → Type 0
 AreApart scripts = AllPairs (λ (a b : List ℕ). bytes_eq a b ≡ false) (names_of scripts)
 
--- what the lines so far say
+-- what is true after the lines so far were read
 record AreSaid (s : SectionsData) : Type 0 where
   scripts : All IsSaidScript s.scripts
   begun : IfSome s.begun (λ b. IsSaidCall (batch_call b.seen b.edits))
   names : AreApart s.scripts
 
--- where no element passes a test, each one fails it
+-- if no element passes a test, then each element fails it
 both_fail : (a b : Bool) → (a || b) ≡ false → (a ≡ false) × (b ≡ false)
 both_fail false b h = (refl, h)
 both_fail true b h = absurd (false≢true (sym h))
@@ -48,7 +48,7 @@ each_fails p [] none k d inside = absurd (omega (arith, inside))
 each_fails p (x ∷ xs) none zero d inside = (both_fail (p x) (list_any p xs) none).0
 each_fails p (x ∷ xs) none (suc k) d inside = each_fails p xs (both_fail (p x) (list_any p xs) none).1 k d (omega (arith, inside))
 
--- one script more, whose name none has
+-- one more script, whose name no other script has
 one_more : (xs : List ScriptData) (x : ScriptData) → AreApart xs → has_operator xs x.name ≡ false → AreApart (xs ++ x ∷ [])
 one_more xs x apart own =
     let pushed = all_pairs_push (λ (a b : List ℕ). bytes_eq a b ≡ false) (names_of xs) x.name apart (λ k d inside.
@@ -56,7 +56,7 @@ one_more xs x apart own =
     ap (λ (n : List ℕ). bytes_eq n x.name) (get_or-map (λ (y : ScriptData). y.name) xs k (record { name = d; calls = [] }) d there) ∙ each_fails (λ (y : ScriptData). bytes_eq y.name x.name) xs own k (record { name = d; calls = [] }) there) in
     subst (λ (ns : List (List ℕ)). AllPairs (λ (a b : List ℕ). bytes_eq a b ≡ false) ns) (sym (map-append (λ (y : ScriptData). y.name) xs (x ∷ []))) pushed
 
--- a call changes no name
+-- adding a call doesn't change the names of the scripts
 names-in_last : (c : Call) (xs : List ScriptData) → names_of (call_in_last c xs) ≡ names_of xs
 names-in_last c [] = refl
 names-in_last c (x ∷ []) = refl
@@ -88,7 +88,7 @@ in_last_said c (x ∷ []) is all =
     All-cons IsSaidScript _ [] (record { name = own.name; calls = All-push IsSaidCall x.calls c own.calls is }) (All-nil IsSaidScript)
 in_last_said c (x ∷ y ∷ rest) is all = All-cons IsSaidScript x _ (All-head IsSaidScript x (y ∷ rest) all) (in_last_said c (y ∷ rest) is (All-tail IsSaidScript x (y ∷ rest) all))
 
--- a batch that begins, and one that has one edit more
+-- a batch that begins, and a batch with one more edit
 batch_begun : (seen : Option ℕ) → IfSome seen (λ n. n ≤ MOST_ENTRIES) → IsSaidCall (batch_call seen [])
 batch_begun None few = (All-nil IsSaid, omega arith)
 batch_begun (Some n) few = (All-nil IsSaid, omega arith, few)
@@ -119,7 +119,7 @@ obeyed_said number s (says.Edit e) said is = edit_said number s s.begun e said.b
 obeyed_said number s (says.Begin seen) said is = begin_said number s s.begun seen said is
 obeyed_said number s says.Commit said is = commit_said number s s.begun said.begun said
 
--- told with the number of its line, a result is the same
+-- adding the line's number to a fault doesn't change a result without a fault
 in_line_said : {X : Type 0} (number : ℕ) (r : Result X LineFault) (P : X → Type 0) → IfOk r P → IfOk (in_line number r) P
 in_line_said number (Ok x) P h = h
 in_line_said number (Err fault) P h = tt
@@ -146,7 +146,7 @@ sections_said bytes job is =
 pub job_said : (bytes : List ℕ) (job : JobData) → IsJob bytes job → All IsSaidScript job.scripts
 job_said bytes job is = subst (λ (xs : List ScriptData). All IsSaidScript xs) is.scripts (sections_said bytes job is).scripts
 
--- the scripts of a job are such as are printed and read
+-- the scripts of a job are scripts that a job can have
 pub read_scripts_are_such : ReadScriptsAreSuch
 read_scripts_are_such bytes job is =
     let said = sections_said bytes job is in

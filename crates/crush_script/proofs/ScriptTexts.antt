@@ -1,4 +1,4 @@
--- What is printed of scripts is read as those scripts.
+-- Printed scripts are read back as the same scripts.
 use Rattle.std.proofs.Common.{◌≡◌, ℕ, ◌+◌, ◌<◌, ◌≤◌, ◌&&◌, ◌==◌, Bool, true, false, not, cond, List, [], ◌∷◌, ◌++◌, Option, Some, None, Ok, length, map, take, drop, nat_le, refl, sym, ap, ◌∙◌, subst, arith, rules, tests, append_assoc, length-append}
 use Rattle.std.specs.Prelude.{All, AllPairs, bytes_eq, codes, decimal, flat_map}
 use Rattle.std.specs.List.{list_all}
@@ -29,7 +29,7 @@ use Rattle.crush_script.proofs.Counts.{count_read}
 use Rattle.crush_script.proofs.MapTexts.{map_texts_have_no_section}
 use Rattle.crush_script.proofs.PrintedWords.{joined, is_line_byte, IsWord, both, never, bytes-joined, line_words-joined}
 
--- LINES: none has a line feed
+-- LINES have no line feeds in them
 abbrev is_no_feed : ℕ → Bool
 is_no_feed b = not (b == 10)
 
@@ -47,7 +47,7 @@ is_not : (t : Bool) → not t ≡ true → t ≡ false
 is_not false h = refl
 is_not true h = absurd (false≢true h)
 
--- a line and its line feed
+-- the lines of a text that begins with a line and its line feed
 lines-ended : (line rest : List ℕ) → IsLine line → lines (line ++ 10 ∷ rest) ≡ line ∷ lines rest
 unfolding lines
 lines-ended [] rest h = refl
@@ -113,7 +113,7 @@ scripts_are_lines (x ∷ xs) all =
     let is = All-head IsSaidScript x xs all in
     are_lines-append (script_lines x) (flat_map script_lines xs) (operator_line x.name is.name, calls_are_lines x.calls is.calls) (scripts_are_lines xs (All-tail IsSaidScript x xs all))
 
--- STEPS: some lines take what was said before them to what is said behind them, whatever follows; only the numbers of the lines of edits are left open
+-- STEPS: reading certain lines leads from one state (`Said`) to another, whatever lines follow. The states leave out the numbers of the lines that have edits
 record Said : Type 0 where
   scripts : List ScriptData
   calls : ℕ
@@ -122,7 +122,7 @@ record Said : Type 0 where
 abbrev state : List ScriptData → ℕ → Option BegunBatch → Said
 state scripts calls begun = record { scripts = scripts; calls = calls; begun = begun }
 
--- with these numbers of lines
+-- the sections in this state, with these numbers of lines
 abbrev lined : List (List ℕ) → Said → SectionsData
 lined numbers s = record { scripts = s.scripts; lines = numbers; calls = s.calls; begun = s.begun }
 
@@ -178,13 +178,13 @@ batch_goes (e ∷ es) n l xs k at seen done all room =
     goes_to n l _ _ _ _ (ap (λ (fs : List Edit). state xs k (Some (record { line = at; seen = seen; edits = fs }))) (append_assoc done (e ∷ []) es))
     (goes_on n l _ _ _ (edit_text e ∷ []) (map edit_text es) one (λ m o. batch_goes es m o xs k at seen (done ++ e ∷ []) (All-tail IsSaid e es all) (omega (arith, room, length-append done (e ∷ [])))))
 
--- the last script of some
+-- adding a call to the last script
 last_call : (c : Call) (before : List ScriptData) (x : ScriptData) → call_in_last c (before ++ x ∷ []) ≡ before ++ (record { name = x.name; calls = x.calls ++ c ∷ [] }) ∷ []
 last_call c [] x = refl
 last_call c (y ∷ []) x = refl
 last_call c (y ∷ z ∷ before) x = ap (λ (r : List ScriptData). y ∷ r) (last_call c (z ∷ before) x)
 
--- a call of the last script
+-- the scripts, with these calls added to the last script x
 abbrev in_last : List ScriptData → ScriptData → List Call → List ScriptData
 in_last before x cs = before ++ (record { name = x.name; calls = x.calls ++ cs }) ∷ []
 
@@ -246,7 +246,7 @@ script_goes x n l before k is room own calls =
     let head = one_line n l (l ++ [] ∷ []) (state before k None) (codes "%operator " ++ x.name) (state (before ++ new ∷ []) k None) (rw (words, name, less, own) refl) in
     goes_on n l _ _ _ ((codes "%operator " ++ x.name) ∷ []) (flat_map call_lines x.calls) head (λ m o. calls_go x.calls m o before new k is.calls calls)
 
--- no script before has the name
+-- no earlier script has the name of the script x
 own_name : (before : List ScriptData) (x : ScriptData) (xs : List ScriptData) → AllPairs (λ (a b : List ℕ). bytes_eq a b ≡ false) (names_of (before ++ x ∷ xs)) → has_operator before x.name ≡ false
 own_name before x xs names = list_any_none (λ (y : ScriptData). bytes_eq y.name x.name) before each
   where
@@ -280,7 +280,7 @@ scripts_go (x ∷ xs) n l before k all room names calls =
     (λ m o. scripts_go xs m o (before ++ x ∷ []) (k + length x.calls) (All-tail IsSaidScript x xs all) (omega (arith, room, length-append before (x ∷ [])))
     (subst (λ (ys : List ScriptData). AllPairs (λ (a b : List ℕ). bytes_eq a b ≡ false) (names_of ys)) (sym behind) names) (omega (arith, calls, sum))))
 
--- THE MAP'S TEXT before the sections: none of its lines begins one
+-- THE MAP'S TEXT before the sections: none of its lines begins a section
 cut_behind : (starts : Bool) (text rest : List ℕ) → length_to_section starts text ≡ length text → ends_line starts text ≡ true → (0 < length rest → begins_section rest ≡ true)
     → length_to_section starts (text ++ rest) ≡ length text
 cut_behind starts [] [] whole ends begins = refl
@@ -297,7 +297,7 @@ begins_sections : (scripts : List ScriptData) → 0 < length (scripts_text scrip
 begins_sections [] some = absurd (omega arith)
 begins_sections (x ∷ xs) some = refl
 
--- at the end no batch is open
+-- if no batch is open at the end, the sections are complete
 at_end : (n : ℕ) (e : SectionsData) → e.begun ≡ None → with_lines n e [] ≡ Ok e
 unfolding with_lines
 at_end n e is = ap (without_batch e) is

@@ -23,42 +23,42 @@ use Rattle.crush_text.specs.Flow.{◌>>=◌}
 use Rattle.crush_history.specs.Said.{device_named}
 use Rattle.crush_script.specs.Words.{pair_of, is_pair, count_of}
 
--- a value that was read from the first of some words, and the words after them
+-- a value that was read from the first words, and the words after them
 pub record Read (X : Type 0) : Type 0 where
   pub value : X
   pub rest : List (List ℕ)
 
--- the fault of a line whose word at this index, counted from 0, isn't what is due, or is missing
+-- the fault of a line in which the word at this index, counted from 0, is missing or isn't what is required
 abbrev pub misfit : ℕ → Due → LineFault
 misfit index d = Word (record { word = index; due = d })
 
--- the next word, which has this index, as a name; a misfit if there is no word or it isn't a name. What is due is a name, or a device, whose name it is.
+-- the next word, which has this index, as a name; a misfit if there is no next word or if it isn't a name. The argument `Due` says what is required: a name, or a device, whose name this word is.
 unfoldable pub name_at : ℕ → Due → List (List ℕ) → Result (Read (List ℕ)) LineFault
 name_at index d [] = Err (misfit index d)
 name_at index d (word ∷ rest) = if is_name word then Ok (record { value = word; rest = rest }) else Err (misfit index d)
 
--- a weight that was read, with the words after it, or a misfit if the word is no weight of at most HEAVIEST_BUCKET units
+-- a weight that was read, and the words after it; a misfit if the word isn't a weight of at most HEAVIEST_BUCKET units
 abbrev pub read_weight : ℕ → Result ℕ WeightFault → List (List ℕ) → Result (Read ℕ) LineFault
 read_weight index (Ok units) rest = Ok (record { value = units; rest = rest })
 read_weight index (Err fault) rest = Err (misfit index due.Weight)
 
--- the next word, which has this index, as a weight; a misfit if there is no word or it is no weight
+-- the next word, which has this index, as a weight; a misfit if there is no word or it isn't a weight
 unfoldable pub weight_at : ℕ → List (List ℕ) → Result (Read ℕ) LineFault
 weight_at index [] = Err (misfit index due.Weight)
 weight_at index (word ∷ rest) = read_weight index (weight_of_text word) rest
 
--- the value if no word is left, otherwise a misfit of the next word, which has this index
+-- the value if no word is left; otherwise a misfit of the next word, which has this index
 unfoldable pub end_at : {X : Type 0} → ℕ → X → List (List ℕ) → Result X LineFault
 end_at index value [] = Ok value
 end_at index value (word ∷ rest) = Err (misfit index due.End)
 
--- the location l with the word `TYPE=NAME` as one more pair, or a misfit if l is full or the word is no pair. The first pair of the line has the index `first`.
+-- the location l with the word `TYPE=NAME` as one more pair; a misfit if l is full or the word isn't a pair. The first pair of the line has the index `first`.
 unfoldable pub with_pair : ℕ → List Pair → List ℕ → Result (List Pair) LineFault
 with_pair first l word =
     if nat_lt (length l) MOST_PAIRS then (if is_pair word then Ok (l ++ pair_of word ∷ []) else Err (misfit (first + length l) due.Pair))
     else Err (misfit (first + length l) due.NoMorePairs)
 
--- the location l with all these words as further pairs, in order, or a misfit of the first that can't be added
+-- the location l with all these words as further pairs, in order; a misfit of the first word that can't be added
 unfoldable pub with_pairs : ℕ → List Pair → List (List ℕ) → Result (List Pair) LineFault
 with_pairs first l [] = Ok l
 with_pairs first l (word ∷ rest) = with_pair first l word >>= λ more. with_pairs first more rest
@@ -67,7 +67,7 @@ with_pairs first l (word ∷ rest) = with_pair first l word >>= λ more. with_pa
 unfoldable pub location_at : ℕ → List (List ℕ) → Result (List Pair) LineFault
 location_at first words = with_pairs first [] words
 
--- the id of a device if there is one, otherwise a misfit of the word after the command
+-- the id of a device if there is one; otherwise a misfit of the word after the command
 abbrev pub the_device : Option ℕ → Result ℕ LineFault
 the_device None = Err (misfit 1 due.Device)
 the_device (Some id) = Ok id
@@ -127,7 +127,7 @@ edit_of word.RenameBucket rest = two_names_at rest >>= λ p. Ok (Rename p.0 p.1)
 edit_of word.SetDeviceClass rest = two_names_at rest >>= λ p. Ok (SetClass p.1 p.0)
 edit_of word.RmDeviceClass rest = one_name_at rest >>= λ name. Ok (RemoveClass name)
 
--- the edit of a command as above, or NoSuchCommand if the first word names no command
+-- the edit of a command, as `edit_of` says, or NoSuchCommand if the first word names no command
 abbrev pub edit_by : Option Keyword → List (List ℕ) → Result Edit LineFault
 edit_by None rest = Err NoSuchCommand
 edit_by (Some keyword) rest = edit_of keyword rest
@@ -136,12 +136,12 @@ edit_by (Some keyword) rest = edit_of keyword rest
 unfoldable pub edit_at : List ℕ → List (List ℕ) → Result Edit LineFault
 edit_at first rest = edit_by (keyword_of first) rest
 
--- a number of changes that was read, with the words after it, or a misfit if the word is no such number
+-- a number of changes that was read, and the words after it; a misfit if the word isn't such a number
 abbrev pub read_count : ℕ → Option ℕ → List (List ℕ) → Result (Read ℕ) LineFault
 read_count index (Some n) rest = Ok (record { value = n; rest = rest })
 read_count index None rest = Err (misfit index due.Changes)
 
--- the next word, which has this index, as a number of changes; a misfit if there is no word or it is no such number
+-- the next word, which has this index, as a number of changes; a misfit if there is no word or it isn't such a number
 unfoldable pub count_at : ℕ → List (List ℕ) → Result (Read ℕ) LineFault
 count_at index [] = Err (misfit index due.Changes)
 count_at index (word ∷ rest) = read_count index (count_of word) rest
@@ -151,7 +151,7 @@ unfoldable pub begin_at : List (List ℕ) → Result Command LineFault
 begin_at [] = Ok (says.Begin None)
 begin_at (word ∷ rest) = if bytes_eq word (codes "at") then (count_at 2 rest >>= λ seen. end_at 3 (says.Begin (Some seen.value)) seen.rest) else Err (misfit 1 due.At)
 
--- a line of a section that doesn't begin it: no words, `begin`, `begin at N`, `commit`, or a command that makes an edit
+-- a line of a section that doesn't begin it: no words, `begin`, `begin at N`, `commit`, or a command for an edit
 unfoldable pub command : List (List ℕ) → Result Command LineFault
 command [] = Ok says.Nothing
 command (first ∷ rest) =

@@ -1,4 +1,4 @@
--- Laws of misfits: the word of a line that a fault names is the first word that doesn't fit, and what is due there is all that fits.
+-- Laws of misfits: the word that a fault names is the first word of the line that doesn't fit, and the fault says exactly which words would fit there.
 use Rattle.std.specs.Prelude.{◌≡◌, ℕ, suc, ◌≤◌, ◌<◌, Bool, true, false, List, ◌∷◌, ◌++◌, Result, Err, IsOk, IsSome, codes, length, take}
 use Rattle.crush_units.specs.Name.{is_name}
 use Rattle.crush_units.specs.Weight.{weight_of_text}
@@ -11,7 +11,7 @@ use Rattle.crush_script.specs.declared.fault.Misfit.{Misfit}
 use Rattle.crush_script.specs.Words.{is_pair, is_count}
 use Rattle.crush_script.specs.Command.{command, operator}
 
--- whether a word is what is due
+-- whether a word has the form that is required
 abbrev pub IsDue : Due → List ℕ → Type 0
 IsDue due.Device word = (is_name word ≡ true) × IsSome (device_named word)
 IsDue due.Weight word = IsOk (weight_of_text word)
@@ -33,7 +33,7 @@ may_end due.At = true
 may_end due.Changes = false
 may_end due.End = true
 
--- FIRST MISFIT: of the words of a line that `parse` reads, the word with this index is the first that doesn't fit. The words before it, with any word that is due there, begin a line that can be read, and no other word does. If the line may end there, then the words before it are such a line. And no line begins with the words up to the one that doesn't fit.
+-- FIRST MISFIT: of the words of a line that `parse` reads, the word with this index is the first one that doesn't fit. The words before it, followed by any word that fits there, are the beginning of a line that can be read; followed by any other word, they aren't. If the line may end there, the words before it are a line that can be read. No line that can be read begins with the words up to and including the misfit.
 pub record FirstMisfit {X : Type 0} (parse : List (List ℕ) → Result X LineFault) (words : List (List ℕ)) (index : ℕ) (d : Due) : Type 0 where
   pub within : index ≤ length words
   pub fits : (word : List ℕ) → IsDue d word → (more : List (List ℕ)) × IsOk (parse (take index words ++ word ∷ more))
@@ -41,7 +41,7 @@ pub record FirstMisfit {X : Type 0} (parse : List (List ℕ) → Result X LineFa
   pub ends : may_end d ≡ true → IsOk (parse (take index words))
   pub wrong : index < length words → (more : List (List ℕ)) → IsOk (parse (take (suc index) words ++ more)) → ⊥
 
--- the misfits of lines with commands are such, and those of lines that begin a section
+-- the law for lines with commands, and the law for lines that begin a section
 abbrev pub MisfitsAreFirst : {X : Type 0} → (List (List ℕ) → Result X LineFault) → Type 0
 MisfitsAreFirst parse = (words : List (List ℕ)) (m : Misfit) → parse words ≡ Err (Word m) → FirstMisfit parse words m.word m.due
 

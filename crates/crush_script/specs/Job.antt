@@ -1,4 +1,4 @@
--- What a job is, and which faults bytes have that aren't one.
+-- What a job is, and which faults bytes have that aren't a job.
 use Rattle.std.specs.Prelude.{◌≡◌, ℕ, ◌<◌, ◌≤◌, List, length, Ok, Err}
 use Rattle.crush_model.specs.Table.{Row}
 use Rattle.crush_edits.specs.Setting.{SettingData}
@@ -14,14 +14,14 @@ use Rattle.crush_history.specs.Script.{ScriptData, scripts_data}
 use Rattle.crush_script.specs.Sections.{SectionsData, sections_of}
 use Rattle.crush_units.specs.declared.limits.TheConstants.{LONGEST_JOB}
 
--- the content of a job: the setting and the table of its map, the number of bucket weights in the map's text that sums replaced, and the scripts
+-- the content of a job: the setting and the table of its map, the number of bucket weights in the map's text that were replaced by sums, and the scripts
 pub record JobData : Type 0 where
   pub setting : SettingData
   pub table : List Row
   pub adjusted : ℕ
   pub scripts : List ScriptData
 
--- JOB: the bytes are this job. There are at most LONGEST_JOB bytes, the part before the first section is the text of the job's map, and the sections say its scripts.
+-- JOB: the bytes are this job. There are at most LONGEST_JOB bytes, the part before the first section is the text of the job's map, and the sections have its scripts.
 pub record IsJob (bytes : List ℕ) (job : JobData) : Type 0 where
   pub short : length bytes ≤ LONGEST_JOB
   pub map : IsMapText (map_part bytes) job.setting job.table job.adjusted
@@ -33,7 +33,7 @@ pub record IsJob (bytes : List ℕ) (job : JobData) : Type 0 where
 abbrev pub HasJob : List ℕ → Type 0
 HasJob bytes = (job : JobData) × IsJob bytes job
 
--- the value `read` is this job: its map has the job's setting and represents its table, and its number of replaced weights and its scripts are the job's
+-- the value `read` is this job: its map has the job's setting and represents the job's table; it has the job's number of replaced weights, and the job's scripts
 pub record JobStands (read : Job) (job : JobData) : Type 0 where
   pub map : MapStands read.map job.setting job.table
   pub adjusted : read.adjusted ≡ job.adjusted
@@ -61,8 +61,8 @@ pub record HasMap (bytes : List ℕ) : Type 0 where
   pub adjusted : ℕ
   pub map : IsMapText (map_part bytes) setting table adjusted
 
--- when reading the bytes may fail with each fault. The length is checked first, then the map's text, then the lines of the sections in order.
--- OutOfMemory, which means memory for the scripts, is possible whenever the map's text is one.
+-- in which cases reading the bytes may fail with each fault. The length is checked first, then the map's text, and then the lines of the sections in order.
+-- OutOfMemory, which means that memory for the scripts ran out, is possible whenever the map's text is the text of a map.
 abbrev pub IsJobFault : List ℕ → JobFault → Type 0
 IsJobFault bytes TooLong = LONGEST_JOB < length bytes
 IsJobFault bytes (Text fault) = LacksMap bytes fault

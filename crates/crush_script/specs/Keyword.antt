@@ -8,7 +8,7 @@ use Rattle.crush_script.specs.declared.keyword.Placement.TheVariants as place
 use Rattle.crush_script.specs.declared.keyword.Form.{Form}
 use Rattle.crush_script.specs.declared.keyword.Form.TheVariants as form
 
--- the command that a word names, if it names one
+-- the command that a word names; none if it isn't the name of a command
 unfoldable pub keyword_of : List ℕ → Option Keyword
 keyword_of first =
     if bytes_eq first (codes "add") then Some (word.Place place.Add)
@@ -61,7 +61,7 @@ keyword_form word.RenameBucket = codes "rename-bucket FROM TO"
 keyword_form word.SetDeviceClass = codes "set-device-class CLASS NAME"
 keyword_form word.RmDeviceClass = codes "rm-device-class NAME"
 
--- what the first word of a line says about the line, if it may begin one
+-- the meaning of the first word of a line; none if no line may begin with this word
 unfoldable pub form_of : List ℕ → Option Form
 form_of first =
     if bytes_eq first (codes "%operator") then Some form.Operator

@@ -1,4 +1,4 @@
--- The lines of a job, where its map's text ends, and the words of a line of a section.
+-- The lines of a job, the end of its map's text, and the words of a line of a section.
 use Rattle.std.specs.Prelude.{ℕ, zero, suc, ◌+◌, ◌-◌, ◌==◌, Bool, true, false, ◌&&◌, ◌||◌, not, List, [], ◌∷◌, if◌then◌else◌, length, take, drop, filter, count_by, take_while, nat_lt, slice_index}
 use Rattle.std.specs.List.{position_or_len, slice_split, onto_first}
 
@@ -16,7 +16,7 @@ length_to_section starts (b ∷ bs) = if starts && b == 37 then 0 else length_to
 abbrev pub map_part : List ℕ → List ℕ
 map_part job = take (length_to_section true job) job
 
--- the sections of a job: the bytes from the first line that begins with `%` on
+-- the sections of a job: all bytes from the first line that begins with `%`
 abbrev pub section_part : List ℕ → List ℕ
 section_part job = drop (length_to_section true job) job
 
@@ -48,20 +48,20 @@ words_between_blanks text = filter (λ (word : List ℕ). nat_lt 0 (length word)
 abbrev pub line_words : List ℕ → List (List ℕ)
 line_words line = words_between_blanks (without_comment (without_return line))
 
--- a text from its first word on
+-- the rest of a text, beginning with its first word
 abbrev pub from_blanks : List ℕ → List ℕ
 from_blanks text = drop (position_or_len (λ b. not (is_space_or_tab b)) text) text
 
--- a text from the end of its first word on
+-- the rest of a text after its first word
 abbrev pub behind_word : List ℕ → List ℕ
 behind_word text = drop (position_or_len is_space_or_tab (from_blanks text)) (from_blanks text)
 
--- the text behind its first words, as many as this
+-- the rest of a text after this many words
 unfoldable pub behind_words : ℕ → List ℕ → List ℕ
 behind_words zero text = text
 behind_words (suc n) text = behind_word (behind_words n text)
 
--- a text from the word with this index on; nothing if it has fewer words
+-- the rest of a text, beginning with the word at this index; nothing if it has fewer words
 abbrev pub from_word : ℕ → List ℕ → List ℕ
 from_word index text = from_blanks (behind_words index text)
 
@@ -69,7 +69,7 @@ from_word index text = from_blanks (behind_words index text)
 abbrev pub first_word : List ℕ → List ℕ
 first_word text = take (position_or_len is_space_or_tab text) text
 
--- PLACED WORD: the word of a line with this index, which counts from 0, or nothing if the line has fewer words; and the number of bytes of the line before it
+-- PLACED WORD: the word at this index of a line, counted from 0 (nothing if the line has fewer words), and the number of bytes of the line before this word
 abbrev pub word_in_line : ℕ → List ℕ → List ℕ
 word_in_line index line = first_word (from_word index (without_comment (without_return line)))
 

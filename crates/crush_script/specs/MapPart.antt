@@ -1,4 +1,4 @@
--- The faults with which the reading of a job's map text may fail.
+-- The faults with which reading a job's map text may fail.
 use Rattle.std.specs.Prelude.{◌⊎◌, ℕ, List}
 use Rattle.crush_model.specs.Table.{Row}
 use Rattle.crush_edits.specs.Setting.{SettingData}
@@ -12,11 +12,11 @@ pub record IsNoMap (text : List ℕ) (fault : TextFault) : Type 0 where
   pub flaw : IsMapFlaw text fault
   pub none : (s : SettingData) (t : List Row) (adjusted : ℕ) → IsMapText text s t adjusted → ⊥
 
--- memory ran out; the place of the fault is a word that is right, as are all words before it, or it is the end of a text without words
+-- memory ran out. A word is at the place of the fault, and neither this word nor any word before it has a fault; or the text has no words, and the place is its end
 pub record IsTextOutOfMemory (text : List ℕ) (fault : TextFault) : Type 0 where
   pub memory : IsOutOfMemory fault
   pub told : IsFoundInTime text fault
 
--- the fault is a flaw of the text, or it says that memory ran out, each as above
+-- the fault is a flaw of the text as in `IsNoMap`, or it says that memory ran out as in `IsTextOutOfMemory`
 abbrev pub IsTextFault : List ℕ → TextFault → Type 0
 IsTextFault text fault = IsNoMap text fault ⊎ IsTextOutOfMemory text fault

@@ -7,10 +7,10 @@ use Rattle.crush_script.specs.Command.{command}
 use Rattle.crush_history.specs.HistoryText.{edit_text}
 use Rattle.crush_history.specs.Said.{IsSaid}
 
--- PRINTED IS READ: each edit that a command can say is printed as a line that says the same edit
+-- PRINTED IS READ: each edit that a command can express is printed as a line that is parsed as the same edit
 abbrev pub PrintedIsRead : Type 0
 PrintedIsRead = (e : Edit) → IsSaid e → command (line_words (edit_text e)) ≡ Ok (says.Edit e)
 
--- READ IS SAID: each edit that a line says is an edit that a command can say, so it is printed as a line that says the same edit
+-- READ IS SAID: each edit that is parsed from a line is an edit that a command can express, so its printed line is parsed as the same edit
 abbrev pub ReadIsSaid : Type 0
 ReadIsSaid = (words : List (List ℕ)) (e : Edit) → command words ≡ Ok (says.Edit e) → IsSaid e

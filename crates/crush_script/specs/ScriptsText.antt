@@ -19,7 +19,7 @@ call_lines (One e) = edit_text e ∷ []
 call_lines (Batch es) = codes "begin" ∷ (map edit_text es ++ codes "commit" ∷ [])
 call_lines (Guarded seen es) = (codes "begin at " ++ decimal seen) ∷ (map edit_text es ++ codes "commit" ∷ [])
 
--- the lines of an operator's section: `%operator NAME`, then those of each call
+-- the lines of an operator's section: `%operator NAME`, and then the lines of each call
 abbrev pub script_lines : ScriptData → List (List ℕ)
 script_lines s = (codes "%operator " ++ s.name) ∷ flat_map call_lines s.calls
 
@@ -27,25 +27,25 @@ script_lines s = (codes "%operator " ++ s.name) ∷ flat_map call_lines s.calls
 abbrev pub scripts_text : List ScriptData → List ℕ
 scripts_text scripts = flat_map (λ (line : List ℕ). line ++ codes "\n") (flat_map script_lines scripts)
 
--- a call that a script can say: each edit is one that a command can say, a batch has at most MOST_EDITS edits, and a guarded batch names at most MOST_ENTRIES changes
+-- a call that a script can express: each edit is one that a command can express, a batch has at most MOST_EDITS edits, and a guarded batch names at most MOST_ENTRIES changes
 abbrev pub IsSaidCall : Call → Type 0
 IsSaidCall (One e) = IsSaid e
 IsSaidCall (Batch es) = All IsSaid es × (length es ≤ MOST_EDITS)
 IsSaidCall (Guarded seen es) = All IsSaid es × (length es ≤ MOST_EDITS) × (seen ≤ MOST_ENTRIES)
 
--- a script that a section can say: its operator's name is a name, and each call is one that a script can say
+-- a script that a section can express: its operator's name is a name, and each call is one that a script can express
 pub record IsSaidScript (x : ScriptData) : Type 0 where
   pub name : IsName x.name
   pub calls : All IsSaidCall x.calls
 
--- scripts that a job can have: at most MOST_OPERATORS scripts with at most MOST_CALLS calls in all, each one that a section can say, and no two with the same name
+-- scripts that a job can have: at most MOST_OPERATORS scripts with at most MOST_CALLS calls in all. Each is one that a section can express, and no two have the same name
 pub record AreScripts (scripts : List ScriptData) : Type 0 where
   pub few : length scripts ≤ MOST_OPERATORS
   pub calls : call_count scripts ≤ MOST_CALLS
   pub said : All IsSaidScript scripts
   pub names : AllPairs (λ (a b : List ℕ). bytes_eq a b ≡ false) (names_of scripts)
 
--- whether a new line begins right after the bytes: the last of them is a line feed, or there are none and `starts` says that a line begins before them
+-- whether a new line begins directly after the bytes: the last byte is a line feed; or there are no bytes, and `starts` says that a line begins there
 abbrev pub ends_line : Bool → List ℕ → Bool
 ends_line starts [] = starts
 ends_line starts (b ∷ bs) = ends_line (b == 10) bs
@@ -60,6 +60,6 @@ JobsAreReadBack = (text : List ℕ) (s : SettingData) (t : List Row) (adjusted :
     → AreScripts scripts → length (text ++ scripts_text scripts) ≤ LONGEST_JOB
     → IsJob (text ++ scripts_text scripts) (record { setting = s; table = t; adjusted = adjusted; scripts = scripts })
 
--- the scripts of each job are scripts that a job can have, so the law above holds of them
+-- the scripts of each job are scripts that a job can have, so `JobsAreReadBack` applies to them
 abbrev pub ReadScriptsAreSuch : Type 0
 ReadScriptsAreSuch = (bytes : List ℕ) (job : JobData) → IsJob bytes job → AreScripts job.scripts

@@ -20,7 +20,7 @@ use Rattle.crush_script.specs.Command.{command, operator}
 use Rattle.crush_script.specs.Lines.{lines, section_part, section_line, line_words, begins_section}
 use Rattle.crush_units.specs.declared.limits.TheConstants.{MOST_CALLS, MOST_EDITS, MOST_OPERATORS}
 
--- what was read from the lines so far: the scripts, for each of them the numbers of the lines that say its edits, the number of calls that were begun in all of them, and the batch that is open, if there is one. A batch has the number of its `begin` line, the number of changes that this line names, and its edits.
+-- what was read from the lines so far: the scripts, for each of them the numbers of the lines that have its edits, the number of calls that were begun in all of them, and the batch that is open, if there is one. A batch has the number of its `begin` line, the number of changes that this line names, and its edits.
 pub record SectionsData : Type 0 where
   pub scripts : List ScriptData
   pub lines : List (List ℕ)
@@ -31,7 +31,7 @@ pub record SectionsData : Type 0 where
 abbrev pub lines_data : {Z : Type 0} → List (Vec ℕ Z) → List (List ℕ)
 lines_data lines = map (λ numbers. numbers.items) lines
 
--- what a value of the program says, as data
+-- the program's `Sections` as plain data
 abbrev pub sections_data : Sections → SectionsData
 sections_data s = record { scripts = scripts_data s.scripts.items; lines = lines_data s.lines.items; calls = s.calls; begun = s.begun }
 
@@ -39,7 +39,7 @@ sections_data s = record { scripts = scripts_data s.scripts.items; lines = lines
 abbrev pub no_sections : SectionsData
 no_sections = record { scripts = []; lines = []; calls = 0; begun = None }
 
--- the fault of a job one of whose lines can't be at its place, for this reason
+-- the fault BadLine of a job: this line isn't allowed at its place, for this reason
 abbrev pub bad_line : ℕ → BadLine → JobFault
 bad_line number why = job.BadLine number why
 
@@ -50,7 +50,7 @@ fault_at number line.NoOperator = job.BadLine number bad.NoOperator
 fault_at number line.NoSuchCommand = job.NoSuchCommand number
 fault_at number line.OutOfMemory = job.OutOfMemory
 
--- the result of reading a line, with its fault as that of the job
+-- the result of reading a line, in which a fault of the line becomes a fault of the job
 abbrev pub in_line : {X : Type 0} → ℕ → Result X LineFault → Result X JobFault
 in_line number (Ok x) = Ok x
 in_line number (Err fault) = Err (fault_at number fault)
@@ -60,7 +60,7 @@ abbrev pub without_batch : SectionsData → Option BegunBatch → Result Section
 without_batch s None = Ok s
 without_batch s (Some b) = Err (job.OpenBatch b.line)
 
--- the sections s if they have no open batch, otherwise the fault above
+-- the sections s if they have no open batch, otherwise OpenBatch
 abbrev pub closed : SectionsData → Result SectionsData JobFault
 closed s = without_batch s s.begun
 
@@ -97,11 +97,11 @@ number_in_last number [] = []
 number_in_last number (l ∷ []) = (l ++ number ∷ []) ∷ []
 number_in_last number (l ∷ m ∷ rest) = l ∷ number_in_last number (m ∷ rest)
 
--- the sections whose last script has one more line that says an edit
+-- the sections whose last script has one more line with an edit
 abbrev pub with_number : ℕ → SectionsData → SectionsData
 with_number number s = record s { lines = number_in_last number s.lines }
 
--- the sections with the edit e, which this line says, appended to the open batch b, or BadLine if the batch has MOST_EDITS edits already
+-- the sections with the edit e, which this line has, appended to the open batch b, or BadLine if the batch has MOST_EDITS edits already
 abbrev pub in_batch : ℕ → SectionsData → BegunBatch → Edit → Result SectionsData JobFault
 in_batch number s b e =
     if nat_le MOST_EDITS (length b.edits) then Err (bad_line number bad.BatchFull)
@@ -140,12 +140,12 @@ with_line number s text =
     if begins_section text then (closed s >>= λ r. in_line number (operator (line_words text)) >>= λ name. with_section number r name)
     else (in_line number (command (line_words text)) >>= λ c. with_command number s c)
 
--- the sections after all these lines, of which the first has this number, or the fault of the first faulty line. No batch may be open after the last line.
+-- the sections after all these lines, or the fault of the first faulty line. The number is that of the first line. No batch may be open after the last line.
 unfoldable pub with_lines : ℕ → SectionsData → List (List ℕ) → Result SectionsData JobFault
 with_lines number s [] = closed s
 with_lines number s (text ∷ rest) = with_line number s text >>= λ next. with_lines (number + 1) next rest
 
--- what the sections of a job say, or the fault of the first faulty line
+-- the result of reading all sections of a job: what was read, or the fault of the first faulty line
 abbrev pub sections_of : List ℕ → Result SectionsData JobFault
 sections_of job = with_lines (section_line job) no_sections (lines (section_part job))
 
@@ -154,6 +154,6 @@ abbrev pub lines_in : Result SectionsData JobFault → List (List ℕ)
 lines_in (Ok s) = s.lines
 lines_in (Err fault) = []
 
--- EDIT LINES: for each script of a job, the numbers of the lines that say its edits, in the order of its section. A line's number counts all lines of the job, from 1.
+-- EDIT LINES: for each script of a job, the numbers of the lines that have its edits, in the order of its section. A line's number counts all lines of the job, from 1.
 abbrev pub job_lines : List ℕ → List (List ℕ)
 job_lines job = lines_in (sections_of job)

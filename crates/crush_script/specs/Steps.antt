@@ -1,4 +1,4 @@
--- How the result of reading lines agrees with that of its definition: they are the same, unless memory runs out.
+-- How the result of reading lines agrees with the result of its definition: both are the same, unless memory runs out.
 use Rattle.std.specs.Prelude.{◌≡◌, Result, Ok, Err}
 use Rattle.crush_script.specs.declared.fault.JobFault.{JobFault}
 use Rattle.crush_script.specs.declared.fault.JobFault.TheVariants.{Text, OutOfMemory, TooLong}
@@ -12,7 +12,7 @@ FailsAs (Text fault) given = ⊥
 FailsAs TooLong given = ⊥
 FailsAs fault given = given ≡ Err fault
 
--- a call that leaves the sections `new` agrees with the result `given`: after an Ok `given` is these sections, and an error is as above
+-- a call that leaves the sections `new` agrees with the result `given`: if the call succeeds, `given` is these sections; if it fails, the fault agrees as in `FailsAs`
 abbrev pub Steps : {X : Type 0} → Result X JobFault → SectionsData → Result SectionsData JobFault → Type 0
 Steps (Ok x) new given = given ≡ Ok new
 Steps (Err fault) new given = FailsAs fault given

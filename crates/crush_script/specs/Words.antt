@@ -1,4 +1,4 @@
--- What one word of a command says: a pair, or a number of changes.
+-- What one word of a command means: a pair, or a number of changes.
 use Rattle.std.specs.Prelude.{ℕ, ◌+◌, ◌==◌, Bool, not, ◌&&◌, List, length, take, drop, nat_le, Option, Some, None, if◌then◌else◌}
 use Rattle.std.specs.List.{list_all, position_or_len}
 use Rattle.std.specs.Char.{is_ascii_digit}
@@ -19,10 +19,10 @@ pair_of word = record { kind = take (equals_at word) word; name = drop (equals_a
 abbrev pub is_pair : List ℕ → Bool
 is_pair word = is_name (pair_of word).kind && is_name (pair_of word).name
 
--- whether a word is a number of changes: one or more digits whose value is at most MOST_ENTRIES, the most changes of a history
+-- whether a word is a number of changes: one or more digits whose value is at most MOST_ENTRIES, which is the maximum number of changes in a history
 abbrev pub is_count : List ℕ → Bool
 is_count word = not (length word == 0) && list_all is_ascii_digit word && nat_le (digits_value 10 word) MOST_ENTRIES
 
--- the number of changes that a word writes, if it is one
+-- the number of changes that a word spells; none if it isn't such a number
 abbrev pub count_of : List ℕ → Option ℕ
 count_of word = if is_count word then Some (digits_value 10 word) else None

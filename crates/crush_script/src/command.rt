@@ -1,4 +1,4 @@
-//! Parses the words of a line of a section: a command, `begin`, `commit` or `%operator NAME`.
+//! Parses the words of a script's line: a command, `begin`, `commit` or `%operator NAME`.
 
 ghost use Rattle.std.specs.Prelude.{◌≡◌, ◌≤◌};
 ghost use Rattle.crush_script.specs.ReadsAs.{ReadsAs, ReadsAndLeaves};
@@ -16,21 +16,22 @@ use std::alloc::Global;
 /// Why a line can't be parsed.
 #[derive(Clone, Copy)]
 pub(crate) enum LineFault {
-    /// A word doesn't fit, or is missing.
+    /// A word is missing, or doesn't have the form that the line requires.
     Word(Misfit),
-    /// The first word isn't `%operator`, which begins a section.
+    /// The line begins with `%`, but its first word isn't `%operator`.
     NoOperator,
     NoSuchCommand,
     OutOfMemory,
 }
 
-/// A parsed line of a section, other than the `%operator` line that begins the section.
+/// A parsed line of a section, except for the `%operator` line with which the section begins.
 #[derive(Drop)]
 pub(crate) enum Command {
     /// The line has no words.
     Nothing,
     Edit(Edit),
-    /// `begin`, or `begin at N` with the number N of changes that the batch is for.
+    /// The line is `begin` or `begin at N`. N is the number of changes that the map must have when
+    /// the batch is applied.
     Begin(Option<u32>),
     Commit,
 }
@@ -49,7 +50,8 @@ fn misfit(word: usize, due: Due) -> LineFault
     LineFault::Word(Misfit { word, due })
 }
 
-/// Adds the pair that the word says. `first` is the index of the line's first pair.
+/// Appends the pair that the word spells to the location. `first` is the index of the line's first
+/// pair.
 #[tactic(auto, unfolding(crate::specs::Command::with_pair))]
 fn with_pair(first: usize, at: Location, word: &[u8]) -> Result<Location, LineFault>
     requires { first ≤ 3 }
@@ -98,8 +100,8 @@ fn edit_to_place(how: Placement, placing: Placing) -> Edit
 }
 
 impl LineWords<'_> {
-    /// Reads the word at this index of the line as a name. In this and the following methods, `due`
-    /// is what the word must be according to the form of the line.
+    /// Reads the next word as a name. `index` is the index of this word in the line. In this and
+    /// the following methods, `due` is what the line requires the word to be.
     #[tactic(auto, unfolding(crate::specs::Command::name_at))]
     fn name(&mut self, alloc: Global, index: usize, due: Due) -> Result<Name<Global>, LineFault>
         ensures { ReadsAndLeaves result self.new (name_at index due self.old) }
@@ -127,8 +129,8 @@ impl LineWords<'_> {
         }
     }
 
-    /// Returns the value if no word is left. `index` is the index of the next word if there is one,
-    /// which is then the word that doesn't fit.
+    /// Returns the value if the line has no further word. Otherwise fails, because the word at
+    /// `index` is one too many.
     #[tactic(auto, unfolding(crate::specs::Command::end_at))]
     fn end<T: Drop>(&mut self, index: usize, value: T) -> Result<T, LineFault>
         ensures { ReadsAs result (end_at index value self.old) }
@@ -139,8 +141,8 @@ impl LineWords<'_> {
         }
     }
 
-    /// Reads all words that are left, each as a pair `TYPE=NAME`. `first` is the index of the first
-    /// of these words.
+    /// Reads all further words, each as a pair `TYPE=NAME`. `first` is the index of the first of
+    /// these words.
     #[tactic(auto, unfolding(crate::specs::Command::location_at, crate::specs::Command::with_pairs))]
     fn location(&mut self, alloc: Global, first: usize) -> Result<Location, LineFault>
         requires { first ≤ 3 }

@@ -7,7 +7,7 @@ use crush_text::{TextFault, TextFaultKind};
 use std::alloc::AllocFailed;
 use thiserror::Error;
 
-/// What a word of a line must be.
+/// What a line requires a word to be.
 #[derive(Clone, Copy, Debug, PartialEq, Eq)]
 pub enum Due {
     /// The name of a device, `osd.N`.
@@ -16,33 +16,34 @@ pub enum Due {
     Weight,
     /// A name.
     Name,
-    /// A pair `TYPE=NAME`, or no further word.
+    /// A pair `TYPE=NAME`, or the end of the line.
     Pair,
-    /// No further word, because the line has 16 pairs, the most that a location can have.
+    /// The end of the line, because the line already has 16 pairs, which is the maximum for a
+    /// location.
     NoMorePairs,
-    /// The word `at`, or no further word.
+    /// The word `at`, or the end of the line.
     At,
     /// A number of changes, from 0 to 65,536.
     Changes,
-    /// No further word.
+    /// The end of the line.
     End,
 }
 
-/// The first word of a line that doesn't fit, or that is missing.
+/// The first word of a line that is missing or doesn't have the form that the line requires.
 #[derive(Clone, Copy, Debug, PartialEq, Eq)]
 pub struct Misfit {
     /// The index of the word in its line. The word of the command has index 0.
     pub word: usize,
-    /// What the word must be.
+    /// What the line requires the word to be.
     pub due: Due,
 }
 
-/// Why a line isn't one that can be at its place.
+/// Why a line isn't allowed at its place.
 #[derive(Clone, Copy, Debug, PartialEq, Eq)]
 pub enum BadLine {
-    /// A word doesn't fit the form of the line's command, or is missing.
+    /// A word is missing, or doesn't have the form that the line's command requires.
     Word(Misfit),
-    /// The line begins with `%`, and its first word isn't `%operator`.
+    /// The line begins with `%`, but its first word isn't `%operator`.
     NoOperator,
     /// The line is a `begin` inside a batch.
     BatchOpen,
@@ -52,10 +53,10 @@ pub enum BadLine {
     BatchFull,
 }
 
-/// Why bytes aren't a job. Lines are numbered from 1, and the lines of the map's text count too.
+/// Why bytes aren't a job. Lines are numbered from 1. The lines of the map's text are counted too.
 #[derive(Clone, Copy, Debug, PartialEq, Eq, Error)]
 pub enum JobFault {
-    /// The line doesn't have the form of its command, or of `%operator NAME`. Or it is a `begin`
+    /// The line doesn't have the form of its command or of `%operator NAME`. Or it is a `begin`
     /// inside a batch, a `commit` outside a batch, or the 65,537th edit of a batch.
     #[error("line {line}: BadLine")]
     BadLine {
@@ -67,18 +68,18 @@ pub enum JobFault {
     /// The first word of the line isn't a command.
     #[error("line {0}: NoSuchCommand")]
     NoSuchCommand(usize),
-    /// The batch that begins on this line isn't committed before the next section begins or the
-    /// job ends.
+    /// The batch that begins in this line isn't ended by a `commit` before the next section begins
+    /// or the job ends.
     #[error("line {0}: OpenBatch")]
     OpenBatch(usize),
-    /// The line begins the 17th section.
+    /// The line begins the 17th section. A job can have at most 16 operators.
     #[error("line {0}: TooManyOperators")]
     TooManyOperators(usize),
-    /// The line begins a section with the name of an earlier section.
+    /// The line begins a section that has the same name as an earlier section.
     #[error("line {0}: DuplicateOperator")]
     DuplicateOperator(usize),
-    /// The fault of the map's text; its place is a byte of the job, from 0. Also if memory for the
-    /// map ran out.
+    /// The map's text has this fault, or memory for the map ran out. The place of the fault is the
+    /// 0-based index of a byte of the job.
     #[error("{0}")]
     Text(TextFault),
     /// The map was read, but memory for the scripts ran out.
@@ -87,7 +88,8 @@ pub enum JobFault {
     /// The job has more than 16,777,216 bytes.
     #[error("TooLong")]
     TooLong,
-    /// The line begins the 65,537th call. A call is a batch, or a command outside a batch.
+    /// The line begins the 65,537th call. Each batch is one call, and each command outside a batch
+    /// is one call.
     #[error("line {0}: TooManyCalls")]
     TooManyCalls(usize),
 }
@@ -95,7 +97,7 @@ pub enum JobFault {
 impl JobFault {
     ghost use Rattle.crush_script.specs.Fault.{lacks_memory};
 
-    /// Whether memory ran out, for the map's text or for the scripts.
+    /// Whether the fault is that memory ran out, for the map or for the scripts.
     pub fn lacks_memory(self) -> bool
         ensures { result ≡ lacks_memory self }
     {

@@ -21,24 +21,27 @@ use std::alloc::Global;
 pub struct Job {
     /// The map before any script has run.
     pub map: CrushMap<Global>,
-    /// The number of bucket items whose weight in the text wasn't the sum of the devices below the
-    /// bucket. The map has the sum instead.
+    /// How many buckets, as items of other buckets, have a weight in the text that isn't the sum of
+    /// the devices below them. In the map each of them has the sum instead.
     pub adjusted: u32,
     /// One script for each section, in the order of the sections.
     pub scripts: Vec<Script>,
-    /// For each script, the numbers of the lines that say its edits, from 1 in the whole job.
+    /// For each script, the numbers of the lines that have its edits. Lines are counted from 1 in
+    /// the whole job.
     pub lines: Vec<Vec<u32>>,
 }
 
 /// Reads a job: the text of a map, followed by the sections with the operators' scripts.
 ///
-/// `docs/user/FORMATS.md` defines the form. `hashing` is how the map's indexes hash names and ids:
-/// use random keys if the bytes come from an untrusted source.
+/// `docs/user/FORMATS.md` defines the form of a job. `hashing` says how the map's indexes hash
+/// names and ids. Use random keys if the bytes come from an untrusted source.
 ///
-/// Fails with the first fault, in this order: there are more than 16,777,216 bytes; the map's text
-/// has a fault; a line of the sections is the first faulty one. If memory for the scripts runs out,
-/// the fault may be [`JobFault::OutOfMemory`] instead of that of a line. A batch that is still open
-/// is a fault only when a section begins or the job ends, so faulty lines inside it come first.
+/// Tests three things in this order, and fails with the first fault: whether there are more than
+/// 16,777,216 bytes, whether the map's text has a fault, and whether a line of the scripts has a
+/// fault. If several lines have a fault, the first one is reported. A batch without a `commit` is
+/// found only when the next section begins or the job ends, so faulty lines inside the batch are
+/// reported first. If memory for the scripts runs out, the fault may be [`JobFault::OutOfMemory`]
+/// instead of the fault of a line.
 pub fn read_job(alloc: Global, hashing: Hashing, bytes: &[u8]) -> Result<Job, JobFault>
     ensures job { IfOk result (λ read. (job : JobData) × IsJob bytes.now job × JobStands read job) }
     ensures only { (job : JobData) → IsJob bytes.now job

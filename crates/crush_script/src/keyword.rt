@@ -1,19 +1,20 @@
-//! The words with which the lines of a script begin, and the forms of these lines.
+//! The words with which lines of a script begin, and the forms of these lines.
 
 ghost use Rattle.std.specs.Prelude.{◌≡◌};
 
 /// How a command places a device.
 #[derive(Clone, Copy, Debug, PartialEq, Eq)]
 pub enum Placement {
-    /// `add` places a device that is in no bucket.
+    /// `add` places a device that no bucket holds.
     Add,
-    /// `set` places a device, or moves it.
+    /// `set` places a device. If a bucket already holds it, `set` moves it and sets its weight.
     Set,
-    /// `create-or-move` places a device, or moves it and keeps its weight.
+    /// `create-or-move` places a device. If a bucket already holds it, `create-or-move` moves it
+    /// and keeps its weight.
     CreateOrMove,
 }
 
-/// A command that says an edit.
+/// A command for one edit.
 #[derive(Clone, Copy, Debug, PartialEq, Eq)]
 pub enum Keyword {
     /// `add`, `set` or `create-or-move`.
@@ -38,7 +39,7 @@ pub enum Keyword {
     RmDeviceClass,
 }
 
-/// What the first word of a line says about the line.
+/// The meaning of the first word of a line.
 #[derive(Clone, Copy, Debug, PartialEq, Eq)]
 pub enum Form {
     /// `%operator` begins a section.
@@ -47,7 +48,7 @@ pub enum Form {
     Begin,
     /// `commit` ends a batch.
     Commit,
-    /// A command says an edit.
+    /// The word is a command for one edit.
     Edit(Keyword),
 }
 
@@ -78,7 +79,7 @@ impl Placement {
 impl Keyword {
     ghost use Rattle.crush_script.specs.Keyword.{keyword_of, keyword_form, keyword_word};
 
-    /// Returns the command that a word names, or `None` if the word names no command.
+    /// Returns the command that a word names, or `None` if the word isn't the name of a command.
     #[tactic(auto, unfolding(crate::specs::Keyword::keyword_of))]
     pub fn read(word: &[u8]) -> Option<Keyword>
         ensures { result ≡ keyword_of word.now }
@@ -112,7 +113,8 @@ impl Keyword {
         }
     }
 
-    /// Returns the word of the command. For `rm`, which has two words, it is `rm`.
+    /// Returns the word of the command. The command `rm` may also be written `remove`; the word
+    /// that is returned for it is `rm`.
     pub fn word(self) -> &'static str
         ensures { result.now ≡ keyword_word self }
     {
@@ -130,7 +132,7 @@ impl Keyword {
         }
     }
 
-    /// Returns the form of the command's lines, such as `reweight NAME WEIGHT`.
+    /// Returns the form of a line with the command, for example `reweight NAME WEIGHT`.
     fn form(self) -> &'static str
         ensures { result.now ≡ keyword_form self }
     {
@@ -152,8 +154,8 @@ impl Keyword {
 impl Form {
     ghost use Rattle.crush_script.specs.Keyword.{form_of, form_text};
 
-    /// Returns what the first word of a line says about the line, or `None` if no line of a job's
-    /// sections may begin with this word.
+    /// Returns the meaning of the first word of a line, or `None` if no line of a section may begin
+    /// with this word.
     #[tactic(auto, unfolding(crate::specs::Keyword::form_of))]
     pub fn read(first: &[u8]) -> Option<Form>
         ensures { result ≡ form_of first.now }
@@ -169,8 +171,8 @@ impl Form {
         }
     }
 
-    /// Returns the form as text, such as `reweight NAME WEIGHT`. For `begin`, which has two forms,
-    /// it is the longer one.
+    /// Returns the form of the line as text, for example `reweight NAME WEIGHT`. `begin` has two
+    /// forms; the text that is returned for it is the longer form.
     pub fn text(self) -> &'static str
         ensures { result.now ≡ form_text self }
     {

@@ -1,7 +1,9 @@
-//! Jobs: the text of a map, followed by the scripts of its operators, with one command a line.
+//! Reads jobs. A job is the text of a map, followed by the scripts of its operators, which have one
+//! command in each line.
 //!
-//! [`read_job`] reads a whole job, or fails with its first [`JobFault`]. It reads the map's text
-//! with `crush_text`, and `crush_run` runs the job. `specs/Job.antt` defines what a job is.
+//! [`read_job`] reads a whole job, or fails with the job's first fault, a [`JobFault`]. It reads
+//! the map's text with `crush_text`. `crush_run` runs the job. `specs/Job.antt` defines what a job
+//! is.
 #![tactic(auto)]
 
 mod command;

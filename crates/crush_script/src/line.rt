@@ -1,4 +1,5 @@
-//! Splits a job into its map's text and lines, and a line of a section into words.
+//! Splits a job into the map's text and the lines after it, and splits a line of a section into
+//! words.
 
 ghost use Rattle.std.specs.Prelude.{◌≡◌, ◌+◌, ◌≤◌, ◌<◌, ◌==◌, ◌∷◌, [], true, length, not, MatchOption};
 ghost use Rattle.std.specs.List.{position_or_len};
@@ -6,8 +7,8 @@ ghost use Rattle.crush_script.specs.Lines.{lines, length_to_section, line_feeds,
 
 use std::marker::Model;
 
-/// Returns the number of bytes before the first line that begins with `%`, or of all bytes if there
-/// is no such line.
+/// Returns the number of bytes before the first line that begins with `%`. If there is no such
+/// line, returns the number of all bytes.
 fn length_to_section(job: &[u8]) -> usize
     ensures length { result ≡ length_to_section true job.now }
     ensures within { result ≤ length job.now }
@@ -38,7 +39,7 @@ pub(crate) fn cut_job(job: &[u8]) -> (&[u8], &[u8])
     job.split_at(length_to_section(job))
 }
 
-/// Counts the line feeds of a text.
+/// Returns the number of line feeds of a text.
 pub fn line_feeds(text: &[u8]) -> usize
     ensures count { result ≡ line_feeds text.now }
     ensures within { result ≤ length text.now }
@@ -117,7 +118,7 @@ fn word_at(text: &[u8]) -> usize
     text.len()
 }
 
-/// The words of a line of a section that are still to be read.
+/// The words of a line of a section that haven't been read yet.
 #[derive(Drop)]
 pub(crate) struct LineWords<'a> {
     text: &'a [u8],
@@ -134,10 +135,10 @@ impl<'a> Model for LineWords<'a> {
 }
 
 impl<'a> LineWords<'a> {
-    /// Returns all words of a line, which spaces and tabs separate.
+    /// Returns all words of a line. Spaces and tabs separate them.
     ///
-    /// `#` begins a comment anywhere in the line, and a carriage return at its end is ignored.
-    /// A line feed would be part of a word, so `line` is given without it.
+    /// `#` begins a comment anywhere in the line. A carriage return at the end of the line is
+    /// ignored. `line` must not have its line feed, which would be a part of a word.
     pub(crate) fn of_line(line: &'a [u8]) -> LineWords<'a>
         ensures { result ≡ line_words line.now }
     {
@@ -146,7 +147,7 @@ impl<'a> LineWords<'a> {
         }
     }
 
-    /// Removes the next word and returns it; returns `None` if no word is left.
+    /// Removes the next word and returns it, or returns `None` if no word is left.
     pub(crate) fn next(&mut self) -> Option<&'a [u8]>
         ensures { MatchOption result (self.old ≡ [])
             (λ word. self.old ≡ word.now ∷ self.new) }
@@ -161,10 +162,10 @@ impl<'a> LineWords<'a> {
     }
 }
 
-/// A word of a line.
+/// A word of a line, and its place in the line.
 #[derive(Clone, Copy)]
 pub struct PlacedWord<'a> {
-    /// The number of bytes of the line before the word.
+    /// The index of the word's first byte in the line, from 0.
     pub place: usize,
     /// The bytes of the word.
     pub text: &'a [u8],
@@ -178,7 +179,7 @@ fn without_comment(line: &[u8]) -> &[u8]
     whole.split_at(place_of(b'#', whole)).0
 }
 
-/// Returns a text from its first word on.
+/// Returns the rest of a text, beginning with its first word.
 fn from_blanks(text: &[u8]) -> &[u8]
     ensures value { result.now ≡ from_blanks text.now }
     ensures within { length result.now ≤ length text.now }
@@ -186,7 +187,7 @@ fn from_blanks(text: &[u8]) -> &[u8]
     text.split_at(word_at(text)).1
 }
 
-/// Returns a text from the end of its first word on.
+/// Returns the rest of a text after its first word.
 fn behind_word(text: &[u8]) -> &[u8]
     ensures value { result.now ≡ behind_word text.now }
     ensures within { length result.now ≤ length text.now }
@@ -195,7 +196,8 @@ fn behind_word(text: &[u8]) -> &[u8]
     rest.split_at(blank_at(rest)).1
 }
 
-/// Returns a text from the word with this index on, or no bytes if the text has fewer words.
+/// Returns the rest of a text, beginning with the word at this index, which counts from 0. If the
+/// text has fewer words, returns no bytes.
 fn from_word(index: usize, text: &[u8]) -> &[u8]
     ensures value { result.now ≡ from_word index text.now }
     ensures within { length result.now ≤ length text.now }
@@ -207,10 +209,11 @@ fn from_word(index: usize, text: &[u8]) -> &[u8]
     from_blanks(rest)
 }
 
-/// Returns the word of a line with this index, which counts from 0, and its place.
+/// Returns the word at this index of a line, and its place. The index counts from 0.
 ///
-/// Spaces and tabs separate words, and `#` begins a comment. If the line has fewer words, then the word has no bytes,
-/// and its place is the end of the line, or the place of the line's comment.
+/// Spaces and tabs separate words, and `#` begins a comment. If the line has fewer words, the
+/// returned word has no bytes. Its place is then the place of the line's comment, or the end of the
+/// line if there is no comment.
 pub fn placed_word(line: &[u8], index: usize) -> PlacedWord<'_>
     ensures place { result.place ≡ place_in_line index line.now }
     ensures text { result.text.now ≡ word_in_line index line.now }

@@ -1,4 +1,4 @@
-//! The sections of a job, each of which is the script of one operator.
+//! Reads the sections of a job. Each section is the script of one operator.
 
 ghost use Rattle.std.specs.Prelude.{◌≡◌, ◌+◌, ◌<◌, ◌^◌, false, true, length};
 ghost use Rattle.crush_script.specs.Lines.{lines, begins_section};
@@ -18,21 +18,21 @@ use std::alloc::Global;
 /// A batch whose `commit` hasn't been read yet.
 #[derive(Drop)]
 pub(crate) struct BegunBatch {
-    /// The number of the line with its `begin`.
+    /// The number of the line with the batch's `begin`.
     pub(crate) line: usize,
-    /// The number N of changes in its `begin at N`; `None` for a plain `begin`.
+    /// The number N if the batch begins with `begin at N`; `None` if it begins with `begin`.
     pub(crate) seen: Option<u32>,
     pub(crate) edits: Edits,
 }
 
-/// What was read from the lines so far.
+/// What was read from the lines before the current line.
 #[derive(Drop)]
 pub(crate) struct Sections {
-    /// One script for each section so far; the next call belongs to the last of them.
+    /// One script for each section so far. The next call is added to the last script.
     pub(crate) scripts: Vec<Script>,
-    /// For each section so far, the numbers of the lines that say its edits.
+    /// For each section so far, the numbers of the lines that have its edits.
     pub(crate) lines: Vec<Vec<u32>>,
-    /// The number of calls of all scripts, including the open batch.
+    /// The number of calls in all scripts, plus 1 if a batch hasn't been ended yet.
     pub(crate) calls: usize,
     pub(crate) begun: Option<BegunBatch>,
 }
@@ -77,7 +77,8 @@ impl Sections {
         }
     }
 
-    /// Begins a section. In this and the following methods `number` is the number of the line.
+    /// Begins a section. In this and the following methods, `number` is the number of the current
+    /// line.
     fn begin(&mut self, alloc: Global, number: usize, name: Name<Global>) -> Result<(), JobFault>
         ensures steps { Steps result (sections_data self.new)
             (with_section number (sections_data self.old) name) }
@@ -118,7 +119,7 @@ impl Sections {
         Ok(())
     }
 
-    /// Notes that the line says an edit of the last section.
+    /// Adds the line's number to the list of the lines that have edits of the last section.
     fn note_line(&mut self, number: usize) -> Result<(), JobFault>
         requires numbered { number < 2 ^ 32 }
         ensures steps { Steps result (sections_data self.new)
@@ -231,7 +232,8 @@ impl Sections {
     }
 }
 
-/// Reads all lines of the sections. `first` is the number of the first of these lines in the job.
+/// Reads all lines of the sections. `first` is the number that the first of these lines has in the
+/// job.
 #[tactic(auto, unfolding(crate::specs::Sections::with_lines))]
 pub(crate) fn read_sections(alloc: Global, first: usize, text: &[u8]) -> Result<Sections, JobFault>
     requires begins { 0 < length text.now → begins_section text.now ≡ true }

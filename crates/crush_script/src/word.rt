@@ -1,4 +1,4 @@
-//! Reads single words of a command: a device's name, a number of changes, a pair.
+//! Reads single words of a command: the N of `begin at N`, and the two parts of a pair `TYPE=NAME`.
 
 ghost use Rattle.std.specs.Prelude.{◌≡◌};
 ghost use Rattle.crush_script.specs.Words.{count_of, pair_of};
@@ -8,8 +8,8 @@ use crush_units::limits::MOST_ENTRIES;
 
 /// Reads a number of changes, as in `begin at N`.
 ///
-/// The word is one or more digits, and leading zeros are allowed. Returns `None` if it isn't, or if
-/// its value is above 65,536, the most changes that a history can have.
+/// The word must consist of one or more digits; leading zeros are allowed. Returns `None` for any
+/// other word, and for a number above 65,536, because no history has more changes.
 pub(crate) fn count_of(digits: &[u8]) -> Option<u32>
     ensures { result ≡ count_of digits.now }
 {
@@ -30,9 +30,10 @@ pub(crate) fn count_of(digits: &[u8]) -> Option<u32>
     Some(value as u32)
 }
 
-/// Splits a word `TYPE=NAME` at its first `=`, and returns the bytes before it and after it.
+/// Splits a word `TYPE=NAME` at its first `=`, and returns the bytes before the `=` and after it.
 ///
-/// Without `=` the first part is the whole word, and the second is empty. Neither part is checked.
+/// Without a `=`, the first part is the whole word, and the second part is empty. Neither part is
+/// checked.
 pub(crate) fn cut_pair(word: &[u8]) -> (&[u8], &[u8])
     ensures kind { result.0.now ≡ (pair_of word.now).kind }
     ensures name { result.1.now ≡ (pair_of word.now).name }

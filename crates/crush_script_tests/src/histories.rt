@@ -1,4 +1,4 @@
-//! The history of one operator's calls.
+//! Makes the calls of one operator, and returns their history.
 
 ghost use Rattle.std.specs.Prelude.{◌<◌, length};
 ghost use Rattle.crush_history.specs.Entries.{AreOf};
@@ -8,7 +8,7 @@ use crush_map::CrushMap;
 use std::alloc::Global;
 use std::process::Abort;
 
-/// Makes the calls of one operator's script on the map, and returns their entries.
+/// Makes the calls of one operator's script on the map, and returns the history's entries.
 pub fn entries_of(
     rt: &(impl Abort + AllocGlobal),
     map: &mut CrushMap<Global>,

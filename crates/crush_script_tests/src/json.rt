@@ -1,5 +1,5 @@
-//! JSON documents. Expected values are worked by hand from docs/user/FORMATS.md, and from what
-//! `crushtool --dump` of Ceph 18 prints.
+//! Tests the JSON documents. The expected values were worked out by hand from docs/user/FORMATS.md,
+//! and from what `crushtool --dump` of Ceph 18 prints.
 
 mod maps;
 mod plans;

@@ -1,12 +1,15 @@
-//! Tests of the texts of maps, of jobs, and of what is printed of maps, through public functions.
+//! Tests the texts of maps, jobs, and all that is printed about maps. The tests call only public
+//! functions.
 //!
 //! `script` tests `crush_text`, `crush_print`, `crush_history`, `crush_script` and `crush_units`;
 //! `view` tests `crush_print`, `crush_items`, `crush_compare` and `crush_since`; `plan` tests
 //! `crush_plan`, and `crush_since` by names; `json` tests `crush_json`; `reasons` tests
-//! `crush_reasons`. A test ends each map, job and call that it owns by `drop`, so that its parts are
-//! taken apart in one place, and not in each proof.
+//! `crush_reasons`; `ceph` tests `crush_ceph`. A test calls `drop` for each map, job and call that
+//! it owns, so that the proofs about freeing its parts are needed in one place only.
 #![tactic(auto)]
 
+#[cfg(test)]
+mod ceph;
 #[cfg(test)]
 mod histories;
 #[cfg(test)]

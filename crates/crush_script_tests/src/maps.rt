@@ -1,11 +1,12 @@
-//! Parses the text of a map, and has the example map with which plans and documents begin.
+//! Parses the text of a map, and has the example map from which the tests of plans and of documents
+//! start.
 
 use crush_map::CrushMap;
 use crush_text::read_map;
 use std::alloc::Global;
 use std::process::Abort;
 
-/// The map of a text, which must be right.
+/// Returns the map of a text. The text must be valid.
 pub fn map_of(rt: &(impl Abort + AllocGlobal), text: &[u8]) -> CrushMap<Global> {
     let (map, _) = read_map(rt.alloc(), text).expect(rt, "no map");
     map

@@ -1,35 +1,29 @@
-//! Plans from the example map to others, and back. Expected values are worked by hand from the
-//! steps of a plan in docs/dev/plan.md.
+//! Tests plans that lead from the example map to other maps, and back. The expected values were
+//! worked out by hand from the steps of a plan in docs/dev/plan.md.
 
 mod maps;
 mod names_part;
 mod names_since;
 
-use crush_plan::{Identity, PlanWords, find_plan, plan_text};
+use crush_plan::{Identity, ceph_plan_text, find_plan, plan_text};
 use crush_since::stays;
 use maps::*;
 use std::process::Abort;
 
-fn planned(
-    rt: &(impl Abort + AllocGlobal),
-    identity: Identity,
-    words: PlanWords,
-    texts: [&[&[u8]]; 2],
-) -> Vec<u8> {
-    planned_under(rt, identity, words, None, texts)
+fn planned(rt: &(impl Abort + AllocGlobal), identity: Identity, texts: [&[&[u8]]; 2]) -> Vec<u8> {
+    planned_under(rt, identity, None, texts)
 }
 
 fn planned_under(
     rt: &(impl Abort + AllocGlobal),
     identity: Identity,
-    words: PlanWords,
     under: Option<&str>,
     texts: [&[&[u8]]; 2],
 ) -> Vec<u8> {
     let map = map_of_parts(rt, texts[0]);
     let wanted = map_of_parts(rt, texts[1]);
     let plan = find_plan(rt.alloc(), identity, under, &map, &wanted).expect(rt, "no memory");
-    let text = plan_text(rt.alloc(), &plan, words).expect(rt, "no memory");
+    let text = plan_text(rt.alloc(), &plan).expect(rt, "no memory");
     drop(plan);
     drop(wanted);
     drop(map);
@@ -37,7 +31,7 @@ fn planned_under(
 }
 
 fn is_planned(rt: &(impl Abort + AllocGlobal), texts: [&[&[u8]]; 2], told: &[u8]) -> bool {
-    planned(rt, Identity::Ids, PlanWords::Script, texts).as_slice() == told
+    planned(rt, Identity::Ids, texts).as_slice() == told
 }
 
 fn is_planned_under(
@@ -46,7 +40,7 @@ fn is_planned_under(
     texts: [&[&[u8]]; 2],
     told: &[u8],
 ) -> bool {
-    let text = planned_under(rt, Identity::Ids, PlanWords::Script, Some(under), texts);
+    let text = planned_under(rt, Identity::Ids, Some(under), texts);
     text.as_slice() == told
 }
 
@@ -117,7 +111,8 @@ fn other_ids_of_hosts_are_told_aside(rt: HostRuntime) {
 
 #[test]
 fn of_a_part_no_device_outside_is_weighed(rt: HostRuntime) {
-    // h1 comes into r1, but osd.1, which is below h1 now, is to be in h2, outside of r1.
+    // The plan moves h1 into r1. But osd.1, which is below h1 before the plan, has to be in h2,
+    // which is outside r1.
     assert!(rt;
         is_planned_under(
             &rt,
@@ -134,7 +129,7 @@ fn buckets_that_come_are_made_and_put(rt: HostRuntime) {
         is_planned(
             &rt,
             [EXAMPLE, GROWN],
-            b"# 5 commands\nadd-bucket h3 host\nadd-bucket r1 rack\nmove r1 root=default\nmove h3 rack=r1\nadd osd.3 0.33299 host=h3\n"
+            b"# 5 commands\nadd-bucket r1 rack\nmove r1 root=default\nadd-bucket h3 host\nmove h3 rack=r1\nadd osd.3 0.33299 host=h3\n# ids of 2 buckets differ\n"
         )
     );
 }
@@ -217,6 +212,41 @@ fn one_weight_below_a_bucket_is_one_command(rt: HostRuntime) {
 }
 
 #[test]
+fn a_weight_that_a_later_command_sets_is_not_lowered_first(rt: HostRuntime) {
+    // osd.0 and osd.1 become lighter, and osd.2 becomes heavier.
+    assert!(rt;
+        is_planned(
+            &rt,
+            [EXAMPLE, EVEN],
+            b"# 1 commands\nreweight-subtree default 0.75000\n"
+        )
+    );
+}
+
+#[test]
+fn a_weight_that_no_later_command_sets_is_lowered_first(rt: HostRuntime) {
+    assert!(rt;
+        is_planned(
+            &rt,
+            [EXAMPLE, MOVED_AND_LIGHTER],
+            b"# 3 commands\nreweight osd.1 0.25000\nmove osd.0 host=h2\nreweight-subtree h2 0.75000\n"
+        )
+    );
+}
+
+#[test]
+fn classes_are_set_class_by_class(rt: HostRuntime) {
+    // The wanted map has ssd first, and then hdd.
+    assert!(rt;
+        is_planned(
+            &rt,
+            [CLASSES, OTHER_CLASSES],
+            b"# 5 commands\nrm-device-class osd.0\nset-device-class ssd osd.0\nrm-device-class osd.2\nset-device-class hdd osd.2\nrm-device-class osd.1\n"
+        )
+    );
+}
+
+#[test]
 fn a_unit_is_no_difference(rt: HostRuntime) {
     assert!(rt; is_planned(&rt, [HEAVY, HEAVY_CUT], b"# 0 commands\n"));
 }
@@ -234,7 +264,7 @@ fn a_bucket_gives_its_name_to_a_device(rt: HostRuntime) {
 
 #[test]
 fn by_name_items_are_moved_in_place_of_names(rt: HostRuntime) {
-    let text = planned(&rt, Identity::Names, PlanWords::Script, [EXAMPLE, RENAMED]);
+    let text = planned(&rt, Identity::Names, [EXAMPLE, RENAMED]);
     assert!(rt;
         text.as_slice()
             == b"# 3 commands\nmove osd.0 host=h2\nmove osd.1 host=h2\nmove osd.2 host=h1\n# ids of 2 buckets differ\n".as_slice()
@@ -287,7 +317,6 @@ fn where_all_help_nothing_a_class_is_set_alone(rt: HostRuntime) {
     let text = planned(
         &rt,
         Identity::Names,
-        PlanWords::Script,
         [NAMES_OF_OTHER_TYPES, NAMES_EXCHANGED],
     );
     assert!(rt;
@@ -298,8 +327,14 @@ fn where_all_help_nothing_a_class_is_set_alone(rt: HostRuntime) {
 
 #[test]
 fn commands_are_told_as_those_of_ceph(rt: HostRuntime) {
-    let text = planned(&rt, Identity::Ids, PlanWords::Ceph, [EXAMPLE, MOVED]);
+    let map = map_of_parts(&rt, EXAMPLE);
+    let wanted = map_of_parts(&rt, MOVED);
+    let plan = find_plan(rt.alloc(), Identity::Ids, None, &map, &wanted).expect(&rt, "no memory");
+    let text = ceph_plan_text(rt.alloc(), &map, &plan).expect(&rt, "no memory");
     assert!(rt; text.as_slice() == b"# 1 commands\nceph osd crush move osd.0 host=h2\n".as_slice());
+    drop(plan);
+    drop(wanted);
+    drop(map);
 }
 
 #[test]

@@ -1,5 +1,5 @@
-//! The reasons that are given for the faults and the refused calls of jobs. Expected values follow
-//! the forms in docs/user/FORMATS.md and the sentences in docs/user/RULES.md.
+//! Tests the reasons that are printed for the faults and the refused calls of jobs. The expected
+//! values follow the forms in docs/user/FORMATS.md and the sentences in docs/user/RULES.md.
 
 ghost use Rattle.std.specs.Prelude.{◌<◌, length};
 ghost use Rattle.crush_history.specs.Entries.{AreOf};
@@ -210,7 +210,7 @@ fn joined(rt: &(impl Abort + AllocGlobal), parts: &[&[u8]]) -> Vec<u8> {
     parts.concat(rt.alloc()).expect(rt, "no memory")
 }
 
-/// Lines of a script, each with its reason.
+/// Lines of a script that are faulty, each with the reason that is printed for it.
 const LINES: &[(&[u8], &[u8])] = &[
     (b"add-bucket h1", b"add-bucket NAME TYPE: TYPE is missing"),
     (
@@ -226,7 +226,8 @@ const LINES: &[(&[u8], &[u8])] = &[
     (b"commit", b"no batch is open: start one with `begin`"),
 ];
 
-/// Lines of a script with the column of the word that doesn't fit, and the reason.
+/// Lines of a script, each with the column of the word that doesn't fit, and with the reason that
+/// is printed.
 const MARKED: &[(&[u8], u64, &[u8])] = &[
     (
         b"add 0 1 host=h1",
@@ -307,7 +308,8 @@ const MARKED: &[(&[u8], u64, &[u8])] = &[
     (b"ceph osd crush rm h1", 1, b"leave out `ceph osd crush`"),
 ];
 
-/// What is told of a line 2 of a job: its column if it has one, the line, the sign, and the reason.
+/// Returns what is printed about line 2 of a job: the column if there is one, the text of the line,
+/// the sign `^` below the column, and the reason.
 fn told_of(
     rt: &(impl Abort + AllocGlobal),
     line: &[u8],
@@ -407,7 +409,8 @@ fn a_name_with_an_escape_is_told_without_it(rt: HostRuntime) {
 /// Two scripts in one job, each after the line that names its operator.
 const JOINED: &[u8] = b"# nothing\n%operator alice\nrm x\n%operator bob\nrm y\nfly z\n";
 
-/// The line that was added before the second script names the operator of the first script.
+/// The `%operator` line that was added before the second script names the operator of the first
+/// script.
 const DUPLICATE: &[u8] = b"# nothing\n%operator alice\nrm x\n%operator alice\nrm y\n";
 
 #[test]

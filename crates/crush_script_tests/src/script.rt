@@ -1,6 +1,6 @@
-//! Maps and jobs that are read from texts, and what is written of them. Expected values follow the
-//! forms in docs/user/FORMATS.md. Cases that a short file can show are among the data of
-//! `crush_examples` instead.
+//! Tests maps and jobs that are read from texts, and the texts that are written for them. The
+//! expected values follow the forms in docs/user/FORMATS.md. Cases that a short file can show are
+//! in the data of `crush_examples` instead.
 
 mod heaps;
 mod jobs;

@@ -1,5 +1,5 @@
-//! Trees, lists of items, pairs of items, and what has changed between two maps, as text. Expected
-//! values follow the forms in docs/user/FORMATS.md.
+//! Tests the texts of trees, lists of items and pairs of items, and the texts that say what has
+//! changed between two maps. The expected values follow the forms in docs/user/FORMATS.md.
 
 mod change_parts;
 mod change_trees;

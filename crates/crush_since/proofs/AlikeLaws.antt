@@ -1,4 +1,4 @@
--- Nothing stays exactly where two maps are alike by names.
+-- Proves that no difference remains between two maps if and only if they are alike by names.
 use Rattle.std.proofs.Common.{◌≡◌, ℕ, ◌+◌, ◌≤◌, Bool, true, false, List, [], ◌∷◌, ◌++◌, length, map, refl, sym, ap, subst, ◌∙◌, arith, eq-eqb, ⊎_elim}
 use Rattle.std.specs.Prelude.{find, IfSome, Option, None, Some, is_some, ◌&&◌, ◌==◌, if◌then◌else◌, bytes_eq, codes, option_and_then, unwrap_or}
 use Rattle.std.specs.Cmp.Lexicographic.{pointwise}
@@ -42,7 +42,7 @@ use Rattle.crush_since.proofs.TreeLaws.{nil_left, nil_right, tree_none, rows_non
 some_is : {X : Type 0} (a b : X) → Some a ≡ Some b → a ≡ b
 some_is a b same = cc
 
--- NAMES: the row of a name is that of its id
+-- NAMES: the row that is found by a name is the row that is found by the row's id
 row_of_named : (t : List Row) (n : List ℕ) (r : Row) → Distinct t → row_named t n ≡ Some r → (r.name ≡ n) × (row_of t r.id ≡ Some r)
 row_of_named [] n r d e = absurd cc
 row_of_named (x ∷ t) n r d e = by_name (bytes_eq x.name n) refl e (λ rest. row_of_named t n r (Distinct-tail x t d) rest) where
@@ -65,7 +65,7 @@ row_named_own t i r l found = by_row (row_named t r.name) refl (id_named-by t i 
       let own : row_of t i ≡ Some q = ap (row_of t) (sym is) ∙ (row_of_named t r.name q l.ids e).1 in
       e ∙ sym own ∙ found
 
--- the item of a name is the one that is compared, if the two are one
+-- an item's counterpart is the item of the row with the same name, if the two are the same item
 pub counterpart_named : (by : Devices) (t : List Row) (x : ItemData) (q : Row) → Distinct t → row_named t x.view.name ≡ Some q → counterpart by t x ≡ (if are_one by x.view.id q.id then Some (row_item t q) else None)
 unfolding counterpart
 counterpart_named by t x q d e =
@@ -76,7 +76,7 @@ counterpart_unnamed : (t : List Row) (x : ItemData) → row_named t x.view.name 
 unfolding counterpart
 counterpart_unnamed t x e = ap (λ (o : Option Row). option_and_then (if_one ById t x.view.id) (option_map (λ (r : Row). r.id) o)) e
 
--- ONE ITEM, by the test
+-- ONE ITEM: the test `are_one` is true if and only if `AreOne` holds
 one_of_test : (i j : ItemId) → are_one ById i j ≡ true → AreOne i j
 one_of_test (Device d) (Device e) h = ⊎_elim (λ q. q.1) (λ q. absurd (let no_way : true ≡ false = sym h ∙ q.0 in cc)) (eqb_tells d e)
 one_of_test (Device d) (Bucket b) h = absurd cc
@@ -95,7 +95,7 @@ one_turned (Device d) (Bucket b) h = absurd h
 one_turned (Bucket b) (Device d) h = absurd h
 one_turned (Bucket b) (Bucket c) h = tt
 
--- TESTS of columns
+-- TESTS of single columns: a test is true if and only if the two values are equal
 text_equal : (a b : Option (List ℕ)) → same_text a b ≡ true → a ≡ b
 text_equal None None h = refl
 text_equal None (Some y) h = absurd cc
@@ -116,7 +116,7 @@ pub algs_itself : (a : Option Alg) → same_algs a a ≡ true
 algs_itself None = refl
 algs_itself (Some x) = equal_same_alg x x refl
 
--- types: a device has the type of devices in either map
+-- types: a device has the type 0 in both maps
 type_of_test : (s p : SettingData) → ((n : ℕ) → kind_name s n ≡ kind_name p n) → (i j : ItemId) (x y : Row) → IsRowOf i x → IsRowOf j y → AreOne i j
     → same_type i (type_word s i x.kind) (type_word p j y.kind) ≡ true → type_word s i x.kind ≡ type_word p j y.kind
 type_of_test s p kinds (Device d) (Device e) x y fx fy one same =
@@ -129,7 +129,7 @@ pub test_of_type : (i : ItemId) (a b : List ℕ) → a ≡ b → same_type i a b
 test_of_type (Device d) a b e = refl
 test_of_type (Bucket c) a b e = ap (bytes_eq a) (sym e) ∙ bytes_itself a
 
--- weights: that of a device by its row, and none of a bucket
+-- weights: the weights of a device are compared, and the weights of a bucket aren't
 near : (a b : ℕ) → are_near a b ≡ true → (a ≤ b + 1) × (b ≤ a + 1)
 near a b h = (grind (arith, nat_tests, h), grind (arith, nat_tests, h))
 
@@ -149,7 +149,7 @@ test_of_weight t u (Device d) (Bucket c) v w one more less = absurd one
 test_of_weight t u (Bucket b) (Device e) v w one more less = absurd one
 test_of_weight t u (Bucket b) (Bucket c) v w one more less = refl
 
--- PLACES: a bucket that holds an item has a name, and no name is one of the words for none
+-- PLACES: a parent has a name, and no name is one of the words for an item without a parent
 abbrev IsHeld : Option ℕ → Option (List ℕ) → Type 0
 IsHeld None holder = holder ≡ None
 IsHeld (Some p) holder = (n : List ℕ) × (holder ≡ Some n) × IsName n
@@ -189,7 +189,7 @@ words_of_place i j None (Some q) a b one ha hb is = absurd (let no_way : None �
 words_of_place i j (Some p) None a b one ha hb is = absurd (let no_way : None ≡ Some ha.0 = sym hb ∙ sym is ∙ ha.1 in cc)
 words_of_place i j (Some p) (Some q) a b one ha hb is = ap (λ h. unwrap_or h []) is
 
--- LINES of which there are none
+-- LINES: a text of several parts is empty if and only if each part is empty
 not_none : {X : Type 0} (x : X) (xs : List X) → x ∷ xs ≡ [] → ⊥
 not_none x xs h = let long : length (x ∷ xs) ≡ 0 = ap length h in omega (arith, long)
 
@@ -222,7 +222,7 @@ second_of : (a b : Bool) → (a && b) ≡ true → b ≡ true
 second_of true b h = h
 second_of false b h = absurd cc
 
--- SETTINGS
+-- SETTINGS: the tests of tunables, types and rules are true if and only if the settings agree
 tunable_equal : (x y : TunableData) → same_tunable x y ≡ true → x ≡ y
 tunable_equal x y h =
     let value : x.value ≡ y.value = ⊎_elim (λ q. q.1) (λ q. absurd (let no_way : true ≡ false = sym (second_of (bytes_eq x.name y.name) (x.value == y.value) h) ∙ q.0 in cc)) (eqb_tells x.value y.value) in
@@ -238,7 +238,7 @@ tunables_equal (x ∷ xs) [] h = absurd cc
 tunables_equal (x ∷ xs) (y ∷ ys) h =
     λ k. tunable_equal x y (first_of (same_tunable x y) (pointwise same_tunable xs ys) h) k ∷ tunables_equal xs ys (second_of (same_tunable x y) (pointwise same_tunable xs ys) h) k
 
--- a number that has a name is one of the numbers
+-- a type number that has a name is one of the numbers that the test visits
 of_number : (test : ℕ → Bool) (ks : List KindData) (n : ℕ) (name : List ℕ) → list_all test (map (λ (k : KindData). k.number) ks) ≡ true → first_name ks n ≡ Some name → test n ≡ true
 of_number test [] n name all e = absurd cc
 of_number test (k ∷ ks) n name all e = ⊎_elim
@@ -284,7 +284,7 @@ settings_agree old new none =
       rules = told_is_none _ _ _ (nil_right (tunables_line old.setting new.setting ++ kinds_line old.setting new.setting) _ none);
     }
 
--- ITEMS that both have
+-- ITEMS that both maps have: they have no line if and only if their rows are alike
 module _ (old new : PlainMap) (lt : Lawful old.table) (lu : Lawful new.table) where
   held_here : (q : Row) → row_of old.table q.id ≡ Some q → IsHeld q.parent (place_of old.table q)
   held_here q found = held old.table lt q.parent (All-row (HasParent old.table) old.table lt.parents q.id q found)
@@ -326,7 +326,7 @@ module _ (old new : PlainMap) (lt : Lawful old.table) (lu : Lawful new.table) wh
         alg = algs_equal q.alg r.alg (part_is_none _ _ (nil_right (type_part old.setting new.setting x y ++ place_part x y ++ weight_part x y ++ class_part x y) (alg_part x y) none));
       }
 
-  -- THE LINE of a wanted item, by what has its name
+  -- THE LINE of a wanted item, given the map's row with the same name, if there is one
   abbrev wanted_of : Row → List (List ℕ)
   wanted_of r = wanted_parts old.setting new.setting (counterpart ById old.table (row_item new.table r)) (row_item new.table r)
 
@@ -343,14 +343,14 @@ module _ (old new : PlainMap) (lt : Lawful old.table) (lu : Lawful new.table) wh
   wanted_none q r e one none =
       ap (λ o. wanted_parts old.setting new.setting o (row_item new.table r)) (counterpart_named ById old.table (row_item new.table r) q lt.ids e ∙ ap (λ b. if b then Some (row_item old.table q) else None) one) ∙ none
 
-  -- and of one that may not be wanted
+  -- the line of the map's item, which the wanted map may not have
   unwanted_lacks : (q : Row) → row_named new.table q.name ≡ None → unwanted_parts (counterpart ById new.table (row_item old.table q)) ≡ [] → ⊥
   unwanted_lacks q e none = not_none _ [] (sym (ap unwanted_parts (counterpart_unnamed new.table (row_item old.table q) e)) ∙ none)
 
   unwanted_none : (q r : Row) → row_named new.table q.name ≡ Some r → are_one ById q.id r.id ≡ true → unwanted_parts (counterpart ById new.table (row_item old.table q)) ≡ []
   unwanted_none q r e one = ap unwanted_parts (counterpart_named ById new.table (row_item old.table q) r lu.ids e ∙ ap (λ b. if b then Some (row_item new.table r) else None) one)
 
-  -- ALIKE, so nothing stays
+  -- if two maps are ALIKE by names, no difference remains
   have_one : (n : List ℕ) (q r : Row) → HaveAlike old new (row_named old.table n) (row_named new.table n) → row_named old.table n ≡ Some q → row_named new.table n ≡ Some r → AreAlike old new q r
   have_one n q r alike e f = subst (λ o. HaveAlike old new (Some q) o) f (subst (λ o. HaveAlike old new o (row_named new.table n)) e alike)
 
@@ -377,7 +377,7 @@ module _ (old new : PlainMap) (lt : Lawful old.table) (lu : Lawful new.table) wh
       by_row None e = absurd (subst (λ o. HaveAlike old new o None) own (subst (λ o. HaveAlike old new (row_named old.table q.name) o) e (alike.items q.name)))
       by_row (Some r) e = unwanted_none q r e (test_of_one q.id r.id (have_one q.name q r (alike.items q.name) own e).one)
 
-  -- NOTHING STAYS, so they are alike
+  -- if NOTHING STAYS, the two maps are alike by names
   alike_where_none : stays old new ≡ [] → AreAlikeByNames old new
   unfolding wanted_lines unwanted_lines wanted_line unwanted_line
   alike_where_none none = record { items = λ n. by_rows n (row_named old.table n) (row_named new.table n) refl refl; settings = agree } where

@@ -1,4 +1,4 @@
--- Buckets whose ids differ, counted by pairs.
+-- Proves that counting the pairs whose ids differ counts the buckets whose ids differ.
 use Rattle.std.proofs.Common.{◌≡◌, ℕ, zero, suc, ◌+◌, true, false, List, [], ◌∷◌, ap, subst, sym, ◌∙◌, refl, arith}
 use Rattle.std.specs.Prelude.{All, Bool, IfSome, Option, None, Some, is_some, not, ◌&&◌, option_and_then}
 use Rattle.std.specs.Cmp.Lexicographic.{pointwise}
@@ -24,7 +24,7 @@ use Rattle.crush_compare.specs.declared.identity.Devices.TheVariants.{ById}
 use Rattle.crush_since.specs.Aside.{has_other_class_ids, of_pair}
 use Rattle.crush_since.proofs.NamedPairs.{count_pairs, of_new_step, of_old_step}
 
--- the class ids of what is at a position are those that the table has of its id
+-- the class ids of the entry at a position are those that the table has for the entry's id
 told_at : (t : List Row) (es : List EntryData) (k : ℕ) (e : EntryData) → All (λ x. entry_of t (entry_id x) ≡ Some x) es → slice_get es k ≡ Some e → entry_of t (entry_id e) ≡ Some e
 told_at t [] k e told at = absurd cc
 told_at t (x ∷ es) zero e told at = let same : x ≡ e = cc in subst (λ y. entry_of t (entry_id y) ≡ Some y) same (All-head (λ y. entry_of t (entry_id y) ≡ Some y) x es told)
@@ -51,7 +51,7 @@ other_class_ids_of t u es fs has_t has_u p = by_both (option_and_then (slice_get
   by_both (Some e) None a b = refl
   by_both (Some e) (Some f) a b = λ k. not (pointwise same_class_id (a k) (b k))
 
--- of the pairs of a part, those that meet a test are the steps of the wanted table's tree that meet it in the part
+-- the number of a part's pairs that meet a test is the number of steps of the wanted table's tree that meet the test and are in the part
 pub aside_pairs : (test : Option ItemData → ItemData → Bool) (under : Option (List ℕ)) (t u : List Row)
     → count_by (of_pair test) (pairs ById under t u) ≡ count_by (λ (s : WalkStepData). test (counterpart ById t (step_item u s)) (step_item u s) && is_of_part ById under t u (step_item u s)) (tree_rows u)
 aside_pairs test under t u =

@@ -1,4 +1,4 @@
--- Whether anything is told, of ids and of settings.
+-- Lemmas about whether there is any line about an item or a setting.
 use Rattle.std.proofs.Common.{◌≡◌, ℕ, ◌+◌, ◌<◌, Bool, true, false, List, [], ◌∷◌, ◌++◌, length, get_or, take, ap, sym, ◌∙◌, refl}
 use Rattle.std.specs.Prelude.{◌&&◌, ◌||◌, not, filter, flat_map, codes, if◌then◌else◌}
 use Rattle.std.specs.Cmp.Lexicographic.{pointwise}
@@ -12,7 +12,7 @@ use Rattle.crush_since.specs.Since.{plain_map, all_ids, id_line, item_lines}
 use Rattle.crush_since.specs.SincePart.{is_changed}
 use Rattle.crush_since.specs.Settings.{same_kinds, same_rule, same_tunable, setting_lines, tunables_line, kinds_line, rules_line, listed_if_not}
 
--- THE SETTINGS
+-- THE SETTINGS have a line if they differ
 some_line : (xs : List RuleChangeData) → has_some (rule_change_lines (or_order xs)) ≡ true
 unfolding other_order rule_takes
 some_line [] = refl
@@ -40,7 +40,7 @@ settings_told : (a b : SettingData) → has_some (setting_lines a b) ≡ not (ar
 unfolding setting_lines tunables_line kinds_line rules_line
 settings_told a b = three_told (pointwise same_tunable a.tunables b.tunables) (same_kinds a b) (pointwise same_rule a.rules b.rules) (rule_change_lines (rule_differences same_rule a.rules b.rules)) (rules_listed same_rule a.rules b.rules)
 
--- one of the three tests fails, or the last decides
+-- there is a line if one of the tests of tunables, types and rules is false; otherwise the last section decides
 pub tunables_told : (a b : SettingData) → pointwise same_tunable a.tunables b.tunables ≡ false → true ≡ has_some (setting_lines a b)
 tunables_told a b x = ap (λ z. not (z && (same_kinds a b && pointwise same_rule a.rules b.rules))) (sym x) ∙ sym (settings_told a b)
 
@@ -50,12 +50,12 @@ kinds_told a b x y = (λ k. not (sym x k && (sym y k && pointwise same_rule a.ru
 pub rules_told : (a b : SettingData) → pointwise same_tunable a.tunables b.tunables ≡ true → same_kinds a b ≡ true → not (pointwise same_rule a.rules b.rules) ≡ has_some (setting_lines a b)
 rules_told a b x y = (λ k. not (sym x k && (sym y k && pointwise same_rule a.rules b.rules))) ∙ sym (settings_told a b)
 
--- of two lists one has something
+-- two joined lists have an element if and only if one of the lists has an element
 pub some_of_both : {X : Type 0} (xs ys : List X) → has_some (xs ++ ys) ≡ has_some xs || has_some ys
 some_of_both [] ys = refl
 some_of_both (x ∷ xs) ys = refl
 
--- OF TWO MAPS
+-- OF TWO MAPS: whether they have any line
 or_true : (x : Bool) → x || true ≡ true
 or_true true = refl
 or_true false = refl

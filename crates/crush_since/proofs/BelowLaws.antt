@@ -1,4 +1,4 @@
--- The ids of the items below a bucket, sorted, are those that a table has below it.
+-- Proves that the sorted list of ids has exactly the ids of the items that the table has below the bucket.
 use Rattle.std.proofs.Common.{◌≡◌, ℕ, zero, suc, ◌<◌, true, false, List, [], ◌∷◌, length, get_or, map, ap, sym, ◌∙◌, refl, arith, Less, Equal, Greater}
 use Rattle.std.specs.Prelude.{Option, None, Some, nat_lt}
 use Rattle.std.specs.List.{sum_by}
@@ -26,12 +26,12 @@ use Rattle.crush_since.specs.Listing.{entry_data, listed_id}
 use Rattle.crush_since.specs.declared.since.listing.Listed.{Listed}
 use Rattle.crush_since.proofs.EntryLaws.{entries_of_rows, none_found, same_key, summed, view_id}
 
--- how often an id is one of the items of a bucket, or below them
+-- how often an id is the id of one of a bucket's items or of an item below them
 by_kids : (i : ItemId) (o : Option Items) → summed (λ j. one_if (same_id j i)) (below_entries o) ≡ ids_below i o
 by_kids i None = refl
 by_kids i (Some k) = entries_of_rows (λ j. one_if (same_id j i)) None None k ∙ times-rows i None k
 
--- THE IDS BELOW a bucket, sorted by their keys
+-- THE IDS BELOW a bucket, sorted by their keys, meet `AreBelow`
 pub below_sorted : {A : _} (f : ForestData) (t : List Row) (b : ℕ) (ls : List (Listed A)) (is js : List ItemId) → Stands f t → map entry_data ls ≡ below_entries (kids_in b (all_items f)) → is ≡ map listed_id ls → IsPermutation is js → IsNonDecreasingBy id_key js → AreBelow t b js
 below_sorted f t b ls is js stands are ids same up = record {
   below = λ i. contains-below f t b i stands ∙ ap (nat_lt 0) (sym (times i));
@@ -43,7 +43,7 @@ below_sorted f t b ls is js stands are ids same up = record {
       ∙ (λ k. sum_by (λ l. one_if (same_id (sym (view_id l.parent l.node.now) k) i)) ls) ∙ sym (sum_by-map (λ (e : EntryData). one_if (same_id e.item.view.id i)) entry_data ls)
       ∙ ap (summed (λ j. one_if (same_id j i))) are ∙ by_kids i (kids_in b (all_items f))
 
--- A SEARCH finds an id that is one of them
+-- A SEARCH finds each id that is in the list
 one_has : (is : List ItemId) (i : ItemId) (at : ℕ) (d : ItemId) → at < length is → get_or is at d ≡ i → 0 < times_among i is
 one_has [] i at d lt same = absurd (omega (arith, lt))
 one_has (x ∷ is) i zero d lt same = let one : one_if (same_id x i) ≡ 1 = ap one_if (equal_same_id x i same) in omega (arith, one, sum_by-cons (λ j. one_if (same_id j i)) x is)

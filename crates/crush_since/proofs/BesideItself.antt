@@ -1,4 +1,4 @@
--- Between a map and itself nothing differs in rules and classes, whether buckets are matched by their ids or by their names.
+-- Proves that a map compared with itself has no differences in rules and classes, whether buckets are matched by their ids or by their names.
 use Rattle.std.proofs.Common.{◌≡◌, ℕ, Bool, true, false, List, [], ◌++◌, ap, sym, refl, ◌∙◌, eq-eqb}
 use Rattle.std.specs.Prelude.{Option, None, Some, ◌==◌, ◌&&◌, not, if◌then◌else◌, codes, bytes_eq, option_and_then, flat_map}
 use Rattle.std.specs.Option.{option_map_or}
@@ -22,7 +22,7 @@ use Rattle.crush_since.specs.Since.{plain_map}
 use Rattle.crush_since.proofs.ClassLaws.{no_classes}
 use Rattle.crush_since.proofs.SinceItself.{nothing_of, pairs_itself, option_itself, text_itself, bool_itself, rule_itself, tunable_itself, kinds_itself, not_emptied}
 
--- RULES are the same
+-- RULES: each step and each rule is the same as itself
 named_step_itself : (t : List Row) (x : StepData) → named_step t t x x ≡ true
 named_step_itself t (take b c) = λ i. text_itself (name_of t (Bucket b)) i && text_itself c i
 named_step_itself t (choose l f n k) = λ i. bool_itself l i && bool_itself f i && (signed_Decides n n).1 refl i && bytes_itself k i
@@ -37,7 +37,7 @@ rules_itself : (identity : Identity) (t : List Row) (rules : List RuleData) → 
 rules_itself Ids t rules = pairs_itself same_rule rule_itself rules
 rules_itself (Names devices) t rules = pairs_itself (named_rule t t) (named_rule_itself t) rules
 
--- and what weighs nothing weighed nothing
+-- a bucket that weighs nothing also weighed nothing before
 never_more : (b : Bool) → (b && not true) ≡ false
 never_more true = refl
 never_more false = refl
@@ -56,13 +56,13 @@ no_emptied_step identity t l rule (choose leaf f n k) = refl
 no_emptied_step identity t l rule (set w v) = refl
 no_emptied_step identity t l rule emit = refl
 
--- NO CHANGE
+-- NO CHANGE of rules is found
 pub no_rule_changes : (identity : Identity) (s : SettingData) (t : List Row) → Lawful t → rule_changes identity (plain_map s t) (plain_map s t) ≡ []
 no_rule_changes identity s t l = λ k.
     (if rules_itself identity t s.rules k then [] else or_order (changed_rules (same_rule_by identity t t) s.rules s.rules))
     ++ nothing_of (emptied_of identity t t) (λ r. nothing_of (emptied_by identity t t r.name) (no_emptied_step identity t l r.name) r.steps) s.rules k
 
--- and no line
+-- no line about settings, rules or classes is found
 pub no_lines_beside : (identity : Identity) (s : SettingData) (t : List Row) → Lawful t → lines_beside identity (plain_map s t) (plain_map s t) ≡ []
 unfolding lines_beside tunables_line kinds_line
 no_lines_beside identity s t l = λ k.

@@ -1,4 +1,4 @@
--- The lines beside the items, if these are matched by their ids, are the lines of settings, of rules that take nothing and of classes.
+-- Proves that if items are matched by their ids, the lines beside the items are the lines about settings, about rules that take nothing, and about classes.
 use Rattle.std.proofs.Common.{◌≡◌, ℕ, List, ◌++◌, ap, sym, ◌∙◌, append_assoc}
 use Rattle.std.proofs.lemmas.List.Concat.{flat_map-append}
 use Rattle.crush_compare.specs.declared.identity.Identity.TheVariants.{Ids}

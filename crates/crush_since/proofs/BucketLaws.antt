@@ -1,4 +1,4 @@
--- The buckets of a forest, sorted by their ids, and a search among them.
+-- Lemmas about the list of a forest's buckets, sorted by their ids, and about a search in this list.
 use Rattle.std.proofs.Common.{◌≡◌, ℕ, zero, suc, ◌+◌, ◌<◌, ◌≤◌, false, true, List, [], ◌∷◌, ◌++◌, length, get_or, map, ap, sym, subst, ◌∙◌, refl, arith, ⊎_elim, eq-eqb, Less, Equal, Greater}
 use Rattle.std.specs.Prelude.{All, Option, None, Some, ◌==◌, if◌then◌else◌}
 use Rattle.std.specs.List.{sum_by}
@@ -21,7 +21,7 @@ use Rattle.crush_tree.proofs.ReadLemmas.Items.{kids_in-present}
 use Rattle.crush_print.specs.ItemsText.{buckets_among}
 use Rattle.crush_since.specs.ChangeItems.{AreBuckets}
 
--- THE ROOTS have all buckets
+-- THE ROOTS and the items below them have all buckets of the forest
 pub buckets_of_roots : (u r : Items) → OnlyDevices u → buckets_among r ≡ buckets_among (join u r)
 buckets_of_roots none r only = refl
 buckets_of_roots (device d u) r only = buckets_of_roots u r only
@@ -33,7 +33,7 @@ sorted_buckets see f roots xs ys sound is are same up = record {
   rising = up;
 }
 
--- A BUCKET AMONG ITEMS is what a search for its id finds
+-- A BUCKET AMONG ITEMS is found by a search for its id
 not_this : (x b : ℕ) → one_if (x == b) ≡ 0 → (x == b) ≡ false
 not_this x b zero_hits = ⊎_elim (λ q. absurd (let one : one_if (x == b) ≡ 1 = ap one_if q.0 in omega (arith, one, zero_hits))) (λ q. q.0) (eqb_tells x b)
 
@@ -69,7 +69,7 @@ all_found (bucket h w m k rest) once =
           ap (λ z. if z then Some k else option_or (kids_in b.header.id k) (kids_in b.header.id rest)) (not_this h.id b.header.id (omega (arith, some, once b.header.id)))
           ∙ ap (λ (o : Option Items). option_or o (kids_in b.header.id rest)) (none_in b.header.id k (omega (arith, some, once b.header.id))) ∙ is
 
--- and as many buckets among items have an id as there are with this id
+-- the number of buckets with a given id in the list is the number of such buckets among the items
 numbered : (b : ℕ) (n : Items) → sum_by (λ (x : BucketData). one_if (x.header.id == b)) (buckets_among n) ≡ buckets b n
 numbered b none = refl
 numbered b (device d rest) = numbered b rest
@@ -84,7 +84,7 @@ numbered b (bucket h w m k rest) =
       sum_by-cons (λ (x : BucketData). one_if (x.header.id == b)) own [],
     )
 
--- A SEARCH among sorted buckets
+-- A SEARCH among sorted buckets finds the bucket that has the id
 once_each : (f : ForestData) → IsSound f → (b : ℕ) → buckets b (all_items f) ≤ 1
 once_each f sound b = omega (arith, buckets-rows b None (all_items f), sound.lawful.ids (BucketItem b))
 

@@ -1,4 +1,4 @@
--- The trees of what has changed between two maps, computed.
+-- Examples: the texts of the tree that shows what has changed between two maps, computed from the definition.
 use Rattle.std.proofs.Common.{◌≡◌, refl}
 use Rattle.std.specs.Prelude.{ℕ, List, [], ◌∷◌, Some, None, codes}
 use Rattle.std.specs.Fmt.{digits}
@@ -26,7 +26,7 @@ of_roots roots = rows_of (record { roots = roots; unplaced = none; root_capacity
 abbrev of : List Row → PlainMap
 of t = plain_map setting t
 
--- osd.0 has gone from h1 to h2
+-- osd.0 has moved from h1 to h2
 abbrev moved : List Row
 moved = of_roots (bucket (header 1 11 (codes "default")) 163840 2
     (bucket (header 2 1 (codes "h1")) 65536 2 (device (leaf 1 (codes "osd.1") 65536) none)
@@ -60,7 +60,7 @@ changes_swapped : changes_text (of example) (of swapped)
 unfolding changes_text rows_text change_rows root_rows unplaced_rows stands_at stood_at left_from is_listed id_line heading change_line weights_column name_column at_left at_right root_numbers unplaced_numbers kind_text last_lines setting_lines tunables_line kinds_line rules_line emptied_lines class_lines classes class_line untaken_text other_order rule_takes weighs_nothing bucket_name totals_line counts_line first_counts last_counts all_ids all_buckets all_devices digits
 changes_swapped = refl
 
--- h1 is gone with its devices
+-- h1 and its devices are removed
 abbrev shrunk : List Row
 shrunk = of_roots (bucket (header 1 11 (codes "default")) 32768 2 (bucket (header 3 1 (codes "h2")) 32768 1 (device (leaf 2 (codes "osd.2") 32768) none) none) none)
 
@@ -69,7 +69,7 @@ changes_shrunk : changes_text (of example) (of shrunk)
 unfolding changes_text rows_text change_rows root_rows unplaced_rows stands_at stood_at left_from is_listed id_line heading change_line weights_column name_column at_left at_right root_numbers unplaced_numbers kind_text last_lines setting_lines tunables_line kinds_line rules_line emptied_lines class_lines classes class_line untaken_text other_order rule_takes weighs_nothing bucket_name totals_line counts_line first_counts last_counts all_ids all_buckets all_devices digits
 changes_shrunk = refl
 
--- an empty rack is gone, and a host has its id
+-- an empty rack is removed, and a host has got the rack's id
 abbrev with_row : SettingData
 with_row = record { kinds = type 0 (codes "osd") ∷ (type 1 (codes "host") ∷ (type 3 (codes "rack") ∷ (type 4 (codes "row") ∷ (type 11 (codes "root") ∷ [])))); tunables = []; rules = [] }
 
@@ -86,7 +86,7 @@ changes_again : changes_text (plain_map with_row row_before) (plain_map with_row
 unfolding changes_text rows_text change_rows root_rows unplaced_rows stands_at stood_at left_from is_listed id_line heading change_line weights_column name_column at_left at_right root_numbers unplaced_numbers kind_text last_lines setting_lines tunables_line kinds_line rules_line emptied_lines class_lines classes class_line untaken_text other_order rule_takes weighs_nothing bucket_name totals_line counts_line first_counts last_counts all_ids all_buckets all_devices digits
 changes_again = refl
 
--- a root is in the other, one device is unplaced and another no longer, and a rule finds no device of its class
+-- a root has moved into the other root, one device has become unplaced, another device is no longer unplaced, and a rule finds no device of its class
 abbrev of_class : List ℕ → LeafData
 of_class c = record { id = 0; name = codes "osd.0"; weight = 65536; class = Some c }
 
@@ -118,7 +118,7 @@ changes_tops : changes_text (plain_map ruled tops_before) (plain_map ruled tops_
 unfolding changes_text rows_text change_rows root_rows unplaced_rows stands_at stood_at left_from is_listed id_line heading change_line weights_column name_column at_left at_right root_numbers unplaced_numbers kind_text last_lines setting_lines tunables_line kinds_line rules_line emptied_lines class_lines classes class_line untaken_text other_order rule_takes weighs_nothing bucket_name totals_line counts_line first_counts last_counts all_ids all_buckets all_devices digits
 changes_tops = refl
 
--- a map since itself
+-- a map is compared with itself
 changes_itself : changes_text (of example) (of example) ≡ codes "ID  CLASS  WAS  WEIGHT  TYPE NAME\ntotal 2.50000 to 2.50000\n0 made, 0 removed, 0 renamed, 0 moved, 0 of other weight, 0 of other class\n"
 unfolding changes_text rows_text change_rows root_rows unplaced_rows stands_at stood_at left_from is_listed id_line heading change_line weights_column name_column at_left at_right root_numbers unplaced_numbers kind_text last_lines setting_lines tunables_line kinds_line rules_line emptied_lines class_lines classes class_line untaken_text other_order rule_takes weighs_nothing bucket_name totals_line counts_line first_counts last_counts all_ids all_buckets all_devices digits
 changes_itself = refl

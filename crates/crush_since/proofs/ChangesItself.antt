@@ -1,4 +1,4 @@
--- A map since itself has no row in the tree of changes.
+-- Proves that if a map is compared with itself, the tree that shows what has changed has no rows.
 use Rattle.std.proofs.Common.{◌≡◌, ℕ, zero, suc, ◌+◌, Bool, true, false, List, [], ◌∷◌, ◌++◌, length, map, ap, ◌∙◌, refl}
 use Rattle.std.specs.Prelude.{flat_map, filter, All, Option, None, Some, nat_le, is_some, if◌then◌else◌, codes}
 use Rattle.std.specs.Option.{option_map, option_map_or}
@@ -23,7 +23,7 @@ use Rattle.crush_print.specs.TreeText.{at_left}
 use Rattle.crush_since.proofs.EqualItems.{nil_left, nil_right}
 use Rattle.crush_since.proofs.SinceItself.{nothing_of, no_line_of, last_since_itself}
 
--- NOTHING of numbers is nothing of them in order
+-- NOTHING: if a function gives nothing for each number of a list, it gives nothing for the sorted list
 put_nothing : {Z : Type 0} (g : ℕ → List Z) (n : ℕ) (xs : List ℕ) → g n ≡ [] → flat_map g xs ≡ [] → flat_map g (put_in n xs) ≡ []
 put_nothing g n [] here rest = (λ k. here k ++ [])
 put_nothing g n (x ∷ xs) here rest = at (nat_le n x) (put_nothing g n xs here (nil_right (g x) (flat_map g xs) rest)) where
@@ -39,12 +39,12 @@ module _ (t : List Row) where
   abbrev IsFound : Row → Type 0
   IsFound r = row_of t r.id ≡ Some r
 
-  -- a row stands where its parent says
+  -- each row is in the place that its parent says, so its item has not left this place
   stays : (depth : ℕ) (place : Option ℕ) (r : Row) → IsFound r → same_option r.parent place ≡ true → left_at t t depth place r.id ≡ []
   stays depth place r found here =
       ap (λ z. if z then [] else stood_at t t (length t) depth r.id) (ap (λ o. option_map_or (λ (x : ItemData). same_option x.view.parent place) (option_map (row_item t) o) false) found ∙ here)
 
-  -- so none has left a bucket
+  -- no item has left a bucket
   parent_same : (b : ℕ) (p : Option ℕ) → is_parent b p ≡ true → same_option p (Some b) ≡ true
   parent_same b None h = absurd cc
   parent_same b (Some p) h = h
@@ -57,7 +57,7 @@ module _ (t : List Row) where
     at true is rest = (λ k. stays depth (Some b) r (All-head IsFound r u found) (parent_same b r.parent is) k ++ rest k)
     at false is rest = rest
 
-  -- nor the top
+  -- no root and no unplaced device has left its place
   top_same : (p : Option ℕ) → is_some p ≡ false → same_option p None ≡ true
   top_same None h = refl
   top_same (Some p) h = absurd cc
@@ -84,7 +84,7 @@ module _ (t : List Row) where
     at true is = refl
     at false is = own r.id (stays 0 None r (All-head IsFound r u found) (top_same r.parent is))
 
--- NO ROW of what stands, as deep as it may be
+-- NO ROW for any item of the new map, whatever its depth
 module _ (s : SettingData) (t : List Row) (l : Lawful t) where
   untold : (i : ItemId) → is_listed (plain_map s t) (plain_map s t) i ≡ false
   unfolding is_listed

@@ -1,4 +1,4 @@
--- Classes of two maps: those of their items are those of their tables, and a map since itself tells none.
+-- Proves that the classes of two maps' items are the classes of their tables, and that a map compared with itself has no changed class.
 use Rattle.std.proofs.Common.{◌≡◌, ℕ, ◌+◌, Bool, true, false, List, [], ◌∷◌, ◌++◌, map, ap, sym, ◌∙◌, refl, arith, eq-eqb}
 use Rattle.std.specs.Prelude.{◌==◌, ◌&&◌, ◌||◌, not, Option, None, Some, All, flat_map, if◌then◌else◌, bytes_eq}
 use Rattle.std.specs.List.{sum_by}
@@ -22,7 +22,7 @@ use Rattle.crush_since.specs.declared.since.collected.Source.TheVariants.{Old, N
 use Rattle.crush_since.proofs.CollectedLaws.{amount_at, amounts, Rising, Counted, first_amount, collected_adds, collected_same, rising_collected}
 use Rattle.crush_since.proofs.SortedItems.{counted_by}
 
--- COUNTED: each class that something names
+-- COUNTED: each class of the list is named by a device or by a step of a rule
 counted_both : (xs ys : List ClassData) → Counted xs → Counted ys → Counted (xs ++ ys)
 counted_both [] ys a b = b
 counted_both (x ∷ xs) ys a b = (a.0, counted_both xs ys a.1 b)
@@ -44,7 +44,7 @@ counted_step emit = tt
 counted_rules : (rules : List RuleData) → Counted (rule_classes rules)
 counted_rules rules = counted_each (λ (r : RuleData). flat_map step_class r.steps) (λ r. counted_each step_class counted_step r.steps) rules
 
--- SUMS over the items of a table are those over its rows
+-- SUMS over the items of a table are the sums over its rows
 sum_same : {X : Type 0} (f g : X → ℕ) (xs : List X) → All (λ x. f x ≡ g x) xs → sum_by f xs ≡ sum_by g xs
 sum_same f g [] a = refl
 sum_same f g (x ∷ xs) a = omega (arith, sum_by-cons f x xs, sum_by-cons g x xs, All-head (λ y. f y ≡ g y) x xs a, sum_same f g xs (All-tail (λ y. f y ≡ g y) x xs a))
@@ -68,7 +68,7 @@ listed_amounts s c k t ls lawful lists =
     ∙ sum_listed (λ e. amounts c k (entry_class s e)) t ls lawful lists
     ∙ sym (sum_by-flat_map (amount_at c k) (row_class s t) t)
 
--- THE CLASSES of two maps
+-- THE CLASSES of two maps' items are the classes of their tables
 pub classes_listed : {A B : _} (t u : List Row) (xs : List (Item A)) (ys : List (Item B)) (rules : List RuleData) → Lawful t → Lawful u → HasEntries t (map item_entry xs) → HasEntries u (map item_entry ys)
     → collected (flat_map (λ l. entry_class Old (item_entry l)) xs ++ flat_map (λ l. entry_class New (item_entry l)) ys ++ rule_classes rules) ≡ classes t u rules
 unfolding classes
@@ -95,7 +95,7 @@ pub three_pushed : {X : Type 0} (start one two three a b c : List X) → start �
 three_pushed start one two three a b c none is_one is_two is_three =
     is_three ∙ ap (λ l. l ++ c) (is_two ∙ ap (λ l. l ++ b) (is_one ∙ ap (λ l. l ++ a) none))
 
--- ITSELF: amounts of both maps that are the same
+-- ITSELF: if a map is compared with itself, the amounts of both maps are equal
 class_even : (f g : Amount → ℕ) (k j : Amount) → f k ≡ g j → (c : List ℕ) (o : Option (List ℕ)) → amounts c k (class_of f o) ≡ amounts c j (class_of g o)
 class_even f g k j same c None = refl
 class_even f g k j same c (Some n) =
@@ -109,7 +109,7 @@ flat_even c k j f g each [] = refl
 flat_even c k j f g each (x ∷ xs) =
     omega (arith, each x, flat_even c k j f g each xs, sum_by-append (amount_at c k) (f x) (flat_map f xs), sum_by-append (amount_at c j) (g x) (flat_map g xs))
 
--- an amount of the old map and the same of the new one
+-- k is an amount of the old map, and j is the same amount of the new map
 pub record AreTurned (k j : Amount) : Type 0 where
   pub old : (w : ℕ) → added Old w k ≡ added New w j
   pub new : (w : ℕ) → added New w k ≡ added Old w j

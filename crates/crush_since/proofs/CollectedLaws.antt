@@ -1,4 +1,4 @@
--- Classes by name: each once, in ascending order.
+-- Lemmas about the list of classes that `collected` defines: each class comes once, in ascending order of the names.
 use Rattle.std.proofs.Common.{◌≡◌, ℕ, ◌+◌, ◌<◌, ◌-◌, Bool, true, false, List, [], ◌∷◌, ◌++◌, ap, sym, ◌∙◌, refl, arith, subst}
 use Rattle.std.specs.Prelude.{bytes_eq, if◌then◌else◌}
 use Rattle.std.specs.List.{sum_by}
@@ -21,7 +21,7 @@ amount_at c k x = if bytes_eq x.name c then x.amount k else 0
 abbrev pub amounts : List ℕ → Amount → List ClassData → ℕ
 amounts c k xs = sum_by (amount_at c k) xs
 
--- EQUAL NAMES
+-- EQUAL NAMES: the order of two names is `Equal` if and only if the names are equal
 equal_first : (x y : ℕ) (o p : Ordering) → MatchOrdering o (x < y) (x ≡ y) (y < x) → ordering_then o p ≡ Equal → (x ≡ y) × (p ≡ Equal)
 equal_first x y Less p m e = absurd cc
 equal_first x y Equal p m e = (m, e)
@@ -37,7 +37,7 @@ split : (b : Bool) (m n : ℕ) → (if b then m + n else 0) ≡ (if b then m els
 split true m n = refl
 split false m n = refl
 
--- AMOUNTS: putting a class in adds its amounts
+-- AMOUNTS: inserting a class adds its amounts
 put_adds_at : (c : List ℕ) (k : Amount) (x y : ClassData) (ys rest : List ClassData) (o : Ordering) → order x.name y.name ≡ o → amounts c k rest ≡ amount_at c k x + amounts c k ys
     → amounts c k (put_at o x y ys rest) ≡ amount_at c k x + (amount_at c k y + amounts c k ys)
 put_adds_at c k x y ys rest Less is more = omega (arith, sum_by-cons (amount_at c k) x (y ∷ ys), sum_by-cons (amount_at c k) y ys)
@@ -55,7 +55,7 @@ pub collected_adds : (c : List ℕ) (k : Amount) (xs : List ClassData) → amoun
 collected_adds c k [] = refl
 collected_adds c k (x ∷ xs) = put_adds c k x (collected xs) ∙ ap (λ n. amount_at c k x + n) (collected_adds c k xs) ∙ sym (sum_by-cons (amount_at c k) x xs)
 
--- RISING NAMES
+-- RISING NAMES: the names of the classes ascend, and none is repeated
 abbrev pub Above : List ℕ → List ClassData → Type 0
 Above n [] = Unit {0}
 Above n (x ∷ xs) = (order n x.name ≡ Less) × Above n xs
@@ -93,7 +93,7 @@ pub rising_collected : (xs : List ClassData) → Rising (collected xs)
 rising_collected [] = tt
 rising_collected (x ∷ xs) = rising_put x (collected xs) (rising_collected xs)
 
--- COUNTED: something names each class
+-- COUNTED: each class is named by a device or by a step of a rule
 abbrev pub times : ClassData → ℕ
 times x = x.amount old_devices + x.amount new_devices + x.amount takes
 
@@ -114,7 +114,7 @@ pub counted_collected : (xs : List ClassData) → Counted xs → Counted (collec
 counted_collected [] h = tt
 counted_collected (x ∷ xs) h = counted_put x (collected xs) h.0 (counted_collected xs h.1)
 
--- ONE LIST: classes whose names rise are known by the amounts of each name
+-- ONE LIST: two lists of classes with rising names are equal if they have the same amounts for each name
 other_name : (n x : List ℕ) → order n x ≡ Less → bytes_eq x n ≡ false
 other_name n x less = at (bytes_eq x n) refl where
   at : (b : Bool) → bytes_eq x n ≡ b → b ≡ false
@@ -156,12 +156,12 @@ one_list (x ∷ xs) (y ∷ ys) a b m n same = at (order x.name y.name) refl (λ 
       let rest : (c : List ℕ) (k : Amount) → amounts c k xs ≡ amounts c k ys = λ c k. omega (arith, same c k, sum_by-cons (amount_at c k) x xs, sum_by-cons (amount_at c k) y ys, alike c k) in
       λ i. same_class x y name amount i ∷ tails rest i
 
--- lists with the same amounts of each name give the same classes, in whatever order they are
+-- two lists with the same amounts for each name give the same classes, whatever the order of the lists is
 pub collected_same : (xs ys : List ClassData) → Counted xs → Counted ys → ((c : List ℕ) (k : Amount) → amounts c k xs ≡ amounts c k ys) → collected xs ≡ collected ys
 collected_same xs ys m n same =
     one_list (collected xs) (collected ys) (rising_collected xs) (rising_collected ys) (counted_collected xs m) (counted_collected ys n) (λ c k. collected_adds c k xs ∙ same c k ∙ sym (collected_adds c k ys))
 
--- SORTED: of a list in which no name is below an earlier one, neighbours of one name are all of that name
+-- SORTED: in a list whose names don't descend, all classes with the same name are next to each other
 abbrev pub NotBelow : List ℕ → List ClassData → Type 0
 NotBelow n [] = Unit {0}
 NotBelow n (x ∷ xs) = (is_gt (order n x.name) ≡ false) × NotBelow n xs

@@ -1,4 +1,4 @@
--- The counts of pairs, one pair more at a time, and by the steps of both trees.
+-- Lemmas about the counts of pairs: how they grow by one pair, and that they are counts of the steps of both trees.
 use Rattle.std.proofs.Common.{◌≡◌, ℕ, ◌+◌, ◌<◌, ◌≤◌, Bool, true, false, List, length, get_or, map, take, ap, sym, ◌∙◌, arith, cond, refl}
 use Rattle.std.specs.Prelude.{Option, None, Some, ◌&&◌}
 use Rattle.std.specs.List.{count_by}
@@ -18,7 +18,7 @@ use Rattle.crush_since.specs.CountedByName.{both_meet, is_gone_by_name, is_moved
 use Rattle.crush_since.proofs.NamedPairs.{count_pairs, of_new_step, of_old_step}
 use Rattle.crush_since.proofs.TallyLaws.{AtMost, count_more}
 
--- counted as they are seen
+-- counting the elements that meet a test is the same for a list and for the list of what its elements are seen as
 pub counted_seen : {X Y : Type 0} (p : Y → Bool) (see : X → Y) (xs : List X) (ys : List Y) → map see xs ≡ ys → count_by (λ x. p (see x)) xs ≡ count_by p ys
 counted_seen p see xs ys is = sym (sum_by-map (λ y. cond (p y) 1 0) see xs) ∙ ap (count_by p) is
 
@@ -34,7 +34,7 @@ tally_more see ps i x n m before after lt is so_far with_it is_before is_after =
       reclassed = sym (count_more (λ p. pair_meets is_reclassed (see p)) ps i x lt is) k;
     })
 
--- the same of the element at a position, whatever the default is
+-- the same for the element at a position, whatever default value is used
 pub tally_at : {X : Type 0} (see : X → PairData) (ps : List X) (i : ℕ) (d : X) (n m : Tally) → i < length ps → n ≡ pairs_tally see (take i ps) → m ≡ tally_plus n (see (get_or ps i d)).before (see (get_or ps i d)).after → m ≡ pairs_tally see (take (i + 1) ps)
 tally_at see ps i d n m lt so_far with_it = tally_more see ps i (get_or ps i d) n m (see (get_or ps i d)).before (see (get_or ps i d)).after lt (get_or_default ps i d (get_or ps i d) lt) so_far with_it refl refl
 
@@ -59,9 +59,9 @@ and_true : (b : Bool) → one_if (b && true) ≡ one_if b
 and_true true = refl
 and_true false = refl
 
--- THE COUNTS of all pairs are those of the steps of both trees
+-- THE COUNTS of all pairs are the counts of the steps of both trees
 module _ (t u : List Row) where
-  -- a test that no item meets which the old table alone has
+  -- a test that is false for each item that only the old table has
   meeting : (test : Option ItemData → Option ItemData → Bool) → ((x : ItemData) → test (Some x) None ≡ false) → count_by (pair_meets test) (pairs ByName None t u) ≡ count_by (both_meet test t u) (tree_rows u)
   meeting test none =
       let all = count_pairs (pair_meets test) ByName None t u in

@@ -1,4 +1,4 @@
--- The entries of a forest's items are those of its table, one for each of its ids.
+-- Proves that the entries of a forest's items are exactly the entries of its table, with one entry for each id of the table.
 use Rattle.std.proofs.Common.{◌≡◌, ℕ, zero, suc, ◌<◌, ◌≤◌, List, [], ◌∷◌, length, get_or, map, ap, sym, subst, ◌∙◌, refl, arith, ⊎_elim, Less, Equal, Greater}
 use Rattle.std.specs.Prelude.{All, None, Some}
 use Rattle.std.specs.List.{sum_by}
@@ -30,7 +30,7 @@ use Rattle.crush_print.proofs.WalkLaws.{All-unmap}
 use Rattle.crush_items.proofs.EntryLaws.{summed, entries_of_rows, view_id, IsTold, entries_told}
 pub use Rattle.crush_items.proofs.EntryLaws.{entries-join, entries-more, node_entry, bucket_entered, forest_entries, summed, entries_of_rows, view_id, entry_item, entry_class_ids, said, said_class_ids}
 
--- THE ITEMS, SORTED by their keys, are those of the table
+-- THE ITEMS, SORTED by their keys, are the items of the table
 pub sorted_lists : {A : _} (f : ForestData) (t : List Row) (xs ys : List (Listed A)) → Stands f t → map entry_data xs ≡ entries_of None None (all_items f) → IsPermutation xs ys → IsNonDecreasingBy (λ l. id_key (listed_id l)) ys → Lists t ys
 sorted_lists f t xs ys stands are same up = record {
   told = All-permutation (λ l. entry_of t (listed_id l) ≡ Some (entry_data l)) xs ys same
@@ -42,7 +42,7 @@ sorted_lists f t xs ys stands are same up = record {
   rising = up;
 }
 
--- A SEARCH by key: two ids with one key are one
+-- A SEARCH by key: two ids with the same key are the same id
 pub same_key : (i j : ItemId) → id_key i ≡ id_key j → i ≡ j
 same_key (DeviceItem d) (DeviceItem e) h = ap DeviceItem (omega (arith, h))
 same_key (BucketItem b) (BucketItem c) h = ap BucketItem (omega (arith, h))
@@ -52,7 +52,7 @@ same_key (BucketItem b) (DeviceItem e) h = absurd (omega (arith, h))
 comparisons_rise : {X : Type 0} (key : X → ℕ) (xs : List X) (k : ℕ) → IsNonDecreasingBy key xs → IsNonDecreasingBy (λ y. ordering_index (nat_cmp (key y) k)) xs
 comparisons_rise key xs k up i j d le lt = let rise : key (get_or xs i d) ≤ key (get_or xs j d) = up i j d le lt in grind (arith, nat_tests)
 
--- an item that is there is told
+-- each item of the list is what the table says about the item's id
 told_at : {A : _} (t : List Row) (ls : List (Listed A)) (i : ℕ) (d : Listed A) → All (λ l. entry_of t (listed_id l) ≡ Some (entry_data l)) ls → i < length ls → entry_of t (listed_id (get_or ls i d)) ≡ Some (entry_data (get_or ls i d))
 told_at t [] i d all lt = absurd (omega (arith, lt))
 told_at t (x ∷ ls) zero d all lt = All-head (λ l. entry_of t (listed_id l) ≡ Some (entry_data l)) x ls all
@@ -63,7 +63,7 @@ found_here t ls i k at x lists key lt is equal =
     let same : listed_id (get_or ls at x) ≡ i = same_key (listed_id (get_or ls at x)) i (ranked _ k _ (sym (equal x)) ∙ key) in
     ap (λ l. Some (entry_data l)) is ∙ sym (told_at t ls at x lists.told lt) ∙ ap (entry_of t) same
 
--- and an id that none has isn't there
+-- an id that no item of the list has isn't in the table
 none_has : {X : Type 0} (id_of : X → ItemId) (ls : List X) (i : ItemId) → ((j : ℕ) (d : X) → j < length ls → id_key (id_of (get_or ls j d)) ≡ id_key i → ⊥) → sum_by (λ l. one_if (same_id (id_of l) i)) ls ≡ 0
 none_has id_of [] i other = refl
 none_has id_of (x ∷ ls) i other = ⊎_elim

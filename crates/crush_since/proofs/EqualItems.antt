@@ -1,4 +1,4 @@
--- No item is told exactly where both tables have equal rows.
+-- Proves that no item has a line if and only if both tables have equal rows.
 use Rattle.std.proofs.Common.{◌≡◌, ℕ, Bool, true, false, List, [], ◌∷◌, ◌++◌, length, map, ap, sym, subst, ◌∙◌, refl, arith, ⊎_elim}
 use Rattle.std.specs.Prelude.{flat_map, All, IfSome, Option, None, Some, ◌==◌, ◌&&◌, nat_le, if◌then◌else◌, bytes_eq, codes, option_and_then}
 use Rattle.std.specs.Cmp.Lexicographic.{pointwise}
@@ -29,7 +29,7 @@ use Rattle.crush_since.specs.SinceLaws.{NoItemWhereRowsAreEqual}
 use Rattle.crush_since.proofs.EqualRows.{equal_rows_reordered}
 use Rattle.crush_since.proofs.SinceItself.{no_line, nothing_of, pairs_itself, class_id_itself}
 
--- EQUAL ROWS, so no lines
+-- if both tables have EQUAL ROWS, there are no lines
 rows_tell_nothing : (s p : SettingData) (t u : List Row) → Lawful t → Lawful u → ((i : ItemId) → row_of t i ≡ row_of u i) → item_lines (plain_map s t) (plain_map p u) ≡ []
 unfolding item_lines id_line
 rows_tell_nothing s p t u lt lu same = nothing_of (λ i. item_line s p i (item_of t i) (item_of u i) (same_class_ids t u i)) each (all_ids t u) where
@@ -49,7 +49,7 @@ rows_tell_nothing s p t u lt lu same = nothing_of (λ i. item_line s p i (item_o
   each : (i : ItemId) → item_line s p i (item_of t i) (item_of u i) (same_class_ids t u i) ≡ []
   each i = (λ k. item_line s p i (item-same i k) (item_of u i) (pointwise same_class_id (ids-same i k) (own_class_ids u i))) ∙ no_line s p i (item_of u i) (pointwise same_class_id (own_class_ids u i) (own_class_ids u i)) (pairs_itself same_class_id class_id_itself (own_class_ids u i))
 
--- NO LINES: of lists side by side each is empty
+-- NO LINES: if two joined lists are empty, each of them is empty
 pub nil_left : {X : Type 0} (xs ys : List X) → xs ++ ys ≡ [] → xs ≡ []
 nil_left [] ys h = refl
 nil_left (x ∷ xs) ys h = absurd (let long : length (x ∷ (xs ++ ys)) ≡ 0 = ap length h in omega (arith, long))
@@ -58,7 +58,7 @@ pub nil_right : {X : Type 0} (xs ys : List X) → xs ++ ys ≡ [] → ys ≡ []
 nil_right [] ys h = h
 nil_right (x ∷ xs) ys h = absurd (let long : length (x ∷ (xs ++ ys)) ≡ 0 = ap length h in omega (arith, long))
 
--- what holds of numbers each once holds of all
+-- what holds for each number of a list without its repetitions holds for each number of the list
 option_is : (o : Option ℕ) (x : ℕ) (g : ℕ → List ℕ) → IfSome o (λ n. g n ≡ []) → same_option o (Some x) ≡ true → g x ≡ []
 option_is None x g h e = absurd cc
 option_is (Some n) x g h e = ⊎_elim (λ q. ap g (sym q.1) ∙ h) (λ q. absurd (let no_way : true ≡ false = sym e ∙ q.0 in cc)) (eqb_tells n x)
@@ -85,7 +85,7 @@ unsorted g (x ∷ xs) e =
     let both = put_among g x (ascending xs) e in
     (λ k. nil_left (g x) (flat_map g (ascending xs)) both k ++ unsorted g xs (nil_right (g x) (flat_map g (ascending xs)) both) k)
 
--- and of the numbers of rows
+-- what holds for the numbers of all rows holds for the number of each row
 at_id : (numbers : ItemId → List ℕ) (g : ℕ → List ℕ) (t : List Row) (i : ItemId) (r : Row) → row_of t i ≡ Some r → flat_map g (flat_map (λ (x : Row). numbers x.id) t) ≡ [] → flat_map g (numbers i) ≡ []
 at_id numbers g [] i r found e = absurd cc
 at_id numbers g (x ∷ t) i r found e =
@@ -95,7 +95,7 @@ at_id numbers g (x ∷ t) i r found e =
     (λ q. at_id numbers g t i r (sym (ap (λ b. if b then Some x else row_of t i) q.0) ∙ found) (nil_right (flat_map g (numbers x.id)) (flat_map g (flat_map (λ (y : Row). numbers y.id) t)) both))
     (same_id_tells x.id i)
 
--- so each id of a row of either table tells nothing
+-- if there are no lines, no id of a row of either table has a line
 module _ (f : ItemId → List ℕ) (t u : List Row) (e : flat_map f (all_ids t u) ≡ []) where
   both_kinds : flat_map f (map Bucket (all_buckets t u)) ++ flat_map f (map Device (all_devices t u)) ≡ []
   unfolding all_ids
@@ -123,7 +123,7 @@ module _ (f : ItemId → List ℕ) (t u : List Row) (e : flat_map f (all_ids t u
   told_of_second (Bucket b) r found = nil_left (f (Bucket b)) [] (at_id bucket_ids (λ x. f (Bucket x)) u (Bucket b) r found (nil_right _ _ bucket_numbers_of_both))
   told_of_second (Device d) r found = nil_left (f (Device d)) [] (at_id device_number (λ x. f (Device x)) u (Device d) r found (nil_right _ _ device_numbers_of_both))
 
--- COLUMNS, by their tests
+-- COLUMNS: if the test of a column finds no difference, the values are equal
 not_nil : (x : ℕ) (xs : List ℕ) → x ∷ xs ≡ [] → ⊥
 not_nil x xs h = let long : length (x ∷ xs) ≡ 0 = ap length h in omega (arith, long)
 
@@ -176,7 +176,7 @@ class_ids_equal (x ∷ xs) (y ∷ ys) h =
     (λ k. (record { id = number_equal x.id y.id (first_of (x.id == y.id) (bytes_eq x.class y.class) here) k; class = bytes_equal x.class y.class (second_of (x.id == y.id) (bytes_eq x.class y.class) here) k })
     ∷ class_ids_equal xs ys (second_of (same_class_id x y) (pointwise same_class_id xs ys) h) k)
 
--- A ROW is of its form
+-- A ROW has the form that `IsRowOf` demands for its id
 row_form : (t : List Row) (i : ItemId) (r : Row) → All IsRow t → row_of t i ≡ Some r → IsRowOf i r
 row_form [] i r all found = absurd cc
 row_form (x ∷ t) i r all found = ⊎_elim
@@ -186,7 +186,7 @@ row_form (x ∷ t) i r all found = ⊎_elim
       some_is : (a b : Row) → Some a ≡ Some b → a ≡ b
       some_is a b same = cc
 
--- ROWS of which nothing is told are equal
+-- ROWS about which there is no line are equal
 module _ (s p : SettingData) (t u : List Row) (lt : Lawful t) (lu : Lawful u) where
   weights : (i : ItemId) (r q : Row) → IsRowOf i r → IsRowOf i q → item_weight t i r.weight ≡ item_weight u i q.weight → r.weight ≡ q.weight
   weights (Device d) r q fr fq e = e

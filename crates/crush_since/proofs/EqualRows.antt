@@ -1,4 +1,4 @@
--- Tables with equal rows have the same rows, in some order.
+-- Proves that two tables with equal rows for each id have the same rows, in some order.
 use Rattle.std.proofs.Common.{◌≡◌, ◌≤◌, Bool, true, false, List, [], ◌∷◌, ap, sym, ◌∙◌, refl, arith, ⊎_elim}
 use Rattle.std.specs.Prelude.{None, Some, not, if◌then◌else◌}
 use Rattle.crush_units.specs.declared.id.ItemId.{ItemId}
@@ -12,7 +12,7 @@ use Rattle.crush_model.proofs.Found.{Distinct, times, times-cons, row_of-absent}
 use Rattle.crush_model.proofs.Moved.{last_row}
 use Rattle.crush_model.proofs.Reorder.{reordered_comm}
 
--- what is taken out is gone
+-- after the row of an id is removed, the table has no row with this id
 times-gone : (i : ItemId) (t : List Row) → times i (without_row i t) ≡ 0
 times-gone i [] = refl
 times-gone i (r ∷ t) = at (same_id r.id i) refl (times-gone i t) where
@@ -20,7 +20,7 @@ times-gone i (r ∷ t) = at (same_id r.id i) refl (times-gone i t) where
   at true e rest = rest
   at false e rest = let zero_here : one_if (same_id r.id i) ≡ 0 = ap one_if e in omega (arith, zero_here, rest, times-cons i r (without_row i t))
 
--- nothing comes
+-- removing a row adds no row
 times-less : (i j : ItemId) (t : List Row) → times j (without_row i t) ≤ times j t
 times-less i j [] = omega arith
 times-less i j (r ∷ t) = at (same_id r.id i) (times-less i j t) where
@@ -28,7 +28,7 @@ times-less i j (r ∷ t) = at (same_id r.id i) (times-less i j t) where
   at true rest = omega (arith, rest, times-cons j r t)
   at false rest = omega (arith, rest, times-cons j r t, times-cons j r (without_row i t))
 
--- and the others stay
+-- removing a row keeps the other rows
 others_stay : (i j : ItemId) (t : List Row) → same_id i j ≡ false → row_of (without_row i t) j ≡ row_of t j
 others_stay i j [] other = refl
 others_stay i j (r ∷ t) other = ⊎_elim

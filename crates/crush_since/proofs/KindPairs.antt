@@ -1,4 +1,4 @@
--- Types and tunables as they are kept, compared, and as clauses see them.
+-- Lemmas about comparing types and tunables: the code compares its own lists, and the contracts compare plain data.
 use Rattle.std.proofs.Common.{◌≡◌, ℕ, Bool, true, false, cond, List, [], ◌∷◌, refl, ap, sym, ◌∙◌, map}
 use Rattle.std.specs.Prelude.{Option, Some, None, ◌&&◌, ◌==◌, bytes_eq}
 use Rattle.std.specs.Cmp.Derive.Mapped.{pointwise-map}
@@ -13,13 +13,13 @@ use Rattle.crush_edits.proofs.SettingLaws.{name_got}
 use Rattle.crush_compare.specs.Equal.{same_text}
 use Rattle.crush_since.specs.Settings.{same_tunable, same_kinds}
 
--- the tunables, in order
+-- the tunables are compared in their order
 pub tunables_compared : (result : Bool) (xs ys es fs : List (List ℕ × ℕ)) (ts us : List TunableData) → result ≡ pointwise (λ p q. bytes_eq p.0 q.0 && (p.1 == q.1)) xs ys → xs ≡ es → ys ≡ fs → map tunable_data es ≡ ts → map tunable_data fs ≡ us
     → result ≡ pointwise same_tunable ts us
 tunables_compared result xs ys es fs ts us is first second are others =
     is ∙ (λ i. pointwise (λ p q. bytes_eq p.0 q.0 && (p.1 == q.1)) (first i) (second i)) ∙ sym (pointwise-map tunable_data same_tunable es fs) ∙ (λ i. pointwise same_tunable (are i) (others i))
 
--- the name of an entry
+-- looking up the name of a type gives the same in the code's list of entries and in the plain data
 name_of_entry : (n : ℕ) (es : List (ℕ × List ℕ)) → option_map (λ e. e.1) (lookup_entry (λ k. n == k) es) ≡ lookup (λ k. n == k) es
 name_of_entry n [] = refl
 name_of_entry n (e ∷ es) = at (n == e.0) (name_of_entry n es) where
@@ -41,7 +41,7 @@ numbers_of : (es : List (ℕ × List ℕ)) → keys_of es ≡ map (λ (k : KindD
 numbers_of [] = refl
 numbers_of (e ∷ es) = ap (λ (l : List ℕ). e.0 ∷ l) (numbers_of es)
 
--- the types, in whatever order
+-- the types are compared without regard to their order
 pub kinds_compared : (result : Bool) (es fs : List (ℕ × List ℕ)) (a b : SettingData) → result ≡ entries_eq (λ m n. m == n) (λ p q. bytes_eq p.1 q.1) es fs → map kind_data es ≡ a.kinds → map kind_data fs ≡ b.kinds → result ≡ same_kinds a b
 unfolding entries_eq
 kinds_compared result es fs a b is are others =

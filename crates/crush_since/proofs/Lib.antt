@@ -8,6 +8,8 @@ pub mod BucketLaws
 pub mod ChangeExamples
 pub mod ChangeTextLaws
 pub mod ChangesItself
+pub mod ClassChangeExamples
+pub mod ClassChangeLaws
 pub mod ClassLaws
 pub mod CollectedLaws
 pub mod CountLaws

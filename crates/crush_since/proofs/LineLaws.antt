@@ -1,4 +1,4 @@
--- The lines of pairs by ids are those of the ids, and a pair has a line exactly if something differs in it.
+-- Proves that if items are matched by ids, the lines of the pairs are the lines of the ids, and that a pair has a line if and only if something differs in it.
 use Rattle.std.proofs.Common.{◌≡◌, ℕ, zero, suc, ◌+◌, ◌<◌, Bool, true, false, List, [], ◌∷◌, ◌++◌, length, get_or, take, map, ap, sym, ◌∙◌, refl, arith}
 use Rattle.std.specs.Prelude.{◌||◌, Option, None, Some, flat_map, is_some, if◌then◌else◌}
 use Rattle.std.specs.Cmp.Lexicographic.{pointwise}
@@ -32,7 +32,7 @@ use Rattle.crush_since.proofs.AskedLaws.{some_of_both}
 use Rattle.crush_since.proofs.TallyLaws.{count_more}
 use Rattle.crush_since.proofs.ToldLaws.{both_told, line_told}
 
--- THE LINE OF AN ID is that of its pair
+-- THE LINE OF AN ID is the line of its pair
 line_of_id : (s p : SettingData) (t u : List Row) (i : ItemId) (same : Bool) → seen_line s p (item_of t i) (item_of u i) same ≡ item_line s p i (item_of t i) (item_of u i) same
 line_of_id s p t u i same = by (row_of t i) (row_of u i) refl refl where
   by : (before after : Option Row) → row_of t i ≡ before → row_of u i ≡ after
@@ -51,12 +51,12 @@ each_line : (s p : SettingData) (t u : List Row) (ids : List ItemId) → flat_ma
 each_line s p t u [] = refl
 each_line s p t u (i ∷ ids) = λ k. line_of_pair s p t u i k ++ each_line s p t u ids k
 
--- THE LINES of pairs that are those of ids
+-- THE LINES of the pairs are the lines of the ids
 pub lines_of_ids : {X : Type 0} (f : X → EntryPair) (s p : SettingData) (t u : List Row) (ps : List X) (ids : List ItemId) → map f ps ≡ map (id_entries t u) ids
     → flat_map (λ x. pair_line s p (f x)) ps ≡ flat_map (id_line (plain_map s t) (plain_map p u)) ids
 lines_of_ids f s p t u ps ids are = flat-map (pair_line s p) f ps ∙ ap (flat_map (pair_line s p)) are ∙ each_line s p t u ids
 
--- A LINE is there if something differs
+-- A LINE exists if and only if something differs
 some_if_other : (c : Columns) → is_some (if_other c) ≡ is_some_other c
 some_if_other c = by (is_some_other c) where
   by : (b : Bool) → is_some (if b then Some (Changed c) else None) ≡ b
@@ -75,13 +75,13 @@ pair_told s p e = by (entry_item e.before) (entry_item e.after) where
   by (Some a) None = line_told a.view.name a.view.id (parts s p (Some a) None same)
   by (Some a) (Some b) = sym (both_told s p b.view.id a b same) ∙ sym (some_column a b same) ∙ sym (some_if_other (columns_by_ids Changes a b same))
 
--- an element that is read is the one that stands there
+-- an element that is read from a list is the element at this index, whatever default value is used
 pub read_again : {X : Type 0} (xs : List X) (i : ℕ) (d : X) → i < length xs → get_or xs i d ≡ get_or xs i (get_or xs i d)
 read_again [] i d lt = absurd (omega (arith, lt))
 read_again (x ∷ xs) zero d lt = refl
 read_again (x ∷ xs) (suc i) d lt = read_again xs i d (omega (arith, lt))
 
--- the first that has something
+-- if one element gives a text that isn't empty, the text of all elements isn't empty
 pub some_here : {X Z : Type 0} (line : X → List Z) (xs : List X) (i : ℕ) (x : X) (b : Bool) → i < length xs → x ≡ get_or xs i x → b ≡ has_some (line x) → b ≡ true → true ≡ has_some (flat_map line xs)
 some_here line [] i x b lt is told some = absurd (omega (arith, lt))
 some_here line (y ∷ xs) zero x b lt is told some = sym (some_of_both (line y) (flat_map line xs) ∙ ap (λ c. c || has_some (flat_map line xs)) (ap (λ z. has_some (line z)) (sym is) ∙ sym told ∙ some))
@@ -91,13 +91,13 @@ some_here line (y ∷ xs) (suc i) x b lt is told some =
       or_right true h = refl
       or_right false h = h
 
--- and one more that has nothing
+-- one more element that gives an empty text leaves the text empty
 pub none_more : {X Z : Type 0} (line : X → List Z) (xs : List X) (i : ℕ) (x : X) (b : Bool) → i < length xs → x ≡ get_or xs i x → has_some (flat_map line (take i xs)) ≡ false → b ≡ has_some (line x) → b ≡ false
     → has_some (flat_map line (take (i + 1) xs)) ≡ false
 none_more line xs i x b lt is none told own =
     ap has_some (more_steps line xs i x lt is) ∙ some_of_both (flat_map line (take i xs)) (line x) ∙ (λ k. none k || (sym told ∙ own) k)
 
--- THE COUNTS, one pair more at a time
+-- THE COUNTS after one more pair
 pub pairs_more : {X : Type 0} (f : X → EntryPair) (ps : List X) (i : ℕ) (x : X) (n m : Tally) → i < length ps → x ≡ get_or ps i x → n ≡ pairs_tally f (take i ps) → m ≡ tally_with n (entry_item (f x).before) (entry_item (f x).after)
     → m ≡ pairs_tally f (take (i + 1) ps)
 pairs_more f ps i x n m lt is so_far with_it =
@@ -110,7 +110,7 @@ pairs_more f ps i x n m lt is so_far with_it =
       reclassed = sym (count_more (λ p. meets is_reclassed (f p)) ps i x lt is) k;
     })
 
--- and of pairs that are those of ids
+-- the counts of the pairs are the counts of the ids
 count_ids : {X : Type 0} (test : Option ItemData → Option ItemData → Bool) (f : X → EntryPair) (t u : List Row) (ps : List X) (ids : List ItemId) → map f ps ≡ map (id_entries t u) ids
     → count_by (λ p. meets test (f p)) ps ≡ count_by (λ i. test (item_of t i) (item_of u i)) ids
 count_ids test f t u ps ids are =

@@ -1,4 +1,4 @@
--- A line of what differs, from its parts one behind the other.
+-- Lemmas about a line that is built by appending its parts one after the other.
 use Rattle.std.proofs.Common.{◌≡◌, ℕ, List, [], ◌∷◌, refl}
 use Rattle.crush_since.specs.ItemParts.{behind}
 use Rattle.crush_since.specs.Stays.{stay_line, stay_text_line}

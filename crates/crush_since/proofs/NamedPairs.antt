@@ -1,4 +1,4 @@
--- Pairs of everything: each item of the new map, and each that the old map alone has.
+-- Lemmas about the pairs by names: there is one for each item of the new map, and one for each item that only the old map has.
 use Rattle.std.proofs.Common.{◌≡◌, ℕ, ◌+◌, Bool, true, false, List, [], ◌∷◌, ◌++◌, refl, ap, arith, ◌∙◌, append-nil}
 use Rattle.std.specs.List.{count_by, sum_by}
 use Rattle.std.specs.Prelude.{flat_map, ◌&&◌, Option, None, Some, is_some, not, if◌then◌else◌, codes}
@@ -41,7 +41,7 @@ module _ {Z : Type 0} (g : PairData → List Z) (by : Devices) (t u : List Row) 
       ++ (flat_twice g (λ s. old_pair by None t u (step_item t s)) (tree_rows t)
       ∙ same_of _ of_old (λ s. by_test (is_some (counterpart by u (step_item t s))) (record { before = Some (step_item t s); after = None })) (tree_rows t)) k)
 
--- HOW MANY PAIRS of a part meet a test, by the steps of both trees
+-- HOW MANY PAIRS of a part meet a test, counted over the steps of both trees
 module _ (f : PairData → Bool) (by : Devices) (under : Option (List ℕ)) (t u : List Row) where
   abbrev pub of_new_step : WalkStepData → Bool
   of_new_step s = f (record { before = counterpart by t (step_item u s); after = Some (step_item u s) }) && is_of_part by under t u (step_item u s)
@@ -73,7 +73,7 @@ module _ (f : PairData → Bool) (by : Devices) (under : Option (List ℕ)) (t u
       + (sum_by-flat_map one (λ s. old_pair by under t u (step_item t s)) (tree_rows t)
       ∙ sum_by-agree (λ s. sum_by one (old_pair by under t u (step_item t s))) (λ s. one_if (of_old_step s)) (λ s. one_listed (is_gone by under t u (step_item t s)) (record { before = Some (step_item t s); after = None })) (tree_rows t)) k)
 
--- WHAT STAYS, as the lines of the wanted items and of those that aren't wanted
+-- WHAT STAYS: the lines are those of the wanted items, followed by those of the items that aren't wanted
 abbrev pub told_unwanted : Bool → List (List ℕ)
 told_unwanted is_wanted = if is_wanted then [] else codes "not wanted" ∷ []
 

@@ -1,4 +1,4 @@
--- A map by names since itself tells nothing.
+-- Proves that a map compared with itself by names has no lines about differences.
 use Rattle.std.proofs.Common.{◌≡◌, ℕ, Bool, true, false, List, [], ◌∷◌, ◌++◌, length, refl, ap, ◌∙◌, arith, eq-eqb}
 use Rattle.std.specs.Prelude.{flat_map, Option, None, Some, is_some, ◌&&◌, not, if◌then◌else◌, codes}
 use Rattle.std.specs.List.{count_by}
@@ -34,11 +34,11 @@ use Rattle.crush_since.proofs.AlikeLaws.{row_named_own, counterpart_named, test_
 use Rattle.crush_since.proofs.NamedPairs.{whole_pairs}
 use Rattle.crush_since.proofs.TreeLaws.{tree_none}
 
--- NO LINE beside the items
+-- NO LINE about settings, rules and classes
 no_settings : (s : SettingData) (t : List Row) → Lawful t → lines_beside_part (Names ByName) None (plain_map s t) (plain_map s t) ≡ []
 no_settings s t l = no_lines_beside (Names ByName) s t l
 
--- EACH ITEM is found by its own name
+-- EACH ITEM is its own counterpart
 one_device : (by : Devices) (d : ℕ) → are_one by (Device d) (Device d) ≡ true
 one_device ById d = eq-eqb d d refl
 one_device ByName d = refl
@@ -51,7 +51,7 @@ found_itself : (by : Devices) (t : List Row) → Lawful t → (i : ItemId) (r : 
 found_itself by t l i r found =
     counterpart_named by t (row_item t r) r l.ids (row_named_own t i r l found) ∙ ap (λ b. if b then Some (row_item t r) else None) (one_itself by r.id)
 
--- WHAT TELLS NOTHING of an item and itself tells nothing of the pairs
+-- if a text is empty for each item paired with itself, it is empty for all pairs of a map and itself
 module _ (g : PairData → List ℕ) (none : (x : ItemData) → g (record { before = Some x; after = Some x }) ≡ []) (by : Devices) (t : List Row) (l : Lawful t) where
   of_new : ViewData → List ℕ
   of_new v = g (record { before = counterpart by t (with_holder t v); after = Some (with_holder t v) })
@@ -66,7 +66,7 @@ module _ (g : PairData → List ℕ) (none : (x : ItemData) → g (record { befo
       ∙ (λ k. tree_none t of_new (λ i r found. ap (λ o. g (record { before = o; after = Some (row_item t r) })) (found_itself by t l i r found) ∙ none (row_item t r)) k
       ++ tree_none t of_old (λ i r found. ap (λ (o : Option ItemData). if is_some o then [] else g (record { before = Some (row_item t r); after = None })) (found_itself by t l i r found)) k)
 
--- NO LINE
+-- NO LINE about an item
 no_part : (s : SettingData) (x : ItemData) → changed s s x x ≡ []
 unfolding same_place
 no_part s x =
@@ -81,7 +81,7 @@ no_lines : (s : SettingData) (t : List Row) → Lawful t → changed_lines None 
 unfolding changed_lines changed_pair
 no_lines s t l = none_of_pairs (changed_pair s s) (λ x. ap (stay_line x.view.name) (no_part s x)) ByName t l
 
--- NO COUNT
+-- NO COUNT is greater than 0
 mark : Bool → List ℕ
 mark b = if b then 0 ∷ [] else []
 

@@ -1,4 +1,4 @@
--- Rows of a part of the tree of what has changed, one more at a time; and that no text of a part is empty.
+-- Lemmas about the loops that collect the rows of a part of the tree, and the proof that no text of a part is empty.
 use Rattle.std.proofs.Common.{◌≡◌, ℕ, ◌+◌, ◌<◌, Bool, true, false, List, [], ◌∷◌, ◌++◌, length, map, ap, sym, ◌∙◌, refl, arith, append_assoc, append-nil}
 use Rattle.std.specs.Prelude.{Option, None, Some, codes, if◌then◌else◌, nat_lt}
 use Rattle.std.proofs.lemmas.List.{length-append, map-append}
@@ -17,7 +17,7 @@ use Rattle.crush_since.specs.declared.changes.part.Reached.TheVariants.{Before, 
 use Rattle.crush_since.specs.declared.changes.rows.TreeRow.{TreeRow}
 use Rattle.crush_since.specs.declared.changes.widths.ChangeWidths.{ChangeWidths}
 
--- ONE ROW MORE of the walk
+-- ONE ROW MORE is visited by the walk
 pub one_reached : (i : ItemId) (reached : Reached) (x : ChangeData) (rest : List ChangeData) → rows_from i reached (x ∷ rest) ≡ row_reached (reach i reached x) x ++ rows_from i (reach i reached x) rest
 one_reached i Before x rest = by_own (is_own_row i x) where
   by_own : (z : Bool) → (if z then in_part x.depth x ∷ rows_below x.depth rest else rows_at i rest) ≡ row_reached (if z then Within x.depth else Before) x ++ rows_from i (if z then Within x.depth else Before) rest
@@ -44,7 +44,7 @@ row_kept maps i reached now r old new rest is pushed =
     ∙ sym (append_assoc before own (rows_from i now rest))
     ∙ ap (λ (l : List ChangeData). l ++ rows_from i now rest) (sym (map-append (row_change maps) old (rows_reached now r)) ∙ ap (map (row_change maps)) (sym pushed))
 
--- ONE ROW MORE down to a type
+-- ONE ROW MORE is visited by the loop that keeps the rows down to a type
 pub closed_row : (kind : ℕ) (closed : Option ℕ) (x : ChangeData) (rest : List ChangeData) → is_closed closed x.depth ≡ true → down_to kind closed (x ∷ rest) ≡ down_to kind closed rest
 closed_row kind closed x rest is = ap (λ z. if z then down_to kind closed rest else x ∷ down_to kind (closed_by kind x) rest) is
 
@@ -57,20 +57,20 @@ open_row maps kind closed now r old new rest kept_row is pushed =
     ∙ sym (append_assoc before (x ∷ []) (down_to kind now rest))
     ∙ ap (λ (l : List ChangeData). l ++ down_to kind now rest) (sym (map-append (row_change maps) old (row_at r.id r r.depth ∷ [])) ∙ ap (map (row_change maps)) (sym pushed))
 
--- THE WHOLE TREE is a part
+-- THE WHOLE TREE is the part that has no top item and no type
 pub all_changes : AllChangesAreAPart
 unfolding changes_part_text part_rows changes_text
 all_changes old new = refl
 
--- NO TEXT IS EMPTY: it has its headings
+-- NO TEXT IS EMPTY, because it has the headings
 line_is_some : (a : List ℕ) → 0 < length (a ++ codes "\n")
 line_is_some a = let more : length (a ++ codes "\n") ≡ length a + 1 = length-append a (codes "\n") in omega (arith, more)
 
-heading_is_some : (w : ChangeWidths) → 0 < length (heading w)
+pub heading_is_some : (w : ChangeWidths) → 0 < length (heading w)
 unfolding heading
 heading_is_some w = line_is_some (at_left w.id (codes "ID") ++ codes "  " ++ at_left w.class (codes "CLASS") ++ codes "  " ++ side_by_side (at_left w.was (codes "WAS")) (at_left w.weight (codes "WEIGHT")) ++ codes "  " ++ codes "TYPE NAME")
 
-rows_are_some : (a b : List ℕ) → 0 < length a → 0 < length (a ++ b)
+pub rows_are_some : (a b : List ℕ) → 0 < length a → 0 < length (a ++ b)
 rows_are_some a b some = omega (arith, some, length-append a b)
 
 pub part_text_is_some : (part : TreePart) (old new : PlainMap) → 0 < length (changes_part_text part old new)
@@ -78,7 +78,7 @@ unfolding changes_part_text rows_text
 part_text_is_some part old new =
     rows_are_some _ (lines_behind part.under old new) (rows_are_some (heading (widths_of (part_rows part old new))) _ (heading_is_some (widths_of (part_rows part old new))))
 
--- at the end no row is still to come
+-- at the end no row of the part has still to be visited
 pub nothing_to_come : (i : ItemId) (reached : Reached) (rows : List ChangeData) → rows ≡ rows ++ rows_from i reached []
 nothing_to_come i Before rows = sym (append-nil rows)
 nothing_to_come i (Within top) rows = sym (append-nil rows)

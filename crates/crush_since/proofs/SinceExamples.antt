@@ -1,4 +1,4 @@
--- What has changed between two maps, computed.
+-- Examples: the texts that say what has changed between two maps, computed from the definition.
 use Rattle.std.proofs.Common.{◌≡◌, refl}
 use Rattle.std.specs.Prelude.{ℕ, List, [], ◌∷◌, Some, None, codes}
 use Rattle.crush_units.specs.declared.alg.Alg.TheVariants.{Straw}
@@ -23,7 +23,7 @@ of_roots roots = rows_of (record { roots = roots; unplaced = none; root_capacity
 abbrev of : List Row → PlainMap
 of t = plain_map setting t
 
--- osd.0 has gone from h1 to h2
+-- osd.0 has moved from h1 to h2
 abbrev moved : List Row
 moved = of_roots (bucket (header 1 11 (codes "default")) 163840 2
     (bucket (header 2 1 (codes "h1")) 65536 2 (device (leaf 1 (codes "osd.1") 65536) none)
@@ -46,7 +46,7 @@ since_grown : since_text (of example) (of grown)
 unfolding since_text last_lines emptied_lines class_lines classes class_line untaken_text other_order rule_takes weighs_nothing item_lines id_line all_ids all_buckets all_devices setting_lines tunables_line kinds_line rules_line totals_line counts_line first_counts last_counts digits
 since_grown = refl
 
--- and are gone
+-- a device, its host and the host's rack are removed
 since_shrunk : since_text (of grown) (of example)
     ≡ codes "default (-1): weight 3.50000 to 2.50000\nh3 (-4): removed, was host in r1 (-5), weight 1.00000\nr1 (-5): removed, was rack in default (-1), weight 1.00000\nosd.3 (3): removed, was osd in h3 (-4), weight 1.00000\ntotal 3.50000 to 2.50000\n0 made, 3 removed, 0 renamed, 0 moved, 1 of other weight, 0 of other class\n"
 unfolding since_text last_lines emptied_lines class_lines classes class_line untaken_text other_order rule_takes weighs_nothing item_lines id_line all_ids all_buckets all_devices setting_lines tunables_line kinds_line rules_line totals_line counts_line first_counts last_counts digits
@@ -63,12 +63,12 @@ since_swapped : since_text (of example) (of swapped)
 unfolding since_text last_lines emptied_lines class_lines classes class_line untaken_text other_order rule_takes weighs_nothing item_lines id_line all_ids all_buckets all_devices setting_lines tunables_line kinds_line rules_line totals_line counts_line first_counts last_counts digits
 since_swapped = refl
 
--- a map since itself
+-- a map is compared with itself
 since_itself : since_text (of example) (of example) ≡ codes "total 2.50000 to 2.50000\n0 made, 0 removed, 0 renamed, 0 moved, 0 of other weight, 0 of other class\n"
 unfolding since_text last_lines emptied_lines class_lines classes class_line untaken_text other_order rule_takes weighs_nothing item_lines id_line all_ids all_buckets all_devices setting_lines tunables_line kinds_line rules_line totals_line counts_line first_counts last_counts digits
 since_itself = refl
 
--- each column, and each part of a setting: h1 is another type's, has another algorithm and a class id, osd.0 is of a class, osd.2 is unplaced and of none; h2 is a root
+-- every column and every part of a setting differs. h1 has another type, another algorithm and a class id. osd.0 has got a class. osd.2 has become unplaced and has lost its class. h2 has become a root
 abbrev before : List Row
 before = rows_of (record {
   roots = bucket (header 1 11 (codes "default")) 98304 2
@@ -89,7 +89,7 @@ after = rows_of (record {
   unplaced_capacity = 1;
 })
 
--- another tunable, another type, and a rule that takes another bucket
+-- a setting with another tunable, another type, and a rule that takes another bucket
 abbrev of_rule : List ℕ → ℕ → List ℕ → SettingData
 of_rule osd taken tunable = record {
   kinds = type 0 osd ∷ (type 1 (codes "host") ∷ (type 3 (codes "rack") ∷ (type 11 (codes "root") ∷ [])));
@@ -109,7 +109,7 @@ since_renamed : since_text (plain_map (record { kinds = type 0 (codes "osd") ∷
 unfolding since_text last_lines emptied_lines class_lines classes class_line untaken_text other_order rule_takes weighs_nothing item_lines id_line all_ids all_buckets all_devices setting_lines tunables_line kinds_line rules_line totals_line counts_line first_counts last_counts digits
 since_renamed = refl
 
--- a rule that takes the devices of a class, of which there are none now, a host, which is empty now, and a class that no device had
+-- a rule with three steps: it takes the devices of a class, and there are none any more; it takes a host, which is empty now; and it takes a class that no device had before
 abbrev taking : SettingData
 taking = record {
   kinds = setting.kinds;

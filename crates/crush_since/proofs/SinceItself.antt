@@ -1,4 +1,4 @@
--- A map since itself tells nothing.
+-- Proves that a map compared with itself has no lines about differences.
 use Rattle.std.proofs.Common.{◌≡◌, ℕ, Bool, true, false, List, [], ◌∷◌, ◌++◌, ap, ◌∙◌, refl, arith, eq-eqb}
 use Rattle.std.specs.Prelude.{flat_map, Option, None, Some, ◌==◌, ◌&&◌, not, if◌then◌else◌, codes, bytes_eq}
 use Rattle.std.specs.Cmp.Lexicographic.{pointwise}
@@ -28,7 +28,7 @@ use Rattle.crush_since.specs.Since.{plain_map, same_class_ids, id_line, all_ids,
 use Rattle.crush_since.specs.SinceLaws.{NothingSinceItself, nothing_counted}
 use Rattle.crush_since.specs.Tallies.{in_both, is_made, is_removed, is_renamed, is_moved, is_reweighed, is_reclassed, tally_of, counts_line}
 
--- TESTS of a value and itself
+-- TESTS: each value is the same as itself
 pub option_itself : (o : Option ℕ) → same_option o o ≡ true
 option_itself None = refl
 option_itself (Some n) = eq-eqb n n refl
@@ -50,7 +50,7 @@ algs_itself (Some ListAlg) = refl
 pub class_id_itself : (x : ShadowData) → same_class_id x x ≡ true
 class_id_itself x = λ i. eq-eqb x.id x.id refl i && bytes_itself x.class i
 
--- AN ITEM has no parts
+-- AN ITEM compared with itself has no parts
 no_changes : (s p : SettingData) (a : ItemData) → changes s p a a true ≡ []
 no_changes s p a = λ i.
     part (bytes_itself a.view.name i) (codes "was " ++ a.view.name)
@@ -77,7 +77,7 @@ no_items : (s : SettingData) (t : List Row) → item_lines (plain_map s t) (plai
 unfolding item_lines
 no_items s t = nothing_of (id_line (plain_map s t) (plain_map s t)) (no_line_of s t) (all_ids t t)
 
--- SETTINGS
+-- SETTINGS compared with themselves have no lines
 pub tunable_itself : (x : TunableData) → same_tunable x x ≡ true
 tunable_itself x = λ i. bytes_itself x.name i && eq-eqb x.value x.value refl i
 
@@ -108,7 +108,7 @@ no_settings s = λ i.
     listed_if_not (pairs_itself same_tunable tunable_itself s.tunables i) (codes "tunables differ\n") ++ listed_if_not (kinds_itself s i) (codes "types differ\n")
     ++ rule_change_lines (if pairs_itself same_rule rule_itself s.rules i then [] else or_order (changed_rules same_rule s.rules s.rules))
 
--- COUNTS
+-- COUNTS are all 0
 none_meets : (p : ItemId → Bool) → ((i : ItemId) → p i ≡ false) → (ids : List ItemId) → count_by p ids ≡ 0
 none_meets p each [] = refl
 none_meets p each (x ∷ xs) = let zero_here : one_if (p x) ≡ 0 = ap one_if (each x) in omega (arith, zero_here, none_meets p each xs, sum_by-cons (λ y. one_if (p y)) x xs)
@@ -131,7 +131,7 @@ no_counts t ids = λ k. record {
   reclassed = none_meets (λ i. is_reclassed (item_of t i) (item_of t i)) (λ i. not_other (λ a b. not (same_text a.view.class b.view.class)) (λ a. ap not (text_itself a.view.class)) (item_of t i)) ids k;
 }
 
--- RULES that find nothing now found nothing before
+-- RULES that take a bucket without weight now took a bucket without weight before
 pub not_emptied : (w : ℕ) → ((w == 0) && not (w == 0)) ≡ false
 not_emptied w = at (w == 0) where
   at : (b : Bool) → (b && not b) ≡ false

@@ -1,4 +1,4 @@
--- Items of classes, sorted by name.
+-- Lemmas about the uses of classes (`ClassItem`), sorted by name.
 use Rattle.std.proofs.Common.{◌≡◌, ℕ, suc, ◌+◌, ◌<◌, ◌≤◌, Bool, true, false, List, [], ◌∷◌, ◌++◌, length, get_or, map, reverse, drop, ap, sym, ◌∙◌, refl, arith, add-one}
 use Rattle.std.specs.Prelude.{IsPermutation, bytes_eq, if◌then◌else◌}
 use Rattle.std.specs.List.{sum_by}
@@ -39,7 +39,7 @@ sorted_items : (xs : List ClassItem) → ((i j : ℕ) (d : ClassItem) → i ≤ 
 sorted_items [] h = tt
 sorted_items (x ∷ xs) h = (not_below_items x.name.now x xs (λ k p. h 0 (suc k) x (omega arith) (omega arith)), sorted_items xs (λ i j d p q. h (suc i) (suc j) d (omega arith) (omega arith)))
 
--- each item counts once
+-- each use counts at least once in the numbers of devices and steps
 pub counted_by : (s : Source) (w : ℕ) → 0 < added s w old_devices + added s w new_devices + added s w takes
 counted_by Old w = omega arith
 counted_by New w = omega arith
@@ -49,7 +49,7 @@ pub counted_items : (xs : List ClassItem) → Counted (map item_data xs)
 counted_items [] = tt
 counted_items (x ∷ xs) = (counted_by x.source x.weight, counted_items xs)
 
--- an item of a small weight adds little
+-- a use whose weight is below 2^32 adds less than 2^32 to each amount
 pub added_low : (s : Source) (w : ℕ) (k : Amount) → w < 4294967296 → added s w k < 4294967296
 added_low Old w old_weight lt = lt
 added_low Old w new_weight lt = omega arith
@@ -67,13 +67,13 @@ added_low Rule w old_devices lt = omega arith
 added_low Rule w new_devices lt = omega arith
 added_low Rule w takes lt = omega arith
 
--- CLASSES of a list and of the list sorted
+-- CLASSES of a list are the classes of the sorted list
 pub grouped_collected : (xs ys : List ClassItem) → IsPermutation xs ys → IsSortedByKey (λ (x : ClassItem). x.name.now) (slice_cmp nat_cmp) ys → grouped (map item_data ys) ≡ collected (map item_data xs)
 grouped_collected xs ys moved up =
     grouped_is (map item_data ys) (sorted_items ys (sorted_far _ (ranks_by nat_list_cmp_total (λ (x : ClassItem). x.name.now)) ys up))
     ∙ collected_same (map item_data ys) (map item_data xs) (counted_items ys) (counted_items xs) (λ c k. sum_by-IsPermutation (amount_at c k) (map item_data xs) (map item_data ys) (IsPermutation-map item_data xs ys moved))
 
--- A CLASS with an item more
+-- A CLASS after one more use
 abbrev pub both_uses : ClassUse → ClassUse → ClassUse
 both_uses more x = record {
   name = x.name;
@@ -107,7 +107,7 @@ first_same x y ys e = ap (λ b. if b then together x y ∷ ys else x ∷ y ∷ y
 pub first_other : (x y : ClassData) (ys : List ClassData) → bytes_eq y.name x.name ≡ false → with_first x (y ∷ ys) ≡ x ∷ y ∷ ys
 first_other x y ys e = ap (λ b. if b then together x y ∷ ys else x ∷ y ∷ ys) e
 
--- a list with one more at its end, the last first
+-- a list with one more element at its end, in reverse order
 pub last_first : {X Y : Type 0} (f : X → Y) (xs : List X) (y : X) → reverse (map f (xs ++ y ∷ [])) ≡ f y ∷ reverse (map f xs)
 last_first f [] y = refl
 last_first f (x ∷ xs) y = reverse-cons (f x) (map f (xs ++ y ∷ [])) ∙ ap (λ l. l ++ f x ∷ []) (last_first f xs y) ∙ ap (λ l. f y ∷ l) (sym (reverse-cons (f x) (map f xs)))
@@ -116,7 +116,7 @@ pub map_reverse : {X Y : Type 0} (f : X → Y) (xs : List X) → map f (reverse 
 map_reverse f [] = refl
 map_reverse f (x ∷ xs) = ap (map f) (reverse-cons x xs) ∙ map-append f (reverse xs) (x ∷ []) ∙ ap (λ l. l ++ f x ∷ []) (map_reverse f xs) ∙ sym (reverse-cons (f x) (map f xs))
 
--- the item before those from i on
+-- the elements from i on are the element i and the elements from i + 1 on
 pub before : (xs : List ClassItem) (i j : ℕ) (x : ClassItem) → i < length xs → j ≡ i + 1 → x ≡ get_or xs i x → map item_data (drop i xs) ≡ item_data x ∷ map item_data (drop j xs)
 before xs i j x lt next is = ap (map item_data) (drop-cons xs i x lt ∙ (λ k. sym is k ∷ drop (sym (next ∙ add-one i) k) xs))
 

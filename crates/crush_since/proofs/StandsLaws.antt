@@ -1,4 +1,4 @@
--- The rows of what stands in the new map, along a list of nodes, and what tables say of them.
+-- Proves that the rows of the new map's items are the same if they are computed from a list of nodes and if they are computed from the table.
 use Rattle.std.proofs.Common.{◌≡◌, ℕ, zero, suc, ◌+◌, ◌<◌, ◌≤◌, true, List, [], ◌∷◌, ◌++◌, length, get_or, take, map, ap, sym, ◌∙◌, refl, arith, append_assoc, append-nil}
 use Rattle.std.specs.Prelude.{flat_map, All, Option, None, Some}
 use Rattle.std.specs.List.Sorted.{IsPermutation}
@@ -31,7 +31,7 @@ module _ (old new : Map) where
   abbrev left : ℕ → ℕ → List ChangeData
   left depth b = left_from old.table new.table depth (Some b) (kids old.table b)
 
-  -- the rows of the items of both
+  -- the rows of two joined lists of items
   stands-join : (depth : ℕ) (a b : Items) → stands_of old new depth (join a b) ≡ stands_of old new depth a ++ stands_of old new depth b
   stands-join depth none b = refl
   stands-join depth (device d rest) b =
@@ -40,16 +40,16 @@ module _ (old new : Map) where
       let here : List ChangeData = own depth (BucketItem h.id) (stands_of old new (depth + 1) k ++ left (depth + 1) h.id) in
       ap (λ (l : List ChangeData). here ++ l) (stands-join depth rest b) ∙ sym (append_assoc here (stands_of old new depth rest) (stands_of old new depth b))
 
-  -- one item more
+  -- the rows after one more item
   pub stands-more : {A : _} (depth : ℕ) (ns : List (Node A)) (i : ℕ) (x : Node A) → i < length ns → x ≡ get_or ns i x
       → stands_of old new depth (items_of (take (i + 1) ns)) ≡ stands_of old new depth (items_of (take i ns)) ++ stands_of old new depth (items_of (x ∷ []))
   stands-more depth ns i x lt is = ap (stands_of old new depth) (items_of-taken ns i x lt is) ∙ stands-join depth (items_of (take i ns)) (items_of (x ∷ []))
 
-  -- a device has its own row alone
+  -- a device has only its own row
   pub device_stands : {A : _} (depth : ℕ) (x : Node A) (l : _) → x ≡ Device l → own depth (node_id x) [] ≡ stands_of old new depth (items_of (x ∷ []))
   device_stands depth x l at = ap (λ y. own depth (node_id y) []) at ∙ sym (append-nil (own depth (DeviceItem l.id) [])) ∙ ap (λ y. stands_of old new depth (items_of (y ∷ []))) (sym at)
 
-  -- a bucket has its own, those of its items, and those of what has left it
+  -- a bucket has its own row, the rows of its items, and the rows of the items that have left it
   pub bucket_stands : {A : _} (depth : ℕ) (x : Node A) (b : _) (k : Items) → x ≡ Bucket b → k ≡ b.value.kids
       → own depth (node_id x) (stands_of old new (depth + 1) k ++ left (depth + 1) b.value.header.id) ≡ stands_of old new depth (items_of (x ∷ []))
   bucket_stands depth x b k at are =
@@ -57,7 +57,7 @@ module _ (old new : Map) where
       ∙ sym (append-nil (own depth (BucketItem b.value.header.id) (stands_of old new (depth + 1) b.value.kids ++ left (depth + 1) b.value.header.id)))
       ∙ ap (λ y. stands_of old new depth (items_of (y ∷ []))) (sym at)
 
-  -- AS DEEP AS ITEMS ARE, the tables say the same of them
+  -- AS DEEP AS ITEMS ARE: if the depth bound is large enough, the table gives the same rows as the items
   pub stands_told : (fuel depth : ℕ) (p : Option ℕ) (n : Items) → size_of n ≤ fuel → Told new.table p n → flat_map (stands_at old new fuel depth) (ids_of n) ≡ stands_of old new depth n
   unfolding stands_at
   stands_told fuel depth p none le told = refl
@@ -68,7 +68,7 @@ module _ (old new : Map) where
       ap (flat_map (stands_at old new fuel (depth + 1))) told.1 ∙ stands_told fuel (depth + 1) (Some h.id) k (omega arith) told.3 in
       (λ i. own depth (BucketItem h.id) (below i ++ left (depth + 1) h.id) ++ stands_told (suc fuel) depth p rest (omega arith) told.4 i)
 
-  -- EACH NODE has what the tables say
+  -- EACH NODE has the rows that the tables define
   abbrev AreRows : {A : _} → Node A → Type 0
   AreRows node = stands_at old new (length new.table) 0 (node_id node) ≡ stands_of old new 0 (items_of (node ∷ []))
 
@@ -82,7 +82,7 @@ module _ (old new : Map) where
       All-cons AreRows (Bucket b) ns (alone p (BucketItem b.value.header.id) (bucket b.value.header b.value.weight b.value.capacity b.value.kids none) refl (omega arith) (told.0, told.1, told.2, told.3, tt))
       (stands_each p ns told.4 (omega arith))
 
-  -- THE ROOTS and the unplaced devices
+  -- THE ROOTS and the unplaced devices have the rows that the tables define
   pub roots_stand : {A : _} {X : Type 0} (see : X → Node A) (f : ForestData) (ns : List (Node A)) (refs : List X) → items_of ns ≡ f.roots → IsSound f → Stands f new.table → IsPermutation ns (map see refs)
       → map (λ x. id_number (node_id (see x))) refs ≡ ascending (map (λ node. id_number (node_id node)) ns)
       → flat_map (λ x. stands_of old new 0 (items_of (see x ∷ []))) refs ≡ flat_map (λ b. stands_at old new (length new.table) 0 (BucketItem b)) (root_numbers new.table)

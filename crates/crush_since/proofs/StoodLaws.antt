@@ -1,4 +1,4 @@
--- The rows of what stood in the old map, along a list of nodes, and what tables say of them.
+-- Proves that the rows of the items that only the old map had in a place are the same if they are computed from a list of nodes and if they are computed from the tables.
 use Rattle.std.proofs.Common.{◌≡◌, ℕ, zero, suc, ◌+◌, ◌<◌, ◌≤◌, true, false, List, [], ◌∷◌, ◌++◌, length, get_or, take, map, ap, sym, ◌∙◌, refl, arith, append_assoc, append-nil}
 use Rattle.std.specs.Prelude.{flat_map, All, Option, None, Some, if◌then◌else◌}
 use Rattle.std.specs.List.Sorted.{IsPermutation}
@@ -33,7 +33,7 @@ module _ (t u : List Row) where
   abbrev below_of : ℕ → ItemId → Items → List ChangeData
   below_of depth i k = if is_there u i then [] else stood_of t u (depth + 1) k
 
-  -- the rows of the items of both
+  -- the rows of two joined lists of items
   stood-join : (depth : ℕ) (a b : Items) → stood_of t u depth (join a b) ≡ stood_of t u depth a ++ stood_of t u depth b
   stood-join depth none b = refl
   stood-join depth (device d rest) b = ap (λ (l : List ChangeData). stood depth (DeviceItem d.id) ∷ l) (stood-join depth rest b)
@@ -41,22 +41,22 @@ module _ (t u : List Row) where
       ap (λ (l : List ChangeData). stood depth (BucketItem h.id) ∷ (below_of depth (BucketItem h.id) k ++ l)) (stood-join depth rest b)
       ∙ ap (λ (l : List ChangeData). stood depth (BucketItem h.id) ∷ l) (sym (append_assoc (below_of depth (BucketItem h.id) k) (stood_of t u depth rest) (stood_of t u depth b)))
 
-  -- one item more
+  -- the rows after one more item
   pub stood-more : {A : _} (depth : ℕ) (ns : List (Node A)) (i : ℕ) (x : Node A) → i < length ns → x ≡ get_or ns i x
       → stood_of t u depth (items_of (take (i + 1) ns)) ≡ stood_of t u depth (items_of (take i ns)) ++ stood_of t u depth (items_of (x ∷ []))
   stood-more depth ns i x lt is = ap (stood_of t u depth) (items_of-taken ns i x lt is) ∙ stood-join depth (items_of (take i ns)) (items_of (x ∷ []))
 
-  -- a device has its own row alone
+  -- a device has only its own row
   pub device_stood : {A : _} (depth : ℕ) (x : Node A) (l : _) → x ≡ Device l → stood depth (node_id x) ∷ [] ≡ stood_of t u depth (items_of (x ∷ []))
   device_stood depth x l at = ap (λ y. stood depth (node_id y) ∷ []) at ∙ ap (λ y. stood_of t u depth (items_of (y ∷ []))) (sym at)
 
-  -- and so has a bucket that is there still
+  -- a bucket that the new map has in another place has only its own row
   pub bucket_elsewhere : {A : _} (depth : ℕ) (x : Node A) (b : _) → x ≡ Bucket b → is_there u (BucketItem b.value.header.id) ≡ true → stood depth (node_id x) ∷ [] ≡ stood_of t u depth (items_of (x ∷ []))
   bucket_elsewhere depth x b at there =
       ap (λ y. stood depth (node_id y) ∷ []) at ∙ ap (λ z. stood depth (BucketItem b.value.header.id) ∷ ((if z then [] else stood_of t u (depth + 1) b.value.kids) ++ [])) (sym there)
       ∙ ap (λ y. stood_of t u depth (items_of (y ∷ []))) (sym at)
 
-  -- one that is gone has its own and those of its items
+  -- a bucket that the new map doesn't have has its own row and the rows of its items
   pub bucket_gone : {A : _} (depth : ℕ) (x : Node A) (b : _) (k : Items) → x ≡ Bucket b → k ≡ b.value.kids → is_there u (BucketItem b.value.header.id) ≡ false
       → stood depth (node_id x) ∷ stood_of t u (depth + 1) k ≡ stood_of t u depth (items_of (x ∷ []))
   bucket_gone depth x b k at are gone =
@@ -64,7 +64,7 @@ module _ (t u : List Row) where
       ∙ ap (λ (l : List ChangeData). stood depth (BucketItem b.value.header.id) ∷ l) (sym (append-nil (stood_of t u (depth + 1) b.value.kids)))
       ∙ ap (λ z. stood depth (BucketItem b.value.header.id) ∷ ((if z then [] else stood_of t u (depth + 1) b.value.kids) ++ [])) (sym gone) ∙ ap (λ y. stood_of t u depth (items_of (y ∷ []))) (sym at)
 
-  -- AS DEEP AS ITEMS ARE, the tables say the same of them
+  -- AS DEEP AS ITEMS ARE: if the depth bound is large enough, the tables give the same rows as the items
   pub stood_told : (fuel depth : ℕ) (p : Option ℕ) (n : Items) → size_of n ≤ fuel → Told t p n → flat_map (stood_at t u fuel depth) (ids_of n) ≡ stood_of t u depth n
   unfolding stood_at
   stood_told fuel depth p none le told = refl
@@ -74,7 +74,7 @@ module _ (t u : List Row) where
       let below : flat_map (stood_at t u fuel (depth + 1)) (kids t h.id) ≡ stood_of t u (depth + 1) k = ap (flat_map (stood_at t u fuel (depth + 1))) told.1 ∙ stood_told fuel (depth + 1) (Some h.id) k (omega arith) told.3 in
       (λ i. stood depth (BucketItem h.id) ∷ ((if is_there u (BucketItem h.id) then [] else below i) ++ stood_told (suc fuel) depth p rest (omega arith) told.4 i))
 
-  -- EACH NODE has what the tables say
+  -- EACH NODE has the rows that the tables define
   abbrev IsLeft : {A : _} → ℕ → Option ℕ → Node A → Type 0
   IsLeft depth place node = left_at t u depth place (node_id node) ≡ left_of t u depth place node
 
@@ -91,7 +91,7 @@ module _ (t u : List Row) where
       (alone depth p place (BucketItem b.value.header.id) (bucket b.value.header b.value.weight b.value.capacity b.value.kids none) refl (omega arith) (told.0, told.1, told.2, told.3, tt))
       (left_each depth p place ns told.4 (omega arith))
 
-  -- THE ITEMS OF A BUCKET
+  -- THE ITEMS OF A BUCKET have the rows that the tables define
   pub left_below : {A : _} (f : ForestData) (b depth : ℕ) (ns : List (Node A)) → Stands f t → Some (items_of ns) ≡ kids_in b (all_items f) → map node_id ns ≡ kids t b
       → flat_map (left_of t u depth (Some b)) ns ≡ left_from t u depth (Some b) (kids t b)
   unfolding left_from
@@ -105,7 +105,7 @@ module _ (t u : List Row) where
   unfolding left_from
   nothing_left f b depth stands absent = sym (ap (flat_map (left_at t u depth (Some b))) (no_kids t t b stands.lawful.parents (sym absent)))
 
-  -- THE ROOTS and the unplaced devices
+  -- THE ROOTS and the unplaced devices have the rows that the tables define
   pub left_roots : {A : _} {X : Type 0} (see : X → Node A) (f : ForestData) (ns : List (Node A)) (refs : List X) → items_of ns ≡ f.roots → IsSound f → Stands f t → IsPermutation ns (map see refs)
       → map (λ x. id_number (node_id (see x))) refs ≡ ascending (map (λ node. id_number (node_id node)) ns) → flat_map (λ x. left_of t u 0 None (see x)) refs ≡ left_from t u 0 None (map BucketItem (root_numbers t))
   unfolding left_from

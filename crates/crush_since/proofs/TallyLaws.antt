@@ -1,4 +1,4 @@
--- The counts of ids, one id more at a time.
+-- Lemmas about how the counts of ids grow by one id.
 use Rattle.std.proofs.Common.{◌≡◌, ℕ, ◌+◌, ◌<◌, ◌≤◌, ◌^◌, Bool, true, false, List, length, get_or, take, ap, sym, ◌∙◌, refl, arith}
 use Rattle.std.specs.Prelude.{Option}
 use Rattle.std.specs.List.{count_by}
@@ -10,14 +10,14 @@ use Rattle.crush_items.specs.ItemData.{ItemData, item_of}
 use Rattle.crush_since.specs.Tallies.{is_made, is_removed, is_renamed, is_moved, is_reweighed, is_reclassed, tally_of, tally_with, HasRoom}
 use Rattle.crush_since.specs.declared.since.tally.Tally.{Tally}
 
--- one element more
+-- a count after one more element
 pub count_more : {X : Type 0} (p : X → Bool) (xs : List X) (i : ℕ) (x : X) → i < length xs → x ≡ get_or xs i x → count_by p (take (i + 1) xs) ≡ count_by p (take i xs) + one_if (p x)
 count_more p xs i x lt is = at (p x) refl where
   at : (b : Bool) → p x ≡ b → count_by p (take (i + 1) xs) ≡ count_by p (take i xs) + one_if (p x)
   at true e = let one : one_if (p x) ≡ 1 = ap one_if e in omega (arith, one, count_by_more_yes p xs i x lt (ap p (sym is) ∙ e))
   at false e = let none : one_if (p x) ≡ 0 = ap one_if e in omega (arith, none, count_by_more_no p xs i x lt (ap p (sym is) ∙ e))
 
--- no count is above a number
+-- no count of the tally n is greater than k
 pub record AtMost (k : ℕ) (n : Tally) : Type 0 where
   pub made : n.made ≤ k
   pub removed : n.removed ≤ k

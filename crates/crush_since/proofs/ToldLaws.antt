@@ -1,4 +1,4 @@
--- Whether there is something to tell of an item, by its columns; and the row of an item of which there is nothing.
+-- Lemmas about whether an item has a line, which its columns decide, and about the row of an item that has no line.
 use Rattle.std.proofs.Common.{◌≡◌, ℕ, ◌-◌, Bool, true, false, List, [], ◌∷◌, ◌++◌, length, take, map, ap, sym, ◌∙◌, refl, arith, append-nil}
 use Rattle.std.specs.Prelude.{not, ◌&&◌, ◌||◌, ◌==◌, Some, codes, bytes_eq}
 use Rattle.std.proofs.Math.Seq.{take-append_seam}
@@ -13,7 +13,7 @@ use Rattle.crush_since.specs.ItemParts.{same_algs, part, changes, behind, line, 
 use Rattle.crush_since.specs.ItemWords.{item_word, place_word, type_word, class_or_none, alg_word}
 use Rattle.crush_compare.specs.SameItem.{same_item}
 
--- A LINE is there where parts are
+-- A LINE exists if there are parts
 some_last : {X : Type 0} (xs : List X) (y : X) (ys : List X) → has_some (xs ++ y ∷ ys) ≡ true
 some_last [] y ys = refl
 some_last (x ∷ xs) y ys = refl
@@ -22,7 +22,7 @@ pub line_told : (name : List ℕ) (i : ItemId) (ps : List (List ℕ)) → has_so
 line_told name i [] = refl
 line_told name i (p ∷ rest) = some_last (item_word name i ++ codes ": " ++ (p ++ behind rest)) 10 []
 
--- parts are there where a column differs
+-- there are parts if a column differs
 some_of_both : {X : Type 0} (xs ys : List X) → has_some (xs ++ ys) ≡ (has_some xs || has_some ys)
 some_of_both [] ys = refl
 some_of_both (x ∷ xs) ys = refl
@@ -48,23 +48,23 @@ changes_told s p a b same =
     (with_part _ (bytes_eq a.view.name b.view.name) (a.view.kind == b.view.kind) (codes "type " ++ type_word s a.view.id a.view.kind ++ codes " to " ++ type_word p b.view.id b.view.kind)
     (part_told (bytes_eq a.view.name b.view.name) (codes "was " ++ a.view.name)))))))
 
--- SO THE TESTS of columns tell, of an item that both maps have
+-- THE TESTS of the columns decide whether an item that both maps have has a line
 pub both_told : (s p : SettingData) (i : ItemId) (a b : ItemData) (same : Bool) → not (same_item a b same) ≡ has_some (item_line s p i (Some a) (Some b) same)
 both_told s p i a b same = sym (line_told b.view.name i (changes s p a b same) ∙ changes_told s p a b same)
 
--- A ROW stays where something is told, or rows are below it
+-- A ROW is kept if its item differs or if there are rows below it
 pub row_stays : (told : Bool) (row : ChangeData) (below : List ChangeData) → (told ≡ false → below ≡ [] → ⊥) → with_below told row below ≡ row ∷ below
 row_stays told row (x ∷ below) some = refl
 row_stays true row [] some = refl
 row_stays false row [] some = absurd (some refl refl)
 
--- and goes where neither is
+-- a row is left out if its item doesn't differ and there are no rows below it
 pub row_goes : (told : Bool) (row : ChangeData) (below : List ChangeData) → told ≡ false → length below ≡ 0 → with_below told row below ≡ []
 row_goes told row (x ∷ below) none alone = absurd (omega (arith, alone))
 row_goes true row [] none alone = absurd cc
 row_goes false row [] none alone = refl
 
--- of rows in memory, of which the last is taken back where it stands alone
+-- the code removes the row of an item that doesn't differ if no rows were appended after it
 pub settled : {X : Type 0} (see : X → ChangeData) (old new : List X) (at : ℕ) (told : Bool) (before below : List ChangeData) (row : ChangeData) → told ≡ false → length old - at ≡ 1 → new ≡ take at old
     → length before ≡ at → map see old ≡ before ++ row ∷ below → map see new ≡ before ++ with_below told row below
 settled see old new at told before below row untold alone cut long are =

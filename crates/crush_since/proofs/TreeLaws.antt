@@ -1,4 +1,4 @@
--- What the steps of a tree tell: something of each item of the table, and of no other.
+-- Proves that the texts over the steps of a tree are empty if and only if the texts over the rows of the table are empty.
 use Rattle.std.proofs.Common.{◌≡◌, ℕ, zero, suc, ◌+◌, ◌<◌, ◌≤◌, Bool, true, false, List, [], ◌∷◌, ◌++◌, length, map, refl, sym, ap, subst, ◌∙◌, arith, append-nil, eq-eqb, ⊎_elim}
 use Rattle.std.specs.Prelude.{flat_map, filter, IfSome, Option, None, Some, is_some, nat_le, if◌then◌else◌, option_and_then}
 use Rattle.std.specs.Option.{option_map, option_map_or}
@@ -15,7 +15,7 @@ use Rattle.crush_nodes.specs.Views.{ViewData, row_view}
 use Rattle.crush_print.specs.MapText.{put_in, ascending, device_number, root_number, root_numbers}
 use Rattle.crush_items.specs.Tree.{WalkStepData, step_at, steps_at, unplaced_number, unplaced_numbers, tree_rows}
 
--- LISTS side by side of which each is empty
+-- LISTS: if two joined lists are empty, each of them is empty
 pub nil_left : {X : Type 0} (xs ys : List X) → xs ++ ys ≡ [] → xs ≡ []
 nil_left [] ys h = refl
 nil_left (x ∷ xs) ys h = absurd (let long : length (x ∷ (xs ++ ys)) ≡ 0 = ap length h in omega (arith, long))
@@ -32,7 +32,7 @@ nothing_of : {X Z : Type 0} (g : X → List Z) → ((x : X) → g x ≡ []) → 
 nothing_of g each [] = refl
 nothing_of g each (x ∷ xs) = λ k. each x k ++ nothing_of g each xs k
 
--- numbers in another order
+-- if the texts of a sorted list of numbers are empty, the texts of the list are empty
 put_among : {Z : Type 0} (g : ℕ → List Z) (n : ℕ) (xs : List ℕ) → flat_map g (put_in n xs) ≡ [] → g n ++ flat_map g xs ≡ []
 put_among g n [] e = e
 put_among g n (x ∷ xs) e = at (nat_le n x) (put_among g n xs) e where
@@ -51,7 +51,7 @@ unsorted g (x ∷ xs) e =
 some_is : {X : Type 0} (a b : X) → Some a ≡ Some b → a ≡ b
 some_is a b same = cc
 
--- what holds of all rows holds of the row of an id
+-- what holds for all rows holds for the row of each id
 of_row : {Z : Type 0} (g : Row → List Z) (t : List Row) (i : ItemId) (r : Row) → row_of t i ≡ Some r → flat_map g t ≡ [] → g r ≡ []
 of_row g [] i r found e = absurd cc
 of_row g (x ∷ t) i r found e = ⊎_elim
@@ -59,7 +59,7 @@ of_row g (x ∷ t) i r found e = ⊎_elim
     (λ q. of_row g t i r (sym (ap (λ b. if b then Some x else row_of t i) q.0) ∙ found) (nil_right (g x) (flat_map g t) e))
     (same_id_tells x.id i)
 
--- and what holds of all items of a bucket holds of each
+-- what holds for all items of a bucket holds for each of them
 of_kid : {Z : Type 0} (g : ItemId → List Z) (t : List Row) (b : ℕ) (i : ItemId) (r : Row) → row_of t i ≡ Some r → is_parent b r.parent ≡ true → flat_map g (kids t b) ≡ [] → g i ≡ []
 of_kid g t b i r found own e = ap g (sym (row_id i t r found)) ∙ here (is_parent b r.parent) own (of_row (λ (x : Row). if is_parent b x.parent then g x.id else []) t i r found (by_rows t ∙ e)) where
   by_test : (c : Bool) (x : Row) (xs : List Row) → flat_map g (map (λ (y : Row). y.id) (if c then x ∷ xs else xs)) ≡ (if c then g x.id else []) ++ flat_map g (map (λ (y : Row). y.id) xs)
@@ -74,7 +74,7 @@ of_kid g t b i r found own e = ap g (sym (row_id i t r found)) ∙ here (is_pare
   here true q h = h
   here false q h = absurd cc
 
--- WHERE NOTHING IS TOLD of any row the steps tell nothing
+-- if the text of each row is empty, the texts of the steps are empty
 module _ (t : List Row) (f : ViewData → List ℕ) (none : (i : ItemId) (r : Row) → row_of t i ≡ Some r → f (row_view t r) ≡ []) where
   at_none : (depth : ℕ) (i : ItemId) → flat_map (λ (s : WalkStepData). f s.item) (step_at t depth i) ≡ []
   unfolding step_at
@@ -98,9 +98,9 @@ module _ (t : List Row) (f : ViewData → List ℕ) (none : (i : ItemId) (r : Ro
       ∙ (λ k. (flat_twice (λ (s : WalkStepData). f s.item) (λ b. steps_at t (length t) 0 (Bucket b)) (root_numbers t) ∙ nothing_of (λ b. flat_map (λ (s : WalkStepData). f s.item) (steps_at t (length t) 0 (Bucket b))) (λ b. steps_none (length t) 0 (Bucket b)) (root_numbers t)) k
       ++ (flat_twice (λ (s : WalkStepData). f s.item) (λ d. step_at t 0 (Device d)) (unplaced_numbers t) ∙ nothing_of (λ d. flat_map (λ (s : WalkStepData). f s.item) (step_at t 0 (Device d))) (λ d. at_none 0 (Device d)) (unplaced_numbers t)) k)
 
--- WHERE THE STEPS TELL NOTHING it is told of no row
+-- if the texts of the steps are empty, the text of each row is empty
 module _ (t : List Row) (l : Lawful t) (f : ViewData → List ℕ) (none : flat_map (λ (s : WalkStepData). f s.item) (tree_rows t) ≡ []) where
-  -- no step of an item, so many steps deep
+  -- the steps of an item, at most so many levels deep, have empty texts
   abbrev NoStep : ℕ → ItemId → Type 0
   NoStep n i = (depth : ℕ) × (flat_map (λ (s : WalkStepData). f s.item) (steps_at t n depth i) ≡ [])
 
@@ -124,7 +124,7 @@ module _ (t : List Row) (l : Lawful t) (f : ViewData → List ℕ) (none : flat_
       let own : unplaced_number r ≡ d ∷ [] = (λ k. if is_some (root k) then [] else device_number (row_id (Device d) t r found k)) in
       nil_left (g d) [] (sym (ap (flat_map g) own) ∙ of_row (λ (x : Row). flat_map g (unplaced_number x)) t (Device d) r found (sym (flat_twice g unplaced_number t) ∙ all))
 
-  -- its step alone, and those of its items
+  -- then the text of the item's own step is empty, and so are the texts of the steps of its items
   own_step : (n depth b : ℕ) → flat_map (λ (s : WalkStepData). f s.item) (steps_at t (suc n) depth (Bucket b)) ≡ [] → flat_map (λ (s : WalkStepData). f s.item) (step_at t depth (Bucket b)) ≡ []
   unfolding steps_at
   own_step n depth b e = nil_left _ (flat_map (λ (s : WalkStepData). f s.item) (flat_map (steps_at t n (depth + 1)) (kids t b))) (sym (flat_map-append (λ (s : WalkStepData). f s.item) (step_at t depth (Bucket b)) (flat_map (steps_at t n (depth + 1)) (kids t b))) ∙ e)
@@ -145,7 +145,7 @@ module _ (t : List Row) (l : Lawful t) (f : ViewData → List ℕ) (none : flat_
     by_row None e h = absurd cc
     by_row (Some q) e h = (q, e)
 
-  -- one comes from a root down to each bucket: as many steps deep as are left above it
+  -- a walk from a root reaches each bucket, with enough levels left for the bucket's own steps
   comes_down : (m b : ℕ) (r : Row) → row_of t (Bucket b) ≡ Some r → length (climb t m (Bucket b)) < m → m ≤ length t → (k : ℕ) × (k + length (climb t m (Bucket b)) ≡ length t) × NoStep k (Bucket b)
   comes_down zero b r found short few = absurd (omega (arith, short))
   comes_down (suc m) b r found short few = by_parent (λ p q there less within. comes_down m p q there less within) r.parent refl (All-row (HasParent t) t l.parents (Bucket b) r found) where

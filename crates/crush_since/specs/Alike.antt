@@ -1,4 +1,4 @@
--- Maps that are alike by names, and that of these nothing is told.
+-- When two maps are alike if their items are matched by names, and the law that no difference remains between two maps if and only if they are alike.
 use Rattle.std.specs.Prelude.{◌≡◌, ◌↔◌, ℕ, ◌+◌, ◌≤◌, true, List, [], Option, None, Some, option_and_then}
 use Rattle.std.specs.Cmp.Lexicographic.{pointwise}
 use Rattle.crush_units.specs.declared.id.ItemId.{ItemId}
@@ -11,18 +11,18 @@ use Rattle.crush_since.specs.Since.{PlainMap}
 use Rattle.crush_since.specs.RulesByName.{named_rule}
 use Rattle.crush_since.specs.Stays.{stays}
 
--- two devices of one id, or two buckets
+-- two ids are of the same item: two equal device ids, or the ids of any two buckets
 abbrev pub AreOne : ItemId → ItemId → Type 0
 AreOne (Device d) (Device e) = d ≡ e
 AreOne (Bucket b) (Bucket c) = Unit {0}
 AreOne i j = ⊥
 
--- the name of the bucket that holds a row's item, if one does
+-- the name of the parent of a row's item; none if the item has no parent
 abbrev pub place_of : List Row → Row → Option (List ℕ)
 place_of t r = option_and_then (λ p. name_of t (Bucket p)) r.parent
 
--- ROWS ALIKE: one item, of one type, in one place, of one class and one algorithm, of weights that are at most one unit apart: the
--- row of a bucket weighs nothing
+-- ROWS ALIKE: the two rows are of the same item, and they have the same type, place, class and algorithm, and weights that are at most one unit apart.
+-- The row of a bucket has the weight 0
 pub record AreAlike (old new : PlainMap) (x y : Row) : Type 0 where
   pub one : AreOne x.id y.id
   pub kind : type_word old.setting x.id x.kind ≡ type_word new.setting y.id y.kind
@@ -32,23 +32,23 @@ pub record AreAlike (old new : PlainMap) (x y : Row) : Type 0 where
   pub class : x.class ≡ y.class
   pub alg : x.alg ≡ y.alg
 
--- what two maps have of a name: nothing, or rows that are alike
+-- for one name: either neither map has a row with this name, or both maps have one and the two rows are alike
 abbrev pub HaveAlike : PlainMap → PlainMap → Option Row → Option Row → Type 0
 HaveAlike old new None None = Unit {0}
 HaveAlike old new (Some x) (Some y) = AreAlike old new x y
 HaveAlike old new x y = ⊥
 
--- SETTINGS THAT AGREE: equal tunables, one name for each number of a type, and rules that are the same by the names of buckets
+-- SETTINGS THAT AGREE: the tunables are equal, each type number has the same name in both settings, and the rules are the same. The buckets that rules take are compared by their names
 pub record SettingsAgree (old new : PlainMap) : Type 0 where
   pub tunables : old.setting.tunables ≡ new.setting.tunables
   pub kinds : (n : ℕ) → kind_name old.setting n ≡ kind_name new.setting n
   pub rules : pointwise (named_rule old.table new.table) old.setting.rules new.setting.rules ≡ true
 
--- ALIKE BY NAMES: of each name, and in their settings
+-- ALIKE BY NAMES: for each name, the rows with this name are alike or neither map has one, and the settings of the maps agree
 pub record AreAlikeByNames (old new : PlainMap) : Type 0 where
   pub items : (n : List ℕ) → HaveAlike old new (row_named old.table n) (row_named new.table n)
   pub settings : SettingsAgree old new
 
--- NOTHING STAYS exactly where two maps are alike by names
+-- NOTHING STAYS: no difference remains between two maps if and only if they are alike by names
 abbrev pub NothingStaysWhereAlike : Type 0
 NothingStaysWhereAlike = (old new : PlainMap) → Lawful old.table → Lawful new.table → (stays old new ≡ []) ↔ AreAlikeByNames old new

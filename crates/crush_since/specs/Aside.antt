@@ -1,4 +1,4 @@
--- The ids of buckets that both maps have. They count as no difference, because no command sets them.
+-- The counts of buckets that have different ids in two maps. Such a bucket is counted, but isn't listed as a difference, because no command sets an id.
 use Rattle.std.specs.Prelude.{◌≡◌, ℕ, ◌==◌, Bool, not, false, ◌&&◌, List, [], ◌++◌, Option, None, Some, if◌then◌else◌, codes, decimal}
 use Rattle.std.specs.Cmp.Lexicographic.{pointwise}
 use Rattle.std.specs.List.{count_by}
@@ -13,7 +13,7 @@ use Rattle.crush_compare.specs.declared.identity.Devices.TheVariants.{ById}
 use Rattle.crush_compare.specs.Named.{counterpart}
 use Rattle.crush_compare.specs.NamedPairs.{PairData, is_of_part, step_item}
 
--- TESTS of a wanted item and of its counterpart: whether it has another id, or other class ids
+-- TESTS: the first argument is the map's counterpart of a wanted item, if there is one. The tests say whether the counterpart's id differs from the wanted item's id, and whether its class ids differ
 abbrev pub has_other_id : Option ItemData → ItemData → Bool
 has_other_id None y = false
 has_other_id (Some x) y = not (same_id x.view.id y.view.id)
@@ -22,18 +22,18 @@ abbrev pub has_other_class_ids : List Row → List Row → Option ItemData → I
 has_other_class_ids t u None y = false
 has_other_class_ids t u (Some x) y = not (pointwise same_class_id (own_class_ids t x.view.id) (own_class_ids u y.view.id))
 
--- the same of a pair
+-- the result of a test for the two items of a pair; false if the pair has no wanted item
 abbrev pub of_pair : (Option ItemData → ItemData → Bool) → PairData → Bool
 of_pair test p = option_map_or (test p.before) p.after false
 
--- and of a step of the wanted table's tree
+-- the result of a test for the item that a step of the wanted table's tree visits, and for the item's counterpart
 abbrev pub other_id : List Row → List Row → WalkStepData → Bool
 other_id t u step = has_other_id (counterpart ById t (step_item u step)) (step_item u step)
 
 abbrev pub other_class_ids : List Row → List Row → WalkStepData → Bool
 other_class_ids t u step = has_other_class_ids t u (counterpart ById t (step_item u step)) (step_item u step)
 
--- how many buckets of the wanted table meet a test, of those that are in the part of either table
+-- for each test, the number of wanted items that meet the test and that are in the part `under` of at least one of the tables
 abbrev pub is_aside : (List Row → List Row → WalkStepData → Bool) → Option (List ℕ) → List Row → List Row → WalkStepData → Bool
 is_aside test under t u step = test t u step && is_of_part ById under t u (step_item u step)
 
@@ -44,7 +44,7 @@ pub record CountsAsideOf (under : Option (List ℕ)) (t u : List Row) (counts : 
 abbrev pub CountsAside : List Row → List Row → Counts → Type 0
 CountsAside t u counts = CountsAsideOf None t u counts
 
--- ASIDE: a line for each count that is not 0
+-- ASIDE: the text of the counts, with a line for each count that is not 0
 abbrev pub aside_line : List ℕ → ℕ → List ℕ
 aside_line what n = if n == 0 then [] else what ++ decimal n ++ codes " buckets differ\n"
 

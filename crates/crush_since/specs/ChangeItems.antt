@@ -1,4 +1,4 @@
--- The rows of what has changed, and the buckets of a forest, of items as plain data.
+-- The rows of the tree that shows what has changed, computed from the nodes of a map as plain data instead of from its table; and the sorted list of a forest's buckets.
 use Rattle.std.specs.Prelude.{ℕ, ◌+◌, true, false, List, [], ◌∷◌, ◌++◌, Option, Some, if◌then◌else◌, map}
 use Rattle.crush_units.specs.declared.id.ItemId.TheVariants.{Device, Bucket}
 use Rattle.std.specs.List.Sorted.{IsNonDecreasingBy, IsPermutation}
@@ -11,18 +11,18 @@ use Rattle.crush_print.specs.ItemsText.{buckets_among}
 use Rattle.crush_since.specs.Changes.{ChangeData, change_at, stands_in, left_from, is_listed, with_below}
 use Rattle.crush_since.specs.Since.{PlainMap}
 
--- items of the old map that stood here
+-- the rows of a list of the old map's items that were in this place. If the new map doesn't have an item, the rows of the items below it follow the item's row
 abbrev pub stood_of : List Row → List Row → ℕ → Items → List ChangeData
 stood_of t u depth none = []
 stood_of t u depth (device d rest) = change_at t u false depth (Device d.id) ∷ stood_of t u depth rest
 stood_of t u depth (bucket h w m k rest) =
     change_at t u false depth (Bucket h.id) ∷ ((if is_there u (Bucket h.id) then [] else stood_of t u (depth + 1) k) ++ stood_of t u depth rest)
 
--- one of them, unless it stands in this place now
+-- the rows for one node of the old map; none if the new map has the item in the same place
 abbrev pub left_of : {A : _} → List Row → List Row → ℕ → Option ℕ → Node A → List ChangeData
 left_of t u depth place node = if stands_in u place (node_id node) then [] else stood_of t u depth (items_of (node ∷ []))
 
--- items of the new map that stand here
+-- the rows of a list of the new map's items that are in this place
 abbrev pub stands_of : PlainMap → PlainMap → ℕ → Items → List ChangeData
 stands_of old new depth none = []
 stands_of old new depth (device d rest) = with_below (is_listed old new (Device d.id)) (change_at old.table new.table true depth (Device d.id)) [] ++ stands_of old new depth rest
@@ -31,7 +31,7 @@ stands_of old new depth (bucket h w m k rest) =
     (stands_of old new (depth + 1) k ++ left_from old.table new.table (depth + 1) (Some h.id) (kids old.table h.id))
     ++ stands_of old new depth rest
 
--- the buckets of a forest, as `see` shows them, their ids rising
+-- the list has all buckets of a forest in ascending order of their ids. The function `see` shows each element as plain data
 pub record AreBuckets {X : Type 0} (see : X → BucketData) (f : ForestData) (xs : List X) : Type 0 where
   pub same : IsPermutation (buckets_among (all_items f)) (map see xs)
   pub rising : IsNonDecreasingBy (λ x. (see x).header.id) xs

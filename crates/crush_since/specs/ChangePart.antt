@@ -1,4 +1,4 @@
--- A part of the tree of what has changed: an item with what is below it, down to the buckets of a type. docs/user/FORMATS.md has the same in words.
+-- A part of the tree that shows what has changed: an item and all that is below it, down to the buckets of a given type. docs/user/FORMATS.md describes it in words.
 use Rattle.std.specs.Prelude.{◌≡◌, ℕ, ◌-◌, Bool, false, not, ◌&&◌, ◌||◌, List, [], ◌∷◌, ◌++◌, Option, None, Some, if◌then◌else◌, is_some, nat_lt}
 use Rattle.std.specs.Option.{option_map}
 use Rattle.crush_units.specs.declared.id.ItemId.{ItemId}
@@ -12,65 +12,65 @@ use Rattle.crush_since.specs.Equal.{same_option}
 use Rattle.crush_since.specs.Since.{PlainMap, all_ids, last_lines}
 use Rattle.crush_since.specs.Tallies.{tally_of}
 
--- UNDER an item: whether the row is at the item's own place. That is the place where the item is now; if the new map doesn't have the item, it is the place where the item was
+-- UNDER an item. This test says whether a row is at the item's own place: the place where the item is now or, if the new map doesn't have the item, the place where it was
 abbrev pub is_own_row : ItemId → ChangeData → Bool
 is_own_row i x = same_id x.id i && (x.stands || not (is_some x.is))
 
--- a row of a tree as a row of the part whose top is `top` levels deep
+-- a row of the whole tree as a row of the part. The part's top is at the depth `top`, so `top` is subtracted from the row's depth
 abbrev pub in_part : ℕ → ChangeData → ChangeData
 in_part top x = record { id = x.id; depth = x.depth - top; stands = x.stands; was = x.was; is = x.is; same_class_ids = x.same_class_ids }
 
--- the rows of the part, up to the first row that is no deeper than its top
+-- the rows of the part after its top, up to the first row that isn't deeper than the top
 abbrev pub rows_below : ℕ → List ChangeData → List ChangeData
 rows_below top [] = []
 rows_below top (x ∷ rest) = if nat_lt top x.depth then in_part top x ∷ rows_below top rest else []
 
--- the row at the item's own place, with the depth 0, and the rows of all that is or was below it; nothing if the item has no such row
+-- the row at the item's own place, with the depth 0, followed by the rows of all items that are or were below it; nothing if the item has no row at its own place
 abbrev pub rows_at : ItemId → List ChangeData → List ChangeData
 rows_at i [] = []
 rows_at i (x ∷ rest) = if is_own_row i x then in_part x.depth x ∷ rows_below x.depth rest else rows_at i rest
 
--- the same if there is an item, otherwise all rows
+-- the rows at and below the item if an item is given, and otherwise all rows
 abbrev pub rows_under : Option ItemId → List ChangeData → List ChangeData
 rows_under None rows = rows
 rows_under (Some i) rows = rows_at i rows
 
--- DOWN TO a type: the number of the type of a row's item, in the map in which the item is at this place
+-- DOWN TO a type. This is the number of the type of a row's item, in the map in which the item is at the row's place
 abbrev pub row_kind : ChangeData → Option ℕ
 row_kind x = option_map (λ (v : ItemData). v.view.kind) (if x.stands then x.is else x.was)
 
--- whether a row of this depth is deeper than `closed`, so that it is below the bucket of that depth; false without such a bucket
+-- whether a row is deeper than the depth `closed` of a bucket, so that the row is below this bucket; false if no depth is given
 abbrev pub is_closed : Option ℕ → ℕ → Bool
 is_closed None depth = false
 is_closed (Some top) depth = nat_lt top depth
 
--- the depth of the row if its item has this type: the deeper rows that follow it without a gap are below it
+-- the depth of the row if its item has the type `kind`, and otherwise none. The item's subtree is then the run of deeper rows right after this row
 abbrev pub closed_by : ℕ → ChangeData → Option ℕ
 closed_by kind x = if same_option (row_kind x) (Some kind) then Some x.depth else None
 
--- the rows without those that are below an item of this type. `closed` is the depth of the last row that was kept, if its item has the type
+-- removes the rows that are below an item of the type `kind`. `closed` is the depth of the last row that was kept, if the item of that row has the type
 abbrev pub down_to : ℕ → Option ℕ → List ChangeData → List ChangeData
 down_to kind closed [] = []
 down_to kind closed (x ∷ rest) = if is_closed closed x.depth then down_to kind closed rest else x ∷ down_to kind (closed_by kind x) rest
 
--- the same if there is a type, otherwise all rows
+-- the rows down to the type if a type is given, and otherwise all rows
 abbrev pub cut : Option ℕ → List ChangeData → List ChangeData
 cut None rows = rows
 cut (Some kind) rows = down_to kind None rows
 
--- PART ROWS: the rows of the tree of changes under the part's item, down to the part's type
+-- PART ROWS: the rows of the tree that are at or below the part's item, down to the part's type
 unfoldable pub part_rows : TreePart → PlainMap → PlainMap → List ChangeData
 part_rows part old new = cut part.down_to (rows_under part.under (change_rows old new))
 
--- what follows the rows: nothing of a part that has a top item
+-- the lines that follow the rows; none if the part has a top item
 abbrev pub lines_behind : Option ItemId → PlainMap → PlainMap → List ℕ
 lines_behind None old new = last_lines old new (tally_of old.table new.table (all_ids old.table new.table))
 lines_behind (Some i) old new = []
 
--- CHANGES PART TEXT: a part of the tree of what has changed, and what follows it
+-- CHANGES PART TEXT: the text of a part of the tree, and the lines that follow it
 unfoldable pub changes_part_text : TreePart → PlainMap → PlainMap → List ℕ
 changes_part_text part old new = rows_text old.setting new.setting (part_rows part old new) ++ lines_behind part.under old new
 
--- the law: the part without a top item and without a type is the whole tree
+-- the law: the part that has no top item and no type is the whole tree
 abbrev pub AllChangesAreAPart : Type 0
 AllChangesAreAPart = (old new : PlainMap) → changes_part_text whole_tree old new ≡ changes_text old new

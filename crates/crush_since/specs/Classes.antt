@@ -1,4 +1,4 @@
--- Which classes weigh another sum in two maps, and which are new though no rule takes them.
+-- The classes that have changed: the total weight of their devices differs between the two maps, or they are new and no rule takes them.
 use Rattle.std.specs.Prelude.{ℕ, ◌==◌, Bool, not, ◌&&◌, ◌||◌, List, [], ◌∷◌, ◌++◌, Option, None, Some, if◌then◌else◌, flat_map, codes}
 use Rattle.crush_units.specs.Weight.{weight_text}
 use Rattle.crush_model.specs.Table.{Row, item_weight}
@@ -9,16 +9,16 @@ use Rattle.crush_items.specs.Entries.{EntryData}
 use Rattle.crush_since.specs.declared.since.collected.Source.{Source}
 use Rattle.crush_since.specs.declared.since.collected.Source.TheVariants.{Old, New, Rule}
 
--- a class that something has or takes, with what this adds to the class's amounts
+-- the class that an item has or that a step takes, with the amounts that this item or step adds to the class. It is a list, which is empty if there is no class
 abbrev pub class_of : (Amount → ℕ) → Option (List ℕ) → List ClassData
 class_of amounts None = []
 class_of amounts (Some c) = record { name = c; amount = amounts } ∷ []
 
--- the class of a row, with the row's weight
+-- the class of a row's item, with the item's weight
 abbrev pub row_class : Source → List Row → Row → List ClassData
 row_class source t r = class_of (added source (item_weight t r.id r.weight)) r.class
 
--- the same of an item that was looked up
+-- the class of an entry's item, with the item's weight
 abbrev pub entry_class : Source → EntryData → List ClassData
 entry_class source e = class_of (added source e.item.view.weight) e.item.view.class
 
@@ -32,11 +32,11 @@ step_class emit = []
 abbrev pub rule_classes : List RuleData → List ClassData
 rule_classes rules = flat_map (λ (r : RuleData). flat_map step_class r.steps) rules
 
--- CLASSES of both tables and of the rules, each once by name in ascending order: what its devices weigh in either table, how many there are, and how many steps take it
+-- CLASSES that a device of at least one table has or that a rule takes. Each class comes once with its amounts, in ascending order of the names
 unfoldable pub classes : List Row → List Row → List RuleData → List ClassData
 classes t u rules = collected (flat_map (row_class Old t) t ++ flat_map (row_class New u) u ++ rule_classes rules)
 
--- a class whose devices weigh another sum, or that is new though no rule takes it: its name, what its devices weighed and weigh, whether no device of the old map has it and a device of the new map has it, and whether a step of a rule takes it
+-- a class that has changed: its name, the weights of its devices in the old map and in the new map, whether the class is new (a device of the new map has it, and no device of the old map), and whether a step of a rule takes it
 pub record ClassChangeData : Type 0 where
   pub name : List ℕ
   pub was : ℕ
@@ -53,7 +53,7 @@ class_change x = record {
   is_taken = not (x.amount takes == 0);
 }
 
--- whether its devices weigh another sum, and whether it is new though no rule takes it
+-- the two ways in which a class can have changed: the total weight of its devices differs, or it is new and no rule takes it
 abbrev pub is_reweighed : ClassChangeData → Bool
 is_reweighed x = not (x.was == x.is)
 
@@ -66,25 +66,25 @@ if_changed x = if is_reweighed x || is_untaken x then x ∷ [] else []
 abbrev pub change_of_class : ClassData → List ClassChangeData
 change_of_class x = if_changed (class_change x)
 
--- CLASS CHANGES: each class of which either holds, by name in ascending order
+-- CLASS CHANGES: each class that has changed in at least one of these ways, by name in ascending order
 abbrev pub class_changes : List Row → List Row → List RuleData → List ClassChangeData
 class_changes t u rules = flat_map change_of_class (classes t u rules)
 
--- LINES: of a class that weighs another sum
+-- LINES: the line of a class if the total weight of its devices differs
 unfoldable pub class_line : ClassChangeData → List ℕ
 class_line x = codes "class " ++ x.name ++ codes " weighed " ++ weight_text x.was ++ codes ", weighs " ++ weight_text x.is ++ codes "\n"
 
 abbrev pub reweighed_line : ClassChangeData → List ℕ
 reweighed_line x = if is_reweighed x then class_line x else []
 
--- of a class that is new, and that no rule takes
+-- the line of a new class that no rule takes
 unfoldable pub untaken_text : List ℕ → List ℕ
 untaken_text name = codes "class " ++ name ++ codes " is new, and no rule takes it\n"
 
 abbrev pub untaken_line : ClassChangeData → List ℕ
 untaken_line x = if is_untaken x then untaken_text x.name else []
 
--- the lines of classes of the first kind, and then those of the second
+-- first the lines of all classes whose total weight differs, and then the lines of all new classes that no rule takes
 abbrev pub lines_of_classes : List ClassChangeData → List ℕ
 lines_of_classes xs = flat_map reweighed_line xs ++ flat_map untaken_line xs
 

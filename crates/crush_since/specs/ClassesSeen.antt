@@ -1,4 +1,4 @@
--- How a class that has changed is seen as plain data.
+-- How a `ClassChange` of the code is seen as plain data.
 use Rattle.crush_since.specs.Classes.{ClassChangeData}
 use Rattle.crush_since.specs.declared.since.classes.ClassChange.{ClassChange}
 

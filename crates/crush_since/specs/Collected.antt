@@ -1,11 +1,11 @@
--- Device classes, each once with what two maps say of it.
+-- What two maps say about each device class.
 use Rattle.std.specs.Prelude.{ℕ, ◌+◌, List, [], ◌∷◌}
 use Rattle.std.specs.Cmp.Lexicographic.{slice_cmp}
 use Rattle.std.specs.Ordering.{nat_cmp}
 use Rattle.std.specs.declared.cmp.Ordering.{Ordering}
 use Rattle.std.specs.declared.cmp.Ordering.TheVariants.{Less, Equal, Greater}
 
--- the amounts of a class: what its devices weigh in the old map and in the new map, how many devices have it there, and how many steps of rules take it
+-- the amounts of a class: the total weights of its devices in the old map and in the new map, the numbers of its devices in the two maps, and the number of rule steps that take the class
 pub data Amount : Type 0 where
   old_weight : Amount
   new_weight : Amount
@@ -18,11 +18,11 @@ pub record ClassData : Type 0 where
   pub name : List ℕ
   pub amount : Amount → ℕ
 
--- one class with the amounts of both
+-- merges two entries of the same class: the amounts are added
 abbrev pub together : ClassData → ClassData → ClassData
 together x y = record { name = y.name; amount = λ k. x.amount k + y.amount k }
 
--- a class put among classes whose names rise: added to the one of its name, or before the first of a greater name
+-- inserts a class into a list in which the names ascend. If the list has the class, the amounts are added to it. Otherwise the class is inserted before the first class with a greater name
 abbrev pub put_at : Ordering → ClassData → ClassData → List ClassData → List ClassData → List ClassData
 put_at Less x y ys rest = x ∷ y ∷ ys
 put_at Equal x y ys rest = together x y ∷ ys
@@ -32,7 +32,7 @@ abbrev pub put_class : ClassData → List ClassData → List ClassData
 put_class x [] = x ∷ []
 put_class x (y ∷ ys) = put_at (slice_cmp nat_cmp x.name y.name) x y ys (put_class x ys)
 
--- CLASSES, each once, by name in ascending order, with the sums of their amounts
+-- CLASSES of a list, each once with the sums of its amounts, in ascending order of the names
 abbrev pub collected : List ClassData → List ClassData
 collected [] = []
 collected (x ∷ xs) = put_class x (collected xs)

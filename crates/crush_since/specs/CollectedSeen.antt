@@ -1,4 +1,4 @@
--- How what a list says of classes is seen as plain data.
+-- How the types `ClassItem` and `ClassUse` of the code are seen as plain data.
 use Rattle.std.specs.Prelude.{ℕ}
 use Rattle.crush_since.specs.Collected.{Amount, old_weight, new_weight, old_devices, new_devices, takes, ClassData}
 use Rattle.crush_since.specs.declared.since.collected.Source.{Source}
@@ -6,7 +6,7 @@ use Rattle.crush_since.specs.declared.since.collected.Source.TheVariants.{Old, N
 use Rattle.crush_since.specs.declared.since.collected.ClassItem.{ClassItem}
 use Rattle.crush_since.specs.declared.since.collected.ClassUse.{ClassUse}
 
--- what a device of either map adds, and what a step of a rule adds
+-- what a device of the old map, a device of the new map, or a step of a rule adds to each amount
 abbrev pub added : Source → ℕ → Amount → ℕ
 added Old w old_weight = w
 added Old w new_weight = 0

@@ -1,4 +1,4 @@
--- How many items of two maps differ by names, and in which way.
+-- The counts of the items that differ, for each kind of difference, if items are matched by names.
 use Rattle.std.specs.Prelude.{◌+◌, Bool, not, List, Option, Some, is_some}
 use Rattle.std.specs.List.{count_by}
 use Rattle.crush_model.specs.Count.{one_if}
@@ -12,18 +12,18 @@ use Rattle.crush_compare.specs.Named.{counterpart}
 use Rattle.crush_compare.specs.NamedPairs.{PairData, step_item}
 use Rattle.crush_since.specs.Stays.{same_place}
 
--- TESTS: whether both tables have an item, in buckets of different names; and whether the new table has no counterpart of the item of a step of the old table's tree
+-- TESTS: whether both tables have an item, in buckets with different names; and whether the item that a step of the old table's tree visits has no counterpart in the new table
 abbrev pub is_moved_by_name : Option ItemData → Option ItemData → Bool
 is_moved_by_name before after = in_both (λ x y. not (same_place x y)) before after
 
 abbrev pub is_gone_by_name : List Row → List Row → WalkStepData → Bool
 is_gone_by_name t u step = not (is_some (counterpart ByName u (step_item t step)))
 
--- a test of the item of a step of the new table's tree, with its counterpart
+-- the result of a test for the item that a step of the new table's tree visits and for its counterpart
 abbrev pub both_meet : (Option ItemData → Option ItemData → Bool) → List Row → List Row → WalkStepData → Bool
 both_meet test t u step = test (counterpart ByName t (step_item u step)) (Some (step_item u step))
 
--- a test of a pair, and the counts of pairs. No item is renamed, because items are matched by their names
+-- the result of a test for the items of a pair, and for each test the number of pairs that meet it. No item is renamed, because items are matched by their names
 abbrev pub pair_meets : (Option ItemData → Option ItemData → Bool) → PairData → Bool
 pair_meets test p = test p.before p.after
 
@@ -37,7 +37,7 @@ pairs_tally see ps = record {
   reclassed = count_by (λ p. pair_meets is_reclassed (see p)) ps;
 }
 
--- the same with one pair more
+-- the counts after one more pair
 abbrev pub tally_plus : Tally → Option ItemData → Option ItemData → Tally
 tally_plus n before after = record {
   made = n.made + one_if (is_made before after);
@@ -48,7 +48,7 @@ tally_plus n before after = record {
   reclassed = n.reclassed + one_if (is_reclassed before after);
 }
 
--- COUNTS of all items of two tables that differ by names
+-- COUNTS of the items of two tables, for each kind of difference, if items are matched by names
 abbrev pub tally_by_name : List Row → List Row → Tally
 tally_by_name t u = record {
   made = count_by (both_meet is_made t u) (tree_rows u);

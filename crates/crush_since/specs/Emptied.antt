@@ -1,4 +1,4 @@
--- Rules that take nothing: docs/user/FORMATS.md has the same in words.
+-- Rules with a step that takes a bucket which has lost all its weight. docs/user/FORMATS.md describes them in words.
 use Rattle.std.specs.Prelude.{ℕ, ◌==◌, Bool, not, ◌&&◌, List, [], ◌∷◌, Option, None, Some, if◌then◌else◌, flat_map, option_and_then, unwrap_or}
 use Rattle.std.specs.Option.{option_map_or}
 use Rattle.crush_compare.specs.declared.identity.Identity.{Identity}
@@ -11,16 +11,16 @@ use Rattle.crush_edits.specs.Setting.{StepData, take, choose, set, emit, RuleDat
 use Rattle.crush_print.specs.RuleLines.{bucket_name}
 use Rattle.crush_since.specs.Rules.{RuleChangeData, rule_takes_nothing, rule_change_lines}
 
--- what an item weighs, or its devices of a class
+-- what an item weighs. If a class is given, what the item's devices of this class weigh
 abbrev pub weight_as : List Row → Option (List ℕ) → ItemId → Option ℕ
 weight_as t None i = weight_of t i
 weight_as t (Some c) i = class_weight_of t i c
 
--- what a bucket weighs so: one that isn't there weighs nothing
+-- what the bucket b weighs, or what its devices of the class c weigh; 0 if the table doesn't have the bucket
 abbrev pub taken_weight : List Row → ℕ → Option (List ℕ) → ℕ
 taken_weight t b c = unwrap_or (weight_as t c (Bucket b)) 0
 
--- the bucket of the old table that is the new table's bucket b: the one of the same id, or the one of the same name, if there is one
+-- the old table's bucket that is matched with the new table's bucket b: the bucket with the same id or the bucket with the same name, as `identity` says; none if there is no such bucket
 abbrev pub bucket_number : ItemId → Option ℕ
 bucket_number (Device d) = None
 bucket_number (Bucket b) = Some b
@@ -32,15 +32,15 @@ abbrev pub old_bucket : Identity → List Row → List Row → ℕ → Option �
 old_bucket Ids t u b = Some b
 old_bucket (Names devices) t u b = option_and_then (bucket_named t) (name_of u (Bucket b))
 
--- what the bucket weighed in the old table: nothing if the old table doesn't have it
+-- what the bucket b, or its devices of the class c, weighed in the old table; 0 if the old table doesn't have the bucket
 abbrev pub weight_before : Identity → List Row → List Row → ℕ → Option (List ℕ) → ℕ
 weight_before identity t u b c = option_map_or (λ o. taken_weight t o c) (old_bucket identity t u b) 0
 
--- whether it weighs nothing now and weighed something
+-- whether the bucket weighed something in the old table and weighs nothing in the new one
 abbrev pub is_emptied : Identity → List Row → List Row → ℕ → Option (List ℕ) → Bool
 is_emptied identity t u b c = (taken_weight u b c == 0) && not (weight_before identity t u b c == 0)
 
--- a step of a rule, if it takes something that is emptied
+-- the difference for a step of a rule if `is` is true: the step takes a bucket that has lost all its weight
 abbrev pub if_emptied : Bool → List ℕ → List ℕ → Option (List ℕ) → List RuleChangeData
 if_emptied is rule name c = if is then rule_takes_nothing rule name c ∷ [] else []
 
@@ -50,14 +50,14 @@ emptied_by identity t u rule (choose leaf firstn count kind) = []
 emptied_by identity t u rule (set word value) = []
 emptied_by identity t u rule emit = []
 
--- each such step of a rule
+-- the differences for all steps of one rule that take such a bucket
 abbrev pub emptied_of : Identity → List Row → List Row → RuleData → List RuleChangeData
 emptied_of identity t u r = flat_map (emptied_by identity t u r.name) r.steps
 
--- RULES THAT TAKE NOTHING: each such step of each rule
+-- RULES THAT TAKE NOTHING: the differences for all steps of all rules that take such a bucket
 abbrev pub emptied_rules : Identity → List Row → List Row → List RuleData → List RuleChangeData
 emptied_rules identity t u rules = flat_map (emptied_of identity t u) rules
 
--- and their lines, if buckets are matched by their ids
+-- the lines about rules that take nothing, if buckets are matched by their ids
 unfoldable pub emptied_lines : List Row → List Row → SettingData → List ℕ
 emptied_lines t u s = rule_change_lines (emptied_rules Ids t u s.rules)

@@ -1,4 +1,4 @@
--- What there is to tell of an item, by what two maps say of it.
+-- The text of an item's line, given what two maps say about the item.
 use Rattle.std.specs.Prelude.{ℕ, ◌==◌, Bool, List, [], ◌∷◌, ◌++◌, Option, None, Some, if◌then◌else◌, flat_map, codes, bytes_eq}
 use Rattle.crush_units.specs.declared.id.ItemId.{ItemId}
 use Rattle.crush_units.specs.Weight.{weight_text}
@@ -10,15 +10,15 @@ pub use Rattle.crush_compare.specs.SameItem.{same_algs, same_class_id}
 use Rattle.crush_items.specs.ItemData.{ItemData}
 use Rattle.crush_since.specs.ItemWords.{item_word, place_word, type_word, class_or_none, alg_word, whole_word}
 
--- PARTS: a part is told where a column differs
+-- PARTS: one part of a line, as a list. The list is empty if the column is the same in both maps
 abbrev pub part : Bool → List ℕ → List (List ℕ)
 part same text = if same then [] else text ∷ []
 
--- `WORD A to B`
+-- the part `WORD A to B`; nothing if the column is the same in both maps
 abbrev pub change : Bool → List ℕ → List ℕ → List ℕ → List (List ℕ)
 change same word a b = part same (word ++ a ++ codes " to " ++ b)
 
--- what is another of an item that both maps have, column by column
+-- the parts of an item that both maps have. There is a definition for each column
 abbrev pub name_part : ViewData → ViewData → List (List ℕ)
 name_part a b = part (bytes_eq a.name b.name) (codes "was " ++ a.name)
 
@@ -45,24 +45,24 @@ changes old new a b same =
     name_part a.view b.view ++ type_part old new a.view b.view ++ place_part a b ++ weight_part a.view b.view ++ class_part a.view b.view ++ alg_part a.view b.view
     ++ class_ids_part same
 
--- what there is to tell of an item, by what both tables say of its id and whether its class ids are the same: nothing where all is the same
+-- all parts of an item, given what both tables say about its id and whether its class ids are the same; none if nothing differs
 abbrev pub parts : SettingData → SettingData → Option ItemData → Option ItemData → Bool → List (List ℕ)
 parts old new None None same = []
 parts old new None (Some b) same = (codes "made as " ++ whole_word new b) ∷ []
 parts old new (Some a) None same = (codes "removed, was " ++ whole_word old a) ∷ []
 parts old new (Some a) (Some b) same = changes old new a b same
 
--- the name after, or before of what is gone
+-- the name that the item has in the new map, or its name in the old map if the new map doesn't have it
 abbrev pub listed_name : Option ItemData → Option ItemData → List ℕ
 listed_name before (Some b) = b.view.name
 listed_name None None = []
 listed_name (Some a) None = a.view.name
 
--- parts, each behind `; `
+-- the text of a list of parts, with `; ` before each part
 abbrev pub behind : List (List ℕ) → List ℕ
 behind ps = flat_map (λ p. codes "; " ++ p) ps
 
--- LINES: an item with its parts, joined by `; `, if there are any
+-- LINES: the line of an item with its parts, with `; ` between the parts; nothing if there are no parts
 abbrev pub line_text : List ℕ → ItemId → List ℕ → List ℕ
 line_text name i text = item_word name i ++ codes ": " ++ text ++ codes "\n"
 

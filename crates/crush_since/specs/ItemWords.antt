@@ -1,4 +1,4 @@
--- The words of what has changed: an item, its place, its type and its other columns.
+-- The words with which an item's line shows an item, its place, its type and its other columns.
 use Rattle.std.specs.Prelude.{ℕ, List, [], ◌++◌, Option, None, Some, codes, unwrap_or}
 use Rattle.crush_units.specs.declared.alg.Alg.{Alg}
 use Rattle.crush_units.specs.declared.id.ItemId.{ItemId}
@@ -13,7 +13,7 @@ use Rattle.crush_items.specs.ItemData.{ItemData}
 abbrev pub item_word : List ℕ → ItemId → List ℕ
 item_word name i = name ++ codes " (" ++ id_text i ++ codes ")"
 
--- where an item stands: the bucket that holds it, or that none does
+-- the place of an item: its parent, or a word for an item that has no parent
 abbrev pub place_in : ItemId → Option (List ℕ) → Option ℕ → List ℕ
 place_in i holder (Some p) = item_word (unwrap_or holder []) (Bucket p)
 place_in (Device d) holder None = codes "(unplaced)"
@@ -22,7 +22,7 @@ place_in (Bucket b) holder None = codes "(root)"
 abbrev pub place_word : ItemData → List ℕ
 place_word x = place_in x.view.id x.holder x.view.parent
 
--- the name of a type; a device's is `osd` where no type 0 is declared
+-- the name of a type; `osd` for a device if no type 0 is declared
 abbrev pub default_kind : ItemId → List ℕ
 default_kind (Device d) = codes "osd"
 default_kind (Bucket b) = []
@@ -30,7 +30,7 @@ default_kind (Bucket b) = []
 abbrev pub type_word : SettingData → ItemId → ℕ → List ℕ
 type_word s i kind = unwrap_or (kind_name s kind) (default_kind i)
 
--- a class, or that there is none
+-- the name of a class, or the word `(none)` if there is no class
 abbrev pub class_or_none : Option (List ℕ) → List ℕ
 class_or_none c = unwrap_or c (codes "(none)")
 
@@ -38,11 +38,11 @@ abbrev pub alg_word : Option Alg → List ℕ
 alg_word None = []
 alg_word (Some a) = alg_text a
 
--- `, class C` where there is one
+-- `, class C` if there is a class, otherwise nothing
 abbrev pub with_class : Option (List ℕ) → List ℕ
 with_class None = []
 with_class (Some c) = codes ", class " ++ c
 
--- what an item is that one of the maps alone has
+-- the words for an item that only one of the maps has: its type, place, weight and class
 abbrev pub whole_word : SettingData → ItemData → List ℕ
 whole_word s x = type_word s x.view.id x.view.kind ++ codes " in " ++ place_word x ++ codes ", weight " ++ weight_text x.view.weight ++ with_class x.view.class

@@ -5,6 +5,8 @@ pub mod ChangeItems
 pub mod ChangePart
 pub mod ChangeText
 pub mod Changes
+pub mod ClassChanges
+pub mod ClassChangesSeen
 pub mod Classes
 pub mod ClassesSeen
 pub mod Collected

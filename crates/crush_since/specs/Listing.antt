@@ -1,4 +1,4 @@
--- How the items of a map by their ids are seen as plain data, and what they are of a table.
+-- How a list of items (`Listed`) is seen as plain data, and when it has exactly the items of a table.
 use Rattle.std.specs.Prelude.{◌≡◌, ℕ, List, Some, All}
 use Rattle.std.specs.List.{sum_by}
 use Rattle.std.specs.List.Sorted.{IsNonDecreasingBy}
@@ -18,7 +18,7 @@ listed_id l = node_id l.node.now
 abbrev pub entry_data : {A : _} → Listed A → EntryData
 entry_data l = record { item = record { view = node_view l.parent l.node.now; holder = option_map (λ n. n.now) l.holder }; class_ids = node_class_ids l.node.now }
 
--- the items of a table, each of its ids, their keys rising
+-- the list has exactly one item for each id of the table, with what the table says about it, in ascending order of the keys
 pub record Lists {A : Type 0} (t : List Row) (ls : List (Listed A)) : Type 0 where
   pub told : All (λ l. entry_of t (listed_id l) ≡ Some (entry_data l)) ls
   pub ids : (n : ItemId → ℕ) → sum_by (λ l. n (listed_id l)) ls ≡ sum_by (λ (r : Row). n r.id) t

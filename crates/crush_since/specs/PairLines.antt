@@ -1,4 +1,4 @@
--- The line of a pair of items, and the counts of pairs.
+-- The line of a pair, and the numbers of pairs that have each kind of difference.
 use Rattle.std.specs.Prelude.{ℕ, Bool, List, [], Option, None, Some}
 use Rattle.std.specs.Cmp.Lexicographic.{pointwise}
 use Rattle.std.specs.List.{count_by}
@@ -13,25 +13,25 @@ use Rattle.crush_since.specs.ItemParts.{item_line}
 use Rattle.crush_since.specs.Tallies.{is_made, is_removed, is_renamed, is_moved, is_reweighed, is_reclassed}
 use Rattle.crush_since.specs.declared.since.tally.Tally.{Tally}
 
--- what an entry says of its item, without the class ids
+-- what an entry says about its item, without the class ids
 abbrev pub entry_item : Option EntryData → Option ItemData
 entry_item o = option_map (λ e. e.item) o
 
--- the id of the item that two maps say something of: of the new map's item, or of the old map's if the new map doesn't have the item
+-- the id of a pair's item: the id that the new map's item has, or that the old map's item has if the new map doesn't have the item
 abbrev pub told_id : Option ItemData → Option ItemData → Option ItemId
 told_id before (Some b) = Some b.view.id
 told_id None None = None
 told_id (Some a) None = Some a.view.id
 
--- the line of what two maps say of an item; nothing if neither map has it
+-- the line about an item, given what two maps say about it; nothing if neither map has it
 abbrev pub seen_line : SettingData → SettingData → Option ItemData → Option ItemData → Bool → List ℕ
 seen_line s p before after same = option_map_or (λ i. item_line s p i before after same) (told_id before after) []
 
--- LINE OF A PAIR, by the entries of both maps
+-- LINE OF A PAIR, given what the two maps say about the pair's item
 unfoldable pub pair_line : SettingData → SettingData → EntryPair → List ℕ
 pair_line s p e = seen_line s p (entry_item e.before) (entry_item e.after) (pointwise same_class_id (class_ids_of e.before) (class_ids_of e.after))
 
--- COUNTS of pairs, whose entries f gives
+-- COUNTS of pairs. The function f gives what the two maps say about a pair's item
 abbrev pub meets : (Option ItemData → Option ItemData → Bool) → EntryPair → Bool
 meets test e = test (entry_item e.before) (entry_item e.after)
 

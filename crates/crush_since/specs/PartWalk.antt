@@ -1,4 +1,4 @@
--- A walk over the rows of the tree of what has changed, which finds those of a part.
+-- A walk over the rows of the tree that shows what has changed. The walk finds the rows of a part.
 use Rattle.std.specs.Prelude.{ℕ, ◌-◌, List, [], ◌∷◌, if◌then◌else◌, nat_lt}
 use Rattle.crush_units.specs.declared.id.ItemId.{ItemId}
 use Rattle.crush_since.specs.ChangePart.{in_part, is_own_row, rows_at, rows_below}
@@ -7,29 +7,29 @@ use Rattle.crush_since.specs.declared.changes.rows.TreeRow.{TreeRow}
 use Rattle.crush_since.specs.declared.changes.part.Reached.{Reached}
 use Rattle.crush_since.specs.declared.changes.part.Reached.TheVariants.{Before, Within, After}
 
--- a row in memory with another id and another depth
+-- the row r with its id and its depth replaced
 abbrev pub row_at : ItemId → TreeRow → ℕ → TreeRow
 row_at i r depth = record { id = i; pair = r.pair; depth = depth; stands = r.stands }
 
--- how far the walk has come with one more row
+-- where the walk is when it visits the row x: before the part, within it or after it
 abbrev pub reach : ItemId → Reached → ChangeData → Reached
 reach i Before x = if is_own_row i x then Within x.depth else Before
 reach i (Within top) x = if nat_lt top x.depth then Within top else After
 reach i After x = After
 
--- the row as one of the part, if the walk is in the part with it; otherwise nothing
+-- a list that has the row, with its depth in the part, if the walk is within the part; otherwise the empty list
 abbrev pub row_reached : Reached → ChangeData → List ChangeData
 row_reached Before x = []
 row_reached (Within top) x = in_part top x ∷ []
 row_reached After x = []
 
--- the same in memory
+-- the same for a row as the code stores it (`TreeRow`)
 abbrev pub rows_reached : Reached → TreeRow → List TreeRow
 rows_reached Before r = []
 rows_reached (Within top) r = row_at r.id r (r.depth - top) ∷ []
 rows_reached After r = []
 
--- the rows of the part that are still to come
+-- the rows of the part that the walk has still to visit
 abbrev pub rows_from : ItemId → Reached → List ChangeData → List ChangeData
 rows_from i Before rows = rows_at i rows
 rows_from i (Within top) rows = rows_below top rows

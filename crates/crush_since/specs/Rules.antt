@@ -1,4 +1,4 @@
--- In which rules two maps differ.
+-- The differences between the rules of two maps.
 use Rattle.std.specs.Prelude.{ℕ, Bool, List, [], ◌∷◌, ◌++◌, Option, None, Some, if◌then◌else◌, is_some, find, flat_map, codes, bytes_eq}
 use Rattle.std.specs.Cmp.Lexicographic.{pointwise}
 use Rattle.crush_edits.specs.Setting.{RuleData}
@@ -14,11 +14,11 @@ pub data RuleChangeData : Type 0 where
 abbrev pub change_unless : Bool → RuleChangeData → List RuleChangeData
 change_unless same change = if same then [] else change ∷ []
 
--- the first rule of a name, if there is one
+-- the first rule that has the name n; none if no rule has it
 abbrev pub rule_named : List ℕ → List RuleData → Option RuleData
 rule_named n rules = find (λ (r : RuleData). bytes_eq r.name n) rules
 
--- a rule of the new map beside the old map's rule of its name
+-- the difference for a rule of the new map, given the old map's rule of the same name; none if the two are the same
 abbrev pub beside : (RuleData → RuleData → Bool) → Option RuleData → RuleData → List RuleChangeData
 beside same None y = rule_new y.name ∷ []
 beside same (Some x) y = change_unless (same x y) (rule_differs y.name)
@@ -26,24 +26,24 @@ beside same (Some x) y = change_unless (same x y) (rule_differs y.name)
 abbrev pub new_rule : (RuleData → RuleData → Bool) → List RuleData → RuleData → List RuleChangeData
 new_rule same a y = beside same (rule_named y.name a) y
 
--- a rule of the old map whose name no rule of the new map has
+-- the difference for a rule of the old map, if no rule of the new map has its name
 abbrev pub gone_rule : List RuleData → RuleData → List RuleChangeData
 gone_rule b x = change_unless (is_some (rule_named x.name b)) (rule_gone x.name)
 
--- the rules that differ: of the new map each that is new or not the same, in order, and then each that is gone, in the old map's order
+-- the rules that differ. First come the rules of the new map that are new or not the same, in the new map's order, and then the rules that only the old map has, in the old map's order
 abbrev pub changed_rules : (RuleData → RuleData → Bool) → List RuleData → List RuleData → List RuleChangeData
 changed_rules same a b = flat_map (new_rule same a) b ++ flat_map (gone_rule b) a
 
--- if no rule differs, the order does
+-- the given differences. If there are none, the difference that the rules are in another order
 abbrev pub or_order : List RuleChangeData → List RuleChangeData
 or_order [] = rules_in_other_order ∷ []
 or_order (x ∷ xs) = x ∷ xs
 
--- RULES THAT DIFFER, or that are in another order: none if the rules are the same, one by one in order
+-- RULES THAT DIFFER, or the difference that the rules are in another order. There is no difference if both maps have the same rules in the same order
 abbrev pub rule_differences : (RuleData → RuleData → Bool) → List RuleData → List RuleData → List RuleChangeData
 rule_differences same a b = if pointwise same a b then [] else or_order (changed_rules same a b)
 
--- LINES: what is taken is `BUCKET`, or `BUCKET~CLASS`
+-- LINES: the word for what a step takes is `BUCKET`, or `BUCKET~CLASS` if it takes a class
 abbrev pub taken_word : List ℕ → Option (List ℕ) → List ℕ
 taken_word name None = name
 taken_word name (Some c) = name ++ codes "~" ++ c
@@ -63,7 +63,7 @@ other_order = codes "rules stand in another order\n"
 abbrev pub rule_line : List ℕ → List ℕ → List ℕ
 rule_line name state = codes "rule " ++ name ++ state
 
--- one for each difference
+-- the line for a difference
 abbrev pub rule_change_line : RuleChangeData → List ℕ
 rule_change_line (rule_new name) = rule_line name (codes " is new\n")
 rule_change_line (rule_differs name) = rule_line name (codes " differs\n")

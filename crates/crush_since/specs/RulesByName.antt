@@ -1,4 +1,4 @@
--- Rules of two maps, compared by the names of the buckets that they take.
+-- When two rules of two maps are the same if the buckets that they take are compared by their names.
 use Rattle.std.specs.Prelude.{ℕ, ◌==◌, Bool, ◌&&◌, List, bytes_eq}
 use Rattle.std.specs.Cmp.Lexicographic.{pointwise}
 use Rattle.crush_compare.specs.declared.identity.Identity.{Identity}
@@ -9,11 +9,11 @@ use Rattle.crush_edits.specs.Setting.{StepData, take, RuleData}
 use Rattle.crush_since.specs.Equal.{same_option, same_text}
 use Rattle.crush_since.specs.Settings.{same_step, same_rule}
 
--- whether a bucket of each map has the same name
+-- whether the bucket b of one table and the bucket c of the other table have the same name
 abbrev pub same_bucket : List Row → List Row → ℕ → ℕ → Bool
 same_bucket t u b c = same_text (name_of t (Bucket b)) (name_of u (Bucket c))
 
--- two steps that take a bucket are the same if the buckets have the same name; other steps are compared as they stand
+-- whether two steps are the same. If both take a bucket, the buckets must have the same name and the classes must be the same; any other steps must be equal
 abbrev pub named_step : List Row → List Row → StepData → StepData → Bool
 named_step t u (take b c) (take d e) = same_bucket t u b d && same_text c e
 named_step t u x y = same_step x y
@@ -23,7 +23,7 @@ named_rule t u x y =
     bytes_eq x.name y.name && (x.id == y.id) && bytes_eq x.kind y.kind && same_option x.min_size y.min_size && same_option x.max_size y.max_size
     && pointwise (named_step t u) x.steps y.steps
 
--- SAME RULES, by how the items of the maps are matched
+-- SAME RULES. The first argument says how the buckets that the rules take are compared: by their ids or by their names
 abbrev pub same_rule_by : Identity → List Row → List Row → RuleData → RuleData → Bool
 same_rule_by Ids t u = same_rule
 same_rule_by (Names devices) t u = named_rule t u

@@ -1,4 +1,4 @@
--- How a difference in rules is seen as plain data.
+-- How a `RuleChange` of the code is seen as plain data.
 use Rattle.std.specs.Option.{option_map}
 use Rattle.crush_since.specs.Rules.{RuleChangeData, rule_new, rule_differs, rule_gone, rules_in_other_order, rule_takes_nothing}
 use Rattle.crush_since.specs.declared.since.rules.RuleChange.{RuleChange}

@@ -1,4 +1,4 @@
--- How a row of the tree of changes is seen as plain data, and of which tables rows are.
+-- How a row of the tree of what has changed is seen as plain data, and to which tables rows belong.
 use Rattle.std.specs.Prelude.{◌≡◌, ℕ, Bool, List, map}
 use Rattle.std.specs.Cmp.Lexicographic.{pointwise}
 use Rattle.std.specs.Option.{option_map}
@@ -9,7 +9,7 @@ use Rattle.crush_items.specs.ById.{AreById}
 use Rattle.crush_items.specs.Entries.{EntryData}
 use Rattle.crush_items.specs.Items.{item_entry}
 use Rattle.crush_items.specs.SeenItem.{seen_data}
-use Rattle.crush_compare.specs.Comparison.{pair_entries}
+use Rattle.crush_compare.specs.Comparison.{AreOfTrees, pair_entries}
 use Rattle.crush_compare.specs.IdPairs.{EntryPair, class_ids_of}
 use Rattle.crush_compare.specs.declared.comparison.Comparison.{Comparison}
 use Rattle.crush_since.specs.Changes.{ChangeData}
@@ -28,7 +28,7 @@ change_data c = record {
   same_class_ids = c.same_class_ids;
 }
 
--- the row of an item, by what both maps have of the item
+-- the row of an item, given what both maps say about the item
 abbrev pub entries_change : EntryPair → Bool → ℕ → ItemId → ChangeData
 entries_change e stands depth i = record {
   id = i;
@@ -42,10 +42,11 @@ entries_change e stands depth i = record {
 abbrev pub row_change : {A B : _} → Comparison A B → TreeRow → ChangeData
 row_change maps r = entries_change (pair_entries maps r.pair) r.stands r.depth r.id
 
--- tables for which two maps stand, with the places of their items
+-- the two maps have these tables, and the places are those of their items
 pub record AreTables {A B : Type 0} (t u : List Row) (both : Both A B) : Type 0 where
   pub old : Stands both.maps.old.map.now.forest t
   pub new : Stands both.maps.new.map.now.forest u
   pub before : AreById t (map item_entry both.maps.old.all.items) both.before.places.items
   pub after : AreById u (map item_entry both.maps.new.all.items) both.after.places.items
+  pub trees : AreOfTrees t u both.maps
   pub buckets : both.buckets ≡ both.maps.old.map.now.forest

@@ -1,4 +1,4 @@
--- In what two settings differ.
+-- The differences between the settings of two maps: their tunables, types and rules.
 use Rattle.std.specs.Prelude.{ℕ, ◌==◌, Bool, true, false, ◌&&◌, List, [], ◌++◌, if◌then◌else◌, map, codes, bytes_eq}
 use Rattle.std.specs.Cmp.Lexicographic.{pointwise}
 use Rattle.std.specs.List.{list_all}
@@ -7,11 +7,11 @@ use Rattle.crush_edits.specs.Setting.{KindData, TunableData, StepData, take, cho
 use Rattle.crush_compare.specs.Equal.{same_option, same_text}
 use Rattle.crush_since.specs.Rules.{rule_differences, rule_change_lines}
 
--- tunables, in order
+-- whether two tunables are the same. Two lists of tunables are the same only if they are in the same order
 abbrev pub same_tunable : TunableData → TunableData → Bool
 same_tunable x y = bytes_eq x.name y.name && (x.value == y.value)
 
--- types, in whatever order: each number of either has one name in both
+-- whether two settings have the same types, in any order: each type number of either setting must have the same name in both settings
 abbrev pub kind_numbers : SettingData → List ℕ
 kind_numbers s = map (λ (k : KindData). k.number) s.kinds
 
@@ -21,7 +21,7 @@ agree_on a b n = same_text (kind_name a n) (kind_name b n)
 abbrev pub same_kinds : SettingData → SettingData → Bool
 same_kinds a b = list_all (agree_on a b) (kind_numbers a) && list_all (agree_on a b) (kind_numbers b)
 
--- rules, in order: a bucket that a step takes is its id, whatever it is called
+-- whether two rules are the same. A bucket that a step takes is compared by its id, whatever its name is
 abbrev pub same_bool : Bool → Bool → Bool
 same_bool true b = b
 same_bool false true = false
@@ -38,7 +38,7 @@ abbrev pub same_rule : RuleData → RuleData → Bool
 same_rule x y =
     bytes_eq x.name y.name && (x.id == y.id) && bytes_eq x.kind y.kind && same_option x.min_size y.min_size && same_option x.max_size y.max_size && pointwise same_step x.steps y.steps
 
--- a line for each list that differs
+-- the line `text`, or nothing if `same` is true
 abbrev pub listed_if_not : Bool → List ℕ → List ℕ
 listed_if_not same text = if same then [] else text
 
@@ -48,7 +48,7 @@ tunables_line a b = listed_if_not (pointwise same_tunable a.tunables b.tunables)
 unfoldable pub kinds_line : SettingData → SettingData → List ℕ
 kinds_line a b = listed_if_not (same_kinds a b) (codes "types differ\n")
 
--- and a line for each rule that differs
+-- the lines for rules that differ
 unfoldable pub rules_line : SettingData → SettingData → List ℕ
 rules_line a b = rule_change_lines (rule_differences same_rule a.rules b.rules)
 

@@ -1,4 +1,4 @@
--- What has changed from one map to another, told item by item: docs/user/FORMATS.md has the same in words.
+-- The text that says what has changed from one map to another, with a line for each item that differs. docs/user/FORMATS.md describes it in words.
 use Rattle.std.specs.Prelude.{ℕ, List, ◌++◌, flat_map, codes}
 use Rattle.crush_units.specs.declared.id.ItemId.{ItemId}
 use Rattle.crush_units.specs.Weight.{weight_text}
@@ -17,7 +17,7 @@ use Rattle.crush_since.specs.Settings.{setting_lines}
 use Rattle.crush_since.specs.Tallies.{tally_of, counts_line}
 use Rattle.crush_since.specs.declared.since.tally.Tally.{Tally}
 
--- a map: its setting and its table
+-- a map as plain data: its setting and its table
 pub record PlainMap : Type 0 where
   pub setting : SettingData
   pub table : List Row
@@ -25,7 +25,7 @@ pub record PlainMap : Type 0 where
 abbrev pub plain_map : SettingData → List Row → PlainMap
 plain_map s t = record { setting = s; table = t }
 
--- the line of an id
+-- the line about the item with the id i; nothing if the two maps say the same about the id
 unfoldable pub id_line : PlainMap → PlainMap → ItemId → List ℕ
 id_line old new i = item_line old.setting new.setting i (item_of old.table i) (item_of new.table i) (same_class_ids old.table new.table i)
 
@@ -33,15 +33,15 @@ id_line old new i = item_line old.setting new.setting i (item_of old.table i) (i
 unfoldable pub item_lines : PlainMap → PlainMap → List ℕ
 item_lines old new = flat_map (id_line old new) (all_ids old.table new.table)
 
--- what all placed devices weighed, and weigh
+-- the line with the total weights of all placed devices in the old map and in the new map
 unfoldable pub totals_line : ℕ → ℕ → List ℕ
 totals_line before after = codes "total " ++ weight_text before ++ codes " to " ++ weight_text after ++ codes "\n"
 
--- what follows the items: settings, rules that find nothing, classes, totals and counts
+-- the lines that follow the items: about settings, rules that take nothing, classes, totals and counts
 unfoldable pub last_lines : PlainMap → PlainMap → Tally → List ℕ
 last_lines old new counts =
     setting_lines old.setting new.setting ++ emptied_lines old.table new.table new.setting ++ class_lines old.table new.table new.setting ++ totals_line (total old.table) (total new.table) ++ counts_line counts
 
--- SINCE TEXT: the items, and what stands behind them
+-- SINCE TEXT: the lines of the items, and the lines that follow them
 unfoldable pub since_text : PlainMap → PlainMap → List ℕ
 since_text old new = item_lines old new ++ last_lines old new (tally_of old.table new.table (all_ids old.table new.table))

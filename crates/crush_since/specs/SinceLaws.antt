@@ -1,4 +1,4 @@
--- Laws of what has changed.
+-- Laws about the texts that say what has changed.
 use Rattle.std.specs.Prelude.{◌≡◌, ◌↔◌, List, [], ◌++◌, codes}
 use Rattle.crush_units.specs.declared.id.ItemId.{ItemId}
 use Rattle.crush_edits.specs.Setting.{SettingData}
@@ -9,18 +9,18 @@ use Rattle.crush_since.specs.Since.{plain_map, item_lines, since_text, totals_li
 use Rattle.crush_since.specs.Tallies.{counts_line}
 use Rattle.crush_since.specs.declared.since.tally.Tally.{Tally}
 
--- a map since itself: the two last lines alone, and nothing is counted
+-- if a map is compared with itself, the text has only its last two lines, and all counts are 0
 abbrev pub nothing_counted : Tally
 nothing_counted = record { made = 0; removed = 0; renamed = 0; moved = 0; reweighed = 0; reclassed = 0 }
 
 abbrev pub NothingSinceItself : Type 0
 NothingSinceItself = (s : SettingData) (t : List Row) → since_text (plain_map s t) (plain_map s t) ≡ totals_line (total t) (total t) ++ counts_line nothing_counted
 
--- no item is told exactly where both tables have equal rows, in whatever order
+-- no item has a line if and only if both tables have equal rows. The order of the rows doesn't matter
 abbrev pub NoItemWhereRowsAreEqual : Type 0
 NoItemWhereRowsAreEqual = (s p : SettingData) (t u : List Row) → Lawful t → Lawful u → (item_lines (plain_map s t) (plain_map p u) ≡ []) ↔ ((i : ItemId) → row_of t i ≡ row_of u i)
 
--- as a tree, a map since itself has no row: the headings and the two last lines alone
+-- if a map is compared with itself, the tree has no row: the text has only the headings and the last two lines
 abbrev pub NoRowSinceItself : Type 0
 NoRowSinceItself = (s : SettingData) (t : List Row) → Lawful t
     → changes_text (plain_map s t) (plain_map s t) ≡ codes "ID  CLASS  WAS  WEIGHT  TYPE NAME\n" ++ (totals_line (total t) (total t) ++ counts_line nothing_counted)

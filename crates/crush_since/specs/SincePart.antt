@@ -1,4 +1,4 @@
--- What is told of a part of two maps, and whether anything is told.
+-- The text that says what has changed in a part of two maps, and whether anything has changed.
 use Rattle.std.specs.Prelude.{Bool, ℕ, List, ◌++◌, flat_map}
 use Rattle.crush_units.specs.declared.id.ItemId.{ItemId}
 use Rattle.crush_compare.specs.PartIds.{part_ids}
@@ -7,11 +7,11 @@ use Rattle.crush_since.specs.Changes.{has_some}
 use Rattle.crush_since.specs.Settings.{setting_lines}
 use Rattle.crush_since.specs.Since.{PlainMap, id_line, item_lines}
 
--- SINCE PART TEXT: the lines of these ids, and nothing behind them
+-- SINCE PART TEXT: the lines of the part's ids. The lines that follow the items of whole maps are left out
 unfoldable pub since_part_text : ItemId → PlainMap → PlainMap → List ℕ
 since_part_text i old new = flat_map (id_line old new) (part_ids old.table new.table i)
 
--- WHETHER an item or a setting is told, and of a part an item
+-- WHETHER an item or a setting has a line; and for a part, whether one of its items has a line
 unfoldable pub is_changed : PlainMap → PlainMap → Bool
 is_changed old new = has_some (item_lines old new ++ setting_lines old.setting new.setting)
 

@@ -1,4 +1,4 @@
--- What differs between a map and the one that is wanted, told by names: docs/dev/names.md has the same in words.
+-- The text that says what differs between a map and a wanted map if items are matched by their names. docs/dev/names.md describes it in words.
 use Rattle.std.specs.Prelude.{ℕ, Bool, List, [], ◌∷◌, ◌++◌, Option, None, Some, flat_map, codes, bytes_eq, unwrap_or}
 use Rattle.crush_units.specs.declared.id.ItemId.{ItemId}
 use Rattle.crush_units.specs.declared.id.ItemId.TheVariants.{Device, Bucket}
@@ -17,7 +17,7 @@ use Rattle.crush_compare.specs.declared.identity.Devices.TheVariants.{ById}
 use Rattle.crush_since.specs.NamedRules.{named_rules_line}
 use Rattle.crush_compare.specs.NamedPairs.{PairData, pairs}
 
--- where an item stands: the name of the bucket that holds it, or that none does
+-- the place of an item: the name of its parent, or a word for an item that has no parent
 abbrev pub place_in : ItemId → Option ℕ → Option (List ℕ) → List ℕ
 place_in i (Some p) holder = unwrap_or holder []
 place_in (Device d) None holder = codes "(unplaced)"
@@ -29,11 +29,11 @@ place_word x = place_in x.view.id x.view.parent x.holder
 abbrev pub item_type : SettingData → ItemData → List ℕ
 item_type s x = type_word s x.view.id x.view.kind
 
--- whether two items are in buckets of the same name, or neither is in a bucket
+-- whether two items have parents with the same name, or neither has a parent
 unfoldable pub same_place : ItemData → ItemData → Bool
 same_place x y = bytes_eq (place_word x) (place_word y)
 
--- PARTS: `WORD A, wanted B`, or with another word between, where a column differs
+-- PARTS: the part `WORD A, wanted B`. The text `between` can replace `, wanted `. There is no part if the column is the same
 abbrev pub both : Bool → List ℕ → List ℕ → List ℕ → List ℕ → List (List ℕ)
 both same word a between b = part same (word ++ a ++ between ++ b)
 
@@ -52,7 +52,7 @@ both_classes between x y = both (same_text x.view.class y.view.class) (codes "cl
 abbrev pub both_algs : List ℕ → ItemData → ItemData → List (List ℕ)
 both_algs between x y = both (same_algs x.view.alg y.view.alg) (codes "alg ") (alg_word x.view.alg) between (alg_word y.view.alg)
 
--- what stays, column by column
+-- for each column, the part if the map and the wanted map differ in this column
 abbrev pub type_part : SettingData → SettingData → ItemData → ItemData → List (List ℕ)
 type_part s p x y = both_types (codes ", wanted ") s p x y
 
@@ -68,40 +68,40 @@ class_part x y = both_classes (codes ", wanted ") x y
 abbrev pub alg_part : ItemData → ItemData → List (List ℕ)
 alg_part x y = both_algs (codes ", wanted ") x y
 
--- what there is to tell of an item that both have, column by column
+-- the parts of an item that both maps have, one for each column that differs
 abbrev pub differing : SettingData → SettingData → ItemData → ItemData → List (List ℕ)
 differing s p x y = type_part s p x y ++ place_part x y ++ weight_part x y ++ class_part x y ++ alg_part x y
 
--- as what and where an item is wanted
+-- the words for an item's wanted type and wanted place
 unfoldable pub wanted_word : SettingData → ItemData → List ℕ
 wanted_word p y = item_type p y ++ codes " in " ++ place_word y
 
 abbrev pub lacking : SettingData → ItemData → List (List ℕ)
 lacking p y = (codes "wanted as " ++ wanted_word p y) ∷ []
 
--- of a wanted item, by what the map has of its name
+-- the parts of an item of the wanted map, given the map's item with the same name, if there is one
 abbrev pub wanted_parts : SettingData → SettingData → Option ItemData → ItemData → List (List ℕ)
 wanted_parts s p None y = lacking p y
 wanted_parts s p (Some x) y = differing s p x y
 
--- of an item that is wanted, and of one that isn't
+-- the parts of a pair, which has an item of the wanted map or an item that only the map has
 abbrev pub stay_parts : SettingData → SettingData → Option ItemData → Option ItemData → List (List ℕ)
 stay_parts s p before (Some y) = wanted_parts s p before y
 stay_parts s p (Some x) None = codes "not wanted" ∷ []
 stay_parts s p None None = []
 
--- the name after, or before of what isn't wanted
+-- the name of a pair's item: the wanted map's name or, if only the map has the item, the map's name
 abbrev pub pair_name : Option ItemData → Option ItemData → List ℕ
 pair_name before (Some y) = y.view.name
 pair_name (Some x) None = x.view.name
 pair_name None None = []
 
--- LINES: a name with its parts, joined by `; `, if there are any
+-- LINES: a name with its parts, with `; ` between the parts; nothing if there are no parts
 abbrev pub stay_line : List ℕ → List (List ℕ) → List ℕ
 stay_line name [] = []
 stay_line name (p ∷ rest) = name ++ codes ": " ++ (p ++ behind rest) ++ codes "\n"
 
--- the same of parts that stand each behind `; `
+-- the same line, given the parts as one text in which `; ` comes before each part
 abbrev pub stay_text_line : List ℕ → List ℕ → List ℕ
 stay_text_line name [] = []
 stay_text_line name (b ∷ []) = []
@@ -110,19 +110,19 @@ stay_text_line name (b ∷ c ∷ text) = name ++ codes ": " ++ text ++ codes "\n
 unfoldable pub stay_pair : SettingData → SettingData → PairData → List ℕ
 stay_pair s p pair = stay_line (pair_name pair.before pair.after) (stay_parts s p pair.before pair.after)
 
--- the names of the wanted map in the order of its tree, and then those that it lacks in the order of the map's
+-- first the lines of the wanted map's items in the order of the wanted map's tree, and then the lines of the items that only the map has, in the order of the map's tree
 unfoldable pub stay_lines : Option (List ℕ) → PlainMap → PlainMap → List ℕ
 stay_lines under old new = flat_map (stay_pair old.setting new.setting) (pairs ById under old.table new.table)
 
 unfoldable pub named_setting_lines : PlainMap → PlainMap → List ℕ
 named_setting_lines old new = tunables_line old.setting new.setting ++ kinds_line old.setting new.setting ++ named_rules_line old new
 
--- settings are told of whole maps
+-- the lines about settings; none if only a part of the maps is compared
 abbrev pub settings_beside : Option (List ℕ) → PlainMap → PlainMap → List ℕ
 settings_beside None old new = named_setting_lines old new
 settings_beside (Some n) old new = []
 
--- STAYS of a part: a line for each item of it that differs by its name; of everything also one each where tunables, types and rules do
+-- STAYS: a line for each item of the part that differs. If no part is given, lines about tunables, types and rules that differ follow
 unfoldable pub stays_part : Option (List ℕ) → PlainMap → PlainMap → List ℕ
 stays_part under old new = stay_lines under old new ++ settings_beside under old new
 

@@ -1,4 +1,4 @@
--- How many items differ, and in which way.
+-- The counts of the items that differ, for each kind of difference.
 use Rattle.std.specs.Prelude.{ℕ, ◌+◌, ◌<◌, ◌^◌, ◌==◌, Bool, true, false, not, List, ◌++◌, Option, None, Some, codes, decimal, bytes_eq}
 use Rattle.std.specs.List.{count_by}
 use Rattle.crush_units.specs.declared.id.ItemId.{ItemId}
@@ -8,7 +8,7 @@ use Rattle.crush_compare.specs.Equal.{same_option, same_text}
 use Rattle.crush_items.specs.ItemData.{ItemData, item_of}
 use Rattle.crush_since.specs.declared.since.tally.Tally.{Tally}
 
--- TESTS of what both tables say of an id: that the second alone has it, or the first alone
+-- TESTS of what two tables say about an id: whether only the second table has the item, and whether only the first table has it
 abbrev pub is_made : Option ItemData → Option ItemData → Bool
 is_made None (Some b) = true
 is_made None None = false
@@ -17,7 +17,7 @@ is_made (Some a) b = false
 abbrev pub is_removed : Option ItemData → Option ItemData → Bool
 is_removed before after = is_made after before
 
--- that both have it, and differ
+-- whether both tables have the item, and the items differ
 abbrev pub in_both : (ItemData → ItemData → Bool) → Option ItemData → Option ItemData → Bool
 in_both test (Some a) (Some b) = test a b
 in_both test (Some a) None = false
@@ -35,7 +35,7 @@ is_reweighed before after = in_both (λ a b. not (a.view.weight == b.view.weight
 abbrev pub is_reclassed : Option ItemData → Option ItemData → Bool
 is_reclassed before after = in_both (λ a b. not (same_text a.view.class b.view.class)) before after
 
--- how many of the ids meet a test
+-- the number of the ids about which what the two tables say meets a test
 abbrev pub count : (Option ItemData → Option ItemData → Bool) → List Row → List Row → List ItemId → ℕ
 count test t u ids = count_by (λ i. test (item_of t i) (item_of u i)) ids
 
@@ -49,11 +49,11 @@ tally_of t u ids = record {
   reclassed = count is_reclassed t u ids;
 }
 
--- of no item
+-- the counts if there are no items
 abbrev pub no_tally : Tally
 no_tally = record { made = 0; removed = 0; renamed = 0; moved = 0; reweighed = 0; reclassed = 0 }
 
--- the counts with one item more
+-- the counts after one more item, given what the two tables say about it
 abbrev pub tally_with : Tally → Option ItemData → Option ItemData → Tally
 tally_with n before after = record {
   made = n.made + one_if (is_made before after);

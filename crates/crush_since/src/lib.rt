@@ -1,16 +1,21 @@
-//! What has changed from one map to another map.
+//! Finds and writes what has changed from one map to another map.
 //!
-//! [`write_since`] prints this item by item, and [`write_changes`] as a tree or a part of one. Both
-//! match items by their ids, as CRUSH does. [`write_since_by_name`] matches items by their names;
-//! [`stays`] lists what differs from a wanted map, and [`count_aside`] counts ids that differ. Texts
-//! are laid out in the given memory before any is written; an `AllocError` says that memory ran out.
+//! [`write_since`] writes one line for each item that differs, and [`write_changes`] writes the
+//! items that differ as a tree or as a part of a tree. [`write_changes_of_class`] writes such a tree
+//! for the devices of one class. These three functions match the items of the two maps by their
+//! ids, by which CRUSH itself knows them. [`write_since_by_name`] matches items by their names.
+//! [`stays`] lists what differs between a map and a wanted map, and [`count_aside`] counts the ids
+//! that differ. Each text is built in memory as a whole before its first byte is written. An
+//! `AllocError` says that memory ran out.
 #![tactic(auto)]
 
 mod changes;
 mod names;
 mod since;
 
-pub use changes::{all_changes_are_a_part, no_row_changes_since_itself, write_changes};
+pub use changes::{
+    all_changes_are_a_part, no_row_changes_since_itself, write_changes, write_changes_of_class,
+};
 pub use names::{
     Counts, count_aside, is_changed_by_name, nothing_changes_by_names_since_itself,
     nothing_stays_where_maps_are_alike, push_aside, stays, stays_part, write_since_by_name,

@@ -1,4 +1,5 @@
-//! What differs between two maps whose items are matched by their names, and not by their ids.
+//! Finds what differs between two maps if their items are matched by their names instead of their
+//! ids.
 
 mod aside;
 mod law;

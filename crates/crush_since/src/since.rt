@@ -1,4 +1,4 @@
-//! What has changed from one map to another, as text.
+//! Writes what has changed from one map to another, with one line for each item that differs.
 
 ghost use Rattle.std.specs.Prelude.{◌≡◌, ◌++◌, List, OnOk};
 ghost use Rattle.std.specs.Io.KnownBytes.{Keeps};
@@ -57,11 +57,12 @@ pub(crate) use words::{
     alg_bytes, class_bytes, push_counts, push_totals, push_with_class, type_bytes, weight_of,
 };
 
-/// Writes what has changed from the old map to the new map. There is a line for each item that
-/// differs: first the buckets by id from -1 downward, and then the devices upward. Then there is a
-/// line each if the tunables or the types differ, and then the lines of rules and of classes. The
-/// last two lines have the total weights, and how many items differ in which way. If memory runs
-/// out, nothing is written.
+/// Writes what has changed from the old map to the new map. First comes a line for each item that
+/// differs: the buckets by id from -1 downward, and then the devices by ascending id. Then there
+/// may be a line that says that the tunables differ, and a line that says that the types differ.
+/// Then come the lines about rules and the lines about classes. The last two lines have the total
+/// weight of each map, and for each kind of difference the number of items that have it. If memory
+/// runs out, nothing is written.
 pub fn write_since<A: Allocator, B: Allocator, W: Write>(
     alloc: Global,
     old: &CrushMap<A>,
@@ -81,13 +82,14 @@ pub fn write_since<A: Allocator, B: Allocator, W: Write>(
     }
 }
 
-/// If a lawful map is compared with itself, the text has only the map's total weight and counts
-/// that are all 0.
+/// If a lawful map is compared with itself, the text has only its last two lines: the map's total
+/// weight, and counts that are all 0.
 pub fn nothing_changes_since_itself()
     ensures { NothingSinceItself }
 {}
 
-/// No item has a line if and only if both tables have equal rows, in whatever order.
+/// No item has a line if and only if the two maps' tables have equal rows. A table has a row for
+/// each item of its map. The order of the rows doesn't matter.
 pub fn no_item_is_told_where_rows_are_equal()
     ensures { NoItemWhereRowsAreEqual }
 {}

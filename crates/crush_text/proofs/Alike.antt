@@ -1,4 +1,4 @@
--- How two states differ to which the same words lead with different words after them.
+-- If the same words are followed first by the words us and then by the words vs, they lead to two states: how these two states can differ.
 use Rattle.std.proofs.Common.{◌≡◌, ◌⊎◌, ℕ, Bool, true, false, List, [], ◌∷◌, ◌++◌, refl, sym, ap, subst, ◌∙◌, inl, inr}
 use Rattle.std.specs.Prelude.{codes}
 use Rattle.crush_units.specs.Words.{Word}
@@ -11,7 +11,7 @@ use Rattle.crush_text.specs.Expected.{words_of}
 use Rattle.crush_text.proofs.OptionalParts.{PassesWeight, HandsOn, IsInForm}
 use Rattle.crush_text.proofs.Respelled.{is_weight_next, IsLone, OneStep, one_step, step_in_form, two_words, Parts, Near, near_behind}
 
--- both are what this form is with the words after it
+-- both states require the same form; the words us follow in the first state, and the words vs in the second
 pub record SameForm (us vs : List Word) (a b : State) : Type 0 where
   pub draft : Draft
   pub form : Form
@@ -19,7 +19,7 @@ pub record SameForm (us vs : List Word) (a b : State) : Type 0 where
   pub left : a ≡ arrive draft us form
   pub right : b ≡ arrive draft vs form
 
--- in both cases no weight follows the name of the item
+-- in both states, the line of an item is complete, and no weight follows
 pub record NoWeight (us vs : List Word) (a b : State) : Type 0 where
   pub progress : Progress
   pub passes : words_of progress.passed ≡ codes "weight" ∷ []
@@ -28,7 +28,7 @@ pub record NoWeight (us vs : List Word) (a b : State) : Type 0 where
   pub none : is_weight_next us ≡ false
   pub nor : is_weight_next vs ≡ false
 
--- only in the second case a weight follows the name of the item
+-- in the first state, the line of an item is complete and no weight follows; in the second state, `weight` is required and follows
 pub record OneWeight (us vs : List Word) (a b : State) : Type 0 where
   pub progress : Progress
   pub passes : words_of progress.passed ≡ codes "weight" ∷ []
@@ -39,11 +39,11 @@ pub record OneWeight (us vs : List Word) (a b : State) : Type 0 where
   pub none : is_weight_next us ≡ false
   pub there : is_weight_next vs ≡ true
 
--- HOW THEY DIFFER
+-- HOW THE TWO STATES CAN DIFFER
 abbrev pub Alike : List Word → List Word → State → State → Type 0
 Alike us vs a b = SameForm us vs a b ⊎ (NoWeight us vs a b ⊎ (OneWeight us vs a b ⊎ OneWeight vs us b a))
 
--- behind one word
+-- after one word
 pub last_alike : (s : State) (w : List ℕ) (us vs : List Word) (a b : State) → IsInForm s → (IsLone s → (is_weight_next us ≡ false) × (is_weight_next vs ≡ false)) → SpellsNext s w us a → SpellsNext s w vs b → Alike us vs a b
 last_alike s w us vs a b k lone h g = by_hands o.hands
   where
@@ -61,7 +61,7 @@ last_alike s w us vs a b k lone h g = by_hands o.hands
       nor = (lone x.0).1;
     }))
 
--- behind the name of an item, if only b has its weight
+-- after the name of an item, if a weight follows it only in the second state
 part_alike : (us vs : List Word) (a b u v : State) (x : List ℕ) → Parts us vs a b → SpellsNext a x us u → SpellsNext b x vs v → OneWeight us vs u v
 part_alike us vs a b u v x p h g =
     let left : SpellsNext (amid p.draft (word lone_item p.last)) x us u = subst (λ (s : State). SpellsNext s x us u) p.alone h in
@@ -79,7 +79,7 @@ part_alike us vs a b u v x p h g =
       there = p.there;
     }
 
--- behind two words or more
+-- after two words or more
 two_alike : (w x : Word) (ws : List Word) (s a b : State) (us vs : List Word) → IsInForm s → Spell s (w ∷ x ∷ ws) us a → Spell s (w ∷ x ∷ ws) vs b → Alike us vs a b
 two_alike w x [] s a b us vs k h g = by_near (near_behind s w.text x us vs o)
   where
@@ -107,7 +107,7 @@ two_alike w x (y ∷ ws) s a b us vs k h g =
     let same : g.0 ≡ h.0 = o.leads (x ∷ y ∷ ws ++ vs) g.0 g.1 ∙ two_words o.draft x y (ws ++ vs) (ws ++ us) o.behind ∙ sym (o.leads (x ∷ y ∷ ws ++ us) h.0 h.1) in
     two_alike x y ws h.0 a b us vs (step_in_form s w.text (x ∷ y ∷ ws ++ us) h.0 k h.1) h.2 (subst (λ (u : State). Spell u (x ∷ y ∷ ws) vs b) same g.2)
 
--- behind any words but none
+-- after at least one word
 pub alike : (w : Word) (ws : List Word) (s a b : State) (us vs : List Word) → IsInForm s → (IsLone s → ⊥) → Spell s (w ∷ ws) us a → Spell s (w ∷ ws) vs b → Alike us vs a b
 alike w [] s a b us vs k lone h g = last_alike s w.text us vs a b k (λ l. absurd (lone l)) (subst (λ (u : State). SpellsNext s w.text us u) h.2 h.1) (subst (λ (u : State). SpellsNext s w.text vs u) g.2 g.1)
 alike w (x ∷ ws) s a b us vs k lone h g = two_alike w x ws s a b us vs k h g

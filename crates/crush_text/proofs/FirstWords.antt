@@ -1,4 +1,4 @@
--- The first word of a statement, and the end of the text in its place.
+-- The first word of a statement, or the end of the text where this word could come.
 use Rattle.std.proofs.Common.{◌≡◌, ℕ, Bool, true, false, List, Option, Some, None, Ok, Err, refl, sym, ap, subst, ◌∙◌, inr}
 use Rattle.crush_builder.specs.Built.{Draft}
 use Rattle.crush_builder.specs.Building.{BuilderData}
@@ -19,12 +19,12 @@ use Rattle.crush_text.specs.ReadsStatements.{mode_behind, behind}
 use Rattle.crush_text.proofs.LineByLine.{word_goes, line_goes}
 use Rattle.crush_text.proofs.Weighed.{told_ok}
 
--- an option that is no `Some` is `None`
+-- an option that isn't `Some x` for any x is `None`
 pub none_there : {X : Type 0} (o : Option X) → ((x : X) → o ≡ Some x → ⊥) → o ≡ None
 none_there None other = refl
 none_there (Some x) other = absurd (other x refl)
 
--- a word in this place is the first one of a statement
+-- between two statements, the next word is the first word of a statement
 first_goes : (d : Draft) (b : Before) (t rest : Text) (place : ℕ) (text : List ℕ) → t ≡ first_word place text rest
     → outcome (between (ending (behind b) d)) t ≡ then_on ((placed place (expect.Statement b.late b.or) (word_for d (opening b.late b.or) text) >>= and_rest rest) >>= λ x. line_at d (statement d x.0) x.1)
 unfolding line_at word_at next_at
@@ -34,12 +34,12 @@ first_goes d b t rest place text is = ap (outcome (between (ending (behind b) d)
     by_mode true = refl
     by_mode false = refl
 
--- the result of the text from a word that begins a statement
+-- if this word begins a statement, the result of the text is that of the statement, followed by the rest of the text
 pub opening_ok : (d : Draft) (b : Before) (t rest : Text) (place : ℕ) (text : List ℕ) (o : StatementKind) → t ≡ first_word place text rest → Ok o ≡ placed place (expect.Statement b.late b.or) (word_for d (opening b.late b.or) text)
     → outcome (between (ending (behind b) d)) t ≡ then_on (line_at d (statement d o) rest)
 opening_ok d b t rest place text o is e = first_goes d b t rest place text is ∙ ap (λ q. then_on ((q >>= and_rest rest) >>= λ x. line_at d (statement d x.0) x.1)) (sym e)
 
--- such a word leads to the rest of the statement
+-- such a word leads to the state in which the rest of its statement is required
 pub opening_leads : (d : Draft) (b : Before) (t rest : Text) (place : ℕ) (text : List ℕ) (o : StatementKind) → t ≡ first_word place text rest → Ok o ≡ placed place (expect.Statement b.late b.or) (word_for d (opening b.late b.or) text)
     → LeadsOn (between (ending (behind b) d)) t (arrive d rest.words (statement d o)) rest
 unfolding outcome step
@@ -52,7 +52,7 @@ opening_leads d b t rest place text o is e = record {
     by_mode true e p h = (_, ap (λ j. j >>= λ v. Ok (arrive d rest.words (statement d v))) e, inr h)
     by_mode false e p h = (_, ap (λ j. j >>= λ v. Ok (arrive d rest.words (statement d v))) e, inr h)
 
--- a fault of that word is the result of the text
+-- if this word has a fault, then the fault is the result of the text
 pub opening_err : (d : Draft) (b : Before) (t rest : Text) (place : ℕ) (text : List ℕ) (f : TextFault) → t ≡ first_word place text rest → Err f ≡ placed place (expect.Statement b.late b.or) (word_for d (opening b.late b.or) text)
     → outcome (between (ending (behind b) d)) t ≡ Err f
 opening_err d b t rest place text f is e = first_goes d b t rest place text is ∙ ap (λ q. then_on ((q >>= and_rest rest) >>= λ x. line_at d (statement d x.0) x.1)) (sym e)
@@ -66,7 +66,7 @@ opening_end d b t place is = ap (outcome (between (ending (behind b) d))) is ∙
     by_mode true = refl
     by_mode false = refl
 
--- a bad byte, or a word that is too long, is the result of the text
+-- if the text has a bad byte or a word that is too long here, then this is the fault of the text
 pub opening_bad : (d : Draft) (b : Before) (t : Text) (place : ℕ) → t ≡ stopped (bad place) → outcome (between (ending (behind b) d)) t ≡ Err (record { kind = BadWord; place = place; expected = expect.Statement b.late b.or })
 unfolding run outcome
 opening_bad d b t place is = ap (outcome (between (ending (behind b) d))) is ∙ by_mode b.late

@@ -22,7 +22,7 @@ use Rattle.crush_text.proofs.Respelled.{WeightGone, right_weighed, respelled}
 use Rattle.crush_text.proofs.Alike.{SameForm, NoWeight, OneWeight, Alike, alike}
 
 -- KEYS
--- a key is right where it is required
+-- where a key is required, this key has no fault
 key_right : (d : Draft) (k : List ℕ) → IsRight d (key k) k
 key_right d k f g = by_fault f g
   where
@@ -30,11 +30,11 @@ key_right d k f g = by_fault f g
     by_fault Unexpected g = g refl
     by_fault f g = g
 
--- a word that is right there is the key
+-- where a key is required, a word that has no fault is this key
 is_key : (d : Draft) (k w : List ℕ) → IsRight d (key k) w → bytes_eq w k ≡ false → ⊥
 is_key d k w h e = h Unexpected (λ s. let yes : bytes_eq w k ≡ true = (bytes_eq-Decides w k).1 s in let no : true ≡ false = sym yes ∙ e in absurd cc)
 
--- one of the words, or one more
+-- if a word is one of the words ks or the word k, but can be none of them, then there is a contradiction
 one_more : (ks : List (List ℕ)) (k w : List ℕ) → IsOneOf (ks ++ k ∷ []) w → (IsOneOf ks w → ⊥) → (w ≡ k → ⊥) → ⊥
 one_more [] k w (inl e) none other = other e
 one_more [] k w (inr h) none other = absurd h
@@ -50,12 +50,12 @@ the_last : (ks : List (List ℕ)) (k w : List ℕ) → w ≡ k → IsOneOf (ks +
 the_last [] k w e = inl e
 the_last (c ∷ ks) k w e = inr (the_last ks k w e)
 
--- THE ROLE THAT IS DUE
+-- THE ROLE OF THE NEXT WORD
 weighed_same : (r : Role) → is_lone r ≡ false → weighed r ≡ r
 weighed_same lone_item e = absurd (let no : true ≡ false = e in cc)
 weighed_same r e = refl
 
--- the first word of a line
+-- if the first word of a line has no fault, it leads to a state
 fits_line : (d : Draft) (k : Optional) (m : Mode) (w : List ℕ) (rest : List Word) → FitsForm d (line_forms d k m) w → (u : State) × SpellsForm d (line_forms d k m) w rest u
 fits_line d k first w rest h = (_, (h, refl))
 fits_line d k second w rest h = (_, (h, refl))
@@ -72,11 +72,11 @@ line_fits d k numbered w rest u h = h.0
 line_fits d k (filling any) w rest u h = h.0
 line_fits d k (ruled r) w rest u h = h.0
 
--- the words `weight`, which is put behind each word, so that no item is too heavy without one
+-- the word `weight`, which is put after each word: a line that gives an item's weight tests the sums at the weight, not at the item's name
 abbrev a_weight : List Word
 a_weight = record { place = 0; text = codes "weight" } ∷ []
 
--- EACH WORD THAT MAY FOLLOW leads on
+-- EACH WORD THAT MAY FOLLOW leads to a state
 abbrev LeadsOn : State → Word → List Word → Type 0
 LeadsOn s w rest = (u : State) × SpellsNext s w.text rest u
 
@@ -106,11 +106,11 @@ form_leads d next w (ahead k f g) ks h none m = by_key (begins_with_key k a_weig
     by_key true e = subst (λ (x : Form). LeadsOn (arrive d (w ∷ a_weight) x) w a_weight) (sym h.2.weighed) (_, (by_next (begins_with_key k (drop 1 next)) m, refl))
     by_key false e = absurd (let wrong : false ≡ true = e in cc)
 
--- if `weight` is due, no other word may follow
+-- if the key `weight` is required next, no other word may follow
 no_other_weight : (s : State) (d : Draft) (more : Unit {0} → Form) (w : List ℕ) → s ≡ amid d (word (key (codes "weight")) more) → bytes_eq w (codes "weight") ≡ false → MayFollow s w → ⊥
 no_other_weight s d more w is e m = is_key d (codes "weight") w (subst (λ (x : State). MayFollow x w) is m) e
 
--- each word that may follow leads on from the words that are spelled anew
+-- if the states a and b are alike (`Alike`), then each word that may follow in a leads on from b
 alike_leads : (next : List Word) (w : Word) (a b : State) → Alike next (w ∷ a_weight) a b → MayFollow a w.text → LeadsOn b w a_weight
 alike_leads next w a b (inl x) m = subst (λ (s : State). LeadsOn s w a_weight) (sym x.right) (form_leads x.draft next w x.form [] x.hands (λ h. h) (subst (λ (s : State). MayFollow s w.text) x.left m))
 alike_leads next w a b (inr (inl x)) m = subst (λ (s : State). LeadsOn s w a_weight) (sym x.right) (by_it (subst (λ (s : State). MayFollow s w.text) x.left m))
@@ -125,7 +125,7 @@ alike_leads next w a b (inr (inl x)) m = subst (λ (s : State). LeadsOn s w a_we
 alike_leads next w a b (inr (inr (inl x))) m = subst (λ (s : State). LeadsOn s w a_weight) (sym x.right) (key_leads x.draft (codes "weight") x.more w a_weight x.there)
 alike_leads next w a b (inr (inr (inr x))) m = absurd (no_other_weight a x.draft x.more w.text x.right x.none m)
 
--- THE LAW: with each of them the text goes on
+-- THE LAW: the text goes on with each word that may follow
 pub goes_on : (before next : List Word) (s : State) (w : Word) → Spell start before next s → MayFollow s w.text → GoesOn before w
 goes_on [] next s w h m =
     let k = by_it (subst (λ (x : State). MayFollow x w.text) (sym h) m) in
@@ -142,12 +142,12 @@ goes_on (v ∷ vs) next s w h m = by_it (respelled (v ∷ vs) start s next (w �
         record { others = a_weight; so_far = b.0; spelled = b.1; further = k.0; right = k.1 }
     by_it (inr g) = absurd (no_other_weight s g.draft g.more w.text g.due g.gone m)
 
--- NO OTHER WORD
--- if a key is due, it isn't the next word
+-- NO OTHER WORD MAY FOLLOW
+-- if a key is required next, then it isn't the next word
 abbrev pub KeyMissing : State → List Word → Type 0
 KeyMissing s next = (d : Draft) (k : List ℕ) (more : Unit {0} → Form) → s ≡ amid d (word (key k) more) → begins_with_key k next ≡ true → ⊥
 
--- a word with which one of the passed parts begins may follow
+-- a word that begins one of the optional parts that were passed over may follow
 passed_follows : (d : Draft) (next : List Word) (w : List ℕ) (f : Form) (ks : List (List ℕ)) → HandsOn ks f → IsOneOf ks w → KeyMissing (arrive d next f) next → MayFollow (arrive d next f) w
 passed_follows d next w (done p) ks h one missing = inl (subst (λ (l : List (List ℕ)). IsOneOf l w) (sym h) one)
 passed_follows d next w (word r more) ks h one missing = absurd (subst (λ (l : List (List ℕ)). IsOneOf l w) h.0 one)
@@ -195,7 +195,7 @@ only_these [] next s w h missing g =
     subst (λ (x : State). MayFollow x w.text) h (inr (subst (λ (x : State). SpellsNext x w.text g.others g.further) (sym g.spelled) g.right).0)
 only_these (v ∷ vs) next s w h missing g = alike_follows next w g.others s g.so_far g.further missing (alike v vs start s g.so_far next (w ∷ g.others) tt (λ l. let no : false ≡ true = l in absurd cc) h g.spelled) g.right
 
--- a flaw is no key that is due
+-- if the next word is at fault, then it isn't a key that is required
 key_missing : (s : State) (next : List Word) (stop : Stop) (f : TextFault) → IsFaulty s next stop f → KeyMissing s next
 key_missing s [] stop f h d k more is e = absurd (let no : false ≡ true = e in cc)
 key_missing s (w ∷ ws) stop f h d k more is e =

@@ -1,4 +1,4 @@
--- What the first test that finds a fault says of all tests of a word.
+-- What the first test that finds a fault says about all tests of a word.
 use Rattle.std.proofs.Common.{◌≡◌, ℕ, ◌<◌, ◌≤◌, Bool, true, false, cond, List, [], ◌∷◌, Ok, Err, refl, ap, arith, eq-eqb}
 use Rattle.std.proofs.lemmas.Bool.{and_parts, ltb-true, ne_eqb}
 use Rattle.std.specs.Prelude.{nat_lt, ◌&&◌, ◌==◌}
@@ -11,7 +11,7 @@ abbrev pub fires : TextFaultKind → List Test → Bool
 fires f [] = false
 fires f ((g when b) ∷ ts) = cond (fault_number g == fault_number f) b (fires f ts)
 
--- no test finds a fault with a lesser number
+-- no test finds a fault with a smaller number
 abbrev pub NoneFires : TextFaultKind → List Test → Type 0
 NoneFires f ts = (g : TextFaultKind) → fault_number g < fault_number f → fires g ts ≡ false
 
@@ -29,12 +29,12 @@ not_below n ((g when b) ∷ ts) f a le =
     let other : (fault_number g == fault_number f) ≡ false = ne_eqb _ _ (λ e. omega (arith, e, lt, le)) in
     rw other (not_below (fault_number g) ts f p.1 (omega (arith, lt, le)))
 
--- a test that finds nothing finds nothing after another test either
+-- a test that finds nothing still finds nothing when another test comes before it
 passed : (b x : Bool) → x ≡ false → cond b false x ≡ false
 passed true x e = refl
 passed false x e = e
 
--- the fault that is returned is found by a test, and no test finds a fault with a lesser number
+-- the fault that is returned is found by a test, and no test finds a fault with a smaller number
 pub first_fires : {A : Type 0} (n : ℕ) (ts : List Test) (v : A) (f : TextFaultKind) → above n ts ≡ true → unless ts v ≡ Err f → (fires f ts ≡ true) × NoneFires f ts
 first_fires n [] v f a e = absurd cc
 first_fires n ((g when true) ∷ ts) v f a e =

@@ -1,4 +1,4 @@
--- Each keyword is told by its word.
+-- Each keyword can be recovered from its word.
 use Rattle.std.proofs.Common.{◌≡◌, refl}
 use Rattle.crush_text.specs.declared.expected.Keyword.{Keyword}
 use Rattle.crush_text.specs.declared.expected.Keyword.TheVariants as keyword

@@ -1,4 +1,4 @@
--- What is read of a text is what its words spell, and what isn't read is its one flaw.
+-- If reading succeeds, it returns what the words of the text spell. If it fails, its fault is the only flaw of the text.
 use Rattle.std.proofs.Common.{◌≡◌, ℕ, ◌<◌, Bool, true, false, cond, List, [], ◌∷◌, ◌++◌, Result, Ok, Err, refl, sym, ap, subst, ◌∙◌, arith, inl, inr}
 use Rattle.std.proofs.lemmas.List.{append-nil, append_assoc}
 use Rattle.std.specs.Prelude.{◌==◌}
@@ -21,7 +21,7 @@ use Rattle.crush_text.proofs.Judged.{fires, first_fires, none_fires}
 use Rattle.crush_text.proofs.TheTable.{in_order, told}
 
 -- THE TABLE OF FAULTS
--- the row of a number
+-- the fault with this number
 abbrev kind_at : ℕ → TextFaultKind
 kind_at n = cond (n == 1) BadWord (cond (n == 2) Ended (cond (n == 3) Unexpected (cond (n == 4) BadNumber (cond (n == 5) BadWeight (cond (n == 6) DuplicateId (cond (n == 7) DuplicateName (cond (n == 8) UnknownType
     (cond (n == 9) UnknownItem (cond (n == 10) SecondParent (cond (n == 11) OtherAlgorithm (cond (n == 12) LeftOut (cond (n == 13) UnknownBucketInRule (cond (n == 14) TooMany (cond (n == 15) SumTooLarge OutOfMemory))))))))))))))
@@ -30,7 +30,7 @@ back : (f : TextFaultKind) → kind_at (fault_number f) ≡ f
 back BadWord = refl
 back f = refl
 
--- a word has one fault
+-- a word has at most one fault
 pub one_fault : (d : Draft) (r : Role) (w : List ℕ) (f g : TextFaultKind) → IsFault f d r w → IsFault g d r w → f ≡ g
 one_fault d r w f g hf hg =
     let le : fault_number f < fault_number g → ⊥ = λ lt. hg.1 f lt hf.0 in
@@ -44,7 +44,7 @@ word_right d r w v e =
     let k = none_fires (word_tests d r w) (value d r w) v e in
     (λ f h. let none : fires f (word_tests d r w) ≡ false = k.1 f in let some : fires f (word_tests d r w) ≡ true = (told d w f r).1 h in absurd cc, k.0)
 
--- THE TESTS give a fault only if its row applies and no row with a lesser number does
+-- THE TESTS find a fault only if its row applies and no row of a fault with a smaller number applies
 pub word_fault : (d : Draft) (r : Role) (w : List ℕ) (f : TextFaultKind) → word_for d r w ≡ Err f → IsFault f d r w
 word_fault d r w f e =
     let k = first_fires 2 (word_tests d r w) (value d r w) f (in_order d w r) e in (
@@ -55,7 +55,7 @@ word_fault d r w f e =
           absurd cc,
     )
 
--- and if so, they give it
+-- if a fault's row applies, and no row of a fault with a smaller number applies, then the tests find this fault
 pub fault_word : (d : Draft) (r : Role) (w : List ℕ) (f : TextFaultKind) → IsFault f d r w → word_for d r w ≡ Err f
 fault_word d r w f h = by_it (word_for d r w) refl
   where
@@ -63,7 +63,7 @@ fault_word d r w f h = by_it (word_for d r w) refl
     by_it (Ok v) e = absurd ((word_right d r w v e).0 f h.0)
     by_it (Err g) e = ap (λ x. Err x) (one_fault d r w g f (word_fault d r w g e) h)
 
--- and they accept a word to which no row applies
+-- if no row applies to a word, then the tests accept it
 pub right_word : (d : Draft) (r : Role) (w : List ℕ) → IsRight d r w → word_for d r w ≡ Ok (value d r w)
 right_word d r w h = by_it (word_for d r w) refl
   where
@@ -71,7 +71,7 @@ right_word d r w h = by_it (word_for d r w) refl
     by_it (Ok v) e = ap (λ x. Ok x) (sym (word_right d r w v e).1)
     by_it (Err g) e = absurd (h g (word_fault d r w g e).0)
 
--- ONE WORD
+-- READING ONE WORD
 take_ok : (d : Draft) (g : Form) (w : List ℕ) (rest : List Word) (m : State) → take d g w rest ≡ Ok m → SpellsForm d g w rest m
 take_ok d (word r more) w rest m e = by_it (word_for d r w) refl e
   where
@@ -124,7 +124,7 @@ unfolding step
 faulty_step (between p) w rest f h = faulty_take p.draft (next p) w rest f h
 faulty_step (amid d g) w rest f h = faulty_take d g w rest f h
 
--- ALL WORDS
+-- READING ALL WORDS
 -- how reading ends
 abbrev Ends : State → List Word → Stop → Result Draft TextFault → Type 0
 Ends m others stop (Ok d) = (others ≡ []) × (stop_at m stop ≡ Ok d)
@@ -161,13 +161,13 @@ tells (w ∷ ws) s stop r e = by_it (step s w.text ws) refl e (λ u k. tells ws 
         record { before = w ∷ t.before; others = t.others; all = ap (λ (l : List Word). w ∷ l) t.all; last = t.last; spelled = (u, subst (λ (l : List Word). SpellsNext s w.text l u) t.all (step_ok s w.text ws u k), t.spelled); ends = t.ends }
     by_it (Err f) k e go = record { before = []; others = w ∷ ws; all = refl; last = s; spelled = refl; ends = subst (Ends s (w ∷ ws) stop) e (step_err s w.text ws f k, refl, refl) }
 
--- words that are spelled are read
+-- words that spell lines are read
 spelled_run : (ws others : List Word) (s m : State) (stop : Stop) → Spell s ws others m → run s (ws ++ others) stop ≡ run m others stop
 unfolding run
 spelled_run [] others s m stop h = ap (λ x. run x others stop) h
 spelled_run (w ∷ ws) others s m stop h = ap (λ j. placed w.place (expected_at s) j >>= λ x. run x (ws ++ others) stop) (spells_step s w.text (ws ++ others) h.0 h.1) ∙ spelled_run ws others h.0 m stop h.2
 
--- and a fault of the next word is the result
+-- if the next word is at fault, then its fault is the result
 faulty_run : (s : State) (others : List Word) (stop : Stop) (f : TextFault) → IsFaulty s others stop f → run s others stop ≡ Err f
 unfolding run
 faulty_run (between q) [] (ended p) f h = ap (λ b. cond b (Ok q.draft) (unfinished p (expected_form (next q)))) h.1 ∙ ap (λ x. Err x) (sym h.0)
@@ -200,7 +200,7 @@ up_to (w ∷ ws) s place (m, e, inr h) =
       here = t.here;
     }
 
--- those words have no fault
+-- the text is right up to each place that is reached
 pub right_up_to : (t : Text) (place : ℕ) → Reaches place start t.words → IsRightUpTo t place
 right_up_to t place h = let k = up_to t.words start place h in record { before = k.before; last = k.last; next = k.next; all = k.all; so_far = k.so_far; spelled = k.spelled; here = k.here }
 
@@ -215,12 +215,12 @@ whole_stop (between q) (ended p) d e = by_it (takes_statement q.mode) refl e
 whole_stop (amid x g) (ended p) d e = absurd cc
 whole_stop m (bad p) d e = absurd cc
 
--- and if the text may end, its end gives the draft
+-- if the text may end in a state, then the end of the text gives the draft
 stop_whole : (m : State) (d : Draft) (p : ℕ) → IsWhole m d → stop_at m (ended p) ≡ Ok d
 stop_whole (between q) d p h = ap (λ b. cond b (Ok q.draft) (unfinished p (expected_form (next q)))) h.1 ∙ ap (λ (x : Draft). Ok x) h.0
 stop_whole (amid x g) d p h = absurd h
 
--- what is read is a document
+-- if reading a text succeeds, then the text is a document
 pub document_of : (t : Text) (d : Draft) → outcome start t ≡ Ok d → IsDocument t d
 unfolding outcome
 document_of t d e =
@@ -229,30 +229,30 @@ document_of t d e =
     let same : k.before ≡ t.words = sym (append-nil k.before) ∙ ap (λ (l : List Word). k.before ++ l) (sym k.ends.0) ∙ sym k.all in
     record { last = k.last; spelled = subst (λ (l : List Word). Spell start l [] k.last) same (subst (λ (l : List Word). Spell start k.before l k.last) k.ends.0 k.spelled); whole = z.0; end = z.1 }
 
--- each document is read
+-- if a text is a document, then reading it succeeds
 pub outcome_of : (t : Text) (d : Draft) → IsDocument t d → outcome start t ≡ Ok d
 unfolding outcome run
 outcome_of t d h =
     ap (run start t.words) h.end.1 ∙ ap (λ (l : List Word). run start l (ended h.end.0)) (sym (append-nil t.words)) ∙ spelled_run t.words [] start h.last (ended h.end.0) h.spelled ∙ stop_whole h.last d h.end.0 h.whole
 
--- a fault is a flaw
+-- if reading fails, then its fault is a flaw of the text
 pub flaw_of : (t : Text) (f : TextFault) → outcome start t ≡ Err f → IsFlaw t f
 unfolding outcome
 flaw_of t f e = let k = tells t.words start t.stop (Err f) e in record { before = k.before; next = k.others; all = k.all; so_far = k.last; spelled = k.spelled; fault = k.ends }
 
--- each flaw is the result of reading
+-- each flaw of a text is the fault with which reading the text fails
 pub fault_of : (t : Text) (f : TextFault) → IsFlaw t f → outcome start t ≡ Err f
 unfolding outcome
 fault_of t f h = ap (λ (l : List Word). run start l t.stop) h.all ∙ spelled_run h.before h.next start h.so_far t.stop h.spelled ∙ faulty_run h.so_far h.next t.stop f h.fault
 
--- out of memory is never the fault of a word
+-- no word has the fault OutOfMemory
 no_want_of : (d : Draft) (g : Form) (w : List ℕ) → FaultyForm OutOfMemory d g w → ⊥
 no_want_of d (word r more) w h = h.0
 no_want_of d (done p) w h = absurd cc
 no_want_of d (optional k x y) w h = absurd cc
 no_want_of d (ahead k x y) w h = absurd cc
 
--- and so it is no flaw
+-- so OutOfMemory is never a flaw
 pub no_flaw_of_memory : (t : Text) (f : TextFault) → IsFlaw t f → IsOutOfMemory f → ⊥
 no_flaw_of_memory t f h want = by_it h.so_far h.next t.stop h.fault
   where

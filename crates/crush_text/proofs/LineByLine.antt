@@ -1,4 +1,4 @@
--- The result of a line and of the text after it.
+-- The result of reading a line, and then the text after it.
 use Rattle.std.proofs.Common.{◌≡◌, ◌⊎◌, Bool, true, false, cond, List, [], ◌∷◌, Result, Ok, Err, refl, sym, ap, ◌∙◌, inl, inr}
 use Rattle.std.specs.Prelude.{drop}
 use Rattle.crush_builder.specs.Built.{Draft}
@@ -15,13 +15,13 @@ use Rattle.crush_text.specs.Tests.{word_for}
 use Rattle.crush_text.specs.Flow.{◌>>=◌, expected_form, placed, between, amid, arrive, step, takes_statement, run, outcome}
 use Rattle.crush_text.specs.Reads.{next_at, word_at, and_rest, line_at, then_on}
 
--- the same for whichever of two forms is chosen
+-- if this is true of two forms, then it is true of the one that the test b chooses
 either_goes : (b : Bool) (d : Draft) (f g : Form) (t : Text) → run (arrive d t.words f) t.words t.stop ≡ then_on (line_at d f t) → run (arrive d t.words g) t.words t.stop ≡ then_on (line_at d g t)
     → run (cond b (arrive d t.words f) (arrive d t.words g)) t.words t.stop ≡ then_on (cond b (line_at d f t) (line_at d g t))
 either_goes true d f g t x y = x
 either_goes false d f g t x y = y
 
--- the result of words is that of a line and of the text after it
+-- the result of reading all words is the result of reading a line, and then the text after it
 pub line_goes : (d : Draft) (f : Form) (ws : List Word) (stop : Stop) → run (arrive d ws f) ws stop ≡ then_on (line_at d f (record { words = ws; stop = stop }))
 unfolding outcome run step line_at word_at next_at
 line_goes d (done p) ws stop = refl
@@ -56,7 +56,7 @@ pub word_goes : (m : Mode) (k : Optional) (d : Draft) (w : Word) (ws : List Word
 unfolding outcome run step
 word_goes m k d w ws stop = ap (λ s. run s (w ∷ ws) stop) (sym (begins_so d k m (w ∷ ws))) ∙ line_goes d (line_forms d k m) (w ∷ ws) stop
 
--- if two results are equal, a fault of one is a fault of the other
+-- if two results are equal, then a fault of the second is a fault of the first
 pub fails_so : {A Y : Type 0} (f : TextFault) (all mid : Result Y TextFault) → all ≡ mid → ⊥ ⊎ (mid ≡ Err f) → A ⊎ (all ≡ Err f)
 fails_so f all mid e (inl h) = absurd h
 fails_so f all mid e (inr h) = inr (e ∙ h)

@@ -1,4 +1,4 @@
--- If no test of a builder's call finds a fault, the call can only fail with out of memory.
+-- If no test of a builder's method finds a fault, then the method can only fail with OutOfMemory.
 use Rattle.std.proofs.Common.{◌≡◌, ℕ, Bool, List, true, false, [], ◌∷◌, Option, None, refl, sym, ◌∙◌}
 use Rattle.std.specs.Prelude.{Some, is_some, if◌then◌else◌}
 use Rattle.crush_units.specs.declared.id.ItemId.{ItemId}
@@ -14,7 +14,7 @@ use Rattle.crush_builder.specs.Rules.{is_full_of_rules, rule_fault, rule_told}
 use Rattle.crush_text.specs.Room.{IsFreeRule}
 use Rattle.crush_builder.specs.Faults.{fault_told, first_fault, device_fault, is_heavy_device, is_closed}
 
--- the one fault of a builder that no test finds is out of memory
+-- the only fault of a builder that no test finds is OutOfMemory
 is_out_of_memory : (f : BuildFault) → None ≡ fault_told f → f ≡ OutOfMemory
 is_out_of_memory BadWeight e = absurd (let no : ◌≡◌ {A = Option BuildFault} None (Some BadWeight) = e in cc)
 is_out_of_memory DuplicateId e = absurd (let no : ◌≡◌ {A = Option BuildFault} None (Some DuplicateId) = e in cc)
@@ -27,7 +27,7 @@ is_out_of_memory TooMany e = absurd (let no : ◌≡◌ {A = Option BuildFault} 
 is_out_of_memory SumTooLarge e = absurd (let no : ◌≡◌ {A = Option BuildFault} None (Some SumTooLarge) = e in cc)
 is_out_of_memory OutOfMemory e = refl
 
--- if neither of two tests finds its fault, the only fault is out of memory
+-- if neither of two tests finds its fault, then the only fault is OutOfMemory
 pub memory_of_two : (f g : BuildFault) (a b : Bool) (h : BuildFault) → a ≡ false → b ≡ false → first_fault ((f, a) ∷ ((g, b) ∷ [])) ≡ fault_told h → h ≡ OutOfMemory
 memory_of_two f g true b h x y e = absurd (let no : true ≡ false = x in cc)
 memory_of_two f g false true h x y e = absurd (let no : true ≡ false = y in cc)
@@ -38,7 +38,7 @@ pub memory_of_three : (f g k : BuildFault) (a b c : Bool) (h : BuildFault) → a
 memory_of_three f g k true b c h x y z e = absurd (let no : true ≡ false = x in cc)
 memory_of_three f g k false b c h x y z e = memory_of_two g k b c h y z e
 
--- an item without a written weight isn't too heavy for a device
+-- an item without a written weight doesn't have the fault that a device is too heavy
 pub light_unwritten : (i : ItemId) → is_heavy_device i None ≡ false
 light_unwritten (Device n) = refl
 light_unwritten (Bucket b) = refl
@@ -47,7 +47,7 @@ light_unwritten (Bucket b) = refl
 pub closed_so : (b : BuilderData) (d : Draft) (i : ItemId) → IsDraft b d → is_there d.table i ≡ true → is_open b.pending i ≡ false → is_closed d i ≡ true
 closed_so b d i h there shut = rw (there, ← h.pending, shut) refl
 
--- if there is room for a rule and it is free, the only fault can be out of memory
+-- if there is room for a rule, and its name and its id are free, then adding it can only fail with OutOfMemory
 pub memory_of_rule : (d : Draft) (r : Rule) (f : RuleFault) → is_full_of_rules d ≡ false → IsFreeRule d r → rule_fault d r ≡ rule_told f → f.fault ≡ OutOfMemory
 memory_of_rule d r f room free e = is_out_of_memory f.fault (untold (fault_told f.fault) (sym none ∙ e))
   where

@@ -1,4 +1,4 @@
--- The optional parts of the grammar: each line hands on the parts that it has passed over.
+-- The optional parts of the grammar: each line records the optional parts that were left out at its end.
 use Rattle.std.proofs.Common.{◌≡◌, ℕ, Bool, true, false, List, [], ◌∷◌, ◌++◌, Option, Some, None, refl, sym, subst, ◌∙◌, ap}
 use Rattle.std.proofs.lemmas.Bool.{cond_both}
 use Rattle.std.specs.Prelude.{codes, drop}
@@ -25,7 +25,7 @@ pub record BeginsWith (k : List ℕ) (f : Form) : Type 0 where
   pub more : Unit {0} → Form
   pub is : f ≡ word (key k) more
 
--- the end of a line that has passed over a weight
+-- the form of the end of a line that has left out a weight
 pub record PassesWeight (f : Form) : Type 0 where
   pub progress : Progress
   pub is : f ≡ done progress
@@ -40,14 +40,14 @@ pub record IsItemLine (f g : Form) : Type 0 where
   pub begins : (i : ItemId) → BeginsWith (codes "weight") (more i)
   pub passes : (i : ItemId) → PassesWeight (last i)
 
--- the rest of a line hands on the optional parts that it passes over, after those that begin with the words ks
+-- if optional parts that begin with the words ks have just been left out, then the form records them, and also the optional parts that it leaves out itself
 abbrev pub HandsOn : List (List ℕ) → Form → Type 0
 HandsOn ks (done p) = words_of p.passed ≡ ks
 HandsOn ks (word r more) = (ks ≡ []) × (is_lone r ≡ false) × ((v : El r) → HandsOn [] (more v))
 HandsOn ks (optional k f g) = BeginsWith k f × HandsOn [] f × HandsOn (ks ++ k ∷ []) g
 HandsOn ks (ahead k f g) = (ks ≡ []) × (k ≡ codes "weight") × IsItemLine f g × HandsOn [] f
 
--- the same for what follows a word of the role r
+-- the same for the form after a word of the role r
 abbrev pub HandsOnBehind : Role → Form → Type 0
 HandsOnBehind lone_item f = PassesWeight f
 HandsOnBehind r f = HandsOn [] f
@@ -60,12 +60,12 @@ IsInForm (amid d (word r more)) = (v : El r) → HandsOnBehind r (more v)
 IsInForm (amid d (optional k f g)) = ⊥
 IsInForm (amid d (ahead k f g)) = ⊥
 
--- behind a role that isn't that of such an item
+-- the form after a word whose role isn't `lone_item`
 pub behind_role : (r : Role) (f : Form) → is_lone r ≡ false → HandsOn [] f → HandsOnBehind r f
 behind_role lone_item f e h = absurd (let no : true ≡ false = e in cc)
 behind_role r f e h = h
 
--- EACH LINE hands on what it passes over
+-- EACH LINE records the optional parts that it leaves out
 
 statement_hands : (d : Draft) (o : StatementKind) → HandsOn [] (statement d o)
 statement_hands d statement_kinds.Tunable = (refl, refl, λ x. (refl, refl, λ n. refl))
@@ -130,7 +130,7 @@ line_hands d k (ruled r) = by_it
     by_it true = (refl, refl, step_hands d r)
     by_it false = refl
 
--- WHAT IS DUE is in form
+-- A STATE in which a form is required satisfies `IsInForm`
 pub arrive_in_form : (d : Draft) (rest : List Word) (f : Form) (ks : List (List ℕ)) → HandsOn ks f → IsInForm (arrive d rest f)
 arrive_in_form d rest (done p) ks h = tt
 arrive_in_form d rest (word r more) ks h = λ v. behind_role r (more v) h.1 (h.2 v)

@@ -56,7 +56,7 @@ stood e t rest p w ws is h = by_it (ap (λ l. next_of e l t.stop) (sym is) ∙ h
     by_it : next_of e (w ∷ ws) t.stop ≡ Ok (record { place = p; text = h.0 }, rest) → p ≡ w.place
     by_it same_ok = let same : (let y : Word × Text = (w, record { words = ws; stop = t.stop }) in y) ≡ (record { place = p; text = h.0 }, rest) = cc in sym (ap (λ (y : Word × Text). y.0.place) same)
 
--- a key that is next is taken
+-- if a key is the next word, then it can be read
 pub key_taken : (d : Draft) (k : List ℕ) (t : Text) → true ≡ begins k t → word_at d (key k) t ≡ Ok (tt, past t)
 unfolding word_at next_at
 key_taken d k t e = by_words t.words t.stop e
@@ -65,41 +65,41 @@ key_taken d k t e = by_words t.words t.stop e
     by_words [] stop e = absurd cc
     by_words (w ∷ ws) stop e = ap (λ b. placed w.place (expected (key k)) (unless ((Unexpected when not b) ∷ []) tt) >>= and_rest (record { words = ws; stop = stop })) (sym e)
 
--- an optional part, if its key is read when it is the next word
+-- an optional part is read if its key is the next word; then the key is read first
 pub part_taken : (d : Draft) (k : List ℕ) (f g : Form) (t rest : Text) (b : Bool) → b ≡ begins k t → rest ≡ (if b then past t else t) → line_at d (optional k (word (key k) (λ _. f)) g) t ≡ (if b then line_at d f rest else line_at d g rest)
 unfolding line_at
 part_taken d k f g t rest true e is = ap (λ c. if c then line_at d (word (key k) (λ _. f)) t else line_at d g t) (sym e) ∙ ap (λ q. q >>= λ x. line_at d f x.1) (key_taken d k t e) ∙ ap (λ u. line_at d f u) (sym is)
 part_taken d k f g t rest false e is = ap (λ c. if c then line_at d (word (key k) (λ _. f)) t else line_at d g t) (sym e) ∙ ap (λ u. line_at d g u) (sym is)
 
--- A WORD that was read is reached
+-- A WORD that was read without a fault is reached
 pub reaches_word : (d : Draft) (r : Role) (more : El r → Form) (v : El r) (e : Expected) (t rest stop : Text) (p : ℕ) → word_at d r t ≡ Ok (v, rest) → StoodAt e t stop p → Reaches p (arrive d t.words (word r more)) t.words
 reaches_word d r more v due t rest stop p e h =
     let k = taken d r v t rest e in
     subst (λ (ws : List Word). Reaches p (amid d (word r more)) ws) (sym k.words) (_, stepped d r more v k.word.text rest.words k.value, inl (stood due t stop p k.word rest.words k.words h))
 
--- and so is each place that is reached after it
+-- if a word was read without a fault, then each place that is reached after the word is also reached from before it
 pub reaches_on : (d : Draft) (r : Role) (more : El r → Form) (v : El r) (t rest : Text) (p : ℕ) → word_at d r t ≡ Ok (v, rest) → Reaches p (arrive d rest.words (more v)) rest.words → Reaches p (arrive d t.words (word r more)) t.words
 reaches_on d r more v t rest p e h =
     let k = taken d r v t rest e in
     subst (λ (ws : List Word). Reaches p (amid d (word r more)) ws) (sym k.words) (_, stepped d r more v k.word.text rest.words k.value, inr h)
 
--- in an optional part too
+-- a place is reached in an optional part if it is reached in the form that was chosen
 pub reaches_part : (d : Draft) (k : List ℕ) (f g : Form) (t : Text) (b : Bool) (p : ℕ) → b ≡ begins k t → Reaches p (if b then arrive d t.words f else arrive d t.words g) t.words → Reaches p (arrive d t.words (optional k f g)) t.words
 reaches_part d k f g t b p e h = subst (λ (c : Bool). Reaches p (if c then arrive d t.words f else arrive d t.words g) t.words) e h
 
--- and in one whose key is taken
+-- the same if the key of the optional part is read
 pub reaches_taken : (d : Draft) (k : List ℕ) (f g : Form) (t rest : Text) (b : Bool) (p : ℕ) → b ≡ begins k t → rest ≡ (if b then past t else t) → Reaches p (if b then arrive d rest.words f else arrive d rest.words g) rest.words
     → Reaches p (arrive d t.words (optional k (word (key k) (λ _. f)) g)) t.words
 reaches_taken d k f g t rest true p e is h = reaches_part d k (word (key k) (λ _. f)) g t true p e (reaches_on d (key k) (λ _. f) tt t (past t) p (key_taken d k t e) (subst (λ (u : Text). Reaches p (arrive d u.words f) u.words) is h))
 reaches_taken d k f g t rest false p e is h = reaches_part d k (word (key k) (λ _. f)) g t false p e (subst (λ (u : Text). Reaches p (arrive d u.words g) u.words) is h)
 
--- one of two forms that was read
+-- a place is reached in the one of two forms that was read
 either_reaches : (b : Bool) (d : Draft) (f g : Form) (q : Progress) (t rest : Text) (p : ℕ) → cond b (line_at d f t) (line_at d g t) ≡ Ok (q, rest) → (line_at d f t ≡ Ok (q, rest) → Reaches p (arrive d t.words f) t.words) → (line_at d g t ≡ Ok (q, rest) → Reaches p (arrive d t.words g) t.words)
     → Reaches p (cond b (arrive d t.words f) (arrive d t.words g)) t.words
 either_reaches true d f g q t rest p e x y = x e
 either_reaches false d f g q t rest p e x y = y e
 
--- A LINE that was read: what is reached after it is reached from its beginning
+-- A LINE that was read: each place that is reached after the line is also reached from the line's beginning
 reaches_behind : (d : Draft) (f : Form) (q : Progress) (t rest : Text) (p : ℕ) → line_at d f t ≡ Ok (q, rest) → Reaches p (between q) rest.words → Reaches p (arrive d t.words f) t.words
 unfolding line_at
 reaches_behind d (done x) q t rest p e h =
@@ -131,18 +131,18 @@ next_leads m k d t amid_line = record { same = next_goes m k d t amid_line ∙ s
     by_mode first ws p h = by_words first ws p h
     by_mode n ws p h = by_words n ws p h
 
--- two parts of the text, one after the other
+-- if reading leads from s to m, and from m to n, then it leads from s to n
 pub leads_then : (s m n : State) (t u v : Text) → LeadsOn s t m u → LeadsOn m u n v → LeadsOn s t n v
 leads_then s m n t u v a b = record { same = a.same ∙ b.same; reaches = λ p h. a.reaches p (b.reaches p h) }
 
 pub no_words : (s : State) (t : Text) → LeadsOn s t s t
 no_words s t = record { same = refl; reaches = λ p h. h }
 
--- out of memory at a place that is reached
+-- the fault OutOfMemory at a place that is reached
 pub out_of_memory_here : (f : TextFault) (p : ℕ) (s : State) (ws : List Word) → f ≡ record { kind = OutOfMemory; place = p; expected = Memory } → Reaches p s ws → IsOutOfMemory f × Reaches f.place s ws
 out_of_memory_here f p s ws e h = (ap (λ (x : TextFault). x.kind) e, subst (λ (q : ℕ). Reaches q s ws) (sym (ap (λ (x : TextFault). x.place) e)) h)
 
--- a fault after words without a fault is a fault of them all
+-- a fault after words without a fault is also the fault of all these words
 pub fails_then : (f : TextFault) (s m : State) (t u : Text) → LeadsOn s t m u → Fails f m u → Fails f s t
 fails_then f s m t u a (inl h) = inl (h.0, a.reaches f.place h.1)
 fails_then f s m t u a (inr h) = inr (a.same ∙ h)
@@ -153,7 +153,7 @@ unfolding outcome
 fails_line f d g t (inl h) = inl h
 fails_line f d g t (inr h) = inr (line_goes d g t.words t.stop ∙ ap then_on h)
 
--- the result of a call that reads on where an earlier one ended
+-- the result of a method that reads on where an earlier method stopped
 pub goes_on : {X : Type 0} (m : X → Ending) (r : Result X TextFault) (b : BuilderData) (rest : Text) (s n : State) (t u : Text) → LeadsOn s t n u → Goes m r b rest n u → Goes m r b rest s t
 goes_on m (Ok x) b rest s n t u a h = (h.0, h.1, leads_then s n _ t u rest a h.2)
 goes_on m (Err f) b rest s n t u a h = fails_then f s n t u a h

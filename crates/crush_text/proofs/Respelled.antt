@@ -1,4 +1,4 @@
--- THE SAME WORDS WITH OTHER WORDS AFTER THEM: what they lead to.
+-- THE SAME WORDS WITH OTHER WORDS AFTER THEM: to which states they lead.
 use Rattle.std.proofs.Common.{◌≡◌, ◌⊎◌, ℕ, Bool, true, false, cond, List, [], ◌∷◌, ◌++◌, refl, sym, ap, subst, ◌∙◌, inl, inr}
 use Rattle.std.specs.Prelude.{codes, bytes_eq, drop}
 use Rattle.crush_units.specs.declared.id.ItemId.{ItemId}
@@ -31,7 +31,7 @@ abbrev pub IsLone : State → Type 0
 IsLone (between p) = IsLoneForm (next_line p)
 IsLone (amid d f) = IsLoneForm f
 
--- no line begins so
+-- no line begins with the role `lone_item`
 line_not_lone : (d : Draft) (k : Optional) (m : Mode) → IsLoneForm (line_forms d k m) → ⊥
 line_not_lone d k first e = let no : false ≡ true = e in absurd cc
 line_not_lone d k second e = let no : false ≡ true = e in absurd cc
@@ -40,7 +40,7 @@ line_not_lone d k numbered e = let no : false ≡ true = e in absurd cc
 line_not_lone d k (filling any) e = let no : false ≡ true = e in absurd cc
 line_not_lone d k (ruled r) e = let no : false ≡ true = e in absurd cc
 
--- ONE WORD: what it leads to, whatever follows it
+-- ONE WORD: the form that is required after it, whatever words follow it
 pub record OneWord (d : Draft) (g : Form) (w : List ℕ) : Type 0 where
   pub behind : Form
   pub hands : HandsOn [] behind ⊎ (IsLoneForm g × PassesWeight behind)
@@ -57,7 +57,7 @@ of_form d (done p) w rest m k h = absurd h
 of_form d (optional c f g) w rest m k h = absurd h
 of_form d (ahead c f g) w rest m k h = absurd h
 
--- the same of a state
+-- the same for a word in a state
 pub record OneStep (s : State) (w : List ℕ) : Type 0 where
   pub draft : Draft
   pub behind : Form
@@ -73,7 +73,7 @@ one_step (amid d g) w rest m k h =
     let o = of_form d g w rest m k h in
     record { draft = d; behind = o.behind; hands = o.hands; leads = o.leads; right = o.right }
 
--- what it leads to is in form
+-- a state to which a word leads satisfies `IsInForm`
 pub step_in_form : (s : State) (w : List ℕ) (rest : List Word) (m : State) → IsInForm s → SpellsNext s w rest m → IsInForm m
 step_in_form s w rest m k h = let o = one_step s w rest m k h in subst IsInForm (sym (o.leads rest m h)) (by_hands o o.hands)
   where
@@ -81,14 +81,14 @@ step_in_form s w rest m k h = let o = one_step s w rest m k h in subst IsInForm 
     by_hands o (inl a) = arrive_in_form o.draft rest o.behind [] a
     by_hands o (inr a) = subst (λ (f : Form). IsInForm (arrive o.draft rest f)) (sym a.1.is) tt
 
--- TWO WORDS decide what is due
+-- TWO WORDS decide which form is required; the words after them don't matter
 pub two_words : (d : Draft) (x y : Word) (us vs : List Word) (g : Form) → arrive d (x ∷ y ∷ us) g ≡ arrive d (x ∷ y ∷ vs) g
 two_words d x y us vs (done p) = refl
 two_words d x y us vs (word r more) = refl
 two_words d x y us vs (optional k f g) = λ i. cond (bytes_eq x.text k) (two_words d x y us vs f i) (two_words d x y us vs g i)
 two_words d x y us vs (ahead k f g) = λ i. cond (bytes_eq y.text k) (two_words d x y us vs f i) (two_words d x y us vs g i)
 
--- if only one is left, then what follows it decides whether the name of an item has a weight: a has none, and b has one
+-- if only one word is left, then the words after it decide whether the item that it names has a weight: in the state a it has none, and in the state b it has one
 pub record Parts (us vs : List Word) (a b : State) : Type 0 where
   pub draft : Draft
   pub more : ItemId → Form
@@ -100,7 +100,7 @@ pub record Parts (us vs : List Word) (a b : State) : Type 0 where
   pub none : is_weight_next us ≡ false
   pub there : is_weight_next vs ≡ true
 
--- what is due is the same; or it is the name of an item, with a weight or without one
+-- the two states are equal, or in one of them the item that the next word names has a weight, and in the other it has none
 abbrev pub Near : List Word → List Word → State → State → Type 0
 Near us vs a b = ((a ≡ b) × (IsLone a → (is_weight_next us ≡ false) × (is_weight_next vs ≡ false))) ⊎ (Parts us vs a b ⊎ Parts vs us b a)
 
@@ -124,7 +124,7 @@ near d x us vs (ahead k f g) ks h =
     near_item d us vs (begins_with_key k us) (begins_with_key k vs) (arrive d (x ∷ us) f) (arrive d (x ∷ us) g) (arrive d (x ∷ vs) f) (arrive d (x ∷ vs) g) h.2.more h.2.last (ap (λ (c : List ℕ). begins_with_key c us) (sym h.1)) (ap (λ (c : List ℕ). begins_with_key c vs) (sym h.1)) h.2.begins h.2.passes
     (ap (arrive d (x ∷ us)) h.2.weighed) (ap (arrive d (x ∷ vs)) h.2.weighed) (ap (arrive d (x ∷ us)) h.2.alone) (ap (arrive d (x ∷ vs)) h.2.alone)
 
--- the same behind a word
+-- the same after one more word
 pub near_behind : (s : State) (w : List ℕ) (x : Word) (us vs : List Word) (o : OneStep s w) → Near us vs (arrive o.draft (x ∷ us) o.behind) (arrive o.draft (x ∷ vs) o.behind)
 near_behind s w x us vs o = by_hands o.hands
   where
@@ -132,8 +132,8 @@ near_behind s w x us vs o = by_hands o.hands
     by_hands (inl h) = near o.draft x us vs o.behind [] h
     by_hands (inr h) = subst (λ (f : Form). Near us vs (arrive o.draft (x ∷ us) f) (arrive o.draft (x ∷ vs) f)) (sym h.1.is) (inl (refl, λ l. absurd (line_not_lone h.1.progress.draft h.1.progress.passed h.1.progress.mode l)))
 
--- THE WORDS ARE SPELLED ANEW
--- an item's name that is right without a weight is right with one
+-- THE SAME WORDS SPELL LINES with other words after them
+-- if an item's name has no fault without a weight, then it has none with a weight
 pub right_weighed : (d : Draft) (w : List ℕ) → IsRight d lone_item w → IsRight d item w
 right_weighed d w h f g = by_fault f g (h f)
   where
@@ -141,7 +141,7 @@ right_weighed d w h f g = by_fault f g (h f)
     by_fault SumTooLarge g k = absurd g
     by_fault f g k = k g
 
--- `weight` is due and is next; with other words it isn't next
+-- in the state s, `weight` is required; it is the next word of us, but not of vs
 pub record WeightGone (us vs : List Word) (s : State) : Type 0 where
   pub draft : Draft
   pub more : Unit {0} → Form
@@ -149,7 +149,7 @@ pub record WeightGone (us vs : List Word) (s : State) : Type 0 where
   pub there : is_weight_next us ≡ true
   pub gone : is_weight_next vs ≡ false
 
--- words that are spelled are spelled if other words follow them, unless a weight that is due is gone
+-- words that spell lines also spell lines with other words after them, unless a `weight` that is required is missing then
 pub respelled : (ws : List Word) (s a : State) (us vs : List Word) → IsInForm s → Spell s ws us a → ((b : State) × Spell s ws vs b) ⊎ WeightGone us vs a
 respelled [] s a us vs k h = inl (s, refl)
 respelled (w ∷ []) s a us vs k h = let o = one_step s w.text us h.0 k h.1 in inl (_, (arrive o.draft vs o.behind, o.right vs, refl))

@@ -1,4 +1,4 @@
--- Each test finds its fault if the fault's row of the table applies; and only then, unless a test with a lesser number finds one.
+-- A test finds its fault if the fault's row of the table applies. If the row doesn't apply, the test finds the fault only if a test of a fault with a smaller number finds one.
 use Rattle.std.proofs.Common.{◌≡◌, ◌≢◌, ℕ, ◌<◌, ◌≤◌, ◌⊎◌, Bool, true, false, cond, List, Option, Some, None, Result, Ok, Err, refl, sym, ap, subst, ◌∙◌, arith, inl, inr}
 use Rattle.std.proofs.lemmas.Bool.{or_parts, or_from}
 use Rattle.std.proofs.lemmas.Bool.Decides.{Decides-like, Decides-not, Decides-and, Decides-or, Decides-eqb, leb_tells}
@@ -28,24 +28,24 @@ use Rattle.crush_text.specs.Rows.{IsBrace, ComesFirst, IsNeither, IsNoStepWord, 
 use Rattle.crush_text.proofs.Judged.{fires, NoneFires, above, not_below}
 use Rattle.crush_text.proofs.Reserved.{no_key, not_reserved}
 
--- A TEST AND WHAT IT MEANS: one that never holds
+-- A TEST AND ITS MEANING: a test that is never true
 no_row : Decides false ⊥
 no_row = (λ e. absurd cc, λ h. absurd h)
 
--- one that always does
+-- a test that is always true
 each_row : Decides true (Unit {0})
 each_row = (λ e. tt, λ h. refl)
 
--- a test by itself
+-- a test by itself, whose meaning is that it is true
 itself : (b : Bool) → Decides b (b ≡ true)
 itself b = (λ e. e, λ e. e)
 
--- the negation of a test means that the test doesn't hold
+-- the negation of a test means that the test is false
 isnt : (b : Bool) → Decides (not b) (b ≡ false)
 isnt true = (λ e. absurd cc, λ e. absurd cc)
 isnt false = (λ e. refl, λ e. refl)
 
--- a test whose negation doesn't hold does hold
+-- if the negation of a test is false, then the test is true
 not_not : (b : Bool) → not b ≡ false → b ≡ true
 not_not true e = refl
 not_not false e = absurd cc
@@ -55,11 +55,11 @@ none_tells : {A : Type 0} (o : Option A) → Decides (not (is_some o)) (o ≡ No
 none_tells None = (λ e. refl, λ e. refl)
 none_tells {A = A} (Some x) = (λ e. absurd cc, λ e. absurd (let no : (let n : Option A = Some x in n) ≡ None = e in cc))
 
--- one of two words
+-- the test whether a word is one of two words
 either_tells : (w k l : List ℕ) → Decides (is_either w k l) ((w ≡ k) ⊎ (w ≡ l))
 either_tells w k l = Decides-or _ _ (bytes_eq-Decides w k) (bytes_eq-Decides w l)
 
--- none of two words
+-- the test whether a word is neither of two words
 none_of_two : (w k l : List ℕ) → Decides (not (is_either w k l)) (IsNeither w k l)
 none_of_two w k l = Decides-like _ (λ h. (λ e. h (inl e), λ e. h (inr e))) (λ h s. by_side h s) (Decides-not _ (either_tells w k l))
   where
@@ -67,7 +67,7 @@ none_of_two w k l = Decides-like _ (λ h. (λ e. h (inl e), λ e. h (inr e))) (�
     by_side h (inl e) = h.0 e
     by_side h (inr e) = h.1 e
 
--- nor a third word, if it is allowed
+-- the test whether a word is neither of two words nor a third word, if the third word is allowed
 nor_third : (b : Bool) (w k l m : List ℕ) → Decides (not (is_either w k l || (b && bytes_eq w m))) ((w ≢ k) × (w ≢ l) × (b ≡ true → w ≢ m))
 nor_third b w k l m = Decides-like _ (λ h. (λ e. h (inl (inl e)), λ e. h (inl (inr e)), λ t e. h (inr (t, e)))) (λ h s. by_side h s) (Decides-not _ (Decides-or _ _ (either_tells w k l) (Decides-and _ _ (itself b) (bytes_eq-Decides w m))))
   where
@@ -76,20 +76,20 @@ nor_third b w k l m = Decides-like _ (λ h. (λ e. h (inl (inl e)), λ e. h (inl
     by_side h (inl (inr e)) = h.1 e
     by_side h (inr e) = h.2 e.0 e.1
 
--- a brace
+-- the test whether a word is a brace
 pub brace_tells : (w : List ℕ) → Decides (is_brace_word w) (IsBrace w)
 brace_tells w = Decides-or _ _ (bytes_eq-Decides w _) (bytes_eq-Decides w _)
 
--- a word that begins a tunable, a device or a type
+-- the test whether a word begins a tunable, a device or a type
 first_tells : (w : List ℕ) → Decides (comes_first w) (ComesFirst w)
 first_tells w = Decides-or _ _ (bytes_eq-Decides w _) (either_tells w _ _)
 
--- a test that can't hold
+-- a test that can't be true is false
 no_true : (b : Bool) → (b ≡ true → ⊥) → b ≡ false
 no_true true h = absurd (h refl)
 no_true false h = refl
 
--- a text that is no weight of an item
+-- the test whether a text isn't a weight that an item may have
 no_weight_tells : (i : ItemId) (r : Result ℕ WeightFault) → Decides (not (is_weight_for i r)) (IsNoWeightOf i r)
 no_weight_tells i (Err f) = each_row
 no_weight_tells (Device n) (Ok w) = by_it (nat_le w HEAVIEST_DEVICE) (leb_tells w HEAVIEST_DEVICE)
@@ -111,7 +111,7 @@ module _ (d : Draft) (w : List ℕ) where
       let last = or_parts (bytes_eq w (codes "rule")) _ late.0 in
       (not_reserved w (record { tunable = two.0; device = three.0; kind = three.1; rule = last.0; class = other; weights = last.1 }), late.1)
 
-  -- and the other way round
+  -- if the row of an unknown type applies, then the word isn't known
   row_unknown : (is_reserved w ≡ false) × (is_bucket_kind d.setting (kind_of_word d w) ≡ false) → is_known d w ≡ false
   row_unknown h =
       let n = no_key w h.0 in
@@ -131,7 +131,7 @@ module _ (d : Draft) (w : List ℕ) where
       by_it false false false false true ha hb hc he hx r k f = absurd cc
       by_it false false false false false ha hb hc he hx r k f = inr (inr (inr (inr ((not_reserved w (record { tunable = ha; device = hb; kind = hc; rule = he; class = other; weights = hx }), k), f))))
 
-  -- and the other way round, there is no room
+  -- if the row of too many applies, then there is no room
   row_full : IsOneTooMany d w → is_full d w ≡ true
   row_full (inl h) = subst (λ (x : List ℕ). is_full d x ≡ true) (sym h.0) h.1
   row_full (inr (inl h)) = subst (λ (x : List ℕ). is_full d x ≡ true) (sym h.0) h.1
@@ -139,21 +139,21 @@ module _ (d : Draft) (w : List ℕ) where
   row_full (inr (inr (inr (inl h)))) = subst (λ (x : List ℕ). is_full d x ≡ true) (sym h.0) h.1
   row_full (inr (inr (inr (inr h)))) = let n = no_key w h.0.0 in rw (n.tunable, n.device, n.kind, n.rule) h.1
 
--- AN ITEM BY ITS NAME: if the item exists, the test is of this item
+-- AN ITEM BY ITS NAME: if the name's item exists, then the test P is about this item
 named_row : (P : ItemId → Bool) (o : Option ItemId) → not (is_some o) ≡ false → P (unwrap_or o (Device 0)) ≡ true → (i : ItemId) × (o ≡ Some i) × (P i ≡ true)
 named_row P (Some i) there e = (i, refl, e)
 named_row P None there e = absurd cc
 
--- and the other way round
+-- conversely, if the name's item exists and P is true of it, then P is true of `unwrap_or o`
 row_named : (P : ItemId → Bool) (o : Option ItemId) → (i : ItemId) × (o ≡ Some i) × (P i ≡ true) → P (unwrap_or o (Device 0)) ≡ true
 row_named P o h = ap (λ (x : Option ItemId). P (unwrap_or x (Device 0))) h.1 ∙ h.2
 
--- A WEIGHT that its item may have: the test is of this weight
+-- A WEIGHT that its item may have: the test P is about this weight
 weighed_row : (i : ItemId) (P : ℕ → Bool) (r : Result ℕ WeightFault) → not (is_weight_for i r) ≡ false → P (units_or_none r) ≡ true → (u : ℕ) × (r ≡ Ok u) × (IsNoWeightOf i (Ok u) → ⊥) × (P u ≡ true)
 weighed_row i P (Ok u) fit e = (u, refl, λ no. let not_fit = (no_weight_tells i (Ok u)).1 no in absurd cc, e)
 weighed_row i P (Err f) fit e = absurd cc
 
--- the other way round, from the weight to the test
+-- conversely, if the text is a weight that the item may have and P is true of it, then P is true of `units_or_none r`
 row_weighed : (i : ItemId) (P : ℕ → Bool) (r : Result ℕ WeightFault) → (u : ℕ) × (r ≡ Ok u) × (IsNoWeightOf i (Ok u) → ⊥) × (P u ≡ true) → P (units_or_none r) ≡ true
 row_weighed i P r h = ap (λ (x : Result ℕ WeightFault). P (units_or_none x)) h.1 ∙ h.3
 
@@ -162,11 +162,11 @@ behind_item : (any : Bool) (w : List ℕ) → w ≡ codes "pos" → not (is_eith
 behind_item true w e h = refl
 behind_item false w e h = absurd (let no : true ≡ false = subst (λ (x : List ℕ). not (is_either x (codes "item") (codes "}") || (false && bytes_eq x (codes "pos"))) ≡ false) e h in cc)
 
--- a word with which a step begins, or `choosemsr`, which isn't supported
+-- the word begins a step, or it is `choosemsr`, which isn't supported
 abbrev StepSaid : List ℕ → Type 0
 StepSaid w = ((w ≡ codes "take") ⊎ (((w ≡ codes "choose") ⊎ (w ≡ codes "chooseleaf")) ⊎ ((w ≡ codes "emit") ⊎ (starts_with nat_eq w (codes "set_") ≡ true)))) ⊎ (w ≡ codes "choosemsr")
 
--- a word with which no step begins
+-- the test whether a word doesn't begin a step
 no_step_tells : (w : List ℕ) → Decides (not (is_step_word w || bytes_eq w (codes "choosemsr"))) (IsNoStepWord w)
 no_step_tells w = Decides-like _ (λ h. (λ e. h (inl (inl e)), (λ e. h (inl (inr (inl (inl e)))), λ e. h (inl (inr (inl (inr e))))), λ e. h (inl (inr (inr (inl e)))), no_true _ (λ t. h (inl (inr (inr (inr t))))), λ e. h (inr e))) (λ h s. by_side h s)
     (Decides-not _ (Decides-or _ _ (Decides-or _ _ (bytes_eq-Decides w _) (Decides-or _ _ (either_tells w _ _) (Decides-or _ _ (bytes_eq-Decides w _) (itself _)))) (bytes_eq-Decides w _)))
@@ -179,7 +179,7 @@ no_step_tells w = Decides-like _ (λ h. (λ e. h (inl (inl e)), (λ e. h (inl (i
     by_side h (inl (inr (inr (inr t)))) = let f = h.3 in absurd cc
     by_side h (inr e) = h.4 e
 
--- the test that a number is at most another
+-- the test whether a number is at most another number
 le_tells : (a b : ℕ) → Decides (nat_le a b) (a ≤ b)
 le_tells a b = by_it (nat_le a b) (leb_tells a b)
   where
@@ -187,11 +187,11 @@ le_tells a b = by_it (nat_le a b) (leb_tells a b)
     by_it c (inl p) = (λ e. p.1, λ le. p.0)
     by_it c (inr p) = (λ e. let f = p.0 in absurd cc, λ le. absurd (let lt = p.1 in omega (arith, lt, le)))
 
--- A TEST AMONG OTHERS: if it holds and no test with a lesser number does, then its meaning is true; and if its meaning is true, it holds
+-- A TEST AMONG OTHERS: if it is true and no test of a fault with a smaller number is true, then its meaning is true; and if its meaning is true, then the test is true
 abbrev Means : TextFaultKind → List Test → Type 0 → Type 0
 Means f ts A = (fires f ts ≡ true → NoneFires f ts → A) × (A → fires f ts ≡ true)
 
--- a test whose meaning is true whenever it holds
+-- a test whose meaning is true whenever the test is true
 alone : (b : Bool) (N A : Type 0) → Decides b A → (b ≡ true → N → A) × (A → b ≡ true)
 alone b N A t = (λ e none. t.0 e, λ h. t.1 h)
 
@@ -284,7 +284,7 @@ module _ (d : Draft) (w : List ℕ) where
   too_many (step_or_end k or) = alone _ _ _ (Decides-and _ _ (bytes_eq-Decides w _) (le_tells MOST_STEPS k))
   too_many r = alone _ _ _ no_row
 
-  -- whether it is too large with an item without a weight, or with one of this weight
+  -- whether a sum is too large with an item without a weight, or with an item of this weight
   abbrev heavy_item : ItemId → Bool
   heavy_item i = is_too_heavy (with_next_item d i None).table
 
@@ -296,12 +296,12 @@ module _ (d : Draft) (w : List ℕ) where
   sum_too_large (weight i) = (λ e none. weighed_row i (heavy_weight i) (weight_of_text w) (none BadWeight (omega arith)) e, λ h. row_weighed i (heavy_weight i) (weight_of_text w) h)
   sum_too_large r = alone _ _ _ no_row
 
-  -- a row that no word has
+  -- the row of OutOfMemory, which applies to no word
   no_memory : (r : Role) → Decides (fires OutOfMemory (word_tests d r w)) ⊥
   no_memory (key k) = no_row
   no_memory r = no_row
 
-  -- a test holds if its row applies; and if no test with a lesser number holds, only then
+  -- if a fault's row applies, then its test is true; if its test is true, and no test of a fault with a smaller number is true, then its row applies
   pub told : (f : TextFaultKind) (r : Role) → Means f (word_tests d r w) (Holds f d r w)
   told BadWord r = alone _ _ _ (Decides-like _ (λ e. let n = not_below 2 (word_tests d r w) BadWord (in_order r) (omega arith) in absurd cc) (λ h. absurd h) (itself _))
   told Ended r = alone _ _ _ (Decides-like _ (λ e. let n = not_below 2 (word_tests d r w) Ended (in_order r) (omega arith) in absurd cc) (λ h. absurd h) (itself _))

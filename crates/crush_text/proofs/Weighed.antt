@@ -28,11 +28,11 @@ use Rattle.crush_text.specs.Reads.{parsed_weight, unless_heavy, and_rest, next_o
 use Rattle.crush_text.specs.ReadsLines.{Adds, LineGoes}
 use Rattle.crush_text.proofs.Reached.{reaches_word, reaches_on, key_taken}
 
--- the result of a weight without a fault, when the item is put into the bucket
+-- the result of a weight, after the sums are tested with the item in the bucket
 abbrev with_weight : Draft → ItemId → Result ℕ TextFaultKind → Result ℕ TextFaultKind
 with_weight d i r = r >>= λ x. if is_too_heavy (with_next_item d i (Some x)).table then Err SumTooLarge else Ok x
 
--- a weight's word is judged before it is put into the bucket, and then with it
+-- the word of a weight is first tested by itself, and then the sums are tested with the item in the bucket
 own_then : (d : Draft) (i : ItemId) (w : List ℕ) → word_for d (weight i) w ≡ with_weight d i (parsed_weight d i w)
 own_then d i w = by_tests (is_brace_word w) (not (is_weight_for i (weight_of_text w)))
   where
@@ -41,11 +41,11 @@ own_then d i w = by_tests (is_brace_word w) (not (is_weight_for i (weight_of_tex
     by_tests false true = refl
     by_tests false false = refl
 
--- the result of an item without a weight whose name has no fault
+-- the result of an item's name without a weight, after the sums are tested with the item in the bucket
 abbrev without_weight : Draft → Result ItemId TextFaultKind → Result ItemId TextFaultKind
 without_weight d r = r >>= λ i. if is_too_heavy (with_next_item d i None).table then Err SumTooLarge else Ok i
 
--- the name of an item without a weight is judged as any item's, and then with the item in its bucket
+-- the name of an item without a weight is first tested like the name of any item, and then the sums are tested with the item in the bucket
 lone_then : (d : Draft) (w : List ℕ) → word_for d lone_item w ≡ without_weight d (word_for d item w)
 lone_then d w = by_tests (is_brace_word w) (not (is_some (item_named d w))) (is_placed d.table (item_of d w))
   where
@@ -56,17 +56,17 @@ lone_then d w = by_tests (is_brace_word w) (not (is_some (item_named d w))) (is_
     by_tests false false true = refl
     by_tests false false false = refl
 
--- a result without a fault is the same after a place was added to it
+-- a result without a fault is the same after a place was added
 pub told_ok : {A : Type 0} (p : ℕ) (due : Expected) (x : A) (r : Result A TextFaultKind) → Ok x ≡ placed p due r → r ≡ Ok x
 told_ok {A = A} p due x (Ok y) e = let k : x ≡ y = cc in ap (λ (z : A). Ok z) (sym k)
 told_ok p due x (Err f) e = absurd cc
 
--- a fault at a place is the fault of what goes on from there
+-- a fault, with its place, is also the fault of a computation that goes on after it
 told_err : {A B : Type 0} (p : ℕ) (due : Expected) (f : TextFault) (r : Result A TextFaultKind) (go : A → Result B TextFaultKind) → Err f ≡ placed p due r → placed p due (r >>= go) ≡ Err f
 told_err p due f (Ok y) go e = absurd cc
 told_err p due f (Err g) go e = let k : f ≡ record { kind = g; place = p; expected = due } = cc in ap (λ (x : TextFault). Err x) (sym k)
 
--- the item with a name, as the builder returns it
+-- the item with this name, as the builder returns it
 pub some_named : (o : Option ItemId) (i : ItemId) → Ok i ≡ ok_or o build.UnknownItem → Some i ≡ o
 some_named (Some j) i e = let k : i ≡ j = cc in ap Some k
 some_named None i e = absurd (let no : ◌≡◌ {A = Result ItemId BuildFault} (Ok i) (Err build.UnknownItem) = e in cc)
@@ -90,7 +90,7 @@ form_err : (d : Draft) (r : _) (more : _) (t : Text) (f : TextFault) → next_at
 unfolding line_at word_at
 form_err d r more t f h = ap (λ q. (q >>= λ x. placed x.0.place (expected r) (word_for d r x.0.text) >>= and_rest x.1) >>= λ x. line_at d (more x.0) x.1) h
 
--- after its first word, a line is what that word's value requires
+-- reading a line is reading its first word, and then what the value of this word requires
 form_goes : (d : Draft) (r : _) (more : _) (t rest : Text) (w : Word) → next_at (expected r) t ≡ Ok (w, rest) → line_at d (word r more) t ≡ (placed w.place (expected r) (word_for d r w.text) >>= λ x. line_at d (more x) rest)
 unfolding line_at word_at
 form_goes d r more t rest w n = ap (λ q. (q >>= λ x. placed x.0.place (expected r) (word_for d r x.0.text) >>= and_rest x.1) >>= λ x. line_at d (more x.0) x.1) n ∙ by_it (placed w.place (expected r) (word_for d r w.text))
@@ -99,21 +99,21 @@ form_goes d r more t rest w n = ap (λ q. (q >>= λ x. placed x.0.place (expecte
     by_it (Ok x) = refl
     by_it (Err f) = refl
 
--- a word's value, by the word
+-- the value of a word that was read
 value_at : (d : Draft) (r : Role) (v : El r) (t rest : Text) (w : Word) → next_at (expected r) t ≡ Ok (w, rest) → Ok v ≡ placed w.place (expected r) (word_for d r w.text) → word_at d r t ≡ Ok (v, rest)
 unfolding word_at
 value_at d r v t rest w n e = ap (λ q. q >>= λ x. placed x.0.place (expected r) (word_for d r x.0.text) >>= and_rest x.1) n ∙ ap (λ q. q >>= and_rest rest) (sym e)
 
--- which of the two lines of an item it is
+-- the line of an item is the line with a weight or the line without one
 item_is : (d : Draft) (t : Text) (b : Bool) → begins (codes "weight") (past t) ≡ b → line_at d (item_line d) t ≡ (if b then line_at d (weighed_item d) t else line_at d (weightless_item d) t)
 unfolding line_at
 item_is d t b e = ap (λ c. if c then line_at d (weighed_item d) t else line_at d (weightless_item d) t) e
 
--- whether a weight follows the name
+-- whether `weight` follows the item's name
 behind_name : (due : Expected) (t rest : Text) (w : Word) (b : Bool) → next_at due t ≡ Ok (w, rest) → b ≡ begins (codes "weight") rest → begins (codes "weight") (past t) ≡ b
 behind_name due t rest w b n e = ap (begins (codes "weight")) (past_word due t rest w n) ∙ sym e
 
--- a fault of both lines is that of the item's
+-- a fault of both lines is a fault of the item's line
 both_err : (d : Draft) (t : Text) (f : TextFault) → line_at d (weighed_item d) t ≡ Err f → line_at d (weightless_item d) t ≡ Err f → line_at d (item_line d) t ≡ Err f
 both_err d t f x y = by_it (begins (codes "weight") (past t)) refl
   where
@@ -121,24 +121,24 @@ both_err d t f x y = by_it (begins (codes "weight") (past t)) refl
     by_it true e = item_is d t true e ∙ x
     by_it false e = item_is d t false e ∙ y
 
--- THE LINE of an item, after its first word: there is no name
+-- THE LINE of an item, after the word `item`: if there is no name
 pub item_err : (d : Draft) (t : Text) (f : TextFault) → next_at expect.ItemName t ≡ Err f → FailsIn f d (item_line d) t
 item_err d t f h = inr (both_err d t f (form_err d item _ t f h) (form_err d lone_item _ t f h))
 
--- a name that is at fault
+-- if the name is at fault
 pub item_fault : (d : Draft) (t rest : Text) (w : Word) (f : TextFault) → next_at expect.ItemName t ≡ Ok (w, rest) → Err f ≡ placed w.place expect.ItemName (word_for d item w.text) → FailsIn f d (item_line d) t
 item_fault d t rest w f n e = inr (both_err d t f
     (form_goes d item (λ j. word (key (codes "weight")) (λ _. item_weight_line d j)) t rest w n ∙ ap (λ q. q >>= λ i. line_at d (word (key (codes "weight")) (λ _. item_weight_line d i)) rest) (sym e))
     (form_goes d lone_item (λ j. done (passing Weight (at (filling true) (with_next_item d j None)))) t rest w n ∙ ap (λ q. placed w.place expect.ItemName q >>= λ i. line_at d (done (passing Weight (at (filling true) (with_next_item d i None)))) rest) (lone_then d w.text)
     ∙ ap (λ q. q >>= λ i. line_at d (done (passing Weight (at (filling true) (with_next_item d i None)))) rest) (told_err w.place expect.ItemName f (word_for d item w.text) _ e)))
 
--- `weight` follows the name
+-- if `weight` follows the name
 weighed_goes : (d : Draft) (t rest : Text) (w : Word) (i : ItemId) → next_at expect.ItemName t ≡ Ok (w, rest) → true ≡ begins (codes "weight") rest → Ok i ≡ placed w.place expect.ItemName (word_for d item w.text)
     → line_at d (item_line d) t ≡ line_at d (word (key (codes "weight")) (λ _. item_weight_line d i)) rest
 weighed_goes d t rest w i n b e =
     item_is d t true (behind_name expect.ItemName t rest w true n b) ∙ form_goes d item (λ j. word (key (codes "weight")) (λ _. item_weight_line d j)) t rest w n ∙ ap (λ q. q >>= λ j. line_at d (word (key (codes "weight")) (λ _. item_weight_line d j)) rest) (sym e)
 
--- the words of the weight of an item whose name was read are reached as it is
+-- a place that is reached in the item's weight is reached in the item's line
 reaches_weight : (d : Draft) (t rest : Text) (w : Word) (i : ItemId) (p : ℕ) → next_at expect.ItemName t ≡ Ok (w, rest) → true ≡ begins (codes "weight") rest → Ok i ≡ placed w.place expect.ItemName (word_for d item w.text)
     → Reaches p (arrive d (past rest).words (item_weight_line d i)) (past rest).words → Reaches p (arrive d t.words (item_line d)) t.words
 reaches_weight d t rest w i p n b e h =
@@ -146,7 +146,7 @@ reaches_weight d t rest w i p n b e h =
     (reaches_on d item (λ j. word (key (codes "weight")) (λ _. item_weight_line d j)) i t rest p (value_at d item i t rest w n e)
     (reaches_on d (key (codes "weight")) (λ _. item_weight_line d i) tt rest (past rest) p (key_taken d (codes "weight") rest b) h))
 
--- a weight that was read is the item's
+-- reading the weight of an item ends the item's line
 pub weighed_reads : (d : Draft) (t rest two : Text) (w : Word) (i : ItemId) (r : Result (Unit {0}) TextFault) (b : BuilderData) (u : Text) → next_at expect.ItemName t ≡ Ok (w, rest) → true ≡ begins (codes "weight") rest → two ≡ past rest
     → Ok i ≡ placed w.place expect.ItemName (word_for d item w.text) → LineGoes (λ _. (filling true, Nothing)) r b u d (item_weight_line d i) two → LineGoes (λ _. (filling true, Nothing)) r b u d (item_line d) t
 unfolding line_at
@@ -160,14 +160,14 @@ weighed_reads d t rest two w i r b u n k is e h = by_it r (subst (λ (x : Text).
     by_it (Err f) (inl h) = inl (h.0, reaches_weight d t rest w i f.place n k e h.1)
     by_it (Err f) (inr h) = inr (goes ∙ h)
 
--- an item that was put into the bucket ends its line
+-- putting an item into the bucket ends the item's line
 added : (d : Draft) (i : ItemId) (w : Option ℕ) (p : ℕ) (due : Expected) (k : Optional) (rest : Text) (r : Result (Unit {0}) TextFault) (b : BuilderData) (g : Form) (t : Text) → line_at d g t ≡ (placed p due (unless_heavy (with_next_item d i w)) >>= λ e. Ok (passing k (at (filling true) e), rest))
     → (is_too_heavy (with_next_item d i w).table ≡ false → Reaches p (arrive d t.words g) t.words) → Adds r b (with_next_item d i w) p due (unless_heavy (with_next_item d i w)) → LineGoes (λ _. (filling true, k)) r b rest d g t
 added d i w p due k rest (Ok x) b g t e reached h = (with_next_item d i w, h.0, e ∙ ap (λ q. placed p due q >>= λ y. Ok (passing k (at (filling true) y), rest)) h.1)
 added d i w p due k rest (Err f) b g t e reached (inl h) = inl (h.0, subst (λ (q : ℕ). Reaches q (arrive d t.words g) t.words) (sym h.1) (reached h.2))
 added d i w p due k rest (Err f) b g t e reached (inr h) = inr (e ∙ ap (λ q. q >>= λ y. Ok (passing k (at (filling true) y), rest)) h)
 
--- an item without a weight
+-- reading an item without a weight
 pub lone_reads : (d : Draft) (t rest two : Text) (w : Word) (i : ItemId) (r : Result (Unit {0}) TextFault) (b : BuilderData) → next_at expect.ItemName t ≡ Ok (w, rest) → false ≡ begins (codes "weight") rest → two ≡ rest → Ok i ≡ placed w.place expect.ItemName (word_for d item w.text)
     → Adds r b (with_next_item d i None) w.place expect.ItemName (unless_heavy (with_next_item d i None)) → LineGoes (λ _. (filling true, Weight)) r b two d (item_line d) t
 unfolding line_at
@@ -189,18 +189,18 @@ lone_reads d t rest two w i r b n none same e h = subst (λ (u : Text). LineGoes
         subst (λ (c : Bool). Reaches w.place (if c then arrive d t.words (weighed_item d) else arrive d t.words (weightless_item d)) t.words) (sym (behind_name expect.ItemName t rest w false n none))
         (reaches_word d lone_item (λ j. done (passing Weight (at (filling true) (with_next_item d j None)))) i expect.ItemName t rest rest w.place (value_at d lone_item i t rest w n told) (w.text, n))
 
--- THE WEIGHT of an item: there is none
+-- THE WEIGHT of an item: if there is no word for it
 weight_err_so : (d : Draft) (i : ItemId) (t : Text) (f : TextFault) → next_at (expect.Weight (is_device i)) t ≡ Err f → FailsIn f d (item_weight_line d i) t
 weight_err_so d i t f h = inr (form_err d (weight i) _ t f h)
 
--- one that is at fault
+-- if the word of the weight is at fault
 weight_fault_so : (d : Draft) (i : ItemId) (t rest : Text) (w : Word) (f : TextFault) → next_at (expect.Weight (is_device i)) t ≡ Ok (w, rest) → Err f ≡ placed w.place (expect.Weight (is_device i)) (parsed_weight d i w.text) → FailsIn f d (item_weight_line d i) t
 weight_fault_so d i t rest w f n e = inr (
     form_goes d (weight i) (λ x. done (at (filling true) (with_next_item d i (Some x)))) t rest w n ∙ ap (λ q. placed w.place (expect.Weight (is_device i)) q >>= λ x. line_at d (done (at (filling true) (with_next_item d i (Some x)))) rest) (own_then d i w.text)
     ∙ ap (λ q. q >>= λ x. line_at d (done (at (filling true) (with_next_item d i (Some x)))) rest) (told_err w.place (expect.Weight (is_device i)) f (parsed_weight d i w.text) _ e)
     )
 
--- one with which the item is put into the bucket
+-- if the item is put into the bucket with this weight
 weight_reads_so : (d : Draft) (i : ItemId) (t rest : Text) (w : Word) (x : ℕ) (r : Result (Unit {0}) TextFault) (b : BuilderData) → next_at (expect.Weight (is_device i)) t ≡ Ok (w, rest) → Ok x ≡ placed w.place (expect.Weight (is_device i)) (parsed_weight d i w.text)
     → Adds r b (with_next_item d i (Some x)) w.place (expect.Weight (is_device i)) (unless_heavy (with_next_item d i (Some x))) → LineGoes (λ _. (filling true, Nothing)) r b rest d (item_weight_line d i) t
 unfolding line_at
@@ -221,17 +221,17 @@ weight_reads_so d i t rest w x r b n e h =
         ap (λ c. placed w.place (expect.Weight (is_device i)) (if c then Err SumTooLarge else Ok x)) (sym light) ∙ ap (λ q. placed w.place (expect.Weight (is_device i)) q) (sym (own_then d i w.text ∙ ap (with_weight d i) (told_ok w.place (expect.Weight (is_device i)) x (parsed_weight d i w.text) e))) in
         reaches_word d (weight i) (λ y. done (at (filling true) (with_next_item d i (Some y)))) x (expect.Weight (is_device i)) t rest rest w.place (value_at d (weight i) x t rest w n told) (w.text, n)
 
--- a line of the items by its first word
+-- the first word says whether an item is read or the closing brace ends the bucket
 pub item_or_end_goes : (d : Draft) (any : Bool) (k : Optional) (more : Bool) (t rest : Text) → word_at d (item_or_end any k) t ≡ Ok (more, rest) → line_at d (line_forms d k (filling any)) t ≡ line_at d (item_or_brace d more) rest
 unfolding line_at
 item_or_end_goes d any k more t rest is = ap (λ q. q >>= λ x. line_at d (item_or_brace d x.0) x.1) is
 
--- and a fault after that word
+-- a fault after this word is a fault of the line
 pub item_or_end_fails : (f : TextFault) (d : Draft) (any : Bool) (k : Optional) (more : Bool) (t rest : Text) → word_at d (item_or_end any k) t ≡ Ok (more, rest) → FailsIn f d (item_or_brace d more) rest → FailsIn f d (line_forms d k (filling any)) t
 item_or_end_fails f d any k more t rest is (inl h) = inl (h.0, reaches_on d (item_or_end any k) (item_or_brace d) more t rest f.place is h.1)
 item_or_end_fails f d any k more t rest is (inr h) = inr (item_or_end_goes d any k more t rest is ∙ h)
 
--- the same, if what is expected is known by another name
+-- the same, for an equal value of what is expected
 pub weight_err : (d : Draft) (i : ItemId) (due : Expected) (t : Text) (f : TextFault) → due ≡ expect.Weight (is_device i) → next_at due t ≡ Err f → FailsIn f d (item_weight_line d i) t
 weight_err d i due t f is h = weight_err_so d i t f (ap (λ (e : Expected). next_at e t) (sym is) ∙ h)
 

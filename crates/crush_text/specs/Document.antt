@@ -12,24 +12,24 @@ use Rattle.crush_text.specs.Grammar.{next}
 use Rattle.crush_text.specs.Rows.{IsRight}
 use Rattle.crush_text.specs.Flow.{State, between, amid, arrive, takes_statement}
 
--- the word w spells the next part of the form, and m is the state after it: the word has no fault for its role, and m is what the form requires after the word's value. The words `rest` follow w
+-- w is right as the next word of the form, and m is the state after it: w has no fault in its role, and m is the state in which the form after w is required, if the words `rest` follow w
 abbrev pub SpellsForm : Draft → Form → List ℕ → List Word → State → Type 0
 SpellsForm d (word r more) w rest m = IsRight d r w × (m ≡ arrive d rest (more (value d r w)))
 SpellsForm d (done p) w rest m = ⊥
 SpellsForm d (optional k f g) w rest m = ⊥
 SpellsForm d (ahead k f g) w rest m = ⊥
 
--- the same in any state: between two lines the form is that of the next line
+-- w is right as the next word in this state, and m is the state after it, if the words `rest` follow w. Between two lines, w is the first word of the next line
 abbrev pub SpellsNext : State → List ℕ → List Word → State → Type 0
 SpellsNext (between p) w rest m = SpellsForm p.draft (next p) w rest m
 SpellsNext (amid d f) w rest m = SpellsForm d f w rest m
 
--- SPELL: the words lead from the state s to the state m, one after the other, if the words `others` follow them
+-- SPELL: read one after the other, the words lead from the state s to the state m, if the words `others` follow them
 abbrev pub Spell : State → List Word → List Word → State → Type 0
 Spell s [] others m = s ≡ m
 Spell s (w ∷ ws) others m = (u : State) × SpellsNext s w.text (ws ++ others) u × Spell u ws others m
 
--- the text may end in this state, and the draft d was built
+-- the text may end in this state, and d is the draft that the lines before have built
 abbrev pub IsWhole : State → Draft → Type 0
 IsWhole (between p) d = (p.draft ≡ d) × (takes_statement p.mode ≡ true)
 IsWhole (amid e f) d = ⊥
@@ -38,7 +38,7 @@ IsWhole (amid e f) d = ⊥
 abbrev pub start : State
 start = between (at first empty_draft)
 
--- A DOCUMENT: all words of the text spell lines, which build the draft d from nothing; the text may end after them; and the words end with the text, not with a bad byte or a word that is too long
+-- A DOCUMENT: all words of the text spell lines, which build the draft d from the empty draft; the text may end after the last word; and reading stops at the end of the text, not at a bad byte or at a word that is too long
 pub record IsDocument (t : Text) (d : Draft) : Type 0 where
   pub last : State
   pub spelled : Spell start t.words [] last
@@ -50,8 +50,8 @@ pub record IsMap (d : Draft) : Type 0 where
   pub lawful : Lawful d.table
   pub fits : Fits d.setting d.table
 
--- THE MAP of a text: the bytes are a document that builds the setting s and the table t, and in which the number `adjusted` counts
--- the written weights of buckets that aren't the buckets' sums
+-- THE MAP of a text: the bytes are a document that builds the setting s and the table t. `adjusted` is the number of written weights of
+-- buckets that aren't the buckets' sums
 pub record IsMapText (bytes : List ℕ) (s : SettingData) (t : List Row) (adjusted : ℕ) : Type 0 where
   pub draft : Draft
   pub document : IsDocument (words 0 bytes) draft

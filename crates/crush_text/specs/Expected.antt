@@ -1,4 +1,4 @@
--- What is expected: of each role of a word, and of each optional part that could also come.
+-- What is expected for each role of a word, and for each optional part that could follow.
 use Rattle.std.specs.Prelude.{ℕ, Bool, true, false, List, [], ◌∷◌, bytes_eq, codes, if◌then◌else◌}
 use Rattle.crush_units.specs.declared.id.ItemId.{ItemId}
 use Rattle.crush_units.specs.declared.id.ItemId.TheVariants.{Device, Bucket}
@@ -33,7 +33,7 @@ keyword_of w =
     else (if bytes_eq w (codes "min_size") then keyword.MinSize
     else keyword.MaxSize))))))
 
--- the words with which the optional parts begin that were left out, in the order in which they could come
+-- the words with which an optional part that could still follow can begin; `Sizes` begins with `min_size` or, if this is left out, with `max_size`
 abbrev pub words_of : Optional → List (List ℕ)
 words_of optional.Nothing = []
 words_of optional.Class = codes "class" ∷ []
@@ -47,7 +47,7 @@ abbrev pub is_device : ItemId → Bool
 is_device (Device n) = true
 is_device (Bucket b) = false
 
--- WHAT IS EXPECTED of a word of this role
+-- WHAT IS EXPECTED at the place of a word with this role
 abbrev pub expected : Role → Expected
 expected (key k) = expect.Keyword (keyword_of k)
 expected (any_word e) = e

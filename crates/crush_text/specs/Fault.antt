@@ -3,7 +3,7 @@ use Rattle.std.specs.Prelude.{ℕ, List, codes}
 use Rattle.crush_text.specs.declared.fault.TextFaultKind.{TextFaultKind}
 use Rattle.crush_text.specs.declared.fault.TextFaultKind.TheVariants.{BadWord, Ended, Unexpected, BadNumber, BadWeight, DuplicateId, DuplicateName, UnknownType, UnknownItem, SecondParent, OtherAlgorithm, LeftOut, UnknownBucketInRule, TooMany, SumTooLarge, OutOfMemory}
 
--- the name, as it is printed
+-- the name of the fault, as it is printed
 abbrev pub fault_name : TextFaultKind → List ℕ
 fault_name BadWord = codes "BadWord"
 fault_name Ended = codes "Ended"
@@ -22,7 +22,7 @@ fault_name TooMany = codes "TooMany"
 fault_name SumTooLarge = codes "SumTooLarge"
 fault_name OutOfMemory = codes "OutOfMemory"
 
--- the number of the fault: if a word has several faults, the one with the least number is reported
+-- the number of the fault; if a word has several faults, the fault with the smallest number is reported
 abbrev pub fault_number : TextFaultKind → ℕ
 fault_number BadWord = 1
 fault_number Ended = 2

@@ -1,4 +1,4 @@
--- What a flaw of a map's text is: a fault at its place.
+-- What a flaw of a map's text is: the first fault of the text, at its place.
 use Rattle.std.specs.Prelude.{◌≡◌, ◌⊎◌, ℕ, Bool, false, List, [], ◌∷◌, ◌++◌}
 use Rattle.crush_builder.specs.Built.{Draft}
 use Rattle.crush_text.specs.declared.fault.TextFaultKind.{TextFaultKind}
@@ -11,14 +11,14 @@ use Rattle.crush_text.specs.Rows.{IsFault}
 use Rattle.crush_text.specs.Flow.{State, between, amid, takes_statement, expected_at}
 use Rattle.crush_text.specs.Document.{Spell, start}
 
--- the word w has the fault f if this form is required next: the fault of the word's role; or `Unexpected` if the form requires no word, which reading never reaches
+-- f is the fault of the word w if this form is required next: w has the fault f in the role of the form's next word. If the form requires no word, the fault is `Unexpected`; reading never reaches such a form
 abbrev pub FaultyForm : TextFaultKind → Draft → Form → List ℕ → Type 0
 FaultyForm f d (word r more) w = IsFault f d r w
 FaultyForm f d (done p) w = f ≡ Unexpected
 FaultyForm f d (optional k g h) w = f ≡ Unexpected
 FaultyForm f d (ahead k g h) w = f ≡ Unexpected
 
--- the same in any state: between two lines the form is that of the next line
+-- the word has the fault f in this state. Between two lines, the form of the next line is required
 abbrev pub FaultyNext : TextFaultKind → State → List ℕ → Type 0
 FaultyNext f (between p) w = FaultyForm f p.draft (next p) w
 FaultyNext f (amid d g) w = FaultyForm f d g w
@@ -36,13 +36,13 @@ IsEnded s place f = (f ≡ record { kind = Ended; place = place; expected = expe
 abbrev pub IsBadWord : State → ℕ → TextFault → Type 0
 IsBadWord s place f = f ≡ record { kind = BadWord; place = place; expected = expected_at s }
 
--- the next word has the fault f, or the end of the words has it if there is no next word. The fault says what is expected in the state s
+-- f is the fault of the next word; or, if there is no next word, f is the fault at the end of the words. f also says what is expected in the state s
 abbrev pub IsFaulty : State → List Word → Stop → TextFault → Type 0
 IsFaulty s [] (ended place) f = IsEnded s place f
 IsFaulty s [] (bad place) f = IsBadWord s place f
 IsFaulty s (w ∷ ws) stop f = FaultyNext f.kind s w.text × (f.place ≡ w.place) × (f.expected ≡ expected_at s)
 
--- A FLAW of a text: the words before it spell lines and perhaps a part of a line, and the next word, or the end of the words, has this fault
+-- A FLAW of a text: the words before it spell lines, and perhaps a part of a line. The next word has the fault f; or, if there is no next word, the end of the words has it
 pub record IsFlaw (t : Text) (f : TextFault) : Type 0 where
   pub before : List Word
   pub next : List Word
@@ -51,7 +51,7 @@ pub record IsFlaw (t : Text) (f : TextFault) : Type 0 where
   pub spelled : Spell start before next so_far
   pub fault : IsFaulty so_far next t.stop f
 
--- the same of a text that is given as bytes
+-- the bytes have this flaw
 abbrev pub IsMapFlaw : List ℕ → TextFault → Type 0
 IsMapFlaw bytes f = IsFlaw (words 0 bytes) f
 

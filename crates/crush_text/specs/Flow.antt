@@ -1,4 +1,4 @@
--- The reader as a machine: how each word changes the state, and the result of all words.
+-- The reader as a state machine: how each word changes the state, and the result of all words.
 use Rattle.std.specs.Prelude.{◌≡◌, ◌⊎◌, ℕ, Bool, true, false, List, [], ◌∷◌, drop, Result, Ok, Err, if◌then◌else◌}
 use Rattle.crush_builder.specs.Built.{Draft}
 use Rattle.crush_units.specs.Words.{Word, Stop, ended, bad, Text, begins_with_key}
@@ -13,7 +13,7 @@ use Rattle.crush_text.specs.declared.expected.Expected.TheVariants.{Memory}
 use Rattle.crush_text.specs.Expected.{expected}
 
 infixl 10 ◌>>=◌
--- one step after the other; the first error is the result
+-- one computation after the other. If the first one fails, its error is the result
 abbrev pub ◌>>=◌ : {A B E : Type 0} → Result A E → (A → Result B E) → Result B E
 (Ok x) >>= f = f x
 (Err e) >>= f = Err e
@@ -23,25 +23,25 @@ pub data State : Type 0 where
   between : Progress → State
   amid : Draft → Form → State
 
--- the state in which this form is required next, if the words `rest` follow. They decide which of its two forms an optional part has
+-- the state in which this form is required next, if the words `rest` follow. These words decide whether an optional part is there
 abbrev pub arrive : Draft → List Word → Form → State
 arrive d rest (done p) = between p
 arrive d rest (word r more) = amid d (word r more)
 arrive d rest (optional k f g) = if begins_with_key k rest then arrive d rest f else arrive d rest g
 arrive d rest (ahead k f g) = if begins_with_key k (drop 1 rest) then arrive d rest f else arrive d rest g
 
--- the state after the word w if this form is required, or the word's fault. The words `rest` follow w
+-- the state after the word w, if this form is required and the words `rest` follow w; or the fault of w
 abbrev pub take : Draft → Form → List ℕ → List Word → Result State TextFaultKind
 take d (word r more) w rest = word_for d r w >>= λ v. Ok (arrive d rest (more v))
 take d f w rest = Err Unexpected
 
--- the state after one more word, or the word's fault. The words `rest` follow it. Whether the line has an optional part is decided at the word before that part,
+-- the state after one more word, if the words `rest` follow it; or the word's fault. Whether the line has an optional part is decided at the word before that part,
 -- by the next word or by the word after the next
 unfoldable pub step : State → List ℕ → List Word → Result State TextFaultKind
 step (between p) w rest = take p.draft (next p) w rest
 step (amid d f) w rest = take d f w rest
 
--- what is expected as the next word of this form. Reading only reaches forms that begin with a word, so the other values are never used
+-- what is expected as the next word of this form. Reading only reaches forms that begin with a word, so the results for other forms are never used
 abbrev pub expected_form : Form → Expected
 expected_form (word r more) = expected r
 expected_form (done p) = Memory
@@ -53,7 +53,7 @@ abbrev pub expected_at : State → Expected
 expected_at (between p) = expected_form (next p)
 expected_at (amid d f) = expected_form f
 
--- the same result, with this place and what is expected there added to a fault
+-- the same result, except that a fault also gets its place and what is expected there
 abbrev pub placed : {A : Type 0} → ℕ → Expected → Result A TextFaultKind → Result A TextFault
 placed place e (Ok x) = Ok x
 placed place e (Err kind) = Err (record { kind = kind; place = place; expected = e })
@@ -73,7 +73,7 @@ abbrev pub end_at : ℕ → State → Result Draft TextFault
 end_at place (between p) = if takes_statement p.mode then Ok p.draft else unfinished place (expected_form (next p))
 end_at place (amid d f) = unfinished place (expected_form f)
 
--- the result if there are no more words: by the end of the text, or the fault of a bad byte or a word that is too long
+-- the result if there are no more words: the result at the end of the text, or the fault BadWord at a bad byte or at a word that is too long
 abbrev pub stop_at : State → Stop → Result Draft TextFault
 stop_at s (ended place) = end_at place s
 stop_at s (bad place) = Err (record { kind = BadWord; place = place; expected = expected_at s })
@@ -83,11 +83,11 @@ unfoldable pub run : State → List Word → Stop → Result Draft TextFault
 run s [] stop = stop_at s stop
 run s (w ∷ ws) stop = placed w.place (expected_at s) (step s w.text ws) >>= λ m. run m ws stop
 
--- the same for the rest of a text
+-- the result of reading the rest of a text from the state s
 unfoldable pub outcome : State → Text → Result Draft TextFault
 outcome s t = run s t.words t.stop
 
--- one of the words is at this place, and neither it nor any word before it has a fault
+-- one of the words is at this place, and neither this word nor any word before it has a fault
 abbrev pub Reaches : ℕ → State → List Word → Type 0
 Reaches place s [] = ⊥
 Reaches place s (w ∷ ws) = (m : State) × (step s w.text ws ≡ Ok m) × ((place ≡ w.place) ⊎ Reaches place m ws)

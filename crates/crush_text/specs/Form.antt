@@ -1,4 +1,4 @@
--- The forms of lines: what the rest of a line may be.
+-- The forms of lines: which words the rest of a line may consist of.
 use Rattle.std.specs.Prelude.{ℕ, Bool, List}
 use Rattle.crush_edits.specs.Setting.{RuleData}
 use Rattle.crush_builder.specs.Built.{Draft}
@@ -16,17 +16,17 @@ pub data Mode : Type 0 where
   filling : Bool → Mode
   ruled : RuleData → Mode
 
--- the draft that the lines so far have built, which lines may come next, and which optional part the last line has passed over at its end
+-- the draft that the lines so far have built, which lines may come next, and which optional part was left out at the end of the last line
 pub record Progress : Type 0 where
   pub mode : Mode
   pub draft : Draft
   pub passed : Optional
 
--- the progress with the mode m and the draft d, after a line that has passed over nothing
+-- the progress in the mode m with the draft d, after a line that has left out no optional part
 abbrev pub at : Mode → Draft → Progress
 at m d = record { mode = m; draft = d; passed = Nothing }
 
--- the same progress, after a line that has passed over the optional part k
+-- the same progress, after a line that has left out the optional part k
 abbrev pub passing : Optional → Progress → Progress
 passing k p = record p { passed = k }
 

@@ -1,5 +1,5 @@
--- THE GRAMMAR, line by line. A line here is a part of the text after which the map has grown, or the bucket or the rule that is being read. Line feeds don't matter: each comment gives the words of a line.
--- N is a number, NEG is `-` and a number, INT is a number with or without `-`, and `[ ]` are round an optional part. d is the draft before the line.
+-- THE GRAMMAR, line by line. A line here is a part of the text that adds one thing to the map, or to the bucket or the rule that is being read. Line feeds don't matter: each comment gives the words of a line.
+-- N is a number, NEG is `-` and a number, and INT is a number with or without `-`. `[ ]` enclose an optional part. d is the draft before the line.
 use Rattle.std.specs.Prelude.{ℕ, Bool, List, [], ◌∷◌, ◌++◌, Option, true, false, codes, length, if◌then◌else◌, Some, None}
 use Rattle.crush_units.specs.declared.id.ItemId.{ItemId}
 use Rattle.crush_edits.specs.Setting.{StepData, take, choose, set, emit, RuleData}
@@ -27,7 +27,7 @@ type_line d = do
   x ← type_name n
   done (at first (with_kind d n x))
 
--- [`class` CLASS], of the device n with the name x
+-- [`class` CLASS], for the device n with the name x
 abbrev pub device_class : Draft → ℕ → List ℕ → Form
 device_class d n x = optional (codes "class")
     (do
@@ -43,7 +43,7 @@ device_line d = do
   x ← new_name
   device_class d n x
 
--- TYPE NAME, of which TYPE was read already: it is the name of the type k
+-- TYPE NAME. TYPE was read already: it is the name of the type k
 abbrev pub bucket_line : Draft → ℕ → Form
 bucket_line d k = do
   x ← new_name
@@ -80,7 +80,7 @@ alg_line d = do
 abbrev pub id_or_alg_line : Draft → Bool → Form
 id_or_alg_line d more = if more then class_id_line d else alg_line d
 
--- WEIGHT, of the item i
+-- WEIGHT, for the item i
 abbrev pub item_weight_line : Draft → ItemId → Form
 item_weight_line d i = do
   w ← weight i
@@ -107,11 +107,11 @@ item_line d = ahead (codes "weight") (weighed_item d) (weightless_item d)
 abbrev pub item_or_brace : Draft → Bool → Form
 item_or_brace d more = if more then item_line d else done (at second (with_end d))
 
--- a rule without steps, with the name x, the id n, the `type` word k, and the least and the largest size of pools
+-- a rule without steps: it has the name x, the id n, the type k, and the least and the largest size of pools
 abbrev pub new_rule : List ℕ → ℕ → List ℕ → Option ℕ → Option ℕ → RuleData
 new_rule x n k least most = record { name = x; id = n; kind = k; min_size = least; max_size = most; steps = [] }
 
--- the sizes of pools that a rule's head without a greatest size has passed over
+-- the optional sizes that a rule's head has left out if it has no `max_size`; the argument is its `min_size`
 abbrev pub sizes_left : Option ℕ → Optional
 sizes_left None = Sizes
 sizes_left (Some n) = MaxSize
@@ -145,11 +145,11 @@ rule_line d = do
   k ← any_word expect.RuleType
   sizes d x n k
 
--- the rule r with the step s after its other steps
+-- the rule r with the step s appended to its steps
 abbrev pub with_step : RuleData → StepData → RuleData
 with_step r s = record r { steps = r.steps ++ s ∷ [] }
 
--- the end of the line of the step s of the rule r
+-- the form of the end of a step's line: the step s is added to the rule r
 abbrev pub step_done : Draft → RuleData → StepData → Form
 step_done d r s = done (at (ruled (with_step r s)) d)
 
@@ -179,7 +179,7 @@ set_step d r x = do
   n ← number LARGEST_RULE_NUMBER
   step_done d r (set x n)
 
--- the rest of a step, after its first word
+-- the rest of a step after its first word
 abbrev pub step_behind : Draft → RuleData → StepWord → Form
 step_behind d r takes = take_step d r
 step_behind d r (chooses leaf) = choose_step d r leaf
@@ -198,7 +198,7 @@ statement d statement_kinds.Device = device_line d
 statement d (statement_kinds.Bucket k) = bucket_line d k
 statement d statement_kinds.Rule = rule_line d
 
--- the lines that may come next in this mode, after a line that has passed over the optional part k
+-- the lines that may come next in this mode, after a line that has left out the optional part k
 abbrev pub line_forms : Draft → Optional → Mode → Form
 line_forms d k first = opening false k >>= statement d
 line_forms d k second = opening true k >>= statement d

@@ -30,17 +30,17 @@ use Rattle.crush_text.specs.Flaw.{IsOutOfMemory}
 abbrev pub word_of : PlacedWord → Word
 word_of w = record { place = w.place; text = w.text.now }
 
--- the success with the value a and the rest t of the text
+-- the result of a success: the value a, and the rest t of the text
 abbrev pub and_rest : {A : Type 0} → Text → A → Result (A × Text) TextFault
 and_rest t a = Ok (a, t)
 
--- the first of these words and the rest; the fault of the end if there is none. e is expected here
+-- the first of these words, and the rest of the text; or, if there are no words, the fault at their end. e is what is expected there
 abbrev pub next_of : Expected → List Word → Stop → Result (Word × Text) TextFault
 next_of e [] (ended place) = Err (record { kind = Ended; place = place; expected = e })
 next_of e [] (bad place) = Err (record { kind = BadWord; place = place; expected = e })
 next_of e (w ∷ ws) stop = and_rest (record { words = ws; stop = stop }) w
 
--- the next word of a text and the rest, where e is expected
+-- the next word of a text, and the rest of the text; or, if there is no next word, the fault at the end. e is what is expected there
 unfoldable pub next_at : Expected → Text → Result (Word × Text) TextFault
 next_at e t = next_of e t.words t.stop
 
@@ -55,19 +55,19 @@ line_at d (word r more) t = word_at d r t >>= λ x. line_at d (more x.0) x.1
 line_at d (optional k f g) t = if begins k t then line_at d f t else line_at d g t
 line_at d (ahead k f g) t = if begins k (past t) then line_at d f t else line_at d g t
 
--- the result of the whole rest of the text, if reading a line had this result
+-- the result of reading the whole text, if reading its first line had this result
 abbrev pub then_on : Result (Progress × Text) TextFault → Result Draft TextFault
 then_on r = r >>= λ x. outcome (between x.0) x.1
 
--- the weight that the word w spells for the item i, or its fault, except for a sum that is too large
+-- the weight that the word w spells for the item i, or the word's fault; this doesn't test the sums
 abbrev pub parsed_weight : Draft → ItemId → List ℕ → Result ℕ TextFaultKind
 parsed_weight d i w = unless (weight_tests d i w) (units w)
 
--- the draft e, or the fault that a sum of it is too large
+-- the draft e, or the fault SumTooLarge if a sum of weights in e is too large
 abbrev pub unless_heavy : Draft → Result Draft TextFaultKind
 unless_heavy e = if is_too_heavy e.table then Err SumTooLarge else Ok e
 
--- an optional number after the key k, and then the form that depends on it
+-- an optional number after the key k, and then the form that depends on this number
 abbrev pub number_behind : List ℕ → (Option ℕ → Form) → Form
 number_behind k more = optional k (word (key k) (λ _. word (number LARGEST_RULE_NUMBER) (λ n. more (Some n)))) (more None)
 
@@ -75,7 +75,7 @@ number_behind k more = optional k (word (key k) (λ _. word (number LARGEST_RULE
 abbrev pub is_step : List ℕ → Bool
 is_step w = bytes_eq w (codes "step")
 
--- what the first word of a step says, as a value of the definitions
+-- the code's value for the first word of a step, as a value of the definitions
 abbrev pub first_of_step : FirstOfStep → StepWord
 first_of_step steps.Take = takes
 first_of_step (steps.Choose leaf) = chooses leaf
@@ -87,34 +87,34 @@ abbrev pub left_by_step : Step → Optional
 left_by_step (Take name None) = Class
 left_by_step s = Nothing
 
--- the progress after the step s of the rule r, in the form in which a map keeps steps
+-- the progress after the step s of the rule r; the step has the form in which a map stores it
 abbrev pub behind_step : Draft → RuleData → Step → Progress
 behind_step d r s = passing (left_by_step s) (at (ruled (with_step r (kept_step d s))) d)
 
--- the function returned the value and the rest of text that `read` gives, or the fault that it gives
+-- the function returned the value and the rest of the text that `read` has, or it failed with the fault that `read` has
 abbrev pub Gives : {X Y : Type 0} → (X → Y) → Result X TextFault → Result Y TextFault → Type 0
 Gives view (Ok x) read = read ≡ Ok (view x)
 Gives view (Err f) read = read ≡ Err f
 
--- if the function returned x, then `read` gives what the rest of the line gives after x; if it returned a fault, `read` gives that fault
+-- if the function returned x, then `read` is the result of reading on after x (`go x`); if the function failed, then `read` has the same fault
 abbrev pub GivesOn : {X Y : Type 0} → (X → Result Y TextFault) → Result X TextFault → Result Y TextFault → Type 0
 GivesOn go (Ok x) read = read ≡ go x
 GivesOn go (Err f) read = read ≡ Err f
 
--- reading the text `old` from the state s leads to the state m with the text `new` left: the result of both is the same, and every place that is reached without a fault from m is also reached from s
+-- reading the text `old` from the state s leads to the state m with the text `new` left: both have the same result, and every place that is reached without a fault from m is also reached from s
 pub record LeadsOn (s : State) (old : Text) (m : State) (new : Text) : Type 0 where
   pub same : outcome s old ≡ outcome m new
   pub reaches : (place : ℕ) → Reaches place m new.words → Reaches place s old.words
 
--- the fault f is the one of reading the text t from the state s; or it is out of memory, at a word that has no fault and no faulty word before it
+-- f is the fault of reading the text t from the state s; or f is OutOfMemory, at a word that has no fault and before which no word has a fault
 abbrev pub Fails : TextFault → State → Text → Type 0
 Fails f s t = (IsOutOfMemory f × Reaches f.place s t.words) ⊎ (outcome s t ≡ Err f)
 
--- the same for reading a line of the form g
+-- f is the fault of reading a line of the form g from the text; or f is OutOfMemory, at a word that has no fault and before which no word has a fault
 abbrev pub FailsIn : TextFault → Draft → Form → Text → Type 0
 FailsIn f d g t = (IsOutOfMemory f × Reaches f.place (arrive d t.words g) t.words) ⊎ (line_at d g t ≡ Err f)
 
--- the function returned what reading a line of the form g gives; or out of memory, as above
+-- the function returned the result of reading a line of the form g; or it failed with a fault as in `FailsIn`
 abbrev pub GivesLine : {X : Type 0} → (X → Progress × Text) → Result X TextFault → Draft → Form → Text → Type 0
 GivesLine view (Ok x) d g t = line_at d g t ≡ Ok (view x)
 GivesLine view (Err f) d g t = FailsIn f d g t

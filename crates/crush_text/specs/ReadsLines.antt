@@ -20,12 +20,12 @@ use Rattle.crush_text.specs.Flaw.{IsOutOfMemory}
 use Rattle.crush_text.specs.Room.{HasRoom, IsFreeItem}
 use Rattle.crush_text.specs.Reads.{line_at, unless_heavy, LeadsOn, Fails, FailsIn}
 
--- the builder has some draft, and is between two statements
+-- the builder represents some draft, and is between two statements
 pub record IsIdle (b : BuilderData) : Type 0 where
   pub part : b.pending ≡ nothing
   pub some : (d : Draft) × IsDraft b d
 
--- the builder has some draft, and is at the part of a bucket that the test recognizes
+-- the builder represents some draft, and is at the part of a bucket that the test recognizes
 pub record IsAmid (test : Pending → Bool) (b : BuilderData) : Type 0 where
   pub part : test b.pending ≡ true
   pub some : (d : Draft) × IsDraft b d
@@ -41,43 +41,43 @@ TakesLinesOf m b = IsIdle b
 abbrev pub Ending : Type 0
 Ending = Mode × Optional
 
--- the progress with the draft d after a line that ends so
+-- the progress after a line with this ending, if d is the draft that the lines have built
 abbrev pub ending : Ending → Draft → Progress
 ending m d = passing m.1 (at m.0 d)
 
--- what the result of a function that read a line of the form g from the text t says. After x, the builder has the draft e that the line gives, the line ends as depends on x, and `rest` is left of the text. A fault is one of the line
+-- what is true after a function has read a line of the form g from the text t. If the function returned x, then the builder represents the draft e that the line builds, the line's ending is `mode x`, and `rest` is the rest of the text. If the function failed, its fault is a fault of the line
 abbrev pub LineGoes : {X : Type 0} → (X → Ending) → Result X TextFault → BuilderData → Text → Draft → Form → Text → Type 0
 LineGoes mode (Ok x) builder rest d g t = (e : Draft) × IsDraft builder e × (line_at d g t ≡ Ok (ending (mode x) e, rest))
 LineGoes mode (Err f) builder rest d g t = FailsIn f d g t
 
--- A LINE was read: whatever draft d the builder had before, it was a line of the form `form d`. After success the builder is where the lines may come that come next, and the text is shorter
+-- A LINE was read: for each draft d that the builder represented before, it was a line of the form `form d`. After success, the builder is in a state in which the lines that may come next are allowed, and the rest of the text is shorter
 pub record ReadsLine {A : _} {X : Type 0} (form : Draft → Form) (mode : X → Ending) (old new : MapReader A) (x : Result X TextFault) : Type 0 where
   pub reads : (d : Draft) → IsDraft old.builder d → LineGoes mode x new.builder new.text d (form d) old.text
   pub stands : IfOk x (λ v. TakesLinesOf (mode v).0 new.builder)
   pub shorter : OnOk x (length new.text.words < length old.text.words)
 
--- what the result of a function that read lines from the state s says. After x, the last line ends as depends on x, and the builder has the draft that the lines build. A fault is one of reading
+-- what is true after a function has read lines from the state s. If the function returned x, then the last line's ending is `mode x`, and the builder represents the draft that the lines build. If the function failed, its fault is a fault of the lines
 abbrev pub Goes : {X : Type 0} → (X → Ending) → Result X TextFault → BuilderData → Text → State → Text → Type 0
 Goes mode (Ok x) builder rest s t = (e : Draft) × IsDraft builder e × LeadsOn s t (between (ending (mode x) e)) rest
 Goes mode (Err f) builder rest s t = Fails f s t
 
--- LINES were read: whatever draft d the builder had before, they were read from the state `from d`. After success the builder is where the lines may come that come next, and the text isn't longer
+-- LINES were read: for each draft d that the builder represented before, they were read from the state `from d`. After success, the builder is in a state in which the lines that may come next are allowed, and the rest of the text isn't longer
 pub record ReadsOn {A : _} {X : Type 0} (from : Draft → State) (mode : X → Ending) (old new : MapReader A) (x : Result X TextFault) : Type 0 where
   pub reads : (d : Draft) → IsDraft old.builder d → Goes mode x new.builder new.text (from d) old.text
   pub stands : IfOk x (λ v. TakesLinesOf (mode v).0 new.builder)
   pub shorter : OnOk x (length new.text.words ≤ length old.text.words)
 
--- the end of the line of a class id, or of the algorithm, which may have left out a part
+-- the ending of a line of a class id (`None`), or of the algorithm's line, which has left out the optional part k
 abbrev pub behind_id : Option Optional → Ending
 behind_id None = (numbered, Nothing)
 behind_id (Some k) = (filling false, k)
 
--- the end of the line of an item, which may have left out a part, or of the last line of the bucket
+-- the ending of the line of an item, which has left out the optional part k, or of the bucket's closing brace (`None`)
 abbrev pub behind_item : Option Optional → Ending
 behind_item (Some k) = (filling true, k)
 behind_item None = (second, Nothing)
 
--- an item was added, with the draft e as the result, by a line that ends with the word at this place, where `due` is expected. After success the builder has e, and reading gives e too. A fault is the one that reading gives at this place, or it is out of memory at this place and no sum is too large
+-- the result of adding an item, after which the draft is e. The item's line ends with the word at this place, where `due` is expected. After success, the builder represents e, and `read` is e, too. After a failure, the fault is the fault of `read` at this place; or it is OutOfMemory at this place, and no sum is too large
 abbrev pub Adds : Result (Unit {0}) TextFault → BuilderData → Draft → ℕ → Expected → Result Draft TextFaultKind → Type 0
 Adds (Ok x) builder e place due read = IsDraft builder e × (read ≡ Ok e)
 Adds (Err f) builder e place due read = (IsOutOfMemory f × (f.place ≡ place) × (is_too_heavy e.table ≡ false)) ⊎ (placed place due read ≡ Err f)
@@ -87,7 +87,7 @@ pub record CanTake (i : ItemId) (b : BuilderData) : Type 0 where
   pub filling : IsAmid is_filling b
   pub free : (d : Draft) → IsDraft b d → IsFreeItem d i
 
--- the item i was put into the bucket that is being filled, with the weight w or without one, at the word at this place, where `due` is expected
+-- the item i was put into the bucket that is being filled, with the weight w if one is written. The item's line ends with the word at this place, where `due` is expected
 pub record PutsItem (i : ItemId) (w : Option ℕ) (place : ℕ) (due : Expected) (before after : BuilderData) (x : Result (Unit {0}) TextFault) : Type 0 where
   pub filling : OnOk x (IsAmid is_filling after)
   pub adds : (d : Draft) → IsDraft before d → Adds x after (with_next_item d i w) place due (unless_heavy (with_next_item d i w))
@@ -102,7 +102,7 @@ pub record HasRoomForBucket (kind : List ℕ) (b : BuilderData) : Type 0 where
   pub idle : IsIdle b
   pub known : (d : Draft) → IsDraft b d → (k : ℕ) × (kind_number d.setting kind ≡ Some k) × HasRoom d (statement_kinds.Bucket k)
 
--- the builder is before the algorithm of a bucket, and has room for one more class id
+-- a bucket of the builder has its id but no algorithm yet, and has room for one more class id
 pub record HasRoomForId (b : BuilderData) : Type 0 where
   pub numbered : IsAmid is_numbered b
   pub room : (d : Draft) → IsDraft b d → is_full_of_class_ids d ≡ false

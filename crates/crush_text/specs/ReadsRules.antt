@@ -24,15 +24,15 @@ left_after (Some s) least most = left_by_step s
 left_after None least None = sizes_left least
 left_after None least (Some most) = Nothing
 
--- the same for these steps
+-- the optional part that the last of these steps has left out; if there are no steps, the sizes that the rule's head has left out
 abbrev pub left_last : List Step → Option ℕ → Option ℕ → Optional
 left_last steps least most = left_after (slice_get steps (length steps - 1)) least most
 
--- the same for the rule r, as far as it was read
+-- the optional part that the rule r, as far as it was read, has left out at its end
 abbrev pub left_by : Rule → Optional
 left_by r = left_last r.steps.items r.min_size r.max_size
 
--- what the result of a function that read a line of a rule says, if the rule is r after it. `None`: the line was a step, with which the rule is r, and which left out the part k. A place: the line was the rule's closing brace, at this place, and the rule r was added. A fault is one of the line
+-- what is true after a function has read a line of a rule, after which the rule is r. If the function returned `None`, the line was a step; it is the last step of r, and it left out the optional part k. If the function returned a place, the line was the rule's closing brace at this place, and the rule r was added. If the function failed, its fault is a fault of the line
 abbrev pub StepGoes : Result (Option ℕ) TextFault → Draft → RuleData → Optional → Text → Form → Text → Type 0
 StepGoes (Ok None) d r k rest g t = line_at d g t ≡ Ok (passing k (at (ruled r) d), rest)
 StepGoes (Ok (Some place)) d r k rest g t = (line_at d g t ≡ Ok (at second (add_rule d r), rest)) × Reaches place (arrive d t.words g) t.words
@@ -43,20 +43,20 @@ pub record IsRightSoFar (b : BuilderData) (r : Rule) : Type 0 where
   pub form : IsRuleForm r
   pub free : (d : Draft) → IsDraft b d → IsFreeRule d r
 
--- THE HEAD of a rule was read, up to its first step: the rule can be added, and it is what its lines give. The builder is unchanged
+-- THE HEAD of a rule was read, up to its first step: the rule can be added, and it is the rule that the words spell. The builder is unchanged
 pub record ReadsHead {A : _} (old new : MapReader A) (x : Result Rule TextFault) : Type 0 where
   pub right : IfOk x (IsRightSoFar new.builder)
   pub gives : (d : Draft) → IsDraft old.builder d → GivesLine (λ r. (passing (left_by r) (at (ruled (kept_rule d r)) d), new.text)) x d (rule_line d) old.text
   pub kept : new.builder ≡ old.builder
   pub shorter : OnOk x (length new.text.words ≤ length old.text.words)
 
--- an optional size was read after its key: it is at most LARGEST_RULE_NUMBER, and whatever form follows, it is what reading gives
+-- an optional size was read: if it is there, it is at most LARGEST_RULE_NUMBER; and it is the size that the words spell, whatever form follows
 pub record ReadsSize (key : List ℕ) (old new : Text) (x : Result (Option ℕ) TextFault) : Type 0 where
   pub most : IfOk x (λ n. IfSome n (λ k. k ≤ LARGEST_RULE_NUMBER))
   pub gives : (d : Draft) (more : Option ℕ → Form) → GivesOn (λ n. line_at d (more n) new) x (line_at d (number_behind key more) old)
   pub shorter : OnOk x (length new.words ≤ length old.words)
 
--- A STEP of a rule was read, of the form `line`: its words have the right form, it names a bucket or a type that exists, and it is what reading gives. The builder is unchanged
+-- A STEP of a rule was read, of the form `line`: its words have the right form, it names a bucket or a type that exists, and it is the step that the words spell. The builder is unchanged
 pub record GivesStep {A : _} (line : Draft → RuleData → Form) (old new : MapReader A) (x : Result Step TextFault) : Type 0 where
   pub form : IfOk x IsStepForm
   pub gives : (d : Draft) (r : RuleData) → IsDraft old.builder d → GivesLine (λ s. (behind_step d r s, new.text)) x d (line d r) old.text
@@ -64,19 +64,19 @@ pub record GivesStep {A : _} (line : Draft → RuleData → Form) (old new : Map
   pub kept : new.builder ≡ old.builder
   pub shorter : OnOk x (length new.text.words ≤ length old.text.words)
 
--- what the result of a function that read all steps of a rule says, if the rule is r after them. A place is that of the closing brace: the steps lead to the next statement, and the rule r was added. A fault is one of reading
+-- what is true after a function has read all steps of a rule, after which the rule is r. If the function returned a place, it is the place of the closing brace, the steps lead to the next statement, and the rule r was added. If it failed, its fault is a fault of the steps
 abbrev pub StepsGo : Result ℕ TextFault → Draft → RuleData → Text → State → Text → Type 0
 StepsGo (Ok place) d r rest s t = LeadsOn s t (between (at second (add_rule d r))) rest × Reaches place s t.words
 StepsGo (Err f) d r rest s t = Fails f s t
 
--- a line of the rule r was read, a step or the closing brace, and the rule is q after it. After success q can be added. The builder is unchanged
+-- one line of the rule r was read, which is a step or the closing brace; afterwards the rule is q. After success, q can be added. The builder is unchanged
 pub record ReadsStepLine {A : _} (r q : Rule) (old new : MapReader A) (x : Result (Option ℕ) TextFault) : Type 0 where
   pub right : OnOk x (IsRightSoFar new.builder q)
   pub reads : (d : Draft) → IsDraft old.builder d → StepGoes x d (kept_rule d q) (left_by q) new.text (line_forms d (left_by r) (ruled (kept_rule d r))) old.text
   pub kept : new.builder ≡ old.builder
   pub shorter : OnOk x (length new.text.words < length old.text.words)
 
--- all steps of the rule r and its closing brace were read, and the rule is q after them. After success q can be added. The builder is unchanged
+-- all steps of the rule r and its closing brace were read; afterwards the rule is q. After success, q can be added. The builder is unchanged
 pub record ReadsSteps {A : _} (r q : Rule) (old new : MapReader A) (x : Result ℕ TextFault) : Type 0 where
   pub right : OnOk x (IsRightSoFar new.builder q)
   pub reads : (d : Draft) → IsDraft old.builder d → StepsGo x d (kept_rule d q) new.text (between (passing (left_by r) (at (ruled (kept_rule d r)) d))) old.text

@@ -26,11 +26,11 @@ use Rattle.crush_text.specs.ReadsLines.{IsIdle, Ending, ending}
 abbrev pub mode_behind : Bool → Mode
 mode_behind late = if late then second else first
 
--- how a statement ends, after which the next one is read so
+-- the ending of a statement, computed from the `Before` of the next statement
 abbrev pub behind : Before → Ending
 behind b = (mode_behind b.late, b.or)
 
--- what the result of a function that read the next statement says. `None`: the text ended here, and the builder has its draft. Otherwise the statement leads to the next one, which is read as is returned. A fault is one of reading
+-- what is true after a function has read the next statement. If the function returned `None`, the text ended here, and the builder represents the draft of the text. If it returned a `Before`, a statement was read, and reading goes on with the statement after it. If it failed, its fault is a fault of the statement
 abbrev pub NextGoes : Result (Option Before) TextFault → BuilderData → Text → State → Text → Type 0
 NextGoes (Ok None) builder rest s t = (e : Draft) × IsDraft builder e × (outcome s t ≡ Ok e)
 NextGoes (Ok (Some b)) builder rest s t = (e : Draft) × IsDraft builder e × LeadsOn s t (between (ending (behind b) e)) rest
@@ -42,7 +42,7 @@ pub record ReadsNext {A : _} (before : Before) (old new : MapReader A) (x : Resu
   pub reads : (d : Draft) → IsDraft old.builder d → NextGoes x new.builder new.text (between (ending (behind before) d)) old.text
   pub shorter : IfOk x (λ more. IfSome more (λ _. length new.text.words < length old.text.words))
 
--- what the result of a function that read all statements says: after success the builder has the draft that the text gives; a fault is one of reading
+-- what is true after a function has read all statements. If the function succeeded, the builder represents the draft that the text gives. If it failed, its fault is a fault of the statements
 abbrev pub AllGo : Result (Unit {0}) TextFault → BuilderData → State → Text → Type 0
 AllGo (Ok x) builder s t = (e : Draft) × IsDraft builder e × (outcome s t ≡ Ok e)
 AllGo (Err f) builder s t = Fails f s t
@@ -63,7 +63,7 @@ pub record CanOpen (o : StatementKind) (w : List ℕ) (b : BuilderData) : Type 0
   pub known : (d : Draft) → IsDraft b d → IsKnown d o w
   pub room : (d : Draft) → IsDraft b d → HasRoom d o
 
--- the result x says which kind of statement the word w begins, or which fault it has: whatever draft the builder has, this is what reading gives. After success there is room for one more of this kind
+-- the result x says which kind of statement the word w begins, or which fault w has: for each draft that the builder represents, this is the result of the definitions. After success there is room for one more statement of this kind
 pub record Opens (w : PlacedWord) (before : Before) (b : BuilderData) (x : Result StatementKind TextFault) : Type 0 where
   pub opens : (d : Draft) → IsDraft b d → x ≡ placed w.place (expect.Statement before.late before.or) (word_for d (opening before.late before.or) w.text.now)
   pub known : (d : Draft) → IsDraft b d → IfOk x (λ o. IsKnown d o w.text.now)
@@ -73,10 +73,10 @@ pub record Opens (w : PlacedWord) (before : Before) (b : BuilderData) (x : Resul
 abbrev pub opens_alone : List ℕ → Bool
 opens_alone w = comes_first w || bytes_eq w (codes "rule")
 
--- f is the fault of the word w as the first word of a text; or w has no fault, and f is out of memory at w's place
+-- f is the fault of w as the first word of a text; or w has no fault, and f is OutOfMemory at w's place
 abbrev pub FailsFirst : TextFault → ℕ → List ℕ → Type 0
 FailsFirst f place w = (IsOutOfMemory f × (f.place ≡ place) × ((o : StatementKind) × (word_for empty_draft (opening false Nothing) w ≡ Ok o))) ⊎ (placed place (expect.Statement false Nothing) (word_for empty_draft (opening false Nothing) w) ≡ Err f)
 
--- f is the fault of reading the text t; or it is out of memory, at a word that has no fault and no faulty word before it, or at the end of a text without words
+-- f is the fault of reading the text t; or f is OutOfMemory, at a word that has no fault and before which no word has a fault, or at the end of a text without words
 abbrev pub FailsText : TextFault → Text → Type 0
 FailsText f t = (IsOutOfMemory f × (Reaches f.place start t.words ⊎ (t ≡ stopped (ended f.place)))) ⊎ (outcome start t ≡ Err f)

@@ -23,11 +23,11 @@ pub record TakesWord (e : Expected) (old new : Text) (x : Result PlacedWord Text
   pub formed : IfOk x (λ w. (is_brace_word w.text.now || is_name w.text.now) ≡ true)
   pub shorter : OnOk x (length new.words < length old.words)
 
--- the test that every draft passes, for words that don't depend on the draft
+-- a property that every draft has, for roles in which the result doesn't depend on the draft
 abbrev pub AnyDraft : Draft → Type 0
 AnyDraft d = Unit {0}
 
--- A WORD was read in the role r: for each of these drafts the result is the word that has the role's value, or the word's fault. A word that is returned is a name, is no brace, and may be here
+-- A WORD was read in the role r: for each of these drafts, the function returned the word, with the value that it has in this role, or it failed with the word's fault. A word that is returned has the form of a name, isn't a brace, and may be used here
 pub record ReadsWord (r : Role) (drafts : Draft → Type 0) (old new : Text) (x : Result PlacedWord TextFault) : Type 0 where
   pub gives : (d : Draft) → drafts d → Gives (λ w. (value d r w.text.now, new)) x (word_at d r old)
   pub next : IfOk x (λ w. next_at (expected r) old ≡ Ok (word_of w, new))
@@ -36,19 +36,19 @@ pub record ReadsWord (r : Role) (drafts : Draft → Type 0) (old new : Text) (x 
   pub free : IfOk x (λ w. (d : Draft) → drafts d → IsFreeWord d r w.text.now)
   pub shorter : OnOk x (length new.words < length old.words)
 
--- the same if a value is returned: it is the word's value in the role r, is in the role's range, and may be here
+-- A WORD was read in the role r, and its value was returned: it is the value that the word has in this role, it is in the role's range, and it may be used here
 pub record ReadsValue {X : Type 0} (r : Role) (view : X → El r) (drafts : Draft → Type 0) (old new : Text) (x : Result X TextFault) : Type 0 where
   pub gives : (d : Draft) → drafts d → Gives (λ v. (view v, new)) x (word_at d r old)
   pub range : IfOk x (λ v. IsInRange r (view v))
   pub free : IfOk x (λ v. (d : Draft) → drafts d → IsFreeValue d r (view v))
   pub shorter : OnOk x (length new.words < length old.words)
 
--- a method of the map's reader read such a WORD, for each draft that its builder can have. The builder is unchanged
+-- a method of the map's reader read a word (`ReadsWord`), for each draft that its builder represents. The builder is unchanged
 pub record FindsWord {A : _} (r : Role) (old new : MapReader A) (x : Result PlacedWord TextFault) : Type 0 where
   pub reads : ReadsWord r (IsDraft old.builder) old.text new.text x
   pub kept : new.builder ≡ old.builder
 
--- a method of the map's reader read such a value. The builder is unchanged
+-- a method of the map's reader read a value (`ReadsValue`), for each draft that its builder represents. The builder is unchanged
 pub record FindsValue {A : _} {X : Type 0} (r : Role) (view : X → El r) (old new : MapReader A) (x : Result X TextFault) : Type 0 where
   pub reads : ReadsValue r view (IsDraft old.builder) old.text new.text x
   pub kept : new.builder ≡ old.builder

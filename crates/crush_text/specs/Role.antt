@@ -1,4 +1,4 @@
--- The roles of words: what a word is for, and which value it has then.
+-- The roles of words: what a word is for, and which value it has in its role.
 use Rattle.std.specs.Prelude.{ℕ, ℤ, Bool, true, false, List, Result, Ok, Err, bytes_eq, codes, drop, unwrap_or, if◌then◌else◌}
 use Rattle.std.specs.Str.Parse.{digits_value}
 use Rattle.crush_units.specs.declared.alg.Alg.{Alg}
@@ -18,7 +18,7 @@ use Rattle.crush_units.specs.Numbers.{signed_value}
 use Rattle.crush_text.specs.declared.expected.Expected.{Expected}
 use Rattle.crush_text.specs.declared.expected.Optional.{Optional}
 
--- what a word is for. An `any_word` can be any word but a brace, and says what is expected there. The Bool of `opening` says that a bucket or a rule was read before; the Bool of `item_or_end` says that an item of the bucket was read before. The number of `number` is the greatest that is allowed,
+-- what a word is for. An `any_word` can be any word except for a brace, and says what is expected there. The Bool of `opening` says that a bucket or a rule was read before; the Bool of `item_or_end` says that an item of the bucket was read before. The number of `number` is the largest number that is allowed,
 -- the number of `type_name` is the type's, and the number of `step_or_end` is how many steps the rule has so far. `opening`, `item_or_end` and `step_or_end` also say which optional part the words before have just left out. The name of an item is an `item` if a weight follows it, otherwise a `lone_item`
 pub data Role : Type 0 where
   key : List ℕ → Role
@@ -97,7 +97,7 @@ item_of d w = unwrap_or (item_named d w) (Device 0)
 abbrev pub bucket_of_word : Draft → List ℕ → ℕ
 bucket_of_word d w = unwrap_or (complete_bucket_named d w) 0
 
--- the weight, or 0 if the text isn't one
+-- the weight, or 0 if the text isn't a weight
 abbrev pub units_or_none : Result ℕ WeightFault → ℕ
 units_or_none (Ok w) = w
 units_or_none (Err f) = 0
@@ -115,7 +115,7 @@ opened d w =
     else (if bytes_eq w (codes "rule") then statement_kinds.Rule
     else statement_kinds.Bucket (kind_of_word d w))))
 
--- what a step's first word says
+-- what a step's first word means
 abbrev pub step_said : List ℕ → StepWord
 step_said w =
     if bytes_eq w (codes "take") then takes
@@ -124,7 +124,7 @@ step_said w =
     else (if bytes_eq w (codes "emit") then emits
     else sets w)))
 
--- the value of the word w in the role r; it counts only if the word has no fault
+-- the value of the word w in the role r; this value is only used if the word has no fault
 abbrev pub value : Draft → (r : Role) → List ℕ → El r
 value d (key k) w = tt
 value d (any_word e) w = w

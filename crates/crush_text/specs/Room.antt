@@ -15,7 +15,7 @@ use Rattle.crush_text.specs.declared.statement_kind.StatementKind.{StatementKind
 use Rattle.crush_text.specs.declared.statement_kind.StatementKind.TheVariants as statement_kinds
 use Rattle.crush_text.specs.Role.{Role, El, number, tunable_name, type_number, type_name, device_id, new_name, bucket_id, id_or_alg, id_class, rule_name, rule_id, taken_bucket, step_type}
 
--- the draft has room for one more statement of this kind; for a bucket, its type isn't type 0
+-- the draft has room for one more statement of this kind. For a bucket, its type must not be type 0
 abbrev pub HasRoom : Draft → StatementKind → Type 0
 HasRoom d statement_kinds.Tunable = is_full_of_tunables d ≡ false
 HasRoom d statement_kinds.Device = is_full_of_devices d ≡ false
@@ -23,7 +23,7 @@ HasRoom d statement_kinds.Type = is_full_of_kinds d ≡ false
 HasRoom d (statement_kinds.Bucket k) = (nat_lt 0 k ≡ true) × (is_full_of_buckets d ≡ false)
 HasRoom d statement_kinds.Rule = is_full_of_rules d ≡ false
 
--- the name w may be used in this role: it is free if the role declares it, and it exists if the role refers to it
+-- the name w may be used in this role: if the role declares a name, w is free; if the role refers to a name, w exists
 abbrev pub IsFreeWord : Draft → Role → List ℕ → Type 0
 IsFreeWord d tunable_name w = has_tunable d.setting w ≡ false
 IsFreeWord d (type_name n) w = (0 < n → is_reserved w ≡ false) × (has_kind_name d.setting w ≡ false)
@@ -40,7 +40,7 @@ IsInRange (number most) n = n ≤ most
 IsInRange rule_id n = n ≤ LARGEST_RULE_NUMBER
 IsInRange r v = Unit {0}
 
--- the value may be used in this role: a number or an id is free; and if a class id follows, the bucket has room for it
+-- the value may be used in this role: a number or an id is free; and if a class id follows, the bucket has room for a class id
 abbrev pub IsFreeValue : Draft → (r : Role) → El r → Type 0
 IsFreeValue d type_number n = has_kind_number d.setting n ≡ false
 IsFreeValue d device_id n = is_there d.table (Device n) ≡ false

@@ -30,11 +30,11 @@ IsBrace w = (w ≡ codes "{") ⊎ (w ≡ codes "}")
 abbrev pub ComesFirst : List ℕ → Type 0
 ComesFirst w = (w ≡ codes "tunable") ⊎ ((w ≡ codes "device") ⊎ (w ≡ codes "type"))
 
--- neither of two words
+-- the word is neither of two words
 abbrev pub IsNeither : List ℕ → List ℕ → List ℕ → Type 0
 IsNeither w k l = (w ≢ k) × (w ≢ l)
 
--- it isn't a word with which a step begins
+-- the word can't be the first word of a step
 abbrev pub IsNoStepWord : List ℕ → Type 0
 IsNoStepWord w = (w ≢ codes "take") × IsNeither w (codes "choose") (codes "chooseleaf") × (w ≢ codes "emit") × (starts_with nat_eq w (codes "set_") ≡ false) × (w ≢ codes "choosemsr")
 
@@ -51,7 +51,7 @@ IsUnexpected step_word w = IsNoStepWord w
 IsUnexpected step_order w = IsNeither w (codes "firstn") (codes "indep")
 IsUnexpected r w = IsBrace w
 
--- BAD NUMBER: it isn't a number of the form and the range that are required here
+-- BAD NUMBER: the word isn't a number, or it isn't in the range that is allowed here
 abbrev pub IsBadNumber : Role → List ℕ → Type 0
 IsBadNumber (number most) w = is_number most w ≡ false
 IsBadNumber type_number w = is_number LAST_TYPE w ≡ false
@@ -61,7 +61,7 @@ IsBadNumber rule_id w = is_number LARGEST_RULE_NUMBER w ≡ false
 IsBadNumber step_count w = is_signed w ≡ false
 IsBadNumber r w = ⊥
 
--- it isn't a weight that the item may have: it isn't a weight at all, or it is too heavy for a device
+-- the result of parsing a weight isn't a weight that the item may have: it is an error, or the item is a device and the weight is too large for a device
 abbrev pub IsNoWeightOf : ItemId → Result ℕ WeightFault → Type 0
 IsNoWeightOf i (Err f) = Unit {0}
 IsNoWeightOf (Device n) (Ok w) = HEAVIEST_DEVICE < w
@@ -72,7 +72,7 @@ abbrev pub IsBadWeight : Role → List ℕ → Type 0
 IsBadWeight (weight i) w = IsNoWeightOf i (weight_of_text w)
 IsBadWeight r w = ⊥
 
--- DUPLICATE ID: a number or an id that an earlier line has already
+-- DUPLICATE ID: an earlier line has the same number or id
 abbrev pub IsDuplicateId : Draft → Role → List ℕ → Type 0
 IsDuplicateId d type_number w = has_kind_number d.setting (digits_value 10 w) ≡ true
 IsDuplicateId d device_id w = is_there d.table (Device (digits_value 10 w)) ≡ true
@@ -80,7 +80,7 @@ IsDuplicateId d bucket_id w = has_bucket_id d (digits_value 10 (drop 1 w)) ≡ t
 IsDuplicateId d rule_id w = has_rule_id d.setting (digits_value 10 w) ≡ true
 IsDuplicateId d r w = ⊥
 
--- DUPLICATE NAME: a name that an earlier line has already, or a class that an earlier line of the same bucket has already
+-- DUPLICATE NAME: an earlier line has the same name, or an earlier line of the same bucket has the same class
 abbrev pub IsDuplicateName : Draft → Role → List ℕ → Type 0
 IsDuplicateName d tunable_name w = has_tunable d.setting w ≡ true
 IsDuplicateName d (type_name n) w = has_kind_name d.setting w ≡ true
@@ -96,7 +96,7 @@ IsUnknownType d (opening late or) w = (is_reserved w ≡ false) × (is_bucket_ki
 IsUnknownType d step_type w = kind_number d.setting w ≡ None
 IsUnknownType d r w = ⊥
 
--- UNKNOWN ITEM: it is neither a declared device nor a complete bucket
+-- UNKNOWN ITEM: the word is neither the name of a declared device nor that of a complete bucket
 abbrev pub IsUnknownItem : Draft → Role → List ℕ → Type 0
 IsUnknownItem d item w = item_named d w ≡ None
 IsUnknownItem d lone_item w = item_named d w ≡ None
@@ -112,19 +112,19 @@ IsSecondParent d item w = IsHeldItem d w
 IsSecondParent d lone_item w = IsHeldItem d w
 IsSecondParent d r w = ⊥
 
--- OTHER ALGORITHM: it is none of the supported algorithms
+-- OTHER ALGORITHM: the word isn't a supported algorithm
 abbrev pub IsOtherAlgorithm : Role → List ℕ → Type 0
 IsOtherAlgorithm algorithm w = alg_of_text w ≡ None
 IsOtherAlgorithm r w = ⊥
 
--- LEFT OUT: what isn't supported: `choose_args` as the first word of a statement, `pos` after an item, `choosemsr` as the first word of a step
+-- LEFT OUT: the word begins something that isn't supported: `choose_args` as the first word of a statement, `pos` after an item, or `choosemsr` as the first word of a step
 abbrev pub IsLeftOut : Role → List ℕ → Type 0
 IsLeftOut (opening late or) w = w ≡ codes "choose_args"
 IsLeftOut (item_or_end any or) w = (any ≡ true) × (w ≡ codes "pos")
 IsLeftOut step_word w = w ≡ codes "choosemsr"
 IsLeftOut r w = ⊥
 
--- UNKNOWN BUCKET IN RULE: a step takes what isn't a complete bucket
+-- UNKNOWN BUCKET IN RULE: what a step takes isn't a complete bucket
 abbrev pub IsUnknownBucketInRule : Draft → Role → List ℕ → Type 0
 IsUnknownBucketInRule d taken_bucket w = complete_bucket_named d w ≡ None
 IsUnknownBucketInRule d r w = ⊥
@@ -142,14 +142,14 @@ IsOneTooMany d w =
     ⊎ (((w ≡ codes "rule") × (is_full_of_rules d ≡ true))
     ⊎ (BeginsBucket d w × (is_full_of_buckets d ≡ true)))))
 
--- TOO MANY: one more tunable, type, device, bucket, class id, rule or step than a map may have
+-- TOO MANY: the text has one more tunable, type, device, bucket, class id, rule or step than a map may have
 abbrev pub IsTooMany : Draft → Role → List ℕ → Type 0
 IsTooMany d (opening late or) w = IsOneTooMany d w
 IsTooMany d id_or_alg w = (w ≡ codes "id") × (is_full_of_class_ids d ≡ true)
 IsTooMany d (step_or_end k or) w = (w ≡ codes "step") × (MOST_STEPS ≤ k)
 IsTooMany d r w = ⊥
 
--- SUM TOO LARGE: with this item the weight of a bucket or the total weight is out of range. The fault is at the item's name if it has no weight, otherwise at its weight, if that is one that the item may have
+-- SUM TOO LARGE: with this item, the weight of a bucket or the total weight is out of range. If the item has no weight, the fault is at its name. Otherwise it is at its weight, if the item may have this weight
 abbrev pub IsSumTooLarge : Draft → Role → List ℕ → Type 0
 IsSumTooLarge d lone_item w = (i : ItemId) × (item_named d w ≡ Some i) × (is_too_heavy (with_next_item d i None).table ≡ true)
 IsSumTooLarge d (weight i) w = (u : ℕ) × (weight_of_text w ≡ Ok u) × (IsNoWeightOf i (Ok u) → ⊥) × (is_too_heavy (with_next_item d i (Some u)).table ≡ true)
@@ -172,11 +172,11 @@ Holds TooMany d r w = IsTooMany d r w
 Holds SumTooLarge d r w = IsSumTooLarge d r w
 Holds f d r w = ⊥
 
--- no row with a lesser number than f's applies to the word
+-- no row of a fault with a smaller number than f's applies to the word
 abbrev pub NoneBelow : TextFaultKind → Draft → Role → List ℕ → Type 0
 NoneBelow f d r w = (g : TextFaultKind) → fault_number g < fault_number f → Holds g d r w → ⊥
 
--- f is the fault of the word: its row applies, and no row with a lesser number
+-- f is the fault of the word: the row of f applies, and no row of a fault with a smaller number applies
 abbrev pub IsFault : TextFaultKind → Draft → Role → List ℕ → Type 0
 IsFault f d r w = Holds f d r w × NoneBelow f d r w
 

@@ -1,4 +1,4 @@
--- The tests of a word as they are computed: for each role the faults that a word may have, in the order of their numbers. `Rows` says the same as a table.
+-- The tests of a word, in a form that can be computed: for each role, the faults that a word may have, in the order of their numbers. `Rows` says the same as a table.
 use Rattle.std.specs.Prelude.{ℕ, Bool, true, false, not, ◌&&◌, ◌||◌, ◌==◌, nat_eq, nat_le, List, [], ◌∷◌, Result, Ok, Err, is_some, bytes_eq, codes, drop, if◌then◌else◌, None, Some}
 use Rattle.std.specs.List.{starts_with}
 use Rattle.std.specs.Str.Parse.{digits_value}
@@ -27,11 +27,11 @@ pub data Test : Type 0 where
   ◌when◌ : TextFaultKind → Bool → Test
 
 infix 5 ◌when◌
--- the test that the word isn't a brace, and then these tests
+-- the test that the word isn't a brace, followed by the tests `more`
 abbrev pub a_word : List ℕ → List Test → List Test
 a_word w more = (Unexpected when is_brace_word w) ∷ more
 
--- the tests that the word is a number up to `most`, and then these tests
+-- the tests that the word is a number up to `most`, followed by the tests `more`
 abbrev pub a_number : ℕ → List ℕ → List Test → List Test
 a_number most w more = a_word w ((BadNumber when not (is_number most w)) ∷ more)
 
@@ -43,7 +43,7 @@ is_either w k l = bytes_eq w k || bytes_eq w l
 abbrev pub comes_first : List ℕ → Bool
 comes_first w = bytes_eq w (codes "tunable") || is_either w (codes "device") (codes "type")
 
--- whether the word can't begin a statement here: types, devices and tunables must come before the buckets and the rules, of which one was read if `late`
+-- whether the word can't begin a statement here. Types, devices and tunables must come before the buckets and the rules; `late` says that a bucket or a rule was read
 abbrev pub is_out_of_place : Bool → List ℕ → Bool
 is_out_of_place late w = is_brace_word w || (bytes_eq w (codes "class") || (late && comes_first w))
 
@@ -51,7 +51,7 @@ is_out_of_place late w = is_brace_word w || (bytes_eq w (codes "class") || (late
 abbrev pub is_known : Draft → List ℕ → Bool
 is_known d w = comes_first w || (is_either w (codes "rule") (codes "choose_args") || is_bucket_kind d.setting (kind_of_word d w))
 
--- whether the map has no room for one more of the statements that begin with this word
+-- whether the map has no room for one more statement of the kind that begins with this word
 abbrev pub is_full : Draft → List ℕ → Bool
 is_full d w =
     if bytes_eq w (codes "tunable") then is_full_of_tunables d
@@ -70,7 +70,7 @@ is_weight_for (Bucket b) (Ok w) = true
 abbrev pub weight_tests : Draft → ItemId → List ℕ → List Test
 weight_tests d i w = a_word w ((BadWeight when not (is_weight_for i (weight_of_text w))) ∷ [])
 
--- the tests of an item's name, and then these tests
+-- the tests of an item's name, followed by the tests `more`
 abbrev pub item_tests : Draft → List ℕ → List Test → List Test
 item_tests d w more = a_word w ((UnknownItem when not (is_some (item_named d w))) ∷ (SecondParent when is_placed d.table (item_of d w)) ∷ more)
 
@@ -107,7 +107,7 @@ word_tests d step_order w = (Unexpected when not (is_either w (codes "firstn") (
 word_tests d step_count w = a_word w ((BadNumber when not (is_signed w)) ∷ [])
 word_tests d step_type w = a_word w ((UnknownType when not (is_some (kind_number d.setting w))) ∷ [])
 
--- the value v if no test finds its fault; otherwise the first fault that is found
+-- the value v if no test finds a fault; otherwise the first fault that a test finds
 abbrev pub unless : {A : Type 0} → List Test → A → Result A TextFaultKind
 unless [] v = Ok v
 unless ((f when b) ∷ ts) v = if b then Err f else unless ts v

@@ -3,7 +3,7 @@
 ghost use Rattle.std.specs.Prelude.{◌≡◌};
 ghost use Rattle.crush_text.specs.Expected.{keyword_word};
 
-/// A keyword of the grammar, where no other word is allowed.
+/// A keyword that the grammar requires, so that no other word is allowed.
 #[derive(Clone, Copy, Debug, PartialEq, Eq)]
 pub enum Keyword {
     /// `{`
@@ -42,32 +42,34 @@ impl Keyword {
     }
 }
 
-/// The optional part of a line that could also come at a place, because the words before the place
-/// have just left it out.
+/// An optional part of the text that could still follow at a place, because the words before the
+/// place have left it out.
 #[derive(Clone, Copy, Debug, PartialEq, Eq)]
 pub enum Optional {
-    /// No optional part was left out.
+    /// No optional part could still follow.
     Nothing,
-    /// `class` and a class.
+    /// `class` and the name of a class.
     Class,
-    /// `hash` and 0.
+    /// `hash` and the number 0.
     Hash,
     /// `weight` and a weight.
     Weight,
     /// `max_size` and a number.
     MaxSize,
-    /// `min_size` and a number, and then perhaps `max_size` and a number.
+    /// `min_size` and a number. After them, `max_size` and a number may follow.
     Sizes,
 }
 
-/// What the grammar expects at the place of a fault.
+/// What the grammar expects at the place of a fault. If a variant has the field `or`, then this
+/// optional part is also allowed here.
 #[derive(Clone, Copy, Debug, PartialEq, Eq)]
 pub enum Expected {
     /// The first word of a statement.
     Statement {
-        /// Whether a bucket or a rule was read before. Then only buckets and rules may follow.
+        /// Whether the text has a bucket or a rule before this place. If it has, only buckets and
+        /// rules may follow.
         late: bool,
-        /// The optional part that was just left out.
+        /// The optional part that could still follow.
         or: Optional,
     },
     /// This keyword.
@@ -87,11 +89,11 @@ pub enum Expected {
     DeviceId,
     /// The name of a new device or bucket.
     NewName,
-    /// The id of a bucket, or a class id of a bucket.
+    /// The id of a bucket, or the id that a bucket has for a class.
     BucketId,
     /// The class of a device, or the class in a `take` step.
     Class,
-    /// The class of a class id.
+    /// The class in a bucket's line `id -N class CLASS`.
     IdClass,
     /// `id` or `alg`.
     IdOrAlg,
@@ -99,14 +101,14 @@ pub enum Expected {
     Algorithm,
     /// A weight.
     Weight {
-        /// Whether it is the weight of a device.
+        /// Whether the weight is that of a device. If not, it is that of a bucket.
         device: bool,
     },
     /// The name of an item.
     ItemName,
     /// `item` or `}`.
     ItemOrEnd {
-        /// The optional part that was just left out.
+        /// The optional part that could still follow.
         or: Optional,
     },
     /// The name of a rule.
@@ -119,7 +121,7 @@ pub enum Expected {
     RuleType,
     /// `step` or `}`.
     StepOrEnd {
-        /// The optional part that was just left out.
+        /// The optional part that could still follow.
         or: Optional,
     },
     /// The first word of a step, after `step`.
@@ -130,8 +132,8 @@ pub enum Expected {
     FirstnOrIndep,
     /// How many items a step chooses.
     Count,
-    /// The name of the type of which a step chooses items.
+    /// The name of the type of the items that a step chooses.
     StepType,
-    /// No word: memory ran out.
+    /// Nothing is expected: memory ran out at this place.
     Memory,
 }

@@ -7,47 +7,50 @@ use crate::expected::Expected;
 use std::fmt::{self, Display, Formatter};
 use thiserror::Error;
 
-/// What is wrong at a place of a text. If a word has several faults, the one with the least number
-/// is reported.
+/// What is wrong at a place of a text. If a word has several faults, the fault with the smallest
+/// number is reported.
 #[derive(Clone, Copy, Debug, PartialEq, Eq)]
 pub enum TextFaultKind {
     /// A byte that no text may contain, or a word of more than 255 bytes.
     BadWord,
     /// The text ends inside a statement.
     Ended,
-    /// A word or a brace that the grammar doesn't allow here.
+    /// A word or a brace that the grammar doesn't allow at this place.
     Unexpected,
-    /// The word isn't a number of the form and the range that are required here.
+    /// The word isn't a number, or it isn't in the range that is allowed at this place.
     BadNumber,
-    /// The word isn't a weight, or it is above 4294967295 units, or above 2147483647 units for a
-    /// device.
+    /// The word isn't a weight, or the weight is too large: above 2147483647 units for a device, or
+    /// above 4294967295 units for a bucket.
     BadWeight,
-    /// An earlier line has this number or id already.
+    /// An earlier line has the same number or id.
     DuplicateId,
-    /// An earlier line has this name already, or an earlier line of the bucket this class.
+    /// An earlier line has the same name. For the class of a class id, an earlier line of the same
+    /// bucket has the same class.
     DuplicateName,
-    /// The word isn't the name of a declared type, or it names type 0 where a bucket begins.
+    /// The word isn't the name of a declared type, or it begins a bucket and names type 0, which is
+    /// the type of devices.
     UnknownType,
-    /// The item is neither a declared device nor a bucket that was read to its end.
+    /// The item is neither a declared device nor a bucket whose closing brace was read before.
     UnknownItem,
     /// A bucket already holds the item.
     SecondParent,
-    /// The algorithm is none of `straw`, `straw2` and `list`.
+    /// The algorithm is not `straw`, `straw2` or `list`.
     OtherAlgorithm,
     /// A part of Ceph's grammar that isn't supported: `choose_args`, `choosemsr`, or `pos` after an
     /// item.
     LeftOut,
     /// A step of a rule takes a bucket that isn't declared before the rule.
     UnknownBucketInRule,
-    /// One more tunable, type, device, bucket, class id, rule or step than a map may have.
+    /// The text has more tunables, types, devices, buckets, class ids, rules or steps than a map
+    /// may have.
     TooMany,
-    /// With this item, the weight of a bucket or the total weight of the map is out of range.
+    /// With this item, the weight of a bucket or the total weight of the map would be out of range.
     SumTooLarge,
     /// Memory could not be allocated. The text has no fault up to this place.
     OutOfMemory,
 }
 
-/// What is wrong with a text, and where.
+/// A fault of a text, and its place.
 #[derive(Clone, Copy, Debug, PartialEq, Eq, Error)]
 #[error("byte {place}: {kind}")]
 pub struct TextFault {
@@ -61,7 +64,7 @@ pub struct TextFault {
 }
 
 impl TextFaultKind {
-    /// The fault's name, which is the name of its variant.
+    /// Returns the fault's name, which is the name of its variant.
     pub fn name(self) -> &'static str
         ensures { result.now ≡ fault_name self }
     {
@@ -85,7 +88,7 @@ impl TextFaultKind {
         }
     }
 
-    /// The fault's number, from 1 to 16.
+    /// Returns the fault's number, from 1 to 16.
     pub fn number(self) -> u8
         ensures { result ≡ fault_number self }
     {

@@ -1,8 +1,8 @@
 //! Reads the text of a CRUSH map.
 //!
 //! [`read_map`] parses the text, and builds the map with a builder of `crush_builder`.
-//! `specs/Grammar.antt` has the grammar of the text, and `specs/Flaw.antt` says what a fault of a
-//! text is.
+//! `specs/Grammar.antt` defines the grammar of the text, and `specs/Flaw.antt` defines the faults
+//! of a text.
 #![tactic(auto)]
 
 mod expected;

@@ -29,8 +29,9 @@ use crush_map::{CrushMap, Hashing};
 use crush_units::Reader;
 use std::alloc::{Allocator, Global};
 
-/// The rest of the text, and the builder with the map read so far. A method reads the part of the
-/// text that it is named after, and returns the first fault in it.
+/// Reads the text of a map. It has the rest of the text, which isn't read yet, and a builder with
+/// the map that was read so far. Each method reads the part of the text that its name says, and
+/// fails with the first fault in this part.
 #[derive(Drop)]
 struct MapReader<'a, A: Allocator> {
     text: Reader<'a>,
@@ -40,14 +41,15 @@ struct MapReader<'a, A: Allocator> {
 
 /// Reads the text of a map in the form that `crushtool` prints, and returns the map.
 ///
-/// The second value counts the buckets that the text lists as an item with a weight other than the
-/// sum of the devices below them. The map has the sum.
+/// The second value is a number of buckets: those for which, as items of other buckets, the text
+/// gives a weight that isn't the sum of the devices below them. In the map such a bucket has the
+/// sum instead.
 ///
-/// If the text isn't a map, it fails with the text's first fault; if memory runs out before one is
-/// found, it fails with `OutOfMemory`. Three parts of Ceph's grammar are not supported, and fail
-/// with [`TextFaultKind::LeftOut`]: weight sets (`choose_args`), the steps of MSR rules
-/// (`choosemsr`) and the positions of items (`pos`). docs/user/FORMATS.md has the grammar, and
-/// docs/user/RULES.md has each fault with its place.
+/// If the text isn't a map, the call fails with the text's first fault. If memory runs out before a
+/// fault is found, it fails with `OutOfMemory`. Three parts of Ceph's grammar are not supported,
+/// and fail with [`TextFaultKind::LeftOut`]: weight sets (`choose_args`), the steps of MSR rules
+/// (`choosemsr`) and the positions of items (`pos`). docs/user/FORMATS.md describes the grammar,
+/// and docs/user/RULES.md lists the faults, each with its place.
 pub fn read_map(alloc: Global, text: &[u8]) -> Result<(CrushMap<Global>, u32), TextFault>
     ensures map { IfOk result (λ m. (t : List Row)
         × IsMapText text.now m.0.setting t m.1 × Stands m.0.forest t) }
@@ -62,8 +64,8 @@ pub fn read_map(alloc: Global, text: &[u8]) -> Result<(CrushMap<Global>, u32), T
 }
 
 /// Reads the text of a map as [`read_map`] does, but with a given allocator and hashing. The types,
-/// tunables and rules of the map are in the machine's memory, and the rest is in the memory of
-/// `alloc`. Pass a `hashing` with random keys if the text comes from somebody who isn't trusted.
+/// tunables and rules of the map are stored in memory of `global`, and the rest in memory of
+/// `alloc`. Pass a `hashing` with random keys if the text comes from an untrusted source.
 pub fn read_map_in<A: Allocator + Clone>(
     global: Global,
     hashing: Hashing,

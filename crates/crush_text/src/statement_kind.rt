@@ -2,8 +2,8 @@
 
 use crush_units::TypeId;
 
-/// The kind of statement that a first word begins. It is public for the contract of
-/// [`read_map`](crate::read_map).
+/// The kind of the statement that a word begins. It is public because the contract of
+/// [`read_map`](crate::read_map) uses it.
 #[derive(Clone, Copy)]
 pub enum StatementKind {
     /// `tunable`
@@ -12,7 +12,7 @@ pub enum StatementKind {
     Device,
     /// `type`
     Type,
-    /// The name of a type of buckets, whose number this is.
+    /// A bucket: the word is the name of the type that has this number.
     Bucket(TypeId),
     /// `rule`
     Rule,

@@ -1,4 +1,4 @@
--- A place that grows: what becomes of the forest.
+-- A place whose memory grows: the forest after it.
 use Rattle.std.proofs.Common.{◌≡◌, ℕ, ◌*◌, ◌+◌, ◌<◌, ◌≤◌, Bool, true, false, [], ap, sym, subst, ◌∙◌, refl, arith, eqb-true, Option, Some, None, Result, Ok, Err, Vec, vec_capacity, ⊎_elim, ◌⊎◌, inl, inr}
 use Rattle.crush_model.specs.Forest.{ForestData, rows_of, IsSound}
 use Rattle.crush_model.specs.Items.{Items}
@@ -34,7 +34,7 @@ IsGrownAt p f g (Err e) = g ≡ f
 IsGrownAt p f g (Ok None) = (g ≡ f) × (0 < room f p)
 IsGrownAt p f g (Ok (Some out)) = IsEnlarged p f g out
 
--- WHAT THE WALKS SAY of a bucket, of the roots and of the unplaced devices
+-- WHAT THE WALKS PROMISE for a bucket, for the roots and for the unplaced devices
 pub grown_bucket : {A Z E : Type 0} (b : ℕ) (f g : ForestData) (t u : Items) (r : Result (Option (Vec (Node A) Z)) E) → IsSound f → is_place (rows_of f) (AtBucket b) ≡ true → t ≡ f.roots → g ≡ record f { roots = u }
     → IsGrownIn b t u r → IsGrownAt (AtBucket b) f g r
 grown_bucket b f g t u (Err e) sound there same is grown = is ∙ ap (λ n. record f { roots = n }) (grown.err ∙ same)
@@ -91,7 +91,7 @@ grown_unplaced f old new (Ok (Some out)) items memory grown = record {
   most = grown.some.5;
 }
 
--- THE FOREST stays sound
+-- THE FOREST is still sound
 pub sound_grown : {A Z E : Type 0} (p : Place) (f g : ForestData) (r : Result (Option (Vec (Node A) Z)) E) → IsSound f → IsGrownAt p f g r → IsSound g
 sound_grown p f g (Err e) sound grown = subst IsSound (sym grown) sound
 sound_grown p f g (Ok None) sound grown = subst IsSound (sym grown.0) sound
@@ -112,7 +112,7 @@ same_place-eq Unplaced (AtBucket b) e = absurd (let no : false ≡ true = e in c
 same_place-eq Unplaced Root e = absurd (let no : false ≡ true = e in cc)
 same_place-eq Unplaced Unplaced e = refl
 
--- GROWN: what holds of the forest f after the call, and of the vector that is returned
+-- GROWN: what is true of the forest f after the call, and of the vector that is returned
 pub grows : {A Z E : Type 0} (p : Place) (f g : ForestData) (r : Result (Option (Vec (Node A) Z)) E) → IsSound f → is_place (rows_of f) p ≡ true → IsGrownAt p f g r → GrowsBuffer p f g r
 grows p f g (Err e) sound there grown = record {
   stands = λ t s. subst (λ z. Stands z t) (sym grown) s;
@@ -161,6 +161,6 @@ grows p f g (Ok (Some out)) sound there grown =
       err = tt;
     }
 
--- The same, stated for the value v that contracts see, from what holds of the equal forest f of the fields.
+-- The same, stated for the value v that contracts see, from what is true of the equal forest f of the fields.
 pub grows_at : {A Z E : Type 0} (p q : Place) (f v g : ForestData) (r : Result (Option (Vec (Node A) Z)) E) → f ≡ v → p ≡ q → IsSound f → is_place (rows_of v) p ≡ true → IsGrownAt q f g r → GrowsBuffer p v g r
 grows_at p q f v g r e at sound there grown = subst (λ w. GrowsBuffer p w g r) e (subst (λ s. GrowsBuffer s f g r) (sym at) (grows q f g r sound ((λ j. is_place (rows_of (e j)) (sym at j)) ∙ there) grown))

@@ -1,4 +1,4 @@
--- A place whose items are moved into other memory: what becomes of the forest.
+-- A place whose items are moved into other memory: the forest after it.
 use Rattle.std.proofs.Common.{◌≡◌, ℕ, ◌-◌, ◌≤◌, Bool, true, false, [], ap, sym, subst, ◌∙◌, refl, arith, Vec, vec_capacity, IfSome}
 use Rattle.std.specs.Prelude.{◌==◌, if◌then◌else◌}
 use Rattle.crush_units.specs.declared.id.ItemId.TheVariants.{Bucket}
@@ -28,7 +28,7 @@ use Rattle.crush_tree.specs.Memory.{bucket_capacity, capacity}
 use Rattle.crush_tree.specs.BufferReplaced.{count_at, forest_with_capacity, ReplacesBuffer}
 use Rattle.crush_tree.proofs.MemoryLemmas.{capacity_parts}
 
--- THE MEMORY of the one bucket of a number
+-- THE MEMORY of the one bucket with a number
 bucket_capacity-absent : (b : ℕ) (t : Items) → count_of_id (Bucket b) t ≡ 0 → bucket_capacity b t ≡ 0
 bucket_capacity-absent b none e = refl
 bucket_capacity-absent b (device d r) e = bucket_capacity-absent b r (omega (arith, e))
@@ -53,7 +53,7 @@ capacity_devices b none r only = refl
 capacity_devices b (device d u) r only = capacity_devices b u r only
 capacity_devices b (bucket h w m k u) r only = absurd only
 
--- THE FOREST with other memory at a place that is there
+-- THE FOREST with other memory at a place that exists
 roots_bare : (p : Place) (m : ℕ) (f : ForestData) → without_capacity (forest_with_capacity p m f).roots ≡ without_capacity f.roots
 roots_bare (AtBucket b) m f = without_capacity-with_capacity b m f.roots
 roots_bare Root m f = refl
@@ -108,7 +108,7 @@ rehoused_there Unplaced m f sound there = refl
 bare_kept : (p : Place) (m : ℕ) (f : ForestData) → forest_without_capacity (forest_with_capacity p m f) ≡ forest_without_capacity f
 bare_kept p m f = λ j. record { roots = roots_bare p m f j; unplaced = without_capacity (unplaced_kept p m f j); root_capacity = 0; unplaced_capacity = 0 }
 
--- REHOUSED: what holds of the forest f after the call, and of the vector that is returned
+-- REHOUSED: what is true of the forest f after the call, and of the vector that is returned
 pub rehouses : {A Z : Type 0} (p : Place) (m : ℕ) (f g : ForestData) (out : Vec (Node A) Z) → IsSound f → is_place (rows_of f) p ≡ true → g ≡ forest_with_capacity p m f
     → out.items ≡ [] → vec_capacity out ≡ capacity f p → count_at p f ≤ vec_capacity out → ReplacesBuffer p m f g out
 rehouses p m f g out sound there is empty memory enough =
@@ -131,17 +131,17 @@ rehouses p m f g out sound there is empty memory enough =
       rooms = λ q other. ap (λ z. room z q) is ∙ other_kept p q m f other;
     }
 
--- TAKEN BACK: the forest is the one before
+-- UNDONE: the forest is the one before
 pub rehoused_twice : {A Z : Type 0} {p : Place} {m : ℕ} {f g h : ForestData} {out last : Vec (Node A) Z} → ReplacesBuffer p m f g out → ReplacesBuffer p (vec_capacity out) g h last → h ≡ f
 rehoused_twice first second = second.is ∙ sym first.back
 
--- The same, stated for the value v that contracts see, from what holds of the equal forest f of the fields.
+-- The same, stated for the value v that contracts see, from what is true of the equal forest f of the fields.
 pub rehouses_at : {A Z : Type 0} (p q : Place) (m : ℕ) (f v g : ForestData) (out : Vec (Node A) Z) → f ≡ v → p ≡ q → IsSound f → is_place (rows_of v) p ≡ true → g ≡ forest_with_capacity q m f
     → out.items ≡ [] → vec_capacity out ≡ capacity f q → count_at q f ≤ vec_capacity out → ReplacesBuffer p m v g out
 rehouses_at p q m f v g out e at sound there is empty memory enough =
     subst (λ w. ReplacesBuffer p m w g out) e (subst (λ r. ReplacesBuffer r m f g out) (sym at) (rehouses q m f g out sound ((λ j. is_place (rows_of (e j)) (sym at j)) ∙ there) is empty memory enough))
 
--- WHERE THE PLACE IS A BUCKET: the way leads to it among the roots, whose sums are in range
+-- IF THE PLACE IS A BUCKET: the way leads to it among the roots, whose sums are in range
 pub record IsLedTo (knows : ItemId → Items → Type 0) (b : ℕ) (f : ForestData) (t : Items) : Type 0 where
   pub there : is_place (rows_of f) (AtBucket b) ≡ true
   pub descent : DescendsTo knows (Bucket b) t

@@ -1,9 +1,9 @@
--- Spare memory that is given back.
+-- Spare memory that is returned to the allocator.
 use Rattle.std.specs.Prelude.{◌≡◌, ◌≤◌}
 use Rattle.crush_model.specs.Forest.{ForestData}
 use Rattle.crush_model.specs.Items.{none}
 
--- The new forest is the old one, except for the memory of the list of unplaced devices. That isn't more than before, and it is none if there is no unplaced device.
+-- The new forest equals the old one, except for the memory of the list of unplaced devices. This memory isn't larger than before, and it is 0 if there is no unplaced device.
 pub record IsShrunk (old new : ForestData) : Type 0 where
   pub same : new ≡ record old { unplaced_capacity = new.unplaced_capacity }
   pub less : new.unplaced_capacity ≤ old.unplaced_capacity

@@ -1,9 +1,10 @@
 //! The hierarchy of a CRUSH map as a tree of devices and buckets, a [`Forest`].
 //!
-//! A method searches the forest for its item, unless the method's name ends in `_by`: it then takes
-//! a [`Guide`], which knows the place of each item. `specs/Required.antt` defines what callers must
-//! ensure, and `specs/Changed.antt` what the methods change. `crush_hierarchy` adds an index, which
-//! is such a guide.
+//! Most methods search the forest for the item that they read or change. A method whose name ends
+//! in `_by` takes a [`Guide`] instead, which returns the place of each item, so that the method
+//! needn't search. `specs/Required.antt` defines what callers must ensure, and `specs/Changed.antt`
+//! defines what the methods change. `crush_hierarchy` adds an index of the forest; the index
+//! implements [`Guide`].
 #![tactic(auto)]
 
 mod forest;

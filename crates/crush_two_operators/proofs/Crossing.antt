@@ -1,4 +1,4 @@
--- All that a thread takes with it may be sent to another thread.
+-- Proves that everything that is passed to a thread may be sent to it.
 use denote.RattleType.{RattleType}
 use denote.Param.{param}
 use denote.Param.Send.{IsSend, IsSync, sendable}

@@ -1,4 +1,4 @@
--- If each call of a legal history is for a step of a plan, then the calls that changed the map are its steps, in order.
+-- Proves that if each call of a legal history is for a step of a plan, then the calls that changed the map are the steps of the plan, in order.
 use Rattle.std.proofs.Common.{◌≡◌, ℕ, zero, suc, ◌+◌, ◌<◌, ◌≤◌, ◌==◌, Bool, true, false, cond, List, [], ◌∷◌, ◌++◌, Option, Some, None, length, map, filter, drop, slice_get, slice_index_or, refl, sym, ap, subst, ◌∙◌, arith, eqb-true, eq-eqb, drop-cons}
 use Rattle.std.specs.List.{All}
 use Rattle.std.proofs.lemmas.List.{append-nil}
@@ -21,11 +21,11 @@ use Rattle.crush_editor.specs.Seat.{SeatData, seat_data, slips_of, Answered, IsH
 use Rattle.crush_two_operators.specs.Plan.{step, steps_from, changing, IsStep, IsFollowed, HasFollowed}
 use Rattle.crush_two_operators.proofs.Order.{each_of_two}
 
--- the edit at an index, and those after it
+-- the edits from an index on are the edit at this index and the edits after it
 cut_at : (plan : List Edit) (n : ℕ) (e : Edit) → slice_get plan n ≡ Some e → drop n plan ≡ e ∷ drop (suc n) plan
 cut_at plan n e is = drop-cons plan n e (slice_get_within plan n e is) ∙ ap (λ (x : Edit). x ∷ drop (suc n) plan) (get_or_from_slice_get plan n e e is)
 
--- a guarded call that changed the map wasn't stale, so there were as many changes before it as it names
+-- a guarded call that changed the map wasn't stale, so the number of changes before it was the number that the call names
 in_time : (fresh : Bool) (t : List Row) (n : ℕ) (a : BatchAnswer) (r : Reply) → r ≡ (guarded_outcome fresh t n a).reply → is_change r ≡ true → fresh ≡ true
 in_time true t n a r told changed = refl
 in_time false t n a r told changed = let stale : is_change r ≡ false = ap is_change told in absurd cc
@@ -121,7 +121,7 @@ module _ (P : Call → Type 0) where
 pub changes_begin : (v h : List EntryData) → IsPrefix v h → changes v ≤ changes h
 changes_begin v h p = let more = changes-append v p.0 in let whole = ap changes p.1 in omega (arith, more, whole)
 
--- if two seats have followed the plan, then so has the history at the close
+-- if two seats have followed the plan, then the history at the close has followed the plan
 pub followed_by_two : (o m : MapData) (plan : List Edit) (h : List EntryData) (one two : SeatData) → HasFollowed (seat_data 0 [] []) plan one → HasFollowed (seat_data 1 [] []) plan two → IsHistoryOfSeats o m h (one ∷ two ∷ []) → IsFollowed plan h
 followed_by_two o m plan h one two first second closed =
     let P : Call → Type 0 = IsStep plan in
@@ -131,7 +131,7 @@ followed_by_two o m plan h one two first second closed =
     let done = first.done in
     followed o.setting (rows_of o.forest) plan h closed.legal (all_calls P h each) (omega (arith, seen, done))
 
--- a seat whose calls are for steps of the plan still has only such calls after one more
+-- if all calls of a seat are for steps of the plan, this still holds after one more call for a step
 pub asked_more : (o : MapData) (plan : List Edit) (v w : SeatData) (c : Call) (r : Reply) (n : ℕ) (e : Edit) → slice_get plan n ≡ Some e → c ≡ step n e → Answered o v c r w
     → All (λ (a : AnsweredData). IsStep plan a.call) v.slips → All (λ (a : AnsweredData). IsStep plan a.call) w.slips
 asked_more o plan v w c r n e found is answered before =

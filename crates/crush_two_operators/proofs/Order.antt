@@ -1,4 +1,4 @@
--- Two seats that are removed from their list, and put back in the same order.
+-- Lemmas about two seats that are removed from their list, and are put back in the same order.
 use Rattle.std.proofs.Common.{◌≡◌, ℕ, zero, suc, ◌+◌, ◌<◌, ◌≤◌, List, [], ◌∷◌, ◌++◌, length, slice_index_or, Option, Some, Result, Ok, Err, IfOk, IfSome, refl, ap, sym, subst, ◌∙◌, arith}
 use Rattle.std.specs.List.{All}
 use Rattle.std.specs.Option.{option_to_list}
@@ -12,7 +12,7 @@ use Rattle.crush_map.specs.MapData.{MapData}
 use Rattle.crush_editor.specs.Seat.{SeatData, seat_data, slips_of, InOrder, IsHistoryOfSeats}
 use Rattle.crush_two_operators.specs.Calls.{AreTheirs, HasMade}
 
--- what a clause says of the value that was removed from the list
+-- what a clause promises for a successful result holds for the value of this result
 pub of_ok : {A E : Type 0} (r : Result A E) (x : A) (P : A → Type 0) → result_ok r ≡ Some x → IfOk r P → P x
 of_ok (Ok y) x P is holds = let same : y ≡ x = cc in subst P same holds
 of_ok (Err e) x P is holds = absurd cc
@@ -36,7 +36,7 @@ two_taken [] one two len each = record { rest = refl; first = each 0 (omega arit
 two_taken (x ∷ l) one two len each =
     let p = length_push (l ++ one ∷ []) two in let q = length_push l one in absurd (omega arith)
 
--- s are the seats as `open` returned them, and l is what is left after two are removed
+-- if s are the seats that `open` returned, and l is the list after two seats are removed, then the two seats are taken (`AreTaken`)
 pub are_taken : (s m l : List SeatData) (r t : Option SeatData) (one two : SeatData)
     → s ≡ m ++ option_to_list r → r ≡ Some two → m ≡ l ++ option_to_list t → t ≡ Some one → length s ≡ 2
     → ((k : ℕ) → k < 2 → slice_index_or s k (seat_data 0 [] []) ≡ seat_data k [] []) → AreTaken l one two
@@ -54,13 +54,13 @@ in_order one two e f zero less = e
 in_order one two e f (suc zero) less = f
 in_order one two e f (suc (suc k)) less = absurd (omega arith)
 
--- and they are in the order of their operators
+-- the two seats of this list are in the order of their operators
 pub back_in_order : (l q : List SeatData) (one two one' two' : SeatData) → AreTaken l one two → q ≡ one' ∷ two' ∷ [] → one'.operator ≡ one.operator → two'.operator ≡ two.operator → InOrder q
 back_in_order l q one two one' two' taken is e f =
     subst (λ (xs : List SeatData). InOrder xs) (sym is)
     (in_order one' two' (e ∙ ap (λ (x : SeatData). x.operator) taken.first) (f ∙ ap (λ (x : SeatData). x.operator) taken.second))
 
--- the slips are those of the two seats, and no others
+-- the list has the slips of the two seats, and no others
 slips_past : (one two : SeatData) (k : ℕ) → slips_of (one ∷ two ∷ []) (suc (suc k)) ≡ []
 slips_past one two k = ap (λ (x : SeatData). x.slips) (get_or_past (one ∷ two ∷ []) (suc (suc k)) (seat_data 0 [] []) (omega arith))
 
@@ -77,14 +77,14 @@ each_of_two P one two h slips e f zero = All-same (λ (a : AnsweredData). P a.ca
 each_of_two P one two h slips e f (suc zero) = All-same (λ (a : AnsweredData). P a.call) _ _ (slips 1) f
 each_of_two P one two h slips e f (suc (suc k)) = All-same (λ (a : AnsweredData). P a.call) _ _ (slips (suc (suc k)) ∙ slips_past one two k) (All-nil _)
 
--- what two seats have done that were removed from their list and put back, and the history at the close
+-- the work of two seats that were removed from their list and were put back, and the history at the close
 pub worked_by_two : {A : Type 0} (o m : MapData) (done : List A → SeatData → SeatData → Type 0) (first second : List A) (h : List EntryData) (l q : List SeatData) (one two one' two' : SeatData) → AreTaken l one two → q ≡ one' ∷ two' ∷ []
     → done first one one' → done second two two' → IsHistoryOfSeats o m h q
     → (x : SeatData) × (y : SeatData) × done first (seat_data 0 [] []) x × done second (seat_data 1 [] []) y × IsHistoryOfSeats o m h (x ∷ y ∷ [])
 worked_by_two o m done first second h l q one two one' two' taken is made made' closed =
     (one', two', subst (λ (x : SeatData). done first x one') taken.first made, subst (λ (x : SeatData). done second x two') taken.second made', subst (λ (xs : List SeatData). IsHistoryOfSeats o m h xs) is closed)
 
--- so the calls that two seats have made are exactly those of the history at the close
+-- the calls that two seats have made are exactly the calls of the history at the close
 pub theirs_of_two : (o m : MapData) (first second : List Call) (h : List EntryData) (one two : SeatData) → HasMade (seat_data 0 [] []) first one → HasMade (seat_data 1 [] []) second two → IsHistoryOfSeats o m h (one ∷ two ∷ []) → AreTheirs first second h
 theirs_of_two o m first second h one two made made' closed = are_theirs one two first second h closed.slips made.calls made'.calls
 

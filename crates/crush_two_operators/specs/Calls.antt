@@ -1,11 +1,11 @@
--- Which calls the history of two operators has.
+-- Says which calls the history of two operators has.
 use Rattle.std.specs.Prelude.{ℕ, zero, suc, ◌≡◌, ◌++◌, List, []}
 use Rattle.crush_history.specs.declared.call.Call.{Call}
 use Rattle.crush_history.specs.History.{EntryData, of_operator}
 use Rattle.crush_history.specs.Turns.{calls_of}
 use Rattle.crush_editor.specs.Seat.{SeatData}
 
--- the calls of the operator numbered k: the list `first` for 0, the list `second` for 1, and none for any other number
+-- the calls of the operator with the number k: the list `first` for 0, the list `second` for 1, and no calls for any other number
 abbrev pub calls_by : List Call → List Call → ℕ → List Call
 calls_by first second zero = first
 calls_by first second (suc zero) = second

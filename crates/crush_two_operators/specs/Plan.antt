@@ -1,4 +1,4 @@
--- A plan: a list of edits, its steps. The first step is to be the first change of the map, the second step the second change, and so on.
+-- A plan is a list of edits, which are its steps. The first change of the map must be the first step, the second change must be the second step, and so on.
 use Rattle.std.specs.Prelude.{ℕ, ◌≡◌, ◌+◌, ◌≤◌, List, [], ◌∷◌, Some, length, map, filter}
 use Rattle.std.specs.List.{All, slice_get}
 use Rattle.crush_edits.specs.declared.edit.Edit.{Edit}
@@ -24,13 +24,13 @@ changing h = map (λ (e : EntryData). e.call) (filter (λ (e : EntryData). is_ch
 abbrev pub IsStep : List Edit → Call → Type 0
 IsStep plan c = (n : ℕ) × (e : Edit) × (slice_get plan n ≡ Some e) × (c ≡ step n e)
 
--- FOLLOWED: each call of the history is for a step of the plan, and the calls that changed the map are the calls for all its steps,
+-- FOLLOWED: each call of the history is for a step of the plan, and the calls that changed the map are the calls for all steps of the plan,
 -- each once and in order
 pub record IsFollowed (plan : List Edit) (h : List EntryData) : Type 0 where
   pub calls : All (λ (e : EntryData). IsStep plan e.call) h
   pub steps : changing h ≡ steps_from 0 plan
 
--- a seat has followed the plan. Its operator is unchanged. If all calls of its slips before were for steps of the plan, then all calls of its slips now are. It has seen at least as many changes as the plan has steps.
+-- a seat has followed the plan: `old` is the seat before, and `new` is the seat after. The operator is unchanged. If all calls in the slips of `old` were for steps of the plan, then so are all calls in the slips of `new`. The seat `new` has seen at least as many changes as the plan has steps.
 pub record HasFollowed (old : SeatData) (plan : List Edit) (new : SeatData) : Type 0 where
   pub operator : new.operator ≡ old.operator
   pub calls : All (λ (a : AnsweredData). IsStep plan a.call) old.slips → All (λ (a : AnsweredData). IsStep plan a.call) new.slips

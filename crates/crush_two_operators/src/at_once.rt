@@ -1,4 +1,4 @@
-//! Two operators, each of which makes the calls of its own list.
+//! Lets two operators work at the same time, each of which makes the calls of its own list.
 
 ghost use Rattle.std.specs.Prelude.{◌≡◌, IfOk, IfSome};
 ghost use Rattle.crush_editor.specs.Book.{MakesAll};
@@ -15,13 +15,14 @@ use std::marker::Brand;
 use std::sync::Wait;
 use std::thread::Threads;
 
-/// Lets two operators make their calls at the same time. Returns the map and the history, with the
-/// later of the two operators' last readings. Returns an `Err` if memory ran out or the history is
-/// full.
+/// Lets two operators make their calls at the same time. Returns the map, the history, and the
+/// later one of the two operators' last readings. A reading has the number of changes so far and
+/// the map's total weight. The call fails if memory runs out or the history is full.
 ///
-/// The contract says of an `Ok`: the history is legal for the map that was given, and the map that
-/// is returned is the one after it (`all`). The first operator's calls in the history are exactly
-/// those of its list, in order; so are the second's; and there are no others (`calls`).
+/// The contract says two things about a success. First (`all`), the history is legal for the map
+/// that was given, and the returned map is the map after this history. Second (`calls`), the first
+/// operator's calls in the history are exactly the calls of its list, in the same order, and the
+/// second operator's calls are those of its list. There are no other calls.
 pub fn edit_at_once<R: Threads + Wait + Sync>(
     rt: &R,
     alloc: Global,
@@ -34,15 +35,17 @@ pub fn edit_at_once<R: Threads + Wait + Sync>(
 {
     // Prepares an editor for two operators. It takes the map.
     //
-    // Contracts speak of an editor by its name `N`, a type that says which gauge (the word that is
-    // read without a lock) and which opening map the editor has. Both are known only at run time,
-    // so `work_together` is generic in `N`, and is called here with the type `Brand`.
-    // proofs/at_once/edit_at_once/Invariants.antt says what this name has.
+    // In contracts, a type `N` stands for one editor. Through this type, contracts refer to the
+    // editor's gauge (the word that is read without a lock), its opening map and its ledger (which
+    // counts the calls of all seats). So `work_together` is generic over `N`. The code passes the
+    // placeholder type `Brand` for `N`, and proofs/at_once/edit_at_once/Invariants.antt says that
+    // in this call the gauge, the opening map and the ledger of `N` are those of `started`.
     let started = Started::new(map, 2, alloc).ok().context("out of memory")?;
     work_together::<Brand, R, Call>(rt, alloc, started, first, second)
 }
 
-/// The work is to make the calls. It fails if memory runs out or the history is full.
+/// The work on a list of calls is to make these calls. The work fails if memory runs out or the
+/// history is full.
 impl Work for Call {
     ghost use Rattle.crush_two_operators.specs.Calls.{HasMade};
 
@@ -59,7 +62,7 @@ impl Work for Call {
     }
 }
 
-/// Makes the calls in order. Reads before the first call, and after each of them.
+/// Makes the calls in order. Reads the gauge before the first call and after each call.
 fn make_each<N: Desk, R: Wait>(
     rt: &R,
     alloc: Global,

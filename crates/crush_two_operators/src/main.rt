@@ -1,8 +1,9 @@
-//! An example of a program with threads that uses the library. It reads a job of three scripts from
-//! standard input. The first two operators run their scripts at the same time, each in a thread of
-//! its own ([`at_once`]). Then both work through one plan, the batch of the third script
-//! ([`plan`]): each step is made once, by whichever operator is first. The output is the same in
-//! whatever order the calls are made.
+//! An example of a program with threads that uses the library. It reads a job with three scripts
+//! from standard input. The first two scripts are those of two operators, which run them at the
+//! same time, each in a thread of its own ([`at_once`]). Then both operators work through one plan,
+//! which is the batch of the third script ([`plan`]). Each step of the plan is made once, by the
+//! operator that is the first to submit it. The output doesn't depend on the order in which the
+//! calls are made.
 //!
 //! A *call* is an edit or a batch of edits. An *editor* owns the map and makes one call at a time.
 //! Each operator has a *seat* at the editor. The *history* has an entry for each call, with its
@@ -27,13 +28,13 @@ mod together;
 
 fn main(rt: HostRuntime) -> anyhow::Result<()> {
     let text = io::read_to_string(rt.alloc(), rt.stdin())?;
-    // The input is the program's own, so names are hashed without random keys.
+    // The input comes from the program's own user, so names are hashed without random keys.
     let job = read_job(rt.alloc(), Hashing::plain(), text.as_bytes())?;
     let Job { map, scripts, .. } = job;
     let [first, second, third] = scripts.as_slice() else {
         bail!("the job has not three scripts");
     };
-    // Each operator's own calls, made at the same time.
+    // Lets each operator make the calls of its own script, at the same time as the other operator.
     let (closed, last) = edit_at_once(
         &rt,
         rt.alloc(),
@@ -42,9 +43,11 @@ fn main(rt: HostRuntime) -> anyhow::Result<()> {
         second.calls.as_slice(),
     )?;
     let Closed { map, history, .. } = closed;
-    // One plan for both operators, which begins with the map that their calls left.
+    // Lets both operators work through one plan. The plan starts from the map after the operators'
+    // own calls.
     let followed = follow_at_once(&rt, rt.alloc(), map, steps(third))?;
-    // The map after both, the history of the calls, the last reading, and the history of the plan.
+    // Prints the map after the plan, the history of the operators' own calls, the last reading, and
+    // the history of the plan.
     write_map(
         rt.alloc(),
         &followed.map,
@@ -57,7 +60,8 @@ fn main(rt: HostRuntime) -> anyhow::Result<()> {
     print_changes(&rt, followed.history.as_slice())
 }
 
-/// The steps of the plan: the edits of the script's batch. None if it has another call.
+/// Returns the steps of the plan, which are the edits of the script's batch. Returns no steps if
+/// the script doesn't consist of exactly one batch.
 fn steps(script: &Script) -> &[Edit] {
     match script.calls.as_slice() {
         [Call::Batch(edits)] => edits.as_slice(),
@@ -65,8 +69,8 @@ fn steps(script: &Script) -> &[Edit] {
     }
 }
 
-/// Prints the entries of one operator, numbered from 1. Their numbers in the whole history aren't
-/// printed, because these differ from run to run.
+/// Prints the entries of one operator, numbered from 1. It doesn't print the numbers that the
+/// entries have in the whole history, because these numbers differ from run to run.
 fn print_part(
     rt: &HostRuntime,
     history: &[Entry],
@@ -83,8 +87,8 @@ fn print_part(
     Ok(())
 }
 
-/// Prints the entries that changed the map, numbered from 1. The operator isn't printed, because it
-/// differs from run to run which operator made which change.
+/// Prints the entries that changed the map, numbered from 1. It doesn't print the operator of an
+/// entry, because the operator that makes a change differs from run to run.
 fn print_changes(rt: &HostRuntime, history: &[Entry]) -> anyhow::Result<()> {
     let mut number = 0u32;
     for entry in history {
@@ -102,7 +106,8 @@ fn print_changes(rt: &HostRuntime, history: &[Entry]) -> anyhow::Result<()> {
     Ok(())
 }
 
-/// Prints a reading: the number of changes so far, and the weight of all placed devices, in units.
+/// Prints a reading: the number of changes so far, and the total weight of all placed devices in
+/// units of 1/65536.
 fn print_reading(rt: &HostRuntime, reading: Reading) -> anyhow::Result<()> {
     println!(rt; "# changes {} weight {}", reading.changes, reading.weight)?;
     Ok(())

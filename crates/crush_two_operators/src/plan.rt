@@ -1,6 +1,6 @@
-//! A plan that two operators work through together. Each operator reads how many steps are made,
-//! submits the next one, and reads again. If the other operator was faster, then the submitted step
-//! changes nothing.
+//! Lets two operators work through one plan together. Each operator reads how many steps have been
+//! made, submits the next step, and reads again. If the other operator has already made this step,
+//! the submitted step changes nothing.
 
 ghost use Rattle.std.specs.Prelude.{◌≡◌, ◌∷◌, [], IfOk, IfSome};
 ghost use Rattle.crush_history.specs.declared.call.Call.TheVariants.{Guarded};
@@ -19,14 +19,15 @@ use std::marker::Brand;
 use std::sync::Wait;
 use std::thread::Threads;
 
-/// Lets two operators work through one plan at the same time. Each step is made once and in order,
-/// by whichever operator is first, and only on a map that this operator has seen. Returns the map
-/// and the history. Returns an `Err` if memory ran out, if the history is full, or if a step is
-/// refused or changes nothing.
+/// Lets two operators work through one plan at the same time. The steps are made in order, and each
+/// step is made once, by the operator that is the first to submit it. A step is only made if the
+/// map hasn't changed since this operator's last reading. Returns the map and the history. Fails if
+/// memory runs out, if the history is full, or if a step is refused or changes nothing.
 ///
-/// The contract says of an `Ok`: the history is legal for the map that was given, and the map that
-/// is returned is the one after it (`all`). Each call is a step of the plan, and the calls that
-/// changed the map are all its steps, each once and in order (`plan`).
+/// The contract says two things about a success. First (`all`), the history is legal for the map
+/// that was given, and the returned map is the map after this history. Second (`plan`), each call
+/// in the history is a step of the plan, and the calls that changed the map are all the steps of
+/// the plan, each once and in order.
 pub fn follow_at_once<R: Threads + Wait + Sync>(
     rt: &R,
     alloc: Global,
@@ -41,8 +42,8 @@ pub fn follow_at_once<R: Threads + Wait + Sync>(
     Ok(closed)
 }
 
-/// The work is to follow the plan. It fails if memory runs out, if the history is full, or if a
-/// step is refused or changes nothing.
+/// The work on a plan is to submit its steps until all of them have been made. The work fails if
+/// memory runs out, if the history is full, or if a step is refused or changes nothing.
 impl Work for Edit {
     ghost use Rattle.crush_two_operators.specs.Plan.{HasFollowed};
 
@@ -59,10 +60,11 @@ impl Work for Edit {
     }
 }
 
-/// Submits steps until all are made. The number of changes so far is also the number of steps made,
-/// so it says which step is next. The step is submitted as a guarded batch, which is made only if
-/// there are still as many changes as the operator has read. If the other operator was faster, then
-/// the reply is `Stale`, nothing has changed, and the loop reads again.
+/// Submits steps until all steps have been made. Each change of the map is a step of the plan, so
+/// the number of changes so far is the index of the next step. The step is submitted as a guarded
+/// batch. Such a batch is made only if the number of changes is still the number that the operator
+/// has read. If the other operator has changed the map since then, the reply is `Stale`, nothing
+/// has changed, and the loop reads again.
 fn follow<N: Desk, R: Wait>(
     rt: &R,
     alloc: Global,
@@ -72,7 +74,8 @@ fn follow<N: Desk, R: Wait>(
 ) -> Option<Worked<N>>
     ensures { IfSome result (λ w. HasFollowed seat plan.now w.seat) }
 {
-    // Each pass adds an entry to the history, which has at most MOST_ENTRIES.
+    // Each iteration that doesn't return adds an entry to the history, which can have at most
+    // MOST_ENTRIES entries.
     for _ in 0..=MOST_ENTRIES {
         let last = editor.reading(&mut seat);
         let seen = last.changes;
@@ -89,7 +92,8 @@ fn follow<N: Desk, R: Wait>(
     None
 }
 
-/// The call for one step: a batch of this edit, made only if there are exactly `seen` changes.
+/// Returns the call for one step: a batch of this edit, which is made only if exactly `seen`
+/// changes have been made.
 fn step(alloc: Global, seen: u32, edit: &Edit) -> Option<Call>
     ensures { IfSome result (λ call. call ≡ Guarded seen (edit.now ∷ [])) }
 {

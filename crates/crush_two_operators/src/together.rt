@@ -1,5 +1,5 @@
-//! Two operators who work with one editor, each in a thread of its own. [`crate::at_once`] and
-//! [`crate::plan`] say what the work is.
+//! Lets two operators use one editor, each in a thread of its own. [`crate::at_once`] and
+//! [`crate::plan`] define what the operators do.
 
 ghost use Rattle.std.specs.Prelude.{◌≡◌, IfOk, IfSome, [], ◌∷◌};
 ghost use Rattle.crush_editor.specs.Book.{MakesAll};
@@ -17,12 +17,13 @@ pub(crate) trait Work {
     ghost use Rattle.std.specs.Prelude.{◌≡◌, IfSome, List};
     ghost use Rattle.crush_editor.specs.Seat.{SeatData};
 
-    // How a list, the seat before the work and the seat after it are related.
+    // The relation between a list, the seat before the work on this list, and the seat after the
+    // work.
     ghost done: { List Self → SeatData → SeatData → Type 0 };
 
-    /// Works through a list with an operator's seat, and reads after each call. A reading takes no
-    /// lock, so it doesn't wait for a call of the other operator. Returns the seat and the last
-    /// reading, or `None` if the work couldn't be finished.
+    /// Works through a list with an operator's seat, and reads the gauge after each call. A reading
+    /// acquires no lock, so it doesn't wait for a call of the other operator. Returns the seat and
+    /// the last reading, or `None` if the work couldn't be finished.
     fn work<N: Desk, R: Wait>(
         rt: &R,
         alloc: Global,
@@ -41,8 +42,8 @@ pub(crate) struct Worked<N: Desk> {
     pub(crate) last: Reading,
 }
 
-/// Lets two operators work at the same time, each through its own list. Returns the map and the
-/// history, with the later of the two operators' last readings.
+/// Lets two operators work at the same time, each through its own list. Returns the map, the
+/// history, and the later one of the two operators' last readings.
 pub(crate) fn work_together<N: Desk + Send + Sync, R: Threads + Wait + Sync, W: Work + Sync>(
     rt: &R,
     alloc: Global,
@@ -59,7 +60,8 @@ pub(crate) fn work_together<N: Desk + Send + Sync, R: Threads + Wait + Sync, W: 
         × W.done first.now (seat_data 0 [] []) one × W.done second.now (seat_data 1 [] []) two
         × IsHistoryOfSeats N.opening r.0.map r.0.history.items (one ∷ two ∷ [])) }
 {
-    // The editor has a seat for each operator; a seat is needed for each call and each reading.
+    // The editor has a seat for each operator. An operator needs its seat for each call and each
+    // reading.
     let (editor, mut seats) = Editor::<N>::open(started, alloc)
         .ok()
         .context("out of memory")?;
@@ -67,7 +69,8 @@ pub(crate) fn work_together<N: Desk + Send + Sync, R: Threads + Wait + Sync, W: 
     let one = seats.pop().context("no seat")?;
 
     // Starts two threads, and waits for both. They share the editor, and each owns its seat while
-    // it works. proofs/Crossing.antt proves that all that a thread takes may be sent to it.
+    // it works. proofs/Crossing.antt proves that everything that is passed to a thread may be sent
+    // to it.
     let shared = &editor;
     let (one, two) = join(
         rt,
@@ -91,7 +94,7 @@ pub(crate) fn work_together<N: Desk + Send + Sync, R: Threads + Wait + Sync, W: 
     Ok((editor.close(seats), last))
 }
 
-/// The reading with more changes: that one is the later.
+/// Returns the reading with more changes, which is the later one.
 fn later(a: Reading, b: Reading) -> Reading {
     if a.changes < b.changes { b } else { a }
 }

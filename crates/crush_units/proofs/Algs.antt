@@ -6,7 +6,7 @@ use Rattle.crush_units.specs.declared.alg.Alg.{Alg}
 use Rattle.crush_units.specs.declared.alg.Alg.TheVariants.{Straw, Straw2, List as Linked}
 use Rattle.crush_units.specs.Alg.{alg_number, alg_text, alg_of_text, same_alg}
 
--- an algorithm has its number alone
+-- two algorithms with the same number are equal
 pub alg_number_injective : (a b : Alg) → alg_number a ≡ alg_number b → a ≡ b
 alg_number_injective Straw Straw e = refl
 alg_number_injective Straw2 Straw2 e = refl
@@ -18,11 +18,11 @@ alg_number_injective Straw2 Linked e = absurd cc
 alg_number_injective Linked Straw e = absurd cc
 alg_number_injective Linked Straw2 e = absurd cc
 
--- algorithms that are the same are equal
+-- if the test says that two algorithms are the same, they are equal
 pub same_alg_equal : (a b : Alg) → same_alg a b ≡ true → a ≡ b
 same_alg_equal a b e = alg_number_injective a b (eqb-true (alg_number a) (alg_number b) e)
 
--- equal algorithms are the same
+-- if two algorithms are equal, the test says that they are the same
 pub equal_same_alg : (a b : Alg) → a ≡ b → same_alg a b ≡ true
 equal_same_alg a b e = eq-eqb (alg_number a) (alg_number b) (ap alg_number e)
 

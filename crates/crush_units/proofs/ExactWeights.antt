@@ -7,15 +7,15 @@ use Rattle.crush_units.specs.Weight.{units_of, digit, are_digits, weight_of_text
 use Rattle.crush_units.specs.ExactWeight.{exact_parts, exact_text, cut_of}
 use Rattle.crush_units.proofs.ReadBack.{all_digits, digit_is, digit_passes, passes, of_parts, weight_is}
 
--- millionths, rounded to the nearest unit, are the units that they were made of
+-- the millionths of a weight, rounded to the nearest unit, are the weight's units
 pub parts_read_back : (w : ℕ) → w < 2 ^ 32 → units_of (exact_parts w) 6 ≡ w
 parts_read_back w h = omega arith
 
--- millionths, rounded down to units, are the units that they were made of
+-- the millionths of a weight, rounded down to units, are the weight's units
 pub parts_cut_back : (w : ℕ) → w < 2 ^ 32 → cut_of (exact_parts w) 6 ≡ w
 parts_cut_back w h = omega arith
 
--- a number is its whole part and six digits
+-- a number is composed of its whole part and six digits
 pub seven_parts : (h : ℕ) → (((((h / 1000000 * 10 + h / 100000 % 10) * 10 + h / 10000 % 10) * 10 + h / 1000 % 10) * 10 + h / 100 % 10) * 10 + h / 10 % 10) * 10 + h % 10 ≡ h
 seven_parts h = omega arith
 

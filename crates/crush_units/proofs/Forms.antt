@@ -8,7 +8,7 @@ use Rattle.crush_units.specs.Name.{is_name_byte, is_name}
 use Rattle.crush_units.specs.declared.limits.TheConstants.{LONGEST_NAME}
 use Rattle.crush_units.specs.Words.{Word, Stop, Text, is_blank, is_brace, without_comments, first, onto_words, begins_with_name_byte, split, up_to_long, words_in, words, is_brace_word, AreFormed}
 
--- a brace, or a run of name bytes of whatever length
+-- whether a word is a brace, or a run of name bytes of whatever length
 abbrev is_run : List ℕ → Bool
 is_run text = is_brace_word text || (nat_lt 0 (length text) && list_all is_name_byte text)
 
@@ -17,26 +17,26 @@ abbrev AreRuns : List Word → Type 0
 AreRuns [] = Unit {0}
 AreRuns (w ∷ ws) = (is_run w.text ≡ true) × AreRuns ws
 
--- the first word has name bytes alone
+-- if there is a first word, all its bytes are name bytes
 abbrev BeginsWithRun : List Word → Type 0
 BeginsWithRun [] = Unit {0}
 BeginsWithRun (w ∷ ws) = list_all is_name_byte w.text ≡ true
 
--- a name byte before name bytes is a run
+-- a name byte before name bytes gives a run
 run_of : (b : ℕ) (text : List ℕ) → is_name_byte b ≡ true → list_all is_name_byte text ≡ true → is_run (b ∷ text) ≡ true
 run_of b text l all = let some : ltb 0 (length (b ∷ text)) ≡ true = lt-ltb _ _ (omega arith) in or_right (is_brace_word (b ∷ text)) _ (rw (some, l, all) refl)
 
--- a name byte goes onto a run
+-- if a name byte is added to the front of the first word, each word is still a run
 onto_runs : (p b : ℕ) (ws : List Word) → is_name_byte b ≡ true → BeginsWithRun ws → AreRuns ws → AreRuns (onto_words p b ws)
 onto_runs p b [] l begins runs = (run_of b [] l refl, tt)
 onto_runs p b (w ∷ ws) l begins runs = (run_of b w.text l begins, runs.1)
 
--- and the first word stays a run
+-- if a name byte is added to the front of the first word, the first word is still a run
 onto_begins : (p b : ℕ) (ws : List Word) → is_name_byte b ≡ true → BeginsWithRun ws → BeginsWithRun (onto_words p b ws)
 onto_begins p b [] l begins = rw l refl
 onto_begins p b (w ∷ ws) l begins = rw (l, begins) refl
 
--- a brace by itself
+-- a brace by itself is a word
 brace_run : (b : ℕ) → is_brace b ≡ true → is_run (b ∷ []) ≡ true
 brace_run b h = tests (eqb b 123) (eqb b 125) refl refl
   where
@@ -53,7 +53,7 @@ no_blank b h l = grind (arith, nat_tests)
 no_brace : (b : ℕ) → is_brace b ≡ true → is_name_byte b ≡ true → ⊥
 no_brace b h l = grind (arith, nat_tests)
 
--- what the words of bytes are
+-- the words of bytes are runs, and they begin with a run if the bytes begin with a name byte
 record AreSplit (bytes : List ℕ) (t : Text) : Type 0 where
   runs : AreRuns t.words
   begins : begins_with_name_byte bytes ≡ true → BeginsWithRun t.words
@@ -99,6 +99,6 @@ pub words_are_formed : (p : ℕ) (bytes : List ℕ) → AreFormed (words p bytes
 unfolding words_in
 words_are_formed p bytes = are_formed _ _ (are_split p (without_comments false bytes)).runs
 
--- so is the first
+-- the first word of a text is a brace or a name
 pub first_is_formed : (p from : ℕ) (bytes text : List ℕ) (t : Text) → words from bytes ≡ first p text t → (is_brace_word text || is_name text) ≡ true
 first_is_formed p from bytes text t e = let k : AreFormed (first p text t).words = subst (λ (u : Text). AreFormed u.words) e (words_are_formed from bytes) in k.0

@@ -1,4 +1,4 @@
--- A weight's hundred-thousandths.
+-- The hundred-thousandths of a weight.
 use Rattle.std.proofs.Common.{◌≡◌, ℕ, [], ◌∷◌, ◌+◌, ◌*◌, ◌/◌, ◌%◌, ◌<◌, ◌≤◌, ◌^◌, length, arith}
 use Rattle.std.proofs.lemmas.Fmt.{length-decimal-le}
 use Rattle.std.specs.Prelude.{decimal}
@@ -8,11 +8,11 @@ use Rattle.std.proofs.lemmas.Fmt.{IsAscii-decimal}
 use Rattle.std.specs.Str.{IsUtf8, IsAscii}
 use Rattle.crush_units.specs.Weight.{weight_text, digit, parts_of}
 
--- parts are read as the units that they were made of
+-- the hundred-thousandths of a weight are read as the weight's units
 pub parts_read_back : (w : ℕ) → (parts_of w * 131072 + 100000) / 200000 ≡ w
 parts_read_back w = omega arith
 
--- a number is its whole part and five digits
+-- a number is composed of its whole part and five digits
 pub six_parts : (h : ℕ) → ((((h / 100000 * 10 + h / 10000 % 10) * 10 + h / 1000 % 10) * 10 + h / 100 % 10) * 10 + h / 10 % 10) * 10 + h % 10 ≡ h
 six_parts h = omega arith
 
@@ -34,7 +34,7 @@ fraction_ascii h =
     let five = IsAscii-cons (digit (h / 10000)) (digit (h / 1000) ∷ digit (h / 100) ∷ digit (h / 10) ∷ digit h ∷ []) (digit_ascii (h / 10000)) four in
     IsAscii-cons 46 (digit (h / 10000) ∷ digit (h / 1000) ∷ digit (h / 100) ∷ digit (h / 10) ∷ digit h ∷ []) (omega arith) five
 
--- what a weight prints as is text
+-- the text that a weight is printed as is text in UTF-8
 pub weight_text_utf8 : (w : ℕ) → w < 2 ^ 32 → IsUtf8 (weight_text w)
 weight_text_utf8 w fits =
     let h = parts_of w in

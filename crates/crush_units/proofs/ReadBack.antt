@@ -1,4 +1,4 @@
--- What any weight prints as is read as the same weight.
+-- The text that any weight is printed as is read as the same weight.
 use Rattle.std.proofs.Common.{◌≡◌, ℕ, ◌/◌, ◌%◌, ◌<◌, ◌≤◌, ◌^◌, Bool, true, false, List, [], ◌∷◌, ◌++◌, length, take, drop, refl, sym, ap, subst, ◌∙◌, arith, eqb}
 use Rattle.std.proofs.lemmas.Bool.Decides.{nat_tests}
 use Rattle.std.proofs.lemmas.Bool.{ne_eqb}
@@ -15,36 +15,36 @@ use Rattle.crush_units.specs.Weight.{parts_of, units_of, digit, is_point, are_di
 use Rattle.crush_units.specs.declared.weight.WeightFault.TheVariants.{Syntax, TooLarge}
 use Rattle.crush_units.proofs.Parts.{parts_read_back, six_parts, whole_part_short}
 
--- a digit is no point
+-- a digit isn't a point
 digit_byte : (d : ℕ) → 48 ≤ d → d ≤ 57 → (is_ascii_digit d ≡ true) × (is_point d ≡ false)
 digit_byte d lo hi = (grind (arith, nat_tests), grind (arith, nat_tests))
 
--- what is made of digits passes the test of them
+-- digits pass the test for digits
 pub all_digits : (ds : List ℕ) → AllDigits 10 ds → list_all is_ascii_digit ds ≡ true
 all_digits [] h = refl
 all_digits (d ∷ ds) h = let r = digit_from_value d h.0 in rw ((digit_byte d r.0 r.1).0, all_digits ds h.1) refl
 
--- the first point is the one that ends the digits
+-- the first point is the one after the digits
 to_point : (ds rest : List ℕ) → AllDigits 10 ds → position_or_len is_point (ds ++ 46 ∷ rest) ≡ length ds
 to_point [] rest h = refl
 to_point (d ∷ ds) rest h = let r = digit_from_value d h.0 in rw ((digit_byte d r.0 r.1).1, to_point ds rest h.1) (omega arith)
 
--- the value of a last digit
+-- the value of the last digit of a number
 pub digit_is : (n : ℕ) → digit_value (digit n) ≡ n % 10
 digit_is n = let v = digit_value_digit (digit n) (omega arith, omega arith) in omega (arith, v)
 
--- a last digit is a digit
+-- the last digit of a number passes the test for digits
 pub digit_passes : (n : ℕ) → is_ascii_digit (digit n) ≡ true
 digit_passes n = (digit_byte (digit n) (omega arith) (omega arith)).0
 
--- the whole part passes
+-- the digits of the whole part pass the test for digits
 pub passes : (most : ℕ) (ds : List ℕ) → 0 < length ds → length ds ≤ most → list_all is_ascii_digit ds ≡ true → are_digits most ds ≡ true
 passes most ds some few all =
     let a : eqb (length ds) 0 ≡ false = ne_eqb _ _ (omega arith) in
     let b : leb (length ds) most ≡ true = grind (arith, nat_tests) in
     rw (a, b, all) refl
 
--- five digits pass as what stands behind a point
+-- five digits pass the test for the digits after the point
 five : (a b c d e : ℕ) → is_ascii_digit a ≡ true → is_ascii_digit b ≡ true → is_ascii_digit c ≡ true → is_ascii_digit d ≡ true → is_ascii_digit e ≡ true → are_digits 18 (a ∷ b ∷ c ∷ d ∷ e ∷ []) ≡ true
 five a b c d e ha hb hc hd he = rw (ha, hb, hc, hd, he) refl
 
@@ -62,7 +62,7 @@ module _ (ds rest : List ℕ) (all : AllDigits 10 ds) where
   behind : tail_of (ds ++ 46 ∷ rest) ≡ 46 ∷ rest
   behind = ap (λ (n : ℕ). drop n (ds ++ 46 ∷ rest)) place ∙ drop_at ds _ (length ds) refl
 
-  -- what holds of the two parts holds of the parts of the text
+  -- what is true of the two parts is true of the parts of the text
   pub of_parts : (P : List ℕ → List ℕ → Type 0) → P ds (46 ∷ rest) → P (whole_of (ds ++ 46 ∷ rest)) (tail_of (ds ++ 46 ∷ rest))
   of_parts P plain = subst (λ (w : List ℕ). P w (tail_of (ds ++ 46 ∷ rest))) (sym front) (subst (P ds) (sym behind) plain)
 
@@ -78,7 +78,7 @@ module _ (ds rest : List ℕ) (all : AllDigits 10 ds) where
       ∙ ap (λ (v : ℕ). weight_of_units (units_of v (length rest))) value ∙ ap weight_of_units units ∙ ap (λ (v : Bool). cond v (Ok u) (Err TooLarge)) small in
       of_parts P plain
 
--- the law
+-- THE LAW
 pub read_again : (w : ℕ) → w < 2 ^ 32 → weight_of_text (weight_text w) ≡ Ok w
 read_again w h =
     let d = decimal_is_IsNumeral (parts_of w / 100000) (omega arith) in

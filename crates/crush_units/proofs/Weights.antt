@@ -17,15 +17,15 @@ pub power_some : (n : ℕ) → 0 < 10 ^ n
 power_some zero = lit≤ tt
 power_some (suc n) = rw pow-suc (omega (arith, power_some n))
 
--- ten to at most 18
+-- 10 to the power of at most 18 is at most 10^18
 pub power_18 : (n : ℕ) → n ≤ 18 → 10 ^ n ≤ 10 ^ 18
 power_18 n h = pow-le-pow_right {n = 10} (omega arith) {i = n} {j = 18} h
 
--- ten to one more
+-- 10 to the power of n + 1 is 10 times 10 to the power of n
 pub power_next : (n : ℕ) → 10 ^ (n + 1) ≡ 10 * 10 ^ n
 power_next n = rw (add-one, pow-suc) (omega arith)
 
--- a digit is between 48 and 57
+-- the ASCII byte of a digit is between 48 and 57
 pub digit_range : (d : ℕ) → is_ascii_digit d ≡ true → (48 ≤ d) × (d ≤ 57)
 digit_range d e = (grind (arith, nat_tests), grind (arith, nat_tests))
 
@@ -36,7 +36,7 @@ few_digits most text e =
     let few = (both_true (not (length text == 0)) (nat_le (length text) most) outer.0).1 in
     grind (arith, nat_tests, few)
 
--- a number of at most 10 digits has room for 18 more
+-- after a number of at most 10 digits, there is room for 18 more digits
 pub room_behind : (whole fraction number : ℕ) → whole ≤ 10 → fraction ≤ 18 → number < (0 + 1) * 10 ^ whole → (number + 1) * 10 ^ fraction ≤ 10 ^ 28
 room_behind whole fraction number few many small =
     let front = pow-le-pow_right {n = 10} (omega arith) {i = whole} {j = 10} few in
@@ -44,7 +44,7 @@ room_behind whole fraction number few many small =
     let first : number + 1 ≤ 10 ^ 10 = omega (arith, front, small) in
     mul-le (number + 1) (10 ^ fraction) (10 ^ 10) (10 ^ 18) first back
 
--- what one digit more does to the number that is being read
+-- how one more digit changes the number that is being read
 pub record Grows (start number digit place : ℕ) (digits : List ℕ) : Type 0 where
   pub small : number * 10 + (digit - 48) < (start + 1) * 10 ^ (place + 1)
   pub low : 48 ≤ digit
@@ -52,11 +52,11 @@ pub record Grows (start number digit place : ℕ) (digits : List ℕ) : Type 0 w
   pub value : digits_value_after 10 (number * 10 + (digit - 48)) (drop (place + 1) digits) ≡ digits_value_after 10 number (drop place digits)
   pub others : list_all is_ascii_digit (drop (place + 1) digits) ≡ true
 
--- ten times as much room
+-- with one more digit there is ten times as much room
 pub room_next : (start place : ℕ) → (start + 1) * 10 ^ (place + 1) ≡ 10 * ((start + 1) * 10 ^ place)
 room_next start place = rw (power_next place) (grind arith)
 
--- the next digit of a number
+-- the number after the next digit is read
 pub grows : (start number place : ℕ) (digits : List ℕ) → place < length digits → (start + 1) * 10 ^ length digits ≤ 10 ^ 28 → list_all is_ascii_digit (drop place digits) ≡ true → number < (start + 1) * 10 ^ place → Grows start number (get_or digits place 0) place digits
 grows start number place digits within room all small =
     let cut = drop_more digits place 0 within in

@@ -14,7 +14,7 @@ exact_text units =
     ∷ digit (exact_parts units / 100) ∷ digit (exact_parts units / 10) ∷ digit (exact_parts units)
     ∷ []
 
--- the number of units, rounded down, in a decimal number that is given by all its digits as one number, and by how many of them are after the point
+-- the decimal number, rounded down to units; it is given as the number that all its digits form, and how many of these digits are after the point
 abbrev pub cut_of : ℕ → ℕ → ℕ
 cut_of number places = number * 65536 / 10 ^ places
 

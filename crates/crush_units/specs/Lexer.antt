@@ -10,7 +10,7 @@ use Rattle.crush_units.specs.Words.{Text, words, first, stopped, ended, bad, is_
 abbrev pub left : Lexer → Text
 left l = words l.place (drop l.place l.text.now)
 
--- a call that reads the next word returned this token, with the words old left before it and the words new after it. A word that is returned was the first of old, and new are the words after it. The end of the text, and a bad place, are returned if no word was left before them, and then what is left is unchanged
+-- a call that reads the next word has returned this token. The text old was left before the call, and new is left after it. If the token is a word, then the word is the first of old, and new has the words after it. If the token is the end of the text or a bad place, then no word was left before it, and new is old
 abbrev pub Nexts : Token → Text → Text → Type 0
 Nexts (token.Word place text) old new = old ≡ first place text.now new
 Nexts (token.End place) old new = (old ≡ stopped (ended place)) × (new ≡ old)

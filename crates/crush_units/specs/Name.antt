@@ -32,7 +32,7 @@ pub record IsFirstBad (bytes : List ℕ) (place : ℕ) : Type 0 where
   pub bad : is_name_byte (slice_index bytes place) ≡ false
   pub before : are_name_bytes (take place bytes) ≡ true
 
--- when making a name of the bytes may fail with a fault. Empty: there are no bytes. BadByte: the place is that of the first byte that isn't allowed. TooLong: there are more than 255 bytes, and all are allowed. OutOfMemory: the bytes are a name. For given bytes at most one of these faults is possible
+-- in which case a name read from the bytes may fail with each fault. Empty: there are no bytes. BadByte: the place is that of the first byte that isn't allowed. TooLong: there are more than 255 bytes, and all are allowed. OutOfMemory: the bytes are a name. For given bytes at most one of these faults is possible
 abbrev pub IsNameFault : List ℕ → NameFault → Type 0
 IsNameFault bytes Empty = bytes ≡ []
 IsNameFault bytes (BadByte place) = IsFirstBad bytes place

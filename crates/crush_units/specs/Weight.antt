@@ -7,7 +7,7 @@ use Rattle.crush_units.specs.declared.weight.WeightFault.{WeightFault}
 use Rattle.crush_units.specs.declared.weight.WeightFault.TheVariants.{Syntax, TooLarge}
 use Rattle.crush_units.specs.declared.limits.TheConstants.{HEAVIEST_BUCKET}
 
--- the nearest number of units, where a half is rounded up, to a decimal number that is given by all its digits as one number, and by how many of them are after the point
+-- the decimal number, rounded to the nearest unit, with a half rounded up; it is given as the number that all its digits form, and how many of these digits are after the point
 abbrev pub units_of : ℕ → ℕ → ℕ
 units_of number places = (number * 131072 + 10 ^ places) / (2 * 10 ^ places)
 
@@ -50,7 +50,7 @@ number_in text = digits_value_after 10 (digits_value 10 (whole_of text)) (fracti
 abbrev pub weight_of_units : ℕ → Result ℕ WeightFault
 weight_of_units units = if nat_le units HEAVIEST_BUCKET then Ok units else Err TooLarge
 
--- the weight in units that a text is read as: Syntax if the text hasn't the form of a weight, and TooLarge if the rounded number of units is above 4294967295
+-- the weight in units that a text is read as: Syntax if the text doesn't have the form of a weight, and TooLarge if the rounded number of units is above 4294967295
 abbrev pub weight_of_text : List ℕ → Result ℕ WeightFault
 weight_of_text text =
     if is_weight_text text

@@ -36,11 +36,11 @@ without_comments true (b ∷ bs) = if b == 10 then 10 ∷ without_comments false
 abbrev pub stopped : Stop → Text
 stopped stop = record { words = []; stop = stop }
 
--- a text with one more word before its words, given by its place and bytes
+-- a text with one more word put before its words; the word is given by its place and its bytes
 abbrev pub first : ℕ → List ℕ → Text → Text
 first place text t = record { words = (record { place = place; text = text }) ∷ t.words; stop = t.stop }
 
--- the words after one more byte is put before the bytes of the first word, which then begins at the given place. If there are no words, the byte is a word
+-- the words after one byte is added at the front of the first word, which then begins at the given place. If there are no words, the byte becomes a word
 abbrev pub onto_words : ℕ → ℕ → List Word → List Word
 onto_words place b [] = (record { place = place; text = b ∷ [] }) ∷ []
 onto_words place b (w ∷ ws) = (record { place = place; text = b ∷ w.text }) ∷ ws
@@ -59,7 +59,7 @@ split place (b ∷ bs) =
     else (if is_name_byte b then (if begins_with_name_byte bs then record { words = onto_words place b (split (place + 1) bs).words; stop = (split (place + 1) bs).stop } else first place (b ∷ []) (split (place + 1) bs))
     else stopped (bad place)))
 
--- the words before the first that is longer than a name may be, whose place is then what ends them. If no word is too long, all of them, with the given stop
+-- the words before the first word that is longer than a name may be; the place of that word is then what ends them. If no word is too long, all the words, ended by the given stop
 unfoldable pub up_to_long : List Word → Stop → Text
 up_to_long [] stop = stopped stop
 up_to_long (w ∷ ws) stop = if nat_lt LONGEST_NAME (length w.text) then stopped (bad w.place) else first w.place w.text (up_to_long ws stop)

@@ -3,16 +3,17 @@
 ghost use Rattle.std.specs.Prelude.{◌≡◌, IsTrue, ◌↔◌, IfSome, Some};
 ghost use Rattle.crush_units.specs.Alg.{alg_text, alg_of_text, same_alg};
 
-/// The algorithm by which a bucket chooses among its items. Ceph knows others too; a map here can
-/// have these three. They are ordered as they are listed here.
+/// The algorithm by which a bucket chooses among its items. Ceph has further algorithms, which no
+/// map here can have. The order of the variants is the order of `Ord`.
 #[derive(Clone, Copy, Debug, PartialEq, Eq, PartialOrd, Ord, Hash)]
 pub enum Alg {
-    /// Draws straws whose lengths are computed from the weights of all items.
+    /// Each item draws a straw, and the longest straw wins. The lengths of the straws are computed
+    /// from the weights of all items of the bucket.
     Straw,
-    /// Draws straws, each of a length that depends only on the weight of its own item. New buckets
-    /// have this algorithm.
+    /// As `Straw`, except that the length of a straw depends only on the weight of its own item.
+    /// New buckets have this algorithm.
     Straw2,
-    /// Keeps the items as a linked list.
+    /// The bucket keeps its items as a linked list.
     List,
 }
 
@@ -47,7 +48,7 @@ impl Alg {
         None
     }
 
-    /// Whether both are the same algorithm.
+    /// Whether this algorithm and `other` are the same.
     pub fn is_same(self, other: Alg) -> bool
         ensures value { result ≡ same_alg self other }
         ensures exact { IsTrue result ↔ (self ≡ other) }

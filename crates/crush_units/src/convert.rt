@@ -1,4 +1,6 @@
-//! Conversions by the traits of the standard library, beside the functions that have names.
+//! Implements conversion traits of the standard library, such as `FromStr` and `TryFrom`. The
+//! conversions that can fail have the same results as methods of the types, such as
+//! [`Weight::read`].
 
 ghost use Rattle.std.specs.Prelude.{◌≡◌, Some, None, MatchResult};
 ghost use Rattle.crush_units.specs.Alg.{alg_of_text};
@@ -13,7 +15,7 @@ use crate::weight::{Weight, WeightFault};
 use std::str::FromStr;
 use thiserror::Error;
 
-/// Why a number isn't an id.
+/// The error of a conversion to an id: why a number isn't an id.
 #[derive(Clone, Copy, Debug, PartialEq, Eq, Error)]
 pub enum IdFault {
     /// The number isn't the id of a device.
@@ -24,12 +26,13 @@ pub enum IdFault {
     NotBucket,
 }
 
-/// Why a text isn't the word for an algorithm: it is none of the three words.
+/// The error of reading a text as an algorithm: the text is none of the words `straw`, `straw2` and
+/// `list`.
 #[derive(Clone, Copy, Debug, PartialEq, Eq, Error)]
 #[error("not an algorithm: expected straw, straw2 or list")]
 pub struct AlgFault;
 
-/// Reads a weight as [`Weight::read`] does.
+/// Reads a weight as [`Weight::read`] does, with the same errors.
 impl FromStr for Weight {
     type Err = WeightFault;
 
@@ -40,7 +43,8 @@ impl FromStr for Weight {
     }
 }
 
-/// Reads the word for an algorithm as [`Alg::read`] does.
+/// Reads the word for an algorithm as [`Alg::read`] does. Fails with [`AlgFault`] if the word names
+/// no algorithm.
 impl FromStr for Alg {
     type Err = AlgFault;
 
@@ -55,7 +59,8 @@ impl FromStr for Alg {
     }
 }
 
-/// Returns the same id as [`DeviceId::new`].
+/// Returns the same id as [`DeviceId::new`]. Fails with [`IdFault::NotDevice`] if the number isn't
+/// the id of a device.
 impl TryFrom<i32> for DeviceId {
     type Error = IdFault;
 
@@ -70,7 +75,8 @@ impl TryFrom<i32> for DeviceId {
     }
 }
 
-/// Returns the same id as [`DeviceId::from_number`].
+/// Returns the same id as [`DeviceId::from_number`]. Fails with [`IdFault::NotDevice`] if the
+/// number isn't the id of a device.
 impl TryFrom<u32> for DeviceId {
     type Error = IdFault;
 
@@ -85,7 +91,8 @@ impl TryFrom<u32> for DeviceId {
     }
 }
 
-/// Returns the same id as [`BucketId::new`].
+/// Returns the same id as [`BucketId::new`]. Fails with [`IdFault::NotBucket`] if the number isn't
+/// the id of a bucket.
 impl TryFrom<i32> for BucketId {
     type Error = IdFault;
 

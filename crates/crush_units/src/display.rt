@@ -1,5 +1,5 @@
 //! Prints names, ids, types, weights and algorithms with `{}`, as they are written in a map's text.
-//! `{:?}` prints a name as it prints the name's text.
+//! `{:?}` prints a name in quotation marks, as it prints a `str`.
 
 ghost use Rattle.std.specs.Prelude.{Some, decimal};
 ghost use Rattle.std.specs.Fmt.{debug_str};

@@ -8,11 +8,11 @@ use itoa::Buffer;
 
 impl Weight {
     /// Writes the weight's exact text to the start of `out` and returns the length of the text, 8
-    /// to 12 bytes. The text is a whole number, a point and six digits. It is the least such number
-    /// that isn't below the weight: 1 unit is written as `0.000016`.
+    /// to 12 bytes. The text is a whole number, a point and six digits. It is the least number of
+    /// this form that isn't below the weight. For example, 1 unit is written as `0.000016`.
     ///
     /// [`Weight::read`], which rounds to the nearest unit, reads the same weight from this text. A
-    /// program that rounds down to units does so too.
+    /// program that rounds down to units also reads the same weight.
     #[tactic(auto, using(crate::proofs::ExactWeights::exact_part_short))]
     pub fn exact_text(&self, out: &mut [u8; 16]) -> usize
         ensures fits { result ≤ 16 }

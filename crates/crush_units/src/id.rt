@@ -31,9 +31,9 @@ impl Model for DeviceId {
     ghost inverse = { λ n. record { raw = n } };
 }
 
-/// A bucket's id: a number from -1 down to -2147483648. In contracts its value is its distance
-/// below 0, which is 1 for the id -1. Ids of buckets are ordered by their numbers, not by these
-/// distances: the id -2 is less than the id -1.
+/// A bucket's id: a number from -1 down to -2147483648. In contracts the value of a bucket's id is
+/// its distance below 0, for example 1 for the id -1. Ids of buckets are ordered by their numbers,
+/// not by these distances: the id -2 is less than the id -1.
 #[derive(Clone, Copy, Debug, PartialEq, Eq, Hash)]
 pub struct BucketId {
     below: u32,
@@ -78,8 +78,9 @@ impl PartialOrd for BucketId {
 }
 
 /// The id of an item of the hierarchy, which is a device or a bucket. Each device is less than each
-/// bucket. Two devices, and two buckets, are ordered as [`DeviceId`] and [`BucketId`] are. So the
-/// order isn't that of the numbers, which are below 0 for buckets.
+/// bucket. Two devices are ordered as [`DeviceId`] orders them, and two buckets as [`BucketId`]
+/// orders them. So the order isn't the order of the numbers, because the numbers of buckets are
+/// below 0.
 #[derive(Clone, Copy, Debug, PartialEq, Eq, PartialOrd, Ord, Hash)]
 pub enum ItemId {
     /// The item is a device.
@@ -88,8 +89,8 @@ pub enum ItemId {
     Bucket(BucketId),
 }
 
-/// The number of a type of items, from 0 to 65535. Devices have type 0, and every bucket has
-/// another type. Types are ordered by their numbers.
+/// The number of a type of items, from 0 to 65535. Devices have type 0, and every bucket has a type
+/// above 0. Types are ordered by their numbers.
 #[derive(Clone, Copy, Debug, PartialEq, Eq, PartialOrd, Ord, Hash)]
 pub struct TypeId {
     kind: u16,
@@ -149,8 +150,8 @@ impl BucketId {
         })
     }
 
-    /// Returns the bucket id that is this far below 0: the id -1 for the distance 1. Returns `None`
-    /// if the distance is 0 or above 2147483648.
+    /// Returns the bucket id that is `distance` below 0: the id -1 for the distance 1. Returns
+    /// `None` if the distance is 0 or above 2147483648.
     pub fn below_zero(distance: u32) -> Option<BucketId>
         ensures { result ≡ bucket_below distance }
     {
@@ -179,8 +180,8 @@ impl BucketId {
 }
 
 impl ItemId {
-    /// Returns the id as the number that a map's text shows. It is below 0 for a bucket, and 0 or
-    /// above for a device.
+    /// Returns the id as the number that a map's text shows. The number is below 0 for a bucket,
+    /// and 0 or above for a device.
     pub fn number(self) -> i32
         ensures value { result ≡ item_number self }
         ensures range { IsItemId self }
@@ -191,7 +192,7 @@ impl ItemId {
         }
     }
 
-    /// Whether both are the id of the same item.
+    /// Whether this id and `other` are the id of the same item.
     pub fn is_same(self, other: ItemId) -> bool
         ensures value { result ≡ same_id self other }
         ensures exact { IsTrue result ↔ (self ≡ other) }

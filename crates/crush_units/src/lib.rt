@@ -1,9 +1,10 @@
-//! The values of a CRUSH map: ids, types, names, weights and bucket algorithms. Each is a type that
-//! can't hold an invalid value. [`limits`] has the limits of these values and of a map's size.
+//! The values of a CRUSH map: ids, types, names, weights and bucket algorithms. Each kind of value
+//! has a type of its own, which can't hold an invalid value. [`limits`] has the limits of these
+//! values and of a map's size.
 //!
-//! `{}` prints each of these values as it is written in a map's text. Only names of more than 30
-//! bytes allocate memory. [`Reader`] splits a map's text into words. [`put`] and [`put_all`]
-//! write bytes, and fail with a [`WriteFault`].
+//! `{}` prints each of these values as it is written in a map's text. Of all these values, only
+//! names of more than 30 bytes allocate memory. [`Reader`] splits a map's text into words. [`put`]
+//! and [`put_all`] write bytes, and fail with a [`WriteFault`].
 #![tactic(auto)]
 
 mod alg;

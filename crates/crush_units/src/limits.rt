@@ -37,15 +37,17 @@ pub const LONGEST_SHORT_NAME: usize = 30;
 /// The greatest number of devices in a map. The largest clusters have about ten thousand.
 pub const MOST_DEVICES: u32 = 65536;
 
-/// The greatest number of buckets in a map: one for every sixteen devices. A path through all of
-/// them, each inside the one before, still fits on the stack.
+/// The greatest number of buckets in a map: one for every sixteen devices. Even if each bucket is
+/// inside the one before, a function that calls itself once for each bucket on the way down still
+/// has enough stack.
 pub const MOST_BUCKETS: u32 = 4096;
 
-/// The greatest number of class ids of one bucket. Clusters have three or four device classes.
+/// The greatest number of class ids of one bucket. A class id is the id of the bucket's copy that
+/// has only the devices of one class. Clusters have three or four device classes.
 pub const MOST_CLASS_IDS: usize = 16;
 
-/// The greatest number of free bucket ids that one call can ask for: as many as there are numbers
-/// of types.
+/// The greatest number of free bucket ids that one call can request: as many as there are numbers
+/// of types, 2^16.
 pub const MOST_FREE_IDS: usize = 65536;
 
 /// The greatest number of types in a map, including type 0. Ceph's own maps have twelve.
@@ -85,8 +87,8 @@ pub const MOST_OPERATORS: usize = 16;
 /// The greatest number of calls in one job. Each call gets an entry in the history.
 pub const MOST_CALLS: usize = 65536;
 
-/// The greatest number of entries in a history. It is limited because the number of changes shares
-/// a 64-bit word with a map's weight.
+/// The greatest number of entries in a history. The number is limited because the number of the
+/// history's changes shares a 64-bit word with the map's weight.
 pub const MOST_ENTRIES: usize = 65536;
 
 /// The greatest length of a job in bytes: 16 MiB. The text of a map of 60,000 devices takes about

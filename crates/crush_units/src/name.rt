@@ -1,4 +1,4 @@
-//! Names, and device classes, which have the form of names.
+//! Names of items, types, classes and rules. All of them have the same form.
 
 ghost use Rattle.std.specs.Prelude.{◌≡◌, ◌<◌, length, IsTrue, ◌↔◌, OnOk, IfOk, IfErr, MatchOption, MatchResult, bytes_eq, true};
 ghost use Rattle.std.specs.Cmp.Rules.{comparing, hashing};
@@ -16,7 +16,7 @@ use std::hash::{Hash, Hasher};
 use std::marker::Model;
 use thiserror::Error;
 
-/// Why [`Name::read`] made no name of some bytes.
+/// The error of [`Name::read`]: why the bytes weren't read as a name.
 #[derive(Clone, Copy, Debug, PartialEq, Eq, Error)]
 pub enum NameFault {
     /// There are no bytes.
@@ -34,7 +34,8 @@ pub enum NameFault {
 }
 
 impl NameFault {
-    /// Returns the fault's number, which is its position in this list, from 1.
+    /// Returns the fault's number: 1 for `Empty`, 2 for `BadByte`, 3 for `TooLong`, 4 for
+    /// `OutOfMemory`.
     pub fn number(self) -> u8
         ensures { result ≡ name_fault_number self }
     {
@@ -48,7 +49,7 @@ impl NameFault {
 }
 
 /// A name: 1 to 255 bytes, each an ASCII letter, a digit, `-`, `_` or `.`. Memory is allocated only
-/// for a name of more than 30 bytes. In contracts its value is its bytes.
+/// for a name of more than 30 bytes. In contracts the value of a name is its bytes.
 #[derive(Drop)]
 pub struct Name<A: Allocator> {
     text: Text<A>,
@@ -113,7 +114,8 @@ impl<A: Allocator> Name<A> {
     }
 
     /// Copies the name into memory of the given allocator, which may differ from the name's own.
-    /// Fails only if a name of more than 30 bytes can't get memory; other names need none.
+    /// Fails only if the name has more than 30 bytes and no memory can be allocated for them. A
+    /// shorter name needs no memory.
     pub fn try_copy<B: Allocator>(&self, alloc: B) -> Result<Name<B>, AllocError>
         ensures { MatchResult result (λ copy. copy ≡ self.now)
             (λ _. LONGEST_SHORT_NAME < length self.now) }
@@ -155,7 +157,7 @@ impl<A: Allocator> Hash for Name<A> {
     }
 }
 
-/// Lets an index find a name by its bytes, without a [`Name`] made of them.
+/// Lets code look up a name in an index by the name's bytes, without creating a [`Name`] first.
 impl<A: Allocator> Equivalent<Name<A>> for &[u8] {
     ghost equivalent = { λ bytes. bytes_eq bytes.now };
 

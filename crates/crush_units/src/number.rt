@@ -24,8 +24,8 @@ fn value_of(digits: &[u8]) -> u64
     value
 }
 
-/// Reads a text of 1 to 10 decimal digits as a number. Returns `None` if the text has another form,
-/// or if the number is above `most`.
+/// Reads a text of 1 to 10 decimal digits as a number. Returns `None` if the text doesn't have this
+/// form, or if the number is above `most`.
 pub fn number_up_to(most: u32, text: &[u8]) -> Option<u32>
     ensures { result ≡ (if is_number most text.now then Some (digits_value 10 text.now) else None) }
 {

@@ -15,8 +15,8 @@ use thiserror::Error;
 /// Why a text isn't a weight.
 #[derive(Clone, Copy, Debug, PartialEq, Eq, Error)]
 pub enum WeightFault {
-    /// The text isn't of the form: 1 to 10 digits, optionally followed by a point and 1 to 18
-    /// digits.
+    /// The text doesn't have the form of a weight: 1 to 10 digits, optionally followed by a point
+    /// and 1 to 18 digits.
     #[error("not a weight: expected digits, with at most one point between them")]
     Syntax,
     /// The weight, rounded to units, is above 4294967295 units.
@@ -89,8 +89,8 @@ impl Weight {
     /// a point and 1 to 18 digits. The number is rounded to the nearest unit, and a half is rounded
     /// up: `1.0` and `1.00000` are 65536 units.
     ///
-    /// Fails with `Syntax` if the text has another form, and with `TooLarge` if the rounded weight
-    /// is above 4294967295 units.
+    /// Fails with `Syntax` if the text doesn't have this form, and with `TooLarge` if the rounded
+    /// weight is above 4294967295 units.
     pub fn read(text: &str) -> Result<Weight, WeightFault>
         ensures { result ≡ weight_of_text text.now }
     {
@@ -204,7 +204,9 @@ fn ten_to(places: usize) -> u128
     power
 }
 
-/// Rounds a number to units; its last `places` decimal digits are those after the point.
+/// Rounds a decimal number to the nearest unit; a half is rounded up. `number` consists of all
+/// digits of the decimal number, of which the last `places` are those after the point. Fails with
+/// `TooLarge` if the result is above 4294967295 units.
 fn round(number: u128, places: usize) -> Result<Weight, WeightFault>
     requires number { number < 10 ^ 28 }
     requires places { places ≤ 18 }

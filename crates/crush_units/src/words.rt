@@ -9,16 +9,16 @@ use crate::limits::LONGEST_NAME;
 use crate::name::is_name_byte;
 use std::marker::Model;
 
-/// The next word of a text, or the reason why there is none. Each `place` is an index of a byte in
-/// the text, from 0.
+/// The next word of a text, or the reason why there is none. `place` is an index of a byte in the
+/// text, from 0.
 #[derive(Clone, Copy)]
 pub enum Token<'a> {
-    /// A word that begins at `place`. It is a brace or a name.
+    /// The next word begins at `place`, and `text` has its bytes. The word is a brace or a name.
     Word { place: usize, text: &'a [u8] },
     /// The text has no further word. `place` is the text's length.
     End { place: usize },
-    /// At `place` is a byte that no text may have, or the first byte of a word of more than 255
-    /// bytes.
+    /// The byte at `place` is one that no text may have, or it is the first byte of a word of more
+    /// than 255 bytes.
     Bad { place: usize },
 }
 
@@ -42,14 +42,15 @@ fn is_brace(byte: u8) -> bool
     byte == b'{' || byte == b'}'
 }
 
-/// Whether the byte is allowed in a name. For speed it compares the most frequent bytes first.
+/// Whether the byte is allowed in a name. For speed, the function compares with the most frequent
+/// bytes first.
 fn is_word_byte(byte: u8) -> bool
     ensures { result ≡ is_name_byte byte }
 {
     matches!(byte, b'0'..=b'9' | b'a'..=b'z') || is_name_byte(byte)
 }
 
-/// Returns how many bytes at the start are allowed in names.
+/// Returns the length of the longest prefix all of whose bytes are allowed in names.
 fn run_length(bytes: &[u8]) -> usize
     ensures count { result ≡ run_length bytes.now }
     ensures within { result ≤ length bytes.now }
@@ -121,8 +122,8 @@ impl<'a> Lexer<'a> {
     }
 }
 
-/// Reads the words of a text one after the other. In contracts its value is the words that are
-/// left, and what ends them.
+/// Reads the words of a text one after the other. In contracts the value of a reader is the list of
+/// the words that it has not read yet, and what ends them.
 #[derive(Drop)]
 pub struct Reader<'a> {
     lexer: Lexer<'a>,

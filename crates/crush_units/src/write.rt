@@ -9,7 +9,7 @@ use thiserror::Error;
 /// Why a text wasn't written as a whole.
 #[derive(Clone, Copy, Debug, PartialEq, Eq, Error)]
 pub enum WriteFault {
-    /// The writer failed, or it accepted no byte. A prefix of the text has been written.
+    /// The writer failed, or it accepted no byte. A prefix of the text may have been written.
     #[error("the writer failed")]
     Write,
     /// No memory could be allocated. Nothing has been written.
@@ -29,9 +29,10 @@ impl WriteFault {
     }
 }
 
-/// Writes all bytes to `out`, and doesn't flush it. Stops at the first error, which may also be an
-/// interrupted write, or when `out` accepts no byte. Then it fails with `Write`, and a prefix of
-/// the bytes that isn't the whole has been written. It never fails with `OutOfMemory`.
+/// Writes all bytes to `out`, and doesn't flush it. Stops when `out` returns its first error, which
+/// may also be an interrupted write, or accepts no byte. Then it fails with `Write`, and has
+/// written a proper prefix of the bytes: a beginning, but not all of them. It never fails with
+/// `OutOfMemory`.
 pub fn put<W: Write>(out: &mut W, bytes: &[u8]) -> Result<(), WriteFault>
     ensures writes { Writes result (W.contents out.old) (W.contents out.new) bytes.now }
     ensures fault { IfErr result (λ fault. fault ≡ WriteFault.Write) }
@@ -49,7 +50,8 @@ pub fn put<W: Write>(out: &mut W, bytes: &[u8]) -> Result<(), WriteFault>
 }
 
 /// Writes the parts to `out`, one after the other, as [`put`] writes its bytes. If this fails, the
-/// fault is `Write`, and a prefix of the joined parts that isn't the whole has been written.
+/// fault is `Write`, and a proper prefix of the joined parts has been written: a beginning, but not
+/// all of them.
 pub fn put_all<W: Write>(out: &mut W, parts: &[&[u8]]) -> Result<(), WriteFault>
     ensures writes { Writes result (W.contents out.old) (W.contents out.new)
         (flat_map (λ part. part.now) parts.now) }

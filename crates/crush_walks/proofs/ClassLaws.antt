@@ -21,7 +21,7 @@ with_class-absent i c none h = refl
 with_class-absent i c (device d r) h = λ j. device (pick_no (d.id == i) (record d { class = c }) d (omega arith) j) (with_class-absent i c r (omega arith) j)
 with_class-absent i c (bucket x w m k r) h = λ j. bucket x w m (with_class-absent i c k (omega arith) j) (with_class-absent i c r (omega arith) j)
 
--- weights don't change
+-- weights don't change when a class is set
 pub weight_sum-with_class : (i : ℕ) (c : Option (List ℕ)) (t : Items) → weight_sum (with_class i c t) ≡ weight_sum t
 weight_sum-with_class i c none = refl
 weight_sum-with_class i c (device d r) = λ j. same (d.id == i) j + weight_sum-with_class i c r j where
@@ -40,7 +40,7 @@ StoresUpTo-with_class limit i c none h = tt
 StoresUpTo-with_class limit i c (device d r) h = StoresUpTo-with_class limit i c r h
 StoresUpTo-with_class limit i c (bucket x w m k r) h = (h.0, StoresUpTo-with_class limit i c k h.1, StoresUpTo-with_class limit i c r h.2)
 
--- what is taken is a device, and itself with the class
+-- the part of a device's id is a device, and with the new class it is that part of the changed items
 pub leaf_taken : (i : ℕ) (t : Items) → count_of_id (Device i) t ≡ 1 → IsLeaf (part_of (Device i) t)
 leaf_taken i t one = one_taken IsLeaf (Device i) t one (λ d here. tt) (λ h w m k here gone. absurd (omega (arith, here)))
 
@@ -54,7 +54,7 @@ pub classed : (i : ℕ) (c : Option (List ℕ)) (t y : Items) → count_of_id (D
 classed i c t y one s e =
     ap with_sums (local (with_class i c) (Device i) (with_class-join i c) (with_class-absent i c) (λ h w m k misses. refl) t y one (e ∙ classed_taken i c t one)) ∙ has_sums (with_class i c t) (StoresSums-with_class i c t s)
 
--- the class that the device has already changes nothing
+-- setting the class that the device already has changes nothing
 own_kept : (i : ℕ) (t : Items) → count_of_id (Device i) t ≡ 1 → with_own_class (class_of_first (part_of (Device i) t)) (part_of (Device i) t) ≡ part_of (Device i) t
 own_kept i t one = one_taken (λ x. with_own_class (class_of_first x) x ≡ x) (Device i) t one (λ d here. refl) (λ h w m k here gone. absurd (omega (arith, here)))
 

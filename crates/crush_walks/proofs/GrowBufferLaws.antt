@@ -14,7 +14,7 @@ use Rattle.crush_walks.proofs.ChangeLaws.{one_taken}
 use Rattle.crush_walks.proofs.RangeLaws.{untouched}
 use Rattle.crush_walks.proofs.ReplaceBufferLaws.{rehoused, room_of_bucket, StoresUpTo-with_capacity}
 
--- what is taken by a bucket's number is a bucket
+-- the part of a bucket's number is a bucket
 pub bucket_taken : (b : ℕ) (t : Items) → count_of_id (Bucket b) t ≡ 1 → IsBucket (part_of (Bucket b) t)
 bucket_taken b t one = one_taken IsBucket (Bucket b) t one (λ d here. absurd (omega (arith, here))) (λ h w m k here gone. tt)
 
@@ -40,7 +40,7 @@ bucket_grown h w e old new (Ok (Some out)) same grown = (
   },
 )
 
--- THE ITEMS: sums stay in range, and they are those with the bucket's memory
+-- THE ITEMS: sums stay in range, and the items are those with the bucket's new capacity
 pub grown_fits : {A Z E : Type 0} (limit b : ℕ) (t y : Items) (r : Result (Option (Vec (Node A) Z)) E) → count_of_id (Bucket b) t ≡ 1 → StoresSums t → StoresUpTo limit t
     → IsGrownBucket (part_of (Bucket b) t) y r → StoresUpTo limit (with_sums (with_item (Bucket b) y t))
 grown_fits limit b t y (Err x) one s fits grown = subst (StoresUpTo limit) (sym (ap (λ z. with_sums (with_item (Bucket b) z t)) grown ∙ untouched (Bucket b) t one s)) fits

@@ -28,7 +28,7 @@ name_bucket : (c : Bool) (h : HeaderData) (w m : ℕ) (k l s : Items) (o : Optio
 name_bucket true h w m k l s o e = refl
 name_bucket false h w m k l s o e = e
 
--- the name that an item has is that of what is taken
+-- the name of an item is the name of its part
 pub name_taken : (i : ItemId) (t : Items) → name_in i t ≡ name_of_first (part_of i t)
 name_taken i none = refl
 name_taken i (device d r) = name_device (same_id (Device d.id) i) d _ (part_of i r) (name_taken i r)

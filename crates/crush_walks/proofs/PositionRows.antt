@@ -17,11 +17,11 @@ use Rattle.crush_nodes.proofs.LastRows.{one_of}
 use Rattle.crush_nodes.proofs.RowLaws.{rows-join}
 use Rattle.crush_walks.proofs.PositionLaws.{put_at-absent}
 
--- before others
+-- the new items come first
 first_rows : (p : Option ℕ) (n t : Items) → IsReordered (rows p t ++ rows p n) (rows p (join n t))
 first_rows p n t = through (reordered_comm (rows p t) (rows p n)) (reordered-is (sym (rows-join p n t)))
 
--- after others
+-- the new items come after others
 behind_rows : (S R T N : List Row) → IsReordered (R ++ N) T → IsReordered ((S ++ R) ++ N) (S ++ T)
 behind_rows S R T N h = through (reordered-is (append_assoc S R N)) (reordered-after S h)
 
@@ -64,7 +64,7 @@ rows_put b k n p (bucket h w m s r) one =
 pub put_at_rows : (b k : ℕ) (n t : Items) → count_of_id (Bucket b) t ≡ 1 → IsReordered (rows None t ++ rows (Some b) n) (rows None (put_at b k n t))
 put_at_rows b k n t one = rows_put b k n None t one
 
--- AMONG OTHERS
+-- AMONG OTHER ITEMS
 exchanged_rows : (p : Option ℕ) (n x t : Items) → IsReordered (rows p (join x t) ++ rows p n) (rows p (join n (join t x)))
 exchanged_rows p n x t =
     through (reordered-is (ap (λ z. z ++ rows p n) (rows-join p x t))) (through (reordered-before (rows p n) (reordered_comm (rows p x) (rows p t)))

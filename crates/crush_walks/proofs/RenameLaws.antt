@@ -24,7 +24,7 @@ with_name-absent i n none h = refl
 with_name-absent i n (device d r) h = λ j. device (pick_no (same_id (Device d.id) i) (record d { name = n }) d (omega arith) j) (with_name-absent i n r (omega arith) j)
 with_name-absent i n (bucket x w m k r) h = λ j. bucket (pick_no (same_id (Bucket x.id) i) (record x { name = n }) x (omega arith) j) w m (with_name-absent i n k (omega arith) j) (with_name-absent i n r (omega arith) j)
 
--- weights don't change
+-- weights don't change when a name is set
 pub weight_sum-with_name : (i : ItemId) (n : List ℕ) (t : Items) → weight_sum (with_name i n t) ≡ weight_sum t
 weight_sum-with_name i n none = refl
 weight_sum-with_name i n (device d r) = λ j. same (same_id (Device d.id) i) j + weight_sum-with_name i n r j where

@@ -65,7 +65,7 @@ rehoused b m t y one s e =
     ap with_sums (local (with_capacity b m) (Bucket b) (with_capacity-join b m) (with_capacity-absent b m) (λ h w n k misses. ap (λ z. bucket h w z (with_capacity b m k) none) (pick_no (h.id == b) m n misses)) t y one (e ∙ rehoused_taken b m t one))
     ∙ has_sums (with_capacity b m t) (StoresSums-with_capacity b m t s)
 
--- a bucket holds up to as many as there are in it
+-- a vector for as many items as the bucket has is large enough
 pub holds_up_to : (b m : ℕ) (t : Items) → count_of_id (Bucket b) t ≡ 1 → count (bucket_in b t).kids ≤ m → HoldsUpTo m (part_of (Bucket b) t)
 holds_up_to b m t one = one_taken (λ x. count (first_as_bucket x).kids ≤ m → HoldsUpTo m x) (Bucket b) t one (λ d here. absurd (omega (arith, here))) (λ h w n k here gone le. le)
 

@@ -80,7 +80,7 @@ given_fits b ws t one fits =
     subst (FitsWeights ws) (sym a.is) (fits_or_not (weight_sum (with_sums (with_weights ws a.kids))) (λ large. absurd (
     let e : ◌≡◌ {A = Bool} false true = sym (too_large (Bucket b) HEAVIEST_BUCKET y t one (StoresSums-with_sums (with_weights ws (part_of (Bucket b) t))) (given_test b ws t a ∙ large)) ∙ made in cc)))
 
--- THE OWN WEIGHTS of items leave them as they are
+-- THE OWN WEIGHTS of items, given to them again, change nothing
 own_after : (t : Items) (vs : List ℕ) → weights_after t (weights_in t ++ vs) ≡ vs
 own_after none vs = refl
 own_after (device d r) vs = own_after r vs
@@ -99,7 +99,7 @@ own_given (bucket h w m k r) vs =
 own_weights : (t : Items) → with_weights (weights_in t) t ≡ t
 own_weights t = ap (λ z. with_weights z t) (sym (append-nil (weights_in t))) ∙ own_given t []
 
--- whatever the devices weighed before
+-- the weights that are left don't depend on the weights that the devices had
 weights_after-all : (n : ℕ) (t : Items) (ws : List ℕ) → weights_after (with_all n t) ws ≡ weights_after t ws
 weights_after-all n none ws = refl
 weights_after-all n (device d r) ws = weights_after-all n r (later_weights ws)
@@ -112,7 +112,7 @@ with_weights-all n ws (bucket h w m k r) =
     let rest : with_weights (weights_after (with_all n k) ws) (with_all n r) ≡ with_weights (weights_after k ws) r = ap (λ z. with_weights z (with_all n r)) (weights_after-all n k ws) ∙ with_weights-all n (weights_after k ws) r in
     λ j. bucket h w m (with_weights-all n ws k j) (rest j)
 
--- and whatever the buckets stored
+-- the weights that are left don't depend on what the buckets stored
 weights_after-sums : (t : Items) (ws : List ℕ) → weights_after (with_sums t) ws ≡ weights_after t ws
 weights_after-sums none ws = refl
 weights_after-sums (device d r) ws = weights_after-sums r (later_weights ws)

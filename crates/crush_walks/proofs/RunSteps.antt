@@ -13,7 +13,7 @@ weights_of-append (r ∷ xs) ys = ap (λ z. weights_of_run r ++ z) (weights_of-a
 pub weights_of-last : (xs : List WeightRun) (r : WeightRun) → weights_of (xs ++ r ∷ []) ≡ weights_of xs ++ weights_of_run r
 weights_of-last xs r = weights_of-append xs (r ∷ []) ∙ ap (λ z. weights_of xs ++ z) (append-nil (weights_of_run r))
 
--- a weight is appended to the last run
+-- a weight that is added to the last run
 pub longer : (w v m : ℕ) → w ≡ v → weights_of_run (record { weight = w; more = m + 1 }) ≡ weights_of_run (record { weight = w; more = m }) ++ v ∷ []
 longer w v m same = ap (λ z. w ∷ z) (sym (replicate_more m w)) ∙ ap (λ z. weights_of_run (record { weight = w; more = m }) ++ z ∷ []) same
 
@@ -26,11 +26,11 @@ pub same_start : {X E : Type 0} (x : Result X E) (old start new : List WeightRun
 same_start (Ok x) old start new w same is = is ∙ ap (λ z. z ++ w ∷ []) same
 same_start (Err e) old start new w same is = tt
 
--- or as a run of its own
+-- a weight that begins a new run
 pub put_behind : (old new : List WeightRun) (run : WeightRun) (w : ℕ) → new ≡ old ++ run ∷ [] → weights_of_run run ≡ w ∷ [] → weights_of new ≡ weights_of old ++ w ∷ []
 put_behind old new run w is one = ap weights_of is ∙ weights_of-last old run ∙ ap (λ z. weights_of old ++ z) one
 
--- LAST FIRST
+-- RUNS IN REVERSE ORDER
 pub left_of-last : (xs : List WeightRun) (r : WeightRun) → weights_left (xs ++ r ∷ []) ≡ weights_of_run r ++ weights_left xs
 left_of-last xs r = ap weights_of (reverse-append xs (r ∷ []))
 

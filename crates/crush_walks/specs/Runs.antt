@@ -22,7 +22,7 @@ abbrev pub later_weights : List ℕ → List ℕ
 later_weights [] = []
 later_weights (w ∷ ws) = ws
 
--- the weights that are left after each device, at any depth, took one
+-- the weights that are left after each device, at any depth, has taken one
 abbrev pub weights_after : Items → List ℕ → List ℕ
 weights_after none ws = ws
 weights_after (device d rest) ws = weights_after rest (later_weights ws)
@@ -46,7 +46,7 @@ FitsWeights ws none = Unit {0}
 FitsWeights ws (device d rest) = Unit {0}
 FitsWeights ws (bucket h w m kids rest) = weight_sum (with_sums (with_weights ws kids)) ≤ HEAVIEST_BUCKET
 
--- the weights of one run: the first, and as many equal ones as `more` says
+-- the weights of one run: the weight of the first device, as often as `more` says plus one
 abbrev pub weights_of_run : WeightRun → List ℕ
 weights_of_run r = r.weight ∷ replicate r.more r.weight
 

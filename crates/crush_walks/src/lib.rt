@@ -1,8 +1,9 @@
 //! Walks that change items and the sums of the buckets above them, and tests whether those sums
 //! stay in range. `crush_tree` calls them.
 //!
-//! At each level a walk enters the item that a [`Descent`](crush_nodes::way::Way) names. Read
-//! [`change`] first: it has the walk that applies a change to one item, which most others use.
+//! At each level a walk enters the item that a [`Descent`](crush_nodes::descent::Descent) names.
+//! Read [`change`] first: it has the walk that applies a change to one item. Most other walks use
+//! this walk.
 #![tactic(auto)]
 
 pub mod attach;

@@ -17,9 +17,9 @@ use crush_units::{BucketId, ItemId};
 use std::alloc::Allocator;
 use std::mem;
 
-/// Moves the items of a bucket, in order, to `given`, an empty vector with enough capacity, which
-/// becomes the bucket's. Returns the old vector, now empty. A second call with the old vector
-/// undoes the first. `descent` leads to the bucket.
+/// Moves the items of a bucket, in order, to `given`, which becomes the bucket's vector. `given`
+/// must be empty and have enough capacity. Returns the old vector, now empty. A second call with
+/// the old vector undoes the first. `descent` leads to the bucket.
 pub fn replace_buffer_in<A: Allocator, W: Descent>(
     items: &mut [Node<A>],
     descent: &W,
@@ -45,8 +45,8 @@ pub fn replace_buffer_in<A: Allocator, W: Descent>(
     )
 }
 
-/// Moves all items, in order, to `given`, an empty vector with enough capacity, which takes the
-/// place of `items`. Returns the old vector, now empty.
+/// Moves all items, in order, to `given`, which takes the place of `items`. `given` must be empty
+/// and have enough capacity. Returns the old vector, now empty.
 pub fn replace_buffer_of<A: Allocator>(
     items: &mut Vec<Node<A>, A>,
     mut given: Vec<Node<A>, A>,

@@ -1,5 +1,5 @@
-//! The files of a run of the program. Those of a verb may be standard input, and some of them have
-//! been read already.
+//! The files that a run of the program opens. A command line with a verb may name standard input as
+//! a file, and some of its files are read before the run.
 
 use crush_input::Opens;
 use std::fs::File;
@@ -12,13 +12,14 @@ pub(crate) struct Kept<'a> {
     pub(crate) bytes: Vec<u8>,
 }
 
-/// The files of a run.
+/// The files that a run may open.
 #[derive(Drop)]
 pub(crate) struct ProgramFiles<'a> {
     pub(crate) rt: &'a HostRuntime,
-    /// Whether the name `-` stands for standard input, as it does with a verb.
+    /// Whether the name `-` means standard input. It does so only on a command line with a verb.
     pub(crate) has_dash: bool,
-    /// The files that were read before. A pipe can't be read again.
+    /// The files that were read before the run. Their bytes are kept because a pipe can't be read
+    /// twice.
     pub(crate) kept: &'a [Kept<'a>],
 }
 
@@ -27,7 +28,7 @@ pub(crate) struct ProgramFiles<'a> {
 pub(crate) enum Opened<'a> {
     File(File),
     Input(Stdin),
-    /// What is left of a file that was read before.
+    /// The bytes of a file that was read before the run, without the bytes that the run has read.
     Kept(&'a [u8]),
 }
 

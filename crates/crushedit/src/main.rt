@@ -1,44 +1,57 @@
 //! The program `crushedit`: applies operators' scripts to the hierarchy of a CRUSH map, and prints
-//! the result. `crush_options` reads the command line, `crush_run` does the work, and `crush_input`
-//! reports how it ended. This file also checks that the output was stored.
+//! the result. `crush_options` parses the command line, `crush_run` does the work, and
+//! `crush_input` reports how the run ended. This crate opens the files, checks that the output was
+//! stored, and replaces the file that `--output` names.
 #![tactic(auto)]
 
 mod files;
 mod output_file;
+mod standard_output;
 
 use crate::files::{Kept, ProgramFiles};
+use crate::standard_output::Remembering;
 use crush_input::{
     VerbMap, VerbMapFault, VerbMapRefusal, Words, file_notes, read_verb_map, report,
     report_options, report_verb_map,
 };
 use crush_options::{MapForm, Options, OptionsFault, OutputSpec, options};
-use crush_run::{Ending, RunFault, Summary, run_options};
-use std::fs::OpenOptions;
-use std::io::{ErrorKind, IsTerminal};
+use crush_run::{Ending, RunFault, run_options};
+use std::io::{self, ErrorKind, IsTerminal, Stdout, Write};
 use std::process::ExitCode;
 use std::random::RandomSource;
 use std::sync::Wait;
 use std::thread::Threads;
-use std::{fs, io};
 
-/// Standard output, by a path with which it can be opened once more.
-const OUTPUT: &str = "/dev/stdout";
+/// The name that messages have for standard output if a write to it fails.
+const STANDARD_OUTPUT: &str = "standard output";
 
 fn main(rt: HostRuntime) -> ExitCode {
     let status = match read_options(&rt) {
         Ok(options) => run(&rt, &rt, &options),
-        Err(fault) => match report_options(&fault, &mut rt.stdout(), &mut rt.stderr()) {
-            0 if !is_stored(&rt) => {
-                let unwritten = Err(RunFault::Write);
-                report(Words::none(), &unwritten, b"", &mut rt.stderr()).status
-            }
-            status => status,
-        },
+        Err(fault) => end_without_run(&rt, &fault),
     };
     ExitCode::from(status)
 }
 
-/// Runs what the command line selects, and returns the status.
+/// Writes the help, the version, or the reason why the command line is rejected. Returns the exit
+/// status.
+fn end_without_run(rt: &HostRuntime, fault: &OptionsFault) -> u8 {
+    if !matches!(fault, OptionsFault::Help(_)) {
+        return report_options(fault, &mut io::sink(), &mut rt.stderr());
+    }
+    let mut output = Remembering::new(rt.stdout());
+    let mut lines = Vec::new(rt.alloc());
+    let status = report_options(fault, &mut output, &mut lines);
+    if status == 0 && standard_output::store(rt).is_err() {
+        return report(Words::none(), &Err(RunFault::Write), b"", &mut rt.stderr()).status;
+    }
+    if !output.lacks_reader() {
+        let _ = rt.stderr().write_all(lines.as_slice());
+    }
+    status
+}
+
+/// Runs what the command line selects, and returns the exit status.
 fn run(
     rt: &HostRuntime,
     workers: &(impl AllocGlobal + RandomSource + Threads + Wait + Sync),
@@ -69,9 +82,12 @@ fn is_verb(options: &Options) -> bool {
     !matches!(options.maps, MapForm::Job)
 }
 
-/// Reads the maps of a verb, and checks them. A plain command line reads none before its run.
+/// If the command line has a verb, reads the maps of the verb, and checks that they are what the
+/// verb needs. With a plain command line, reads nothing, because the run itself then reads the
+/// files.
 ///
-/// If the first map can't be read, the run reports that.
+/// If the first map can't be read, returns no maps. The run then tries to read the map once more,
+/// and reports why that fails.
 fn read_maps<'a>(rt: &HostRuntime, options: &'a Options) -> Result<Vec<Kept<'a>>, VerbMapRefusal> {
     let mut kept = Vec::new(rt.alloc());
     let (true, Some(name)) = (is_verb(options), &options.file) else {
@@ -126,7 +142,8 @@ fn keep<'a>(
     }
 }
 
-/// The other map of a verb, and the name of its file.
+/// Returns which other map a run reads, and the name of that map's file. This is the old map of a
+/// comparison, or the wanted map of a plan. Returns `None` if the run reads no other map.
 fn other_map(options: &Options) -> Option<(VerbMap, &str)> {
     match &options.output_spec {
         OutputSpec::Since(since) => Some((VerbMap::Old, since.map.as_str())),
@@ -142,14 +159,48 @@ fn run_to_stdout(
     files: &ProgramFiles<'_>,
     options: &Options,
 ) -> u8 {
-    let (mut input, mut output) = (rt.stdin(), rt.stdout());
-    let Ending { outcome, notes } = run_options(workers, files, options, &mut input, &mut output);
-    let outcome = stored(rt, outcome);
+    let mut output = Remembering::new(rt.stdout());
+    let Ending { outcome, notes } = run_options(
+        workers,
+        files,
+        options,
+        &mut rt.stdin(),
+        &mut output,
+    );
     let words = Words::of(options);
-    report(words, &outcome, notes.as_slice(), &mut rt.stderr()).status
+    let notes = notes.as_slice();
+    match outcome {
+        Ok(summary) => match standard_output::store(rt) {
+            Ok(()) => report(words, &Ok(summary), notes, &mut rt.stderr()).status,
+            Err(error) => report_unwritten(rt, options, words, STANDARD_OUTPUT, &error, notes),
+        },
+        Err(RunFault::Write) => report_write_fault(rt, options, &output, notes),
+        Err(fault) => report(words, &Err(fault), notes, &mut rt.stderr()).status,
+    }
 }
 
-/// Runs as above, and then replaces a file by the output if the run was done.
+/// Reports that a write to standard output has failed, and returns the exit status. If standard
+/// output is a pipe that nobody reads any more, no message is printed, because a reader such as
+/// `head` ends as soon as it has read enough.
+fn report_write_fault(
+    rt: &HostRuntime,
+    options: &Options,
+    output: &Remembering<Stdout>,
+    notes: &[u8],
+) -> u8 {
+    let words = Words::of(options);
+    let unwritten = Err(RunFault::Write);
+    if output.lacks_reader() {
+        return report(words, &unwritten, notes, &mut io::sink()).status;
+    }
+    match output.error() {
+        Some(error) => report_unwritten(rt, options, words, STANDARD_OUTPUT, error, notes),
+        None => report(words, &unwritten, notes, &mut rt.stderr()).status,
+    }
+}
+
+/// Runs what the command line selects, with the output in memory. If the run succeeds, replaces the
+/// file `name` by the output. Returns the exit status.
 fn run_to_file(
     rt: &HostRuntime,
     workers: &(impl AllocGlobal + RandomSource + Threads + Wait + Sync),
@@ -169,26 +220,29 @@ fn run_to_file(
     let outcome = match outcome {
         Ok(summary) => match output_file::replace(rt, name, output.as_slice()) {
             Ok(()) => Ok(summary),
-            Err(error) => return report_unwritten(rt, options, name, &error, notes.as_slice()),
+            Err(error) => {
+                let notes = notes.as_slice();
+                return report_unwritten(rt, options, Words::none(), name, &error, notes);
+            }
         },
-        // Memory is what a vector lacks that can't be written to.
+        // A write to a vector fails only if memory runs out.
         Err(RunFault::Write) => Err(RunFault::Memory),
         Err(fault) => Err(fault),
     };
     report(words, &outcome, notes.as_slice(), &mut rt.stderr()).status
 }
 
-/// Reports that the output couldn't be written to its file, with the system's reason if the options
-/// ask for reasons, and returns the status.
+/// Reports that the output couldn't be written to this file, and returns the exit status. If the
+/// options ask for reasons, also reports the reason that the system gives.
 fn report_unwritten(
     rt: &HostRuntime,
     options: &Options,
+    words: Words<'_>,
     name: &str,
     error: &io::Error,
     notes: &[u8],
 ) -> u8 {
     let unwritten = Err(RunFault::Write);
-    let words = Words::none();
     let Ok(mut lines) = file_notes(rt.alloc(), options.mode.explain, name, error) else {
         return report(words, &unwritten, notes, &mut rt.stderr()).status;
     };
@@ -196,33 +250,8 @@ fn report_unwritten(
     report(words, &unwritten, lines.as_slice(), &mut rt.stderr()).status
 }
 
-/// Turns a success into a write fault if the output couldn't be stored. Some file systems report
-/// that only after all writes have succeeded, when the file is synced.
-fn stored(rt: &HostRuntime, outcome: Result<Summary, RunFault>) -> Result<Summary, RunFault> {
-    match outcome {
-        Ok(_) if !is_stored(rt) => Err(RunFault::Write),
-        outcome => outcome,
-    }
-}
-
-/// Whether the output is stored. Only a regular file is synced, because a pipe or a terminal stores
-/// nothing. A file that can't be opened once more isn't synced, and counts as stored.
-fn is_stored(rt: &HostRuntime) -> bool {
-    match fs::metadata(rt, OUTPUT) {
-        Ok(metadata) if metadata.is_file() => is_synced(rt),
-        _ => true,
-    }
-}
-
-fn is_synced(rt: &HostRuntime) -> bool {
-    match OpenOptions::new().write(true).open(rt, OUTPUT) {
-        Ok(file) => file.sync_all().is_ok(),
-        Err(_) => true,
-    }
-}
-
-/// Reads the command line. If standard error is a terminal, somebody reads it, so it gets the
-/// reasons too.
+/// Parses the command line. If standard error is a terminal, a person reads it, so the options then
+/// ask for reasons even without `--explain`.
 fn read_options(rt: &HostRuntime) -> Result<Options, OptionsFault> {
     let words = words_behind_name(rt)?;
     let mut options = options(rt.alloc(), words.as_slice())?;
@@ -230,7 +259,8 @@ fn read_options(rt: &HostRuntime) -> Result<Options, OptionsFault> {
     Ok(options)
 }
 
-/// The words of the command line that follow the program's name.
+/// Returns the words of the command line after the program's name. Fails if a word isn't UTF-8, or
+/// if memory runs out.
 fn words_behind_name(rt: &HostRuntime) -> Result<Vec<String>, OptionsFault> {
     let alloc = rt.alloc();
     match std::env::args(rt) {

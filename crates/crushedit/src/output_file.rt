@@ -1,23 +1,27 @@
-//! Replaces a file by the output of a run, so that it has its old bytes or all the new ones.
+//! Replaces a file by the output of a run, so that the file has either its old bytes or all the new
+//! bytes.
 
 use std::fs::{self, File, Metadata, OpenOptions};
 use std::io::{self, ErrorKind, Write};
 
-/// How many links are followed from a file's name, as many as Linux follows.
+/// How many symbolic links are followed from a file's name at most. Linux has the same limit.
 const MOST_LINKS: u32 = 40;
 
-/// How many names are tried for the new file.
+/// How many names are tried for the new file at most.
 const MOST_NAMES: u32 = 100;
 
-/// Replaces the file of this name, or makes it.
+/// Replaces the file `name` by a file with these bytes, or creates the file.
 ///
-/// Writes a new file in the same folder, stores it, and renames it to the name. So at each time the
-/// name leads to a file with its old bytes or with all the new ones. The new file gets the mode of
-/// the old one. If the name is a link, the file to which it leads is replaced. If something else
-/// than a plain file has the name, such as a device or a pipe, the bytes are written to it.
+/// First writes the bytes to a new file in the same folder, and waits until they are stored. Then
+/// renames the new file to `name`. So at any time, `name` leads to a file that has either its old
+/// bytes or all the new bytes. The new file gets the permissions of the old file. If `name` is a
+/// symbolic link, replaces the file to which the link leads. If `name` is a device, a pipe, or
+/// anything else that isn't a regular file, writes the bytes to it directly.
 ///
-/// If this fails, the file is as it was, and the new file is removed. A program that is killed can
-/// leave the new file, whose name is that of the file with `.crushedit-N` at its end.
+/// If the call fails, a regular file is as it was before the call, and the new file is removed. A
+/// device or a pipe may already have received a part of the bytes. If the program is killed, the
+/// new file may remain in the folder. The name of the new file is the name of the file that it
+/// replaces, followed by `.crushedit-N`.
 pub(crate) fn replace(rt: &HostRuntime, name: &str, bytes: &[u8]) -> io::Result<()> {
     match fs::metadata(rt, name) {
         Ok(old) => replace_found(rt, name, old, bytes),
@@ -33,7 +37,8 @@ fn replace_found(rt: &HostRuntime, name: &str, old: Metadata, bytes: &[u8]) -> i
     write_to(rt, name, bytes)
 }
 
-/// Writes the bytes to a device or a pipe, which must never be renamed over.
+/// Writes the bytes to a device or a pipe. No file may ever be renamed to the name of a device or a
+/// pipe, because it would replace the device or the pipe.
 fn write_to(rt: &HostRuntime, name: &str, bytes: &[u8]) -> io::Result<()> {
     OpenOptions::new()
         .write(true)
@@ -65,7 +70,8 @@ fn replace_plain(
     Err(ErrorKind::AlreadyExists.into())
 }
 
-/// Follows the links from a name to the file to which they lead, which needn't be there.
+/// Follows the symbolic links that begin at `name`, and returns the path at which they end. There
+/// needn't be a file at this path.
 fn link_target(rt: &HostRuntime, name: &str) -> io::Result<String> {
     let mut path = String::from_str(rt.alloc(), name)?;
     for _ in 0..MOST_LINKS {
@@ -80,7 +86,7 @@ fn link_target(rt: &HostRuntime, name: &str) -> io::Result<String> {
     Ok(path)
 }
 
-/// Returns the path to which the link of this name leads.
+/// Returns the path to which the symbolic link `name` leads, if the link contains the path `link`.
 fn beside_link(rt: &HostRuntime, name: &str, link: &str) -> io::Result<String> {
     match name.rfind('/') {
         Some(place) if !link.starts_with('/') => {
@@ -105,7 +111,8 @@ fn fill_and_rename(
     done
 }
 
-/// Gives the new file its mode and its bytes, and waits until they are stored.
+/// Gives the new file the permissions of the old file, writes the bytes, and waits until they are
+/// stored.
 fn fill(
     rt: &HostRuntime,
     mut file: File,

@@ -1,4 +1,5 @@
-//! Puts an item at its destination, after the tests for room and for sums.
+//! Tests whether the map has room for an item at its destination and whether all sums stay in
+//! range, and then puts the item there.
 
 ghost use Rattle.std.specs.Prelude.{◌≡◌, List, None, true, false, IfOk};
 ghost use Rattle.crush_units.specs.declared.id.ItemId.TheVariants.{Device};
@@ -25,7 +26,8 @@ use crush_tree::Leaf;
 use crush_units::ItemId;
 use std::alloc::{AllocError, Allocator};
 
-/// Moves an item to the destination, with everything below it, or refuses to.
+/// Moves an item, with everything below it, to the destination. Returns a refusal if the map would
+/// have too many buckets, or if a sum would be too large.
 pub(crate) fn place_item<A: Allocator + Clone>(
     hierarchy: &mut Hierarchy<A>,
     id: ItemId,
@@ -48,9 +50,11 @@ pub(crate) fn place_item<A: Allocator + Clone>(
     Ok((done_at(to), Some(undo)))
 }
 
-/// Puts a device at the destination with the weight given, or refuses to.
+/// Puts a device at the destination with this weight. Returns a refusal if the map would have too
+/// many devices or buckets, or if a sum would be too large.
 ///
-/// A device that the map has is moved and keeps its class. Any other is created without a class.
+/// If the map has the device, the device is moved and keeps its class. Otherwise the device is
+/// created without a class.
 pub(crate) fn place_device<A: Allocator + Clone>(
     hierarchy: &mut Hierarchy<A>,
     arrival: &NewDevice<'_>,
@@ -79,7 +83,8 @@ pub(crate) fn place_device<A: Allocator + Clone>(
     Ok((done_at(to), Some(undo)))
 }
 
-/// Creates a device at the destination, or refuses to.
+/// Creates a device at the destination. Returns a refusal if the map would have too many devices or
+/// buckets, or if a sum would be too large.
 fn place_new<A: Allocator + Clone>(
     hierarchy: &mut Hierarchy<A>,
     arrival: &NewDevice<'_>,

@@ -1,4 +1,4 @@
-//! Finds which name in a location a refusal is about.
+//! Finds the name in a location that a refusal is about.
 
 ghost use Rattle.std.specs.Prelude.{◌≡◌, List};
 ghost use Rattle.std.specs.Option.{option_map};
@@ -16,8 +16,9 @@ use crush_hierarchy::Hierarchy;
 use crush_units::Name;
 use std::alloc::{Allocator, Global};
 
-/// Returns the name that makes a location bad: the first type name that is type 0's or occurs
-/// again, otherwise the first bucket name that occurs again.
+/// Returns the name that makes a location bad. This is the first type name that is the name of type
+/// 0 or that occurs again in a later pair. If there is no such type name, it is the first bucket
+/// name that occurs again in a later pair.
 pub(crate) fn bad_name<'a>(setting: &Setting, at: &'a Location) -> Option<&'a Name<Global>>
     ensures { option_map (λ name. name.now) result ≡ bad_name setting.now at.now }
 {
@@ -60,7 +61,7 @@ fn repeated_bucket(pairs: &[Pair]) -> Option<&Name<Global>>
     None
 }
 
-/// Returns the first type name that the setting doesn't have.
+/// Returns the first type name of the location that isn't the name of a type in the setting.
 pub(crate) fn unknown_type<'a>(setting: &Setting, at: &'a Location) -> Option<&'a Name<Global>>
     ensures { option_map (λ name. name.now) result ≡ unknown_type setting.now at.now }
 {
@@ -73,7 +74,7 @@ pub(crate) fn unknown_type<'a>(setting: &Setting, at: &'a Location) -> Option<&'
     None
 }
 
-/// Returns the name of the item that ends the route.
+/// Returns the first name of the route that an item of the map has: this item ends the route.
 pub(crate) fn end_name<'a, A: Allocator>(
     hierarchy: &Hierarchy<A>,
     setting: &Setting,

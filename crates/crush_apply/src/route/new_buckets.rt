@@ -1,4 +1,5 @@
-//! Builds the new buckets of a route as nodes, each in the next.
+//! Builds the new buckets of a route as nodes. The bucket of each stop is inside the bucket of the
+//! next stop.
 
 ghost use Rattle.std.specs.Prelude.{◌≡◌, ◌<◌, ◌≤◌, ◌∷◌, [], length, IfOk, All};
 ghost use Rattle.crush_units.specs.declared.limits.TheConstants.{HEAVIEST_BUCKET};
@@ -16,7 +17,7 @@ use crush_tree::{Header, Node};
 use crush_units::{Alg, BucketId, Name, TypeId};
 use std::alloc::{AllocError, Allocator, Global};
 
-/// Returns a new bucket without items, which has room for one.
+/// Returns a new bucket without items. The bucket has memory for one item.
 pub(crate) fn empty_bucket<A: Allocator + Clone>(
     alloc: &A,
     id: BucketId,
@@ -73,8 +74,8 @@ fn new_bucket<A: Allocator + Clone>(
 
 /// Returns the new buckets of the stops as one node.
 ///
-/// The bucket of each stop is in the bucket of the next stop; the first bucket is empty. `ids` are
-/// the ids of the buckets, in the order of the stops.
+/// The bucket of each stop is in the bucket of the next stop. The bucket of the first stop is
+/// empty. `ids` has the ids of the buckets, in the order of the stops.
 pub(crate) fn new_buckets<A: Allocator + Clone>(
     alloc: &A,
     ids: &[BucketId],
@@ -91,8 +92,9 @@ pub(crate) fn new_buckets<A: Allocator + Clone>(
     in_new_buckets(alloc, &ids[1..], at, &stops[1..], lowest)
 }
 
-/// Returns the item in the new buckets of the stops, as one node; the item itself if there are no
-/// stops.
+/// Puts the item into the new bucket of the first stop, and the bucket of each stop into the bucket
+/// of the next stop. Returns the bucket of the last stop, which has all the others in it. If there
+/// are no stops, returns the item itself.
 pub(crate) fn in_new_buckets<A: Allocator + Clone>(
     alloc: &A,
     ids: &[BucketId],

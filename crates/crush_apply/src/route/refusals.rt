@@ -1,4 +1,5 @@
-//! Tests for a location, for a device that is put there, and for the item that ends a route.
+//! Tests that can lead to a refusal: tests of a location, of a device that is put there, and of the
+//! item that ends a route.
 
 ghost use Rattle.std.specs.Prelude.{◌≡◌, ◌==◌, List, None, Some, IfOk, IfErr, OnOk, map, bytes_eq, not};
 ghost use Rattle.std.specs.List.{list_any};
@@ -17,7 +18,8 @@ use crush_hierarchy::Hierarchy;
 use crush_units::{BucketId, DeviceId, ItemId, Name, TypeId};
 use std::alloc::{Allocator, Global};
 
-/// Refuses a location that is bad by itself, whatever the map's items are.
+/// Returns a refusal if the location is wrong whatever items the map has: for example, if it names
+/// a type twice.
 pub(crate) fn check_location(setting: &Setting, at: &Location) -> Result<(), Refusal>
     ensures passes { OnOk result (first_refusal (location_tests setting.now at.now) ≡ None) }
     ensures refused { IfErr result
@@ -36,7 +38,8 @@ pub(crate) fn check_location(setting: &Setting, at: &Location) -> Result<(), Ref
     Ok(())
 }
 
-/// Refuses an edit that puts a device, by the tests that come before those of the route.
+/// Makes those tests for an edit that puts a device which come before the tests of the route.
+/// Returns a refusal if a test fails.
 pub(crate) fn check_device<A: Allocator>(
     hierarchy: &Hierarchy<A>,
     setting: &Setting,
@@ -62,7 +65,8 @@ pub(crate) fn check_device<A: Allocator>(
     Ok(())
 }
 
-/// Returns the bucket that ends a route; refuses a device, or a bucket of another type than `kind`.
+/// Tests the item that ends a route. If it is a bucket of the type `kind`, returns this bucket. If
+/// it is a device, or a bucket of another type, returns a refusal.
 pub(crate) fn check_end<A: Allocator>(
     hierarchy: &Hierarchy<A>,
     kind: TypeId,

@@ -1,4 +1,5 @@
-//! Tests whether the map has room for what is put at a destination, and whether sums stay in range.
+//! Tests whether the numbers of devices and buckets, and the sums, stay in range when an item is
+//! put at a destination.
 
 ghost use Rattle.std.specs.Prelude.{◌≡◌, ℕ, ◌≤◌, List, Some, None, false, not};
 ghost use Rattle.crush_units.specs.declared.id.ItemId.TheVariants.{Device};
@@ -28,7 +29,7 @@ pub(crate) fn lacks_room<A: Allocator>(hierarchy: &Hierarchy<A>, to: &Destinatio
     hierarchy.counts().buckets as usize + to.fresh() > MOST_BUCKETS as usize
 }
 
-/// Whether there would be too many devices or buckets after a device is created there.
+/// Whether there would be too many devices or buckets after a device is created at the destination.
 pub(crate) fn lacks_room_for_new<A: Allocator>(hierarchy: &Hierarchy<A>, to: &Destination) -> bool
     ensures { (t : List Row) (d : LeafData) → Stands hierarchy.now t → Leads t to.now
         → is_there t (Device d.id) ≡ false

@@ -1,4 +1,4 @@
-//! The stops of a route, and which stop ends it.
+//! The stops of a route, and the search for the stop that ends the route.
 
 ghost use Rattle.std.specs.Prelude.{◌≡◌, ◌+◌, ◌<◌, ◌≤◌, List, Some, All, IfOk, IfErr, length};
 ghost use Rattle.arrayvec.specs.ArrayVec.{array_vec_len};
@@ -24,7 +24,7 @@ use crush_units::{BucketId, Name, TypeId};
 use std::alloc::{Allocator, Global};
 use std::marker::Model;
 
-/// A pair of a location, with the number of its type.
+/// One stop of a route: a pair of the location, with the number of the pair's type.
 #[derive(Clone, Copy, Debug, PartialEq, Eq)]
 pub(crate) struct Stop {
     pub(crate) kind: TypeId,
@@ -33,7 +33,8 @@ pub(crate) struct Stop {
 }
 
 impl Default for Stop {
-    /// Returns what fills the unused slots of a `Route`'s array; it is never read.
+    /// Returns the stop that fills the unused slots in the array of a [`Route`]. These slots are
+    /// never read.
     fn default() -> Stop {
         Stop {
             kind: TypeId::new(0),
@@ -42,7 +43,7 @@ impl Default for Stop {
     }
 }
 
-/// The stops of a location, by ascending type number.
+/// The stops of a location, sorted by the numbers of their types, lowest first.
 #[derive(Drop)]
 pub(crate) struct Route {
     stops: ArrayVec<Stop, MOST_PAIRS>,
@@ -66,7 +67,7 @@ impl Route {
     }
 }
 
-/// Returns the stops of a location. A pair whose type the setting doesn't have gives no stop.
+/// Returns the stops of a location. A pair whose type isn't in the setting is left out.
 pub(crate) fn route_of(setting: &Setting, at: &Location) -> Route
     ensures stops { stops_data at.now result ≡ stops setting.now at.now }
     ensures pairs { All (IsPairOf at.now) result }
@@ -81,7 +82,7 @@ pub(crate) fn route_of(setting: &Setting, at: &Location) -> Route
     Route { stops }
 }
 
-/// Inserts a stop before the first whose type number is not less.
+/// Inserts a stop before the first stop whose type number is at least its own.
 fn put_stop(stops: &mut ArrayVec<Stop, MOST_PAIRS>, stop: Stop)
     requires { array_vec_len stops.old < MOST_PAIRS }
     ensures put { stops.new.items ≡ put_stop stop stops.old.items }
@@ -91,7 +92,8 @@ fn put_stop(stops: &mut ArrayVec<Stop, MOST_PAIRS>, stop: Stop)
     stops.insert(index, stop);
 }
 
-/// Returns the index of the first stop whose type number is not less, or the number of stops.
+/// Returns the index of the first stop whose type number is at least `kind`, or the number of stops
+/// if there is none.
 fn index_of(stops: &[Stop], kind: TypeId) -> usize
     ensures value { result ≡ position_or_len (λ (q : Stop). nat_le kind q.kind) stops.now }
     ensures within { result ≤ length stops.now }
@@ -113,10 +115,11 @@ pub(crate) fn stop_name<'a>(at: &'a Location, stop: &Stop) -> &'a Name<Global>
     &pair.name
 }
 
-/// Returns how many stops come before the one that ends the route, and the bucket of that one.
+/// Finds the stop that ends the route. Returns how many stops come before this stop, and the bucket
+/// that the stop names.
 ///
-/// If no stop's name is in the map, returns the number of all stops and `None`. Refuses a device,
-/// or a bucket of another type than the stop's.
+/// If no stop's name is in the map, returns the number of all stops and `None`. Returns a refusal
+/// if the name belongs to a device, or to a bucket whose type isn't the stop's type.
 pub(crate) fn route_end<A: Allocator>(
     hierarchy: &Hierarchy<A>,
     at: &Location,

@@ -1,4 +1,5 @@
-//! Questions about the map that is being built, which `crush_text` asks before it makes a call.
+//! Tests of the map that is being built. `crush_text` makes these tests before it calls a method
+//! that changes the map.
 
 ghost use Rattle.std.specs.Prelude.{◌≡◌, ◌==◌, ◌↔◌, IsTrue, IfSome, IfOk, map, bytes_eq, true, false};
 ghost use Rattle.std.specs.Option.{ok_or};
@@ -26,30 +27,31 @@ use crush_units::{BucketId, DeviceId, ItemId, TypeId};
 use std::alloc::Allocator;
 
 impl<A: Allocator> MapBuilder<A> {
-    /// Whether no statement is incomplete, so that a type, tunable, device, bucket or rule may
-    /// follow.
+    /// Whether no statement is incomplete, so that a type, tunable, device, bucket or rule may come
+    /// next.
     pub fn is_idle(&self) -> bool
         ensures { IsTrue result ↔ (self.now.pending ≡ nothing) }
     {
         matches!(self.pending, Pending::Nothing)
     }
 
-    /// Whether a bucket has begun and has no id yet.
+    /// Whether the statement of a bucket has begun, and the bucket has no id yet.
     pub fn is_begun(&self) -> bool
         ensures { result ≡ is_begun self.now.pending }
     {
         matches!(self.pending, Pending::Begun(..))
     }
 
-    /// Whether a bucket has its id and no algorithm yet, so that class ids or the algorithm may
-    /// follow.
+    /// Whether a bucket has its id but no algorithm yet, so that class ids or the algorithm may
+    /// come next.
     pub fn is_numbered(&self) -> bool
         ensures { result ≡ is_numbered self.now.pending }
     {
         matches!(self.pending, Pending::Numbered(..))
     }
 
-    /// Whether a bucket has its algorithm and isn't complete, so that items or its end may follow.
+    /// Whether a bucket has its algorithm but isn't complete, so that items or its end may come
+    /// next.
     pub fn is_filling(&self) -> bool
         ensures { result ≡ is_filling self.now.pending }
     {
@@ -63,31 +65,32 @@ impl<A: Allocator> MapBuilder<A> {
         self.hierarchy.kind(ItemId::Device(id)).is_some()
     }
 
-    /// Whether a bucket or a class id has this id. The bucket that isn't complete also counts.
+    /// Whether a bucket has this id, or one of a bucket's class ids is this id. The incomplete
+    /// bucket also counts.
     pub fn has_bucket_id(&self, id: BucketId) -> bool
         ensures { (d : Draft) → IsDraft self.now d → result ≡ has_bucket_id d id }
     {
         self.hierarchy.is_used(id) || self.has_pending_id(id)
     }
 
-    /// Whether the bucket that has no algorithm yet has a class id for this class.
+    /// Whether the incomplete bucket, if it has no algorithm yet, has a class id for this class.
     ///
-    /// Returns `false` if there is no such bucket.
+    /// Returns `false` if every bucket has its algorithm.
     pub fn has_class(&self, class: &[u8]) -> bool
         ensures { (d : Draft) → IsDraft self.now d → result ≡ has_class d class.now }
     {
         names_class(self.class_ids(), class)
     }
 
-    /// Whether the bucket that has no algorithm yet has 16 class ids, the most that a bucket may
-    /// have.
+    /// Whether the incomplete bucket, if it has no algorithm yet, already has 16 class ids, which
+    /// is the maximum.
     pub fn is_full_of_class_ids(&self) -> bool
         ensures { (d : Draft) → IsDraft self.now d → result ≡ is_full_of_class_ids d }
     {
         self.class_ids().len() >= MOST_CLASS_IDS
     }
 
-    /// Whether an item has this name. The bucket that isn't complete also counts.
+    /// Whether an item has this name. The incomplete bucket also counts.
     pub fn has_name(&self, name: &[u8]) -> bool
         ensures { (d : Draft) → IsDraft self.now d → result ≡ has_name d name.now }
     {
@@ -186,43 +189,44 @@ impl<A: Allocator> MapBuilder<A> {
         self.hierarchy.parent(id).is_some()
     }
 
-    /// Returns how many buckets were written as items with a weight that isn't their sum. The sum
-    /// replaced each such weight.
+    /// Returns how often the text gave a bucket, as an item of another bucket, a weight that isn't
+    /// the bucket's sum. The bucket kept its sum each time.
     pub fn adjusted(&self) -> u32
         ensures { (d : Draft) → IsDraft self.now d → result ≡ d.adjusted }
     {
         self.adjusted
     }
 
-    /// Whether the map has 65,536 devices, the most that it may have.
+    /// Whether the map already has 65,536 devices, which is the maximum.
     pub fn is_full_of_devices(&self) -> bool
         ensures { (d : Draft) → IsDraft self.now d → result ≡ is_full_of_devices d }
     {
         self.hierarchy.counts().devices >= MOST_DEVICES
     }
 
-    /// Whether the map has 4,096 buckets, the most that it may have.
+    /// Whether the map already has 4,096 buckets, which is the maximum.
     pub fn is_full_of_buckets(&self) -> bool
         ensures { (d : Draft) → IsDraft self.now d → result ≡ is_full_of_buckets d }
     {
         self.hierarchy.counts().buckets >= MOST_BUCKETS
     }
 
-    /// Whether the map has 256 types, the most that it may have.
+    /// Whether the map already has 256 types, which is the maximum.
     pub fn is_full_of_kinds(&self) -> bool
         ensures { (d : Draft) → IsDraft self.now d → result ≡ is_full_of_kinds d }
     {
         self.setting.kinds().len() >= MOST_TYPES
     }
 
-    /// Whether the map has 64 tunables, the most that it may have.
+    /// Whether the map already has 64 tunables, which is the maximum.
     pub fn is_full_of_tunables(&self) -> bool
         ensures { (d : Draft) → IsDraft self.now d → result ≡ is_full_of_tunables d }
     {
         self.setting.tunables().len() >= MOST_TUNABLES
     }
 
-    /// Whether the bucket that has no algorithm yet has this id, or a class id with this id.
+    /// Whether the incomplete bucket, if it has no algorithm yet, has this id or has a class id
+    /// that is this id.
     fn has_pending_id(&self, id: BucketId) -> bool
         ensures { result ≡ has_pending_id self.now.pending id }
     {
@@ -232,8 +236,8 @@ impl<A: Allocator> MapBuilder<A> {
         }
     }
 
-    /// Returns the class ids of the bucket that has no algorithm yet, or none if there is no such
-    /// bucket.
+    /// Returns the class ids of the incomplete bucket if it has no algorithm yet, and otherwise an
+    /// empty list.
     fn class_ids(&self) -> &[ShadowId<A>]
         ensures { map shadow_data result.now ≡ pending_class_ids self.now.pending }
     {
@@ -243,7 +247,7 @@ impl<A: Allocator> MapBuilder<A> {
         }
     }
 
-    /// Whether this is the bucket that receives items now.
+    /// Whether the bucket with this id is the incomplete bucket that receives items now.
     pub(super) fn fills(&self, id: BucketId) -> bool
         ensures { result ≡ is_open self.now.pending (Bucket id) }
     {

@@ -1,4 +1,5 @@
-//! The checks that a call makes before it changes the map: each returns the call's first fault.
+//! The checks that a method of the builder makes before it changes the map. Each check returns the
+//! first fault that the method has to report.
 
 ghost use Rattle.std.specs.Prelude.{◌≡◌, ◌∷◌, [], ℕ, true, false, not};
 ghost use Rattle.crush_model.specs.Forest.{all_items, rows_of};
@@ -84,8 +85,8 @@ impl<A: Allocator> MapBuilder<A> {
         self.hierarchy.kind(*item).is_some() && !open
     }
 
-    /// Whether all sums stay in range if the bucket gets the item; `weight` is a device's new
-    /// weight.
+    /// Whether the weights of all buckets and of the whole map stay in range if the bucket gets the
+    /// item. If the item is a device, `weight` is the weight that it gets.
     pub(super) fn fits_item(&self, bucket: BucketId, id: ItemId, weight: Weight) -> bool
         requires fills { self.now.pending ≡ filling bucket }
         requires closed { (d : Draft) → IsDraft self.now d → is_closed d id ≡ true }
@@ -100,7 +101,8 @@ impl<A: Allocator> MapBuilder<A> {
             .fits_move(*item, Place::Bucket(bucket), Some(coming))
     }
 
-    /// Returns what the item will weigh in the bucket: a device `weight`, a bucket its sum.
+    /// Returns the weight that the item will have in the bucket: `weight` for a device, and the sum
+    /// of its devices' weights for a bucket.
     fn weight_to_come(&self, id: ItemId, weight: Weight) -> Weight
         requires { is_there (rows_of self.now.forest) id ≡ true }
         ensures { result
@@ -118,7 +120,8 @@ impl<A: Allocator> MapBuilder<A> {
         }
     }
 
-    /// Returns 1 if the item is a bucket written with a weight other than its sum, and 0 otherwise.
+    /// Returns 1 if the item is a bucket and the text gives it a weight other than its sum, and 0
+    /// otherwise.
     pub(super) fn adjustment(&self, id: ItemId, written: Option<Weight>) -> u32
         ensures { (d : Draft) → IsDraft self.now d → is_there d.table id ≡ true
             → result ≡ adjustment d.table id written }
@@ -139,8 +142,9 @@ impl<A: Allocator> MapBuilder<A> {
     }
 }
 
-/// Returns the first fault of a new id and name: the id is taken, the name is taken, the map is
-/// full.
+/// Returns the fault that belongs to the first argument that is true, or `None` if all are false.
+/// `id` says whether the id is taken, `name` whether the name is taken, and `full` whether the
+/// limit is reached.
 fn duplicate_or_full(id: bool, name: bool, full: bool) -> Option<BuildFault>
     ensures { result ≡ first_fault
         ((DuplicateId, id) ∷ ((DuplicateName, name) ∷ ((TooMany, full) ∷ []))) }
@@ -157,7 +161,7 @@ fn duplicate_or_full(id: bool, name: bool, full: bool) -> Option<BuildFault>
     None
 }
 
-/// Whether the item is a device and its written weight is above 2147483647 units.
+/// Whether the item is a device and its `written` weight is above 2147483647 units.
 pub(super) fn is_heavy_device(id: ItemId, written: Option<Weight>) -> bool
     ensures { result ≡ is_heavy_device id written }
 {

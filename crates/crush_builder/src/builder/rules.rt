@@ -1,4 +1,4 @@
-//! Adding a rule: its checks, and the form in which a map keeps it.
+//! Adds rules: the checks that a rule has to pass, and the form in which a map stores it.
 
 ghost use Rattle.std.specs.Prelude.{◌≡◌, ◌==◌, None, OnOk, IfErr, IfOk, IfSome, All, map, bytes_eq};
 ghost use Rattle.std.specs.List.{list_any};
@@ -20,16 +20,16 @@ use std::alloc::{AllocError, Allocator};
 impl<A: Allocator> MapBuilder<A> {
     /// Adds a rule, for the statement `rule NAME { .. }`.
     ///
-    /// The map keeps the buckets that the rule takes by their ids. The caller guarantees that no
-    /// statement is incomplete, and that the rule's names and numbers have the form that the text
-    /// requires. If several errors apply, the first of these is returned:
+    /// The map stores the ids of the buckets that the rule's `take` steps name. The caller
+    /// guarantees that no statement is incomplete, and that the rule's names and numbers have the
+    /// form that the text requires. If several of these errors apply, the first one is returned:
     ///
-    /// - [`BuildFault::TooMany`] at the statement: there are 256 rules.
-    /// - [`BuildFault::DuplicateName`] at the name: a rule has this name.
-    /// - [`BuildFault::DuplicateId`] at the id: a rule has this id.
-    /// - The fault of the first faulty step. [`BuildFault::TooMany`]: it is the 65th step.
-    ///   [`BuildFault::UnknownBucketInRule`]: it takes no complete bucket.
-    ///   [`BuildFault::UnknownType`]: it chooses a type that the map doesn't have.
+    /// - [`BuildFault::TooMany`] at the statement: there are already 256 rules.
+    /// - [`BuildFault::DuplicateName`] at the name: another rule has this name.
+    /// - [`BuildFault::DuplicateId`] at the id: another rule has this id.
+    /// - The fault of the first faulty step: [`BuildFault::TooMany`] if it is the 65th step,
+    ///   [`BuildFault::UnknownBucketInRule`] if it takes a bucket that isn't a complete bucket of
+    ///   the map, or [`BuildFault::UnknownType`] if it chooses a type that the map doesn't have.
     /// - [`BuildFault::OutOfMemory`] at the statement: memory ran out.
     pub fn rule(&mut self, rule: &Rule) -> Result<(), RuleFault>
         requires idle { self.old.pending ≡ nothing }
@@ -66,14 +66,14 @@ impl<A: Allocator> MapBuilder<A> {
         numbers_rule(self.setting.rules(), id)
     }
 
-    /// Whether the map has 256 rules, the most that it may have.
+    /// Whether the map already has 256 rules, which is the maximum.
     pub fn is_full_of_rules(&self) -> bool
         ensures { (d : Draft) → IsDraft self.now d → result ≡ is_full_of_rules d }
     {
         self.setting.rules().len() >= MOST_RULES
     }
 
-    /// Returns the first fault of the rule, in the order of its parts.
+    /// Returns the first fault of the rule. A rule's parts are checked in the order of its text.
     fn rule_fault(&self, rule: &Rule) -> Option<RuleFault>
         ensures { (d : Draft) → IsDraft self.now d → result ≡ rule_fault d rule.now }
     {
@@ -113,7 +113,8 @@ impl<A: Allocator> MapBuilder<A> {
         None
     }
 
-    /// Returns the fault of the step with this index: it is above the limit, or its words have one.
+    /// Returns the fault of the step with this index: [`BuildFault::TooMany`] if a rule can't have
+    /// so many steps, and otherwise the fault of the step's words.
     fn step_fault(&self, place: usize, step: &Step) -> Option<BuildFault>
         ensures { (d : Draft) → IsDraft self.now d → result ≡ step_fault d place step.now }
     {
@@ -123,8 +124,7 @@ impl<A: Allocator> MapBuilder<A> {
         self.word_fault(step)
     }
 
-    /// Returns the fault of the step by itself: it names a bucket or a type that the map doesn't
-    /// have.
+    /// Returns a fault if the step names a bucket or a type that the map doesn't have.
     fn word_fault(&self, step: &Step) -> Option<BuildFault>
         ensures { (d : Draft) → IsDraft self.now d → result ≡ word_fault d step.now }
     {
@@ -157,7 +157,8 @@ impl<A: Allocator> MapBuilder<A> {
         }
     }
 
-    /// Returns the rule as a map keeps it. The rule has no fault.
+    /// Returns the rule in the form in which a map stores it. The caller guarantees that the rule
+    /// has no fault.
     fn kept_rule(&self, rule: &Rule) -> Result<KeptRule, AllocError>
         requires clear { (d : Draft) → IsDraft self.now d → rule_fault d rule.now ≡ None }
         ensures { IfOk result (λ kept. (d : Draft) → IsDraft self.now d
@@ -176,8 +177,8 @@ impl<A: Allocator> MapBuilder<A> {
         })
     }
 
-    /// Returns the steps as a map keeps them. Each names a bucket or a type that the map has, if
-    /// any.
+    /// Returns the steps in the form in which a map stores them. The caller guarantees that the map
+    /// has each bucket and each type that the steps name.
     fn kept_steps(&self, steps: &[Step]) -> Result<Vec<KeptStep>, AllocError>
         requires clear { (d : Draft) → IsDraft self.now d
             → All (λ x. word_fault d x ≡ None) steps.now }
@@ -192,7 +193,8 @@ impl<A: Allocator> MapBuilder<A> {
         Ok(kept)
     }
 
-    /// Returns the step as a map keeps it: a bucket's id replaces its name.
+    /// Returns the step in the form in which a map stores it: the id of a bucket replaces the
+    /// bucket's name.
     fn kept_step(&self, step: &Step) -> Result<KeptStep, AllocError>
         requires clear { (d : Draft) → IsDraft self.now d → word_fault d step.now ≡ None }
         ensures { IfOk result (λ kept. (d : Draft) → IsDraft self.now d

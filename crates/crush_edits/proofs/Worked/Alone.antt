@@ -39,7 +39,7 @@ no_place = refl
 no_place_of_move : holding example_setting table_with_spare (Move (codes "h1") []) ≡ 4 ∷ []
 no_place_of_move = refl
 
--- 5: of a new device, of one that is held, where the weight is set and where it isn't used
+-- 5: the weight of a new device, and of a device that is already at its location, if the edit sets the weight and if it doesn't use it
 too_large : holding example_setting table_with_spare (Insert 13 (codes "osd.13") (HEAVIEST_DEVICE + 1) (host (codes "hy") ∷ [])) ≡ 5 ∷ []
 too_large = refl
 
@@ -174,7 +174,7 @@ sum_of_moved = refl
 sum_of_swapped : holding plain_setting heavy_table (Swap (codes "a") (codes "q")) ≡ 20 ∷ []
 sum_of_swapped = refl
 
--- 21: not of the same class, of none, or of a class that goes
+-- 21: not if the device already has the class, if it has none, or if its class is removed
 class_bound : holding example_setting table_with_classes (SetClass (codes "osd.0") (codes "hdd")) ≡ 21 ∷ []
 class_bound = refl
 

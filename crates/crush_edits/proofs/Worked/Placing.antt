@@ -72,7 +72,7 @@ set_unplaced = refl
 add_unplaced : shown (edit example_setting table_with_spare (Insert 9 (codes "osd.9") 65536 (host (codes "h1") ∷ []))) ≡ yes true 0 (line 1 (codes "default") (Bucket 2 ∷ (Bucket 3 ∷ [])) 229376 ∷ (line 2 (codes "h1") (Device 0 ∷ (Device 1 ∷ (Device 9 ∷ []))) 196608 ∷ (line 3 (codes "h2") (Device 2 ∷ []) 32768 ∷ [])))
 add_unplaced = refl
 
--- a device that is held stays where it is and gets the weight: `set osd.1 3 host=h1`, twice
+-- a device that is already in the bucket of the lowest pair stays there and gets the weight: `set osd.1 3 host=h1`, twice
 set_held : shown (edit example_setting example_table (Update 1 (codes "osd.1") 196608 (host (codes "h1") ∷ []))) ≡ yes true 0 (line 1 (codes "default") (Bucket 2 ∷ (Bucket 3 ∷ [])) 294912 ∷ (line 2 (codes "h1") (Device 0 ∷ (Device 1 ∷ [])) 262144 ∷ (line 3 (codes "h2") (Device 2 ∷ []) 32768 ∷ [])))
 set_held = refl
 

@@ -1,4 +1,5 @@
-//! Laws of routes, the stops to which a location leads, and of the buckets that they create.
+//! Laws of routes and of the buckets that they create. A route is the list of the stops that a
+//! location leads to.
 
 ghost use Rattle.crush_edits.specs.LawRoute.{StopsStep, StopsRise, StopsArePairs, LocationIsRoute, OtherIsNoStop, RouteIsFresh, RouteLeads, BoxesAreRows, NewKeepsLawful, NewKeepsSums};
 
@@ -9,7 +10,7 @@ pub fn stops_are_pairs_in_order()
     ensures pairs { StopsArePairs }
 {}
 
-/// A location that passes its tests gives a route, which leads to a bucket.
+/// A location that passes its tests has a route, which leads to a bucket.
 pub fn locations_are_routes()
     ensures route { LocationIsRoute }
     ensures other { OtherIsNoStop }
@@ -17,8 +18,8 @@ pub fn locations_are_routes()
     ensures leads { RouteLeads }
 {}
 
-/// The new buckets of a route, nested as nodes, have the rows that the table gets. They keep it
-/// lawful if there is room, and change no sum.
+/// The new buckets of a route, nested in one another in the tree, have the rows that the put adds
+/// to the table. These rows keep the table lawful if there is room for them, and change no sum.
 pub fn new_buckets_are_boxes()
     ensures boxes { BoxesAreRows }
     ensures lawful { NewKeepsLawful }

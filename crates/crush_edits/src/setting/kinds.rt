@@ -102,7 +102,8 @@ impl Kinds {
     }
 }
 
-/// Gives the name this number, unless it has one: the first of several types of one name counts.
+/// Records the number of the name in the index, unless the name already has a number. So of several
+/// types that have the same name, the first counts.
 fn tell_first(
     numbers: &mut BTreeMap<Vec<u8>, TypeId>,
     name: Vec<u8>,

@@ -14,7 +14,7 @@ use std::marker::Model;
 
 /// The rules, in the order in which they were added, and the buckets that they take.
 ///
-/// `taken` has each such bucket by the distance of its id below 0.
+/// `taken` has the id of each bucket that a rule takes, as the id's distance below 0.
 #[derive(Debug, Drop)]
 pub(super) struct Rules {
     rules: Vec<KeptRule>,
@@ -82,7 +82,8 @@ impl Rules {
     }
 }
 
-/// Adds the buckets that the steps take to the set. After an error some of them may be missing.
+/// Adds the buckets that the steps take to the set. After an error, some of these buckets may be
+/// missing in the set.
 fn take_all(taken: &mut BTreeSet<u32>, steps: &[KeptStep]) -> Result<(), AllocError>
     ensures { OnOk result (ComeAsTaken steps.now taken.old taken.new) }
 {

@@ -1,5 +1,6 @@
-//! Commits the calls of a job to a book whose maps are in memory that refuses a request. `answers`
-//! counts how many operations report that memory ran out.
+//! Commits the calls of a job to a `Book`, which is a map with the history of its calls. An
+//! allocator that refuses one request has the memory for the book's maps. `answers` counts the
+//! operations that report that memory ran out.
 
 ghost use Rattle.std.specs.Prelude.{◌≡◌, ◌<◌, IfOk};
 ghost use Rattle.crush_units.specs.declared.limits.TheConstants.{MOST_OPERATORS};
@@ -13,8 +14,9 @@ use crush_map::CrushMap;
 use crush_units::limits::MOST_OPERATORS;
 use std::alloc::{Allocator, Global};
 
-/// Commits the calls of all scripts to a book of the map, and returns the fewest requests that such
-/// a run makes. Fails if the book's map and history aren't the job's output.
+/// Commits the calls of all scripts to a book of the map. Returns the least number of requests for
+/// memory that such a run makes. Fails if the book's map and history, when they are printed, aren't
+/// the job's known output.
 pub fn run_by_book<A: Allocator + Clone>(
     alloc: Global,
     map: CrushMap<A>,
@@ -36,7 +38,8 @@ pub fn run_by_book<A: Allocator + Clone>(
     Ok(fewest_requests(book.map()))
 }
 
-/// Makes a book of the map. If memory runs out, makes it again of the map that was returned.
+/// Creates a book of the map. If memory runs out, the failed call returns the map, and the function
+/// tries once more with this map.
 fn open_again<A: Allocator + Clone>(
     alloc: Global,
     map: CrushMap<A>,
@@ -54,7 +57,7 @@ fn open_again<A: Allocator + Clone>(
     }
 }
 
-/// Makes a book of a map that was returned, after a check that the map is unchanged.
+/// Checks that a map which was returned is unchanged, and creates a book of it.
 fn open_returned<A: Allocator + Clone>(
     alloc: Global,
     map: CrushMap<A>,
@@ -95,8 +98,8 @@ impl Committing<'_> {
         Ok(())
     }
 
-    /// Commits a call, and returns whether memory ran out. If it did, then the book must be
-    /// unchanged, and the call is committed again.
+    /// Commits a call, and returns whether memory ran out. If it did, the book must be unchanged,
+    /// and the call is committed again.
     fn commit_again<A: Allocator + Clone>(
         &self,
         book: &mut Book<A>,

@@ -1,16 +1,16 @@
-//! A job, and the output that it is known to have.
+//! Splits a stored example into its parts: a job, and its known output.
 
 const UNIT_SEPARATOR: u8 = 0x1f;
 
-/// The parts of a record, in this order.
+/// The parts of a stored example (a *record*), in the order in which the record has them.
 #[derive(Clone, Copy)]
 pub struct Parts<'a> {
     pub name: &'a [u8],
     pub map: &'a [u8],
-    /// The text that is printed of the map.
+    /// The text that the program prints for the map.
     pub printed: &'a [u8],
     pub job: &'a [u8],
-    /// The output if no request is refused.
+    /// The output of the job if no request for memory is refused.
     pub output: &'a [u8],
 }
 

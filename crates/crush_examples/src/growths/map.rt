@@ -1,5 +1,5 @@
-//! Makes the calls of a job on a map whose memory refuses a request. `answers` counts how many
-//! operations report that memory ran out.
+//! Makes the calls of a job on a map. The map's allocator refuses one request. `answers` counts the
+//! operations that report that memory ran out.
 
 use anyhow::ensure;
 use crush_history::{Call, Reply, Script, is_change, make_call, write_entry};
@@ -8,8 +8,8 @@ use crush_print::{WeightForm, write_map};
 use crush_text::{TextFaultKind, read_map_in};
 use std::alloc::{Allocator, Global};
 
-/// Makes the calls of all scripts, and returns the fewest requests that such a run makes. Fails if
-/// the map and the history lines aren't `output`.
+/// Makes the calls of all scripts. Returns the least number of requests for memory that such a run
+/// makes. Fails if the printed map, followed by the lines of the history, isn't `output`.
 pub fn run_on_map<A: Allocator + Clone>(
     alloc: Global,
     map: CrushMap<A>,
@@ -26,15 +26,15 @@ pub fn run_on_map<A: Allocator + Clone>(
     Ok(fewest_requests(&map))
 }
 
-/// The fewest requests for memory of a run that ends with this map: one for the items of each
-/// bucket, and one for the table of devices. That holds for the jobs here, but not for every map,
-/// because empty buckets and short names need no memory.
+/// Returns the least number of requests for memory that a run makes if it ends with this map: one
+/// for the items of each bucket, and one for the table of devices. The number is right for the jobs
+/// of these tests. It isn't right for every map, because an empty bucket needs no memory for items.
 pub fn fewest_requests<A: Allocator>(map: &CrushMap<A>) -> usize {
     let counts = map.counts();
     counts.buckets as usize + usize::from(counts.devices > 0)
 }
 
-/// Reads the text of a map, and reads it again if memory ran out.
+/// Reads the text of a map. If memory runs out, reads it again.
 pub fn read_again<A: Allocator + Clone>(
     alloc: Global,
     memory: A,
@@ -78,8 +78,8 @@ fn make_calls<A: Allocator + Clone>(
     Ok(lines)
 }
 
-/// Makes a call, and returns its reply. If memory runs out, then the map must be unchanged, and the
-/// call is made again.
+/// Makes a call, and returns its reply. If memory runs out, the map must be unchanged, and the call
+/// is made again.
 fn make_again<A: Allocator + Clone>(
     alloc: Global,
     map: &mut CrushMap<A>,
@@ -99,14 +99,14 @@ fn make_again<A: Allocator + Clone>(
     Ok(make_call(map, changes, call)?)
 }
 
-/// The printed text of the map.
+/// Returns the printed text of the map.
 pub fn text_of<A: Allocator>(alloc: Global, map: &CrushMap<A>) -> anyhow::Result<Vec<u8>> {
     let mut text = Vec::new(alloc);
     write_map(alloc, map, WeightForm::Rounded, &mut text)?;
     Ok(text)
 }
 
-/// Whether the printed text of the map, followed by `lines`, is `text`.
+/// Whether `text` is the printed text of the map, followed by `lines`.
 pub fn is_written<A: Allocator>(
     alloc: Global,
     map: &CrushMap<A>,

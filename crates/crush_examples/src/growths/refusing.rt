@@ -1,20 +1,21 @@
-//! An allocator for tests, which refuses one request.
+//! An allocator for tests that refuses one request for memory.
 
 use std::alloc::{AllocError, Allocator};
 use std::cell::Cell;
 
-/// An allocator that refuses the request whose number a test has set. Collections hold a `&` to it,
-/// so that the requests of all of them are counted together. A growth is one request, for the new
-/// block; blocks that are freed don't count.
+/// An allocator that refuses one request, whose number a test sets. All collections share the
+/// allocator by reference, so their requests are counted together. A collection that grows makes
+/// one request for its new block. Freeing a block isn't a request.
 #[derive(Drop)]
 pub struct Refusing<M: Allocator> {
     memory: M,
-    /// Which request is refused: 1 for the next one, 0 for none.
+    /// The number of the request that is refused: 1 for the next request, or 0 if no request is
+    /// refused.
     left: Cell<usize>,
 }
 
 impl<M: Allocator> Refusing<M> {
-    /// An allocator that refuses no request yet.
+    /// Returns an allocator that refuses no request yet.
     pub fn new(memory: M) -> Refusing<M> {
         Refusing {
             memory,
@@ -22,26 +23,28 @@ impl<M: Allocator> Refusing<M> {
         }
     }
 
-    /// Sets which request is refused: 1 for the next one, 0 for none.
+    /// Sets the number of the request that is refused: 1 for the next request, or 0 if no request
+    /// is refused.
     pub fn refuse(&self, number: usize) {
         self.left.set(number);
     }
 
-    /// Whether the request was refused; also true if none was to be refused.
+    /// Whether the request with the set number has been refused. The result is also true if the set
+    /// number is 0.
     pub fn has_refused(&self) -> bool {
         self.left.get() == 0
     }
 }
 
-/// Counts one request, and returns whether it is the one to refuse.
+/// Counts one request, and returns whether this request is refused.
 fn counts_down(left: &Cell<usize>) -> bool {
     let number = left.get();
     left.set(number.saturating_sub(1));
     number == 1
 }
 
-// SAFETY: each block comes from the wrapped allocator and is freed by it, so the right to free a
-// block is the one that the wrapped allocator gave.
+// SAFETY: the wrapped allocator allocates each block and frees it. So the right to free a block is
+// the right that the wrapped allocator gave.
 unsafe impl<M: Allocator> Allocator for Refusing<M> {
     ghost dealloc_token = { λ r ty ptr. M.dealloc_token r.memory ty ptr };
 
@@ -53,8 +56,8 @@ unsafe impl<M: Allocator> Allocator for Refusing<M> {
     }
 
     unsafe fn deallocate(&self, ptr: *mut u8, size: usize, align: usize) {
-        // SAFETY: the block came from this allocator, for the same type, and the caller passes
-        // on the right to free it.
+        // SAFETY: the wrapped allocator allocated the block, for the type `ty` of the contract of
+        // `deallocate`. The caller passes on the right to free the block.
         self.memory.deallocate(ptr, size, align);
     }
 }

@@ -1,4 +1,4 @@
-//! Runs a job again and again, each time with another request for memory refused.
+//! Runs a job many times. In each run another request for memory is refused.
 
 use crate::growths::book::run_by_book;
 use crate::growths::job::Parts;
@@ -10,17 +10,18 @@ use crush_map::Hashing;
 use crush_script::{Job, read_job};
 use std::alloc::Global;
 
-/// What makes the calls of a job.
+/// Says what makes the calls of a job: a map or a book.
 #[derive(Clone, Copy)]
 pub enum Maker {
     Map,
-    /// A book has two maps, one of them the opening, and the history.
+    /// A `Book`, which has the current map, the opening map and the history.
     Book,
 }
 
-/// Returns in how many runs an operation reported that memory ran out, and the fewest requests that
-/// a run makes. Each run refuses a later request than the run before. If a list gets by with a
-/// smaller block, then no operation reports the refusal.
+/// Runs a job repeatedly, until a run ends in which no request was refused. Each run refuses the
+/// request after the one that the run before refused. Returns the number of runs in which an
+/// operation reported that memory ran out, and a lower bound for the requests of a run. If a list
+/// can use a smaller block after a refusal, no operation reports that memory ran out.
 pub fn run_each(
     alloc: Global,
     memory: &Refusing<Global>,
@@ -42,7 +43,8 @@ pub fn run_each(
     bail!("no end of requests")
 }
 
-/// One run: how many operations reported that memory ran out, and the fewest requests of a run.
+/// Runs a job once. Returns how many operations reported that memory ran out, and a lower bound for
+/// the requests for memory of a run, which `fewest_requests` computes from the map at the end.
 fn run_refused(
     alloc: Global,
     memory: &Refusing<Global>,

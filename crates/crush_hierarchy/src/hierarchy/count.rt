@@ -1,5 +1,5 @@
-//! Arithmetic on counts and weights, with which a change updates them instead of counting all items
-//! again.
+//! Arithmetic on counts and weights. Each change of a hierarchy uses it to update the hierarchy's
+//! counts and total, so that the items needn't be counted again.
 
 ghost use Rattle.std.specs.Prelude.{◌≡◌, ◌≤◌, ◌+◌, ◌∷◌, []};
 ghost use Rattle.crush_units.specs.declared.limits.TheConstants.{HEAVIEST_MAP};

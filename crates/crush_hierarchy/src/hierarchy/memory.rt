@@ -1,4 +1,5 @@
-//! Moves the items of a place into other memory, so that the old memory can be put back exactly.
+//! Moves the items of a place from one vector to another. The old vector is returned, so that the
+//! move can be undone exactly.
 
 ghost use Rattle.std.specs.Prelude.{◌≡◌, true, vec_capacity};
 ghost use Rattle.crush_model.specs.Forest.{rows_of};
@@ -26,11 +27,12 @@ impl<A: Allocator> Hierarchy<A> {
 }
 
 impl<A: Allocator + Clone> Hierarchy<A> {
-    /// Ensures that a place that exists has room for one more item, in a way that can be undone. If
-    /// the place is full, moves its items to a vector with 1.5 times the capacity, rounded down,
-    /// plus one, and returns the old vector. With that vector, [`Hierarchy::replace_buffer`] undoes
-    /// the call. If the place has room already, returns `Ok(None)` and changes nothing. Returns an
-    /// error if memory can't be allocated; then nothing changes.
+    /// Ensures that a place, which must exist, has room for one more item, in a way that can be
+    /// undone. If the place is full, moves its items to a vector with 1.5 times the capacity,
+    /// rounded down, plus one, and returns the old vector. With that vector,
+    /// [`Hierarchy::replace_buffer`] undoes the call. If the place has room already, returns
+    /// `Ok(None)` and changes nothing. Returns an error if memory can't be allocated; then nothing
+    /// changes.
     pub fn grow_buffer(&mut self, place: Place) -> Result<Option<Vec<Node<A>, A>>, AllocError>
         requires { is_place (rows_of self.old) place ≡ true }
         ensures { GrowsBuffer place self.old self.new result }

@@ -1,4 +1,4 @@
-//! Gives items other names, and gives them their old names back without allocating.
+//! Gives items other names, and gives them their old names back without allocating memory.
 
 ghost use Rattle.std.specs.Prelude.{◌≡◌};
 ghost use Rattle.crush_tree.specs.Exact.{forest_with_name};
@@ -10,7 +10,7 @@ use crush_index::{Index, NameMemory};
 use crush_units::{ItemId, Name};
 use std::alloc::{AllocError, Allocator, Global};
 
-/// The old name of an item that has a new name, with what the index needs to restore the old name.
+/// The old name of an item that was renamed, with what the index needs to restore this name.
 #[derive(Drop)]
 pub struct OldName<A: Allocator> {
     name: Name<A>,
@@ -18,9 +18,9 @@ pub struct OldName<A: Allocator> {
 }
 
 impl<A: Allocator> Hierarchy<A> {
-    /// Gives an item another name, and returns the old one, with which [`Hierarchy::restore_name`]
-    /// undoes the call. The item must exist, and no other item may have the new name. Returns an
-    /// error if memory can't be allocated; then nothing changes.
+    /// Gives an item another name, and returns the old name. With the result,
+    /// [`Hierarchy::restore_name`] undoes the call. The item must exist, and no other item may have
+    /// the new name. Returns an error if memory can't be allocated; then nothing changes.
     pub fn replace_name(&mut self, id: ItemId, name: Name<A>) -> Result<OldName<A>, AllocError>
         requires { CanRename id name self.old }
         ensures { ReplacesName id name self.old self.new result }
@@ -59,9 +59,10 @@ impl<A: Allocator> Hierarchy<A> {
     }
 }
 
-/// Replaces an item's name in the index, unless the new name is the item's own. Returns what the
-/// index needs to restore the old name. Returns an error if memory can't be allocated; then the
-/// index answers as before.
+/// Replaces the name of an item in the index by `name`. If an item already has the name `name`,
+/// which can only be the item itself, the index isn't changed. Returns what the index needs to
+/// restore the old name. Returns an error if memory can't be allocated; then the index answers as
+/// before.
 fn tell_new_name<A: Allocator>(
     index: &mut Index,
     id: ItemId,

@@ -1,5 +1,5 @@
-//! Restores removed names and items without an error, in memory that was allocated before they were
-//! removed. An undo can therefore not fail.
+//! Restores names and items that were removed. The memory for this is allocated before the removal,
+//! so that the restoring, and with it the undo of an edit, can't fail.
 
 ghost use Rattle.std.specs.Prelude.{◌≡◌, ◌+◌, ◌<◌, ◌∷◌, [], ℕ, Option, IfOk, length, true};
 ghost use Rattle.crush_model.specs.ItemRows.{device_row, bucket_row};
@@ -23,15 +23,15 @@ use crush_nodes::place::Place;
 use crush_units::{BucketId, ItemId, Name};
 use std::alloc::{AllocError, Allocator, Global};
 
-/// A copy of a name, with the memory to restore it: created by [`Index::name_memory`], used by
-/// [`Index::restore_name`].
+/// A copy of a name, with the memory that is needed to restore the name to the index.
+/// [`Index::name_memory`] creates it, and [`Index::restore_name`] uses it.
 #[derive(Drop)]
 pub struct NameMemory {
     name: Name<Global>,
     spare: Spare<Key, ItemId>,
 }
 
-/// The memory to restore the place of an item.
+/// The memory that is needed to restore the place of an item to the index.
 #[derive(Drop)]
 pub(crate) enum PlaceMemory {
     Device {
@@ -43,21 +43,21 @@ pub(crate) enum PlaceMemory {
     },
 }
 
-/// A copy of the name of an item that has no items below it, with the memory to restore that item:
-/// created by [`Index::restore_memory`], used by [`Index::restore_node`].
+/// What is needed to restore an item that has no items below it: a copy of the item's name, and
+/// memory. [`Index::restore_memory`] creates it, and [`Index::restore_node`] uses it.
 #[derive(Drop)]
 pub struct RestoreMemory {
     name: NameMemory,
     place: PlaceMemory,
-    /// The memory of one link for the id of a bucket and for each of its class ids; empty for a
-    /// device.
+    /// For a bucket, the memory of one link for its id, and of one link for each of its class ids.
+    /// For a device the vector is empty.
     ids: Vec<Spare<u32, ()>>,
 }
 
 impl Index {
     /// Copies a name and allocates the memory with which [`Index::restore_name`] restores it.
     ///
-    /// Call it before the name is removed. Returns an error if memory runs out.
+    /// Call this method before the name is removed. Returns an error if memory runs out.
     pub fn name_memory<A: Allocator>(&self, name: &Name<A>) -> Result<NameMemory, AllocError>
         ensures { IfOk result (λ memory. memory.name ≡ name.now) }
     {
@@ -68,8 +68,8 @@ impl Index {
 
     /// Allocates the memory with which [`Index::restore_node`] restores an item.
     ///
-    /// Call it before the item is removed. It prepares for the item alone, not for items below it.
-    /// Returns an error if memory runs out.
+    /// Call this method before the item is removed. The memory is enough for the item itself, but
+    /// not for items below it. Returns an error if memory runs out.
     pub fn restore_memory<A: Allocator>(&self, node: &Node<A>) -> Result<RestoreMemory, AllocError>
         ensures { IfOk result (λ memory. (p : Option ℕ) → CanRestoreRow (own_row p node.now) memory) }
     {
@@ -108,8 +108,8 @@ impl Index {
         })
     }
 
-    /// Gives a name to an item, as [`Index::add_name`] does, but without an error: if memory runs
-    /// out, the name is kept in the memory of `memory`.
+    /// Gives a name back to an item, as [`Index::add_name`] would, but can't fail: if memory runs
+    /// out, the name is stored in `memory`.
     pub fn restore_name(&mut self, memory: NameMemory, id: ItemId)
         ensures answers { answers self.new ≡ with_name memory.name id (answers self.old) }
         ensures hashing { hashings self.new ≡ hashings self.old }
@@ -119,12 +119,13 @@ impl Index {
     }
 
     /// Adds an item that has no items below it as the last item of a place, as
-    /// [`Index::insert_node`] does, but without an error: if memory runs out, it uses the memory of
+    /// [`Index::insert_node`] does, but can't fail: if memory runs out, the entries are stored in
     /// `memory`.
     ///
-    /// `hint` is the item's index among the items there, from 0; a wrong hint changes no answer.
-    /// `memory` must be from [`Index::restore_memory`] for this item: it has the item's name, and
-    /// memory for the item's kind and for as many ids as the item uses.
+    /// `hint` is the item's index among the items of the place, from 0. A wrong hint changes no
+    /// answer. `memory` must be the result of [`Index::restore_memory`] for this item, so that it
+    /// has the item's name, memory for an item of this kind, and memory for each id that the item
+    /// uses.
     pub fn restore_node<A: Allocator>(
         &mut self,
         place: Place,
@@ -208,7 +209,8 @@ impl Index {
     }
 }
 
-/// Allocates `count + 1` links: for the id of a bucket and its `count` class ids.
+/// Allocates `count + 1` links: one for the id of a bucket, and one for each of its `count` class
+/// ids.
 fn spares(global: Global, count: usize) -> Result<Vec<Spare<u32, ()>>, AllocError>
     ensures { IfOk result (λ spares. length spares.items ≡ count + 1) }
 {
@@ -234,8 +236,8 @@ fn restore_ids<A: Allocator>(
     }
 }
 
-/// Marks an id as used, without an error. Takes one of `spares`, whose memory is used if no other
-/// is left.
+/// Marks an id as used, and can't fail. Takes one link out of `spares`. If no other memory is left,
+/// the id is stored in this link.
 fn restore_id(used: &mut UsedIds, id: BucketId, spares: &mut Vec<Spare<u32, ()>>)
     requires { 0 < length spares.old.items }
     ensures answers { UsesOne used.old used.new id true }

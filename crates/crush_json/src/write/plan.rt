@@ -1,4 +1,4 @@
-//! The document of a plan, written.
+//! Writes the document of a plan.
 
 ghost use Rattle.std.specs.Prelude.{◌≡◌, ◌++◌, Err, IfOk, IfSome, OnOk, codes, flat_map, map as each};
 ghost use Rattle.std.specs.Io.KnownBytes.{Keeps};
@@ -20,14 +20,15 @@ use crush_units::{WriteFault, put};
 use std::alloc::{AllocError, Global};
 use std::io::Write;
 
-/// In bytes.
+/// How many bytes a typical command adds to the document.
 const USUAL_COMMAND: usize = 96;
 
-/// Writes `{"aside":A,"history":H,"plan":[..],"stays":[..]}` and a line feed, or without a history
-/// the same without that member: each edit of a plan as the command that a monitor takes, with the
-/// keys of Ceph's own table of commands, and each line of what stays, the rest of the plan, as a
-/// text. A weight is a decimal of six places, as `ceph` itself takes it. `ids` and `class_ids` are
-/// the numbers of buckets whose ids and whose class ids differ; A has both.
+/// Writes `{"aside":A,"history":H,"plan":[..],"stays":[..]}` and a line feed. If there is no
+/// history, the member `history` is left out. `plan` has a command for each edit, with the keys of
+/// Ceph's own table of commands. A weight is a decimal number with six digits after the point,
+/// because `ceph` itself takes weights in this form. `stays` has a text for each line of `rest`,
+/// which lists the differences that remain. A has two members: `ids` is the number of buckets whose
+/// ids differ, and `class_ids` is the number of buckets whose class ids differ.
 pub fn write_plan_document<W: Write>(
     alloc: Global,
     edits: &[Edit],

@@ -1,4 +1,4 @@
-//! The document of what has changed, written.
+//! Writes the document of what has changed.
 
 ghost use Rattle.std.specs.Prelude.{◌≡◌, ◌++◌, List, Err, IfOk, IfSome, OnOk};
 ghost use Rattle.std.specs.Io.KnownBytes.{Keeps};
@@ -21,16 +21,20 @@ use crush_units::{ItemId, WriteFault, put};
 use std::alloc::{AllocError, Allocator, Global};
 use std::io::Write;
 
-/// In bytes.
+/// The number of bytes of a typical document.
 const USUAL_CHANGES: usize = 4096;
 
-/// Writes `{"history":H,"since":S}` and a line feed, or without a history `{"since":S}`: what has
-/// changed from the old map to the new map. S has an object for each item of which the two maps say
-/// different things, with what it was and what it is, in the order of the ids. It also has the
-/// rules and the classes that differ, the numbers of items that differ in each way, whether the
-/// tunables and the types differ, and the total weights of both maps. If `under` is given, S has
-/// only this item and the items that are below it in either map. The function visits each item of
-/// each map once, and sorts the items of each map once.
+/// Writes `{"history":H,"since":S}` and a line feed. If there is no history, writes `{"since":S}`
+/// and a line feed. S says what has changed from the old map to the new map.
+///
+/// If `under` is `None`, S has an object for each item about which the two maps say different
+/// things. The object says what the item was and what it is. The objects are in the order of the
+/// items' ids. S also has the rules and the classes that differ, the number of items that differ in
+/// each way, whether the tunables and the types differ, and the total weights of both maps. If
+/// `under` is an item, S has only objects for this item and for the items that are below it in
+/// either map.
+///
+/// The call visits each item of each map once, and sorts the items of each map once.
 pub fn write_since_document<A: Allocator, B: Allocator, W: Write>(
     alloc: Global,
     old: &CrushMap<A>,

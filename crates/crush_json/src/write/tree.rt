@@ -1,4 +1,4 @@
-//! The document of a tree, written.
+//! Writes the document of a tree.
 
 ghost use Rattle.std.specs.Prelude.{◌≡◌, ◌++◌, List, Err, IfOk, IfSome, OnOk, map as each};
 ghost use Rattle.std.specs.Io.KnownBytes.{Keeps};
@@ -24,13 +24,13 @@ use crush_units::{WriteFault, put};
 use std::alloc::{AllocError, Allocator, Global};
 use std::io::Write;
 
-/// In bytes.
+/// How many bytes a typical item adds to the document.
 const USUAL_NODE: usize = 96;
 
-/// Writes `{"history":H,"tree":T}` and a line feed, or without a history `{"tree":T}`: a node for
-/// each item of the part in the order of [`walk_part`], with the keys that `ceph osd tree` has, and
-/// in a list of their own the devices that no bucket holds. A bucket's children are all its items,
-/// also outside of the part.
+/// Writes `{"history":H,"tree":T}` and a line feed. If there is no history, writes `{"tree":T}` and
+/// a line feed. T has a node for each item of the part, in the order of [`walk_part`], with the
+/// keys of `ceph osd tree`. Devices that no bucket holds are in a list of their own. The children
+/// of a bucket are all its items, even the items that are not in the part.
 pub fn write_tree_document<A: Allocator, W: Write>(
     alloc: Global,
     map: &CrushMap<A>,

@@ -1,7 +1,7 @@
-//! How often the methods of a forest that take a guide use it. Each climb from an item to its root
-//! should use the guide once for the item, and once for each bucket above it. A method that
-//! searched the forest instead would use the guide less often, and one that climbed again more
-//! often.
+//! Tests how often the methods of a forest use the `Guide` that is passed to them. A guide returns
+//! the place of an item. Each climb from an item to its root should use the guide once for the
+//! item, and once for each bucket above it. A method that searched the forest instead would use the
+//! guide less often, and a method that climbed twice would use it more often.
 
 ghost use Rattle.std.specs.Option.{option_map};
 ghost use Rattle.std.specs.Prelude.{◌≡◌};
@@ -21,8 +21,8 @@ use std::alloc::Global;
 use std::cell::Cell;
 use std::process::Abort;
 
-/// A guide that counts how often it is used. It finds the place of an item by a search of the
-/// forest, and doesn't say at which position among the items there it is.
+/// A guide that counts how often it is used. It finds the place of an item by searching the forest.
+/// It doesn't say at which position among the items of this place the item is.
 #[derive(Drop)]
 pub(super) struct Asked<'f> {
     pub(super) forest: &'f Forest<Global>,
@@ -42,7 +42,8 @@ impl Guide for Asked<'_> {
 }
 
 impl Asked<'_> {
-    /// Whether the guide was used this often since the last such question. Resets the count.
+    /// Whether the guide was used exactly `often` times since the last call of this method. Resets
+    /// the count.
     pub(super) fn was_asked(&self, often: u32) -> bool {
         let times = self.times.get();
         self.times.set(0);
@@ -136,8 +137,8 @@ fn can_move(guide: &Asked<'_>, device: DeviceId, bucket: BucketId, weight: Weigh
         )
 }
 
-/// A climb from osd.0 uses the guide 3 times: for osd.0, h1 and the root. The first use already
-/// says in which bucket osd.0 is.
+/// A climb from osd.0 uses the guide 3 times: for osd.0, for h1 and for the root. A look-up of the
+/// bucket that has osd.0 uses the guide only once.
 fn asks_for_a_device(rt: &impl Abort, guide: &Asked<'_>) -> bool {
     let id = device_item(rt, 0);
     finds(guide, &id)

@@ -1,5 +1,5 @@
-//! How often the methods that change a forest with the help of a guide use the guide. Each changes
-//! a copy of the forest.
+//! Tests how often the methods that change a forest use the `Guide` that is passed to them. Each
+//! method changes a copy of the forest.
 
 ghost use Rattle.std.specs.Prelude.{◌≡◌, ◌<◌, false, IsTrue};
 ghost use Rattle.crush_units.specs.Name.{IsName};
@@ -150,8 +150,8 @@ fn classify(
     is_first
 }
 
-/// Exchanges two buckets, and returns whether the guide was used `often` times for the test, and as
-/// often for the exchange.
+/// Tests whether two buckets can be exchanged, and exchanges them. Returns whether the guide was
+/// used `often` times for the test, and `often` times for the exchange.
 fn exchange(
     guide: &Asked<'_>,
     forest: &mut Forest<Global>,
@@ -256,8 +256,8 @@ pub(super) fn changes_ask(rt: &(impl Abort + AllocGlobal), guide: &Asked<'_>) ->
         && exchange_asks(rt, guide, 4)
 }
 
-/// h1 has one bucket above it: the guide is used 2 times to make room, and 2 times to attach the
-/// device.
+/// One bucket is above h1. So the guide is used 2 times to make room in h1, and 2 times to attach
+/// the device to h1.
 pub(super) fn attach_asks(
     rt: &(impl Abort + AllocGlobal),
     guide: &Asked<'_>,

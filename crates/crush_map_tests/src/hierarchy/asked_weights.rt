@@ -1,4 +1,5 @@
-//! How often the methods that read, test and set a weight with the help of a guide use the guide.
+//! Tests how often the methods that read, test or set a weight use the `Guide` that is passed to
+//! them.
 
 ghost use Rattle.std.specs.Prelude.{◌≡◌};
 ghost use Rattle.crush_model.specs.Forest.{rows_of};
@@ -15,8 +16,8 @@ fn weighs(guide: &Asked<'_>, id: &ItemId, weight: Weight, often: u32) -> bool {
     guide.forest.weight_by(guide, *id) == Some(weight) && guide.was_asked(often)
 }
 
-/// Sets the weight of a device, and returns whether the guide was used `often` times for the test,
-/// and as often for the change.
+/// Tests whether a device can have a weight, and sets this weight. Returns whether the guide was
+/// used `often` times for the test, and `often` times for the change.
 fn set_one(
     guide: &Asked<'_>,
     forest: &mut Forest<Global>,

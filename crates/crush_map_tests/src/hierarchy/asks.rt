@@ -1,4 +1,4 @@
-//! The tests that a caller makes before a change of a hierarchy.
+//! The conditions that a caller checks before it changes a hierarchy.
 
 ghost use Rattle.std.specs.Prelude.{◌≡◌, false};
 ghost use Rattle.crush_units.specs.Name.{IsName};

@@ -1,4 +1,4 @@
-//! A small hierarchy, on which each method is called once.
+//! Builds a small hierarchy, and calls each method on it once.
 
 use super::asks::{fits_attach, fits_move, fits_swap, has_item};
 use super::comes::{put_bucket, put_placed, put_root, put_unplaced};
@@ -205,8 +205,8 @@ fn tells_what_changes(rt: &impl Abort, hierarchy: &mut Hierarchy<Global>) -> boo
         && weigh_all(hierarchy, h1, Weight::from_units(65537)) == Some(true)
 }
 
-/// The root reaches its greatest weight, 4294967295 units: first the two devices of h1 are set as
-/// high as the 32768 units of h2 permit, then osd.2.
+/// The root reaches its greatest weight, 4294967295 units. First the two devices of h1 get the
+/// greatest weights that the 32768 units of h2 permit, and then osd.2 gets its greatest weight.
 fn grows_as_far_as_it_fits(rt: &impl Abort, hierarchy: &mut Hierarchy<Global>) -> bool {
     let (h1, osd_2) = (bucket(rt, 2), device(rt, 2));
     weigh_all(hierarchy, h1, Weight::from_units(2147467264)).is_none()
@@ -218,8 +218,8 @@ fn grows_as_far_as_it_fits(rt: &impl Abort, hierarchy: &mut Hierarchy<Global>) -
         && sums_up(hierarchy, 4, 3, 4294967295)
 }
 
-/// After the exchange, the root would weigh the 32768 units of h2 and the units of `other`, which
-/// may be at most 4294967295 together.
+/// After the exchange, the weight of the root would be the sum of the 32768 units of h2 and the
+/// units of `other`. This sum may be at most 4294967295.
 fn tells_what_can_be_exchanged(
     rt: &(impl Abort + AllocGlobal),
     hierarchy: &mut Hierarchy<Global>,
@@ -355,8 +355,8 @@ fn gets_ssd(
     had_no_class(hierarchy, device(rt, number), class)
 }
 
-/// osd.0 and osd.2 have the class: together they weigh 98304 units below the root, and osd.2 weighs
-/// 32768 units below h2.
+/// osd.0 and osd.2 have the class. So the class weighs 98304 units below the root, and 32768 units
+/// below h2, which has only osd.2.
 fn tells_of_classes(rt: &impl Abort, hierarchy: &Hierarchy<Global>) -> bool {
     hierarchy.class(device_item(rt, 0)) == Some("ssd")
         && hierarchy.class(device_item(rt, 1)).is_none()

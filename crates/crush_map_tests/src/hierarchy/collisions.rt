@@ -1,7 +1,8 @@
 //! Names that collide under the plain hash (SipHash-1-3 with keys of zeros, folded to 32 bits).
-//! They are the first names of six letters and digits, in order, letters before digits, whose hash
-//! has the same lowest 16 bits and the same highest 8 bits as that of `aaaaaa`. The lowest bits
-//! choose a name's place in the table, and the highest bits are its mark there.
+//! Each name has six letters and digits, and its hash has the same lowest 16 bits and the same
+//! highest 8 bits as the hash of `aaaaaa`. The list has the first such names in the order in which
+//! letters come before digits. The lowest bits of a hash choose a name's place in the hash table,
+//! and the highest bits are stored there as the name's mark.
 
 use super::names::{add, device};
 use crush_index::{Hashing, Index};

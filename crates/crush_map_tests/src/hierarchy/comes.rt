@@ -1,4 +1,4 @@
-//! New items, each of which is attached after a test that it may be.
+//! Attaches new items. Before an item is attached, a test says whether this is allowed.
 
 ghost use Rattle.std.specs.Prelude.{◌≡◌, ◌++◌, ◌∷◌, [], true, Some, None, IfSome, IsTrue};
 ghost use Rattle.crush_units.specs.Name.{IsName};

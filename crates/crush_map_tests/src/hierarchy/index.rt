@@ -1,4 +1,4 @@
-//! The names, places and used ids of an index while items are added, changed and removed.
+//! Tests the names, places and used ids of an index while items are added, changed and removed.
 
 ghost use Rattle.std.specs.Prelude.{◌≡◌, Some, IfSome};
 ghost use Rattle.crush_units.specs.declared.id.ItemId.TheVariants.{Bucket as BucketItem};
@@ -24,7 +24,7 @@ fn name(rt: &impl Abort, alloc: Global, text: &[u8]) -> Name<Global> {
     Name::read(alloc, text).expect(rt, "a name")
 }
 
-/// The header of bucket -2, whose class id for `ssd` is -3.
+/// Returns the header of bucket -2, whose class id for `ssd` is -3.
 fn header(rt: &impl Abort, alloc: Global) -> Header<Global> {
     let mut class_ids = Vec::new(alloc);
     let class = ShadowId {

@@ -1,4 +1,5 @@
-//! Short ways for tests to make items and ids. A bucket is given by how far its id is below 0.
+//! Short functions with which tests create items and ids. A bucket is given by the distance of its
+//! id below 0, so 2 stands for -2.
 
 use crush_tree::{Header, Node, Place};
 use crush_units::{Alg, BucketId, DeviceId, ItemId, Name, TypeId, Weight};

@@ -1,4 +1,5 @@
-//! The ids of names, when names are hashed with keys and without.
+//! Tests that the id of a name is found if names are hashed with keys and if they are hashed
+//! without keys.
 
 use super::index::exchange_hosts;
 use crush_index::{Hashing, Index};

@@ -1,4 +1,5 @@
-//! The place of each item, and the hint for its position among the items of its bucket.
+//! Tests the place that the index has for each item, and the hint for the item's position among the
+//! items of its bucket.
 
 use super::items::{bucket, bucket_item, device_item, empty, inside, leaf};
 use crush_index::{Hashing, Index};
@@ -39,7 +40,7 @@ fn places_come_and_go(rt: HostRuntime) {
     add_four(&rt, &mut index);
     let are_there = has_position(&index, bucket_item(&rt, 2), below(&rt, 1, 0))
         && has_position(&index, device_item(&rt, 2), below(&rt, 2, 1));
-    // A device and a bucket of the same number are two items.
+    // A device and a bucket with the same number are different items.
     let is_absent = has_position(&index, device_item(&rt, 1), None);
     drop(index);
     assert!(rt; was_absent && are_there && is_absent);

@@ -1,4 +1,4 @@
-//! Changes of a hierarchy, each of which is made after a test that it is allowed.
+//! Changes a hierarchy. Before each change, a test says whether the change is allowed.
 
 ghost use Rattle.std.specs.Prelude.{◌≡◌, ◌<◌, true, Some, IfSome, IsTrue};
 ghost use Rattle.crush_units.specs.declared.id.ItemId.TheVariants.{Bucket as BucketItem};
@@ -61,8 +61,8 @@ pub(super) fn weigh(hierarchy: &mut Hierarchy<Global>, device: DeviceId, weight:
     hierarchy.replace_weight(device, weight).is_some()
 }
 
-/// Sets one weight for all devices below a bucket. Returns whether a device had another weight
-/// before, or `None` if the change isn't allowed.
+/// Sets all devices below a bucket to the same weight. Returns whether at least one device had
+/// another weight before, or `None` if the change isn't allowed.
 pub(super) fn weigh_all(
     hierarchy: &mut Hierarchy<Global>,
     bucket: BucketId,
@@ -152,8 +152,8 @@ pub(super) fn grow_buffer(hierarchy: &mut Hierarchy<Global>, bucket: BucketId) -
     }
 }
 
-/// Makes room for one more item in a bucket, and undoes that. Returns the capacity that the bucket
-/// had in between, or `None` if it had room.
+/// Makes room for one more item in a bucket, and then undoes this. Returns the capacity that the
+/// bucket had before it was undone, or `None` if the bucket had room already.
 pub(super) fn grow_and_back(hierarchy: &mut Hierarchy<Global>, bucket: BucketId) -> Option<usize> {
     if !has_item(hierarchy, &ItemId::Bucket(bucket)) {
         return None;

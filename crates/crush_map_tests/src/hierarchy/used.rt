@@ -1,4 +1,4 @@
-//! Ids that become used and free again, near 0 and far from it.
+//! Tests ids that become used and then free again, both near 0 and far from 0.
 
 use super::items::{bucket, name};
 use crush_index::{Hashing, Index};
@@ -31,7 +31,7 @@ fn bucket_with_class_ids(
     Node::bucket(rt.alloc(), header).ok().expect(rt, "memory")
 }
 
-/// A bucket that uses the ids -1, -2, -4 to -64, -66, and the one farthest below 0.
+/// Returns a bucket that uses the ids -1, -2, -4 to -64, -66, and the id that is farthest below 0.
 fn bucket_with_most_class_ids(rt: &(impl Abort + AllocGlobal)) -> Node<Global> {
     let mut class_ids = Vec::new(rt.alloc());
     class_ids.push(class_id(rt, 2)).expect(rt, "memory");
@@ -45,7 +45,7 @@ fn bucket_with_most_class_ids(rt: &(impl Abort + AllocGlobal)) -> Node<Global> {
     bucket_with_class_ids(rt, 1, "h1", class_ids)
 }
 
-/// A bucket that uses the id -3, and the first id for which the index has no bit.
+/// Returns a bucket that uses the id -3, and the first id for which the index has no bit.
 fn bucket_with_one_class_id(rt: &(impl Abort + AllocGlobal)) -> Node<Global> {
     let mut class_ids = Vec::new(rt.alloc());
     class_ids.push(class_id(rt, 69_696)).expect(rt, "memory");

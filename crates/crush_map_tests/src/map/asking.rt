@@ -1,4 +1,4 @@
-//! Short ways for tests to write an edit, and to state facts about a map.
+//! Short forms in which tests write an edit, and state facts about a map.
 
 use crush_map::{BatchFault, CrushMap, Done, Dones, Edit, EditFault, Location};
 use crush_tree::Node;
@@ -7,7 +7,7 @@ use crush_units::{DeviceId, ItemId, Name, Weight};
 use std::alloc::{Allocator, Global};
 use std::process::Abort;
 
-/// The pairs of a location: a type name and a bucket name each.
+/// The pairs of a location: each pair has the name of a type and the name of a bucket.
 pub(super) type Pairs = &'static [(&'static str, &'static str)];
 
 /// An edit. Weights are in units. The device N has the name osd.N.

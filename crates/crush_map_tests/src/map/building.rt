@@ -1,4 +1,5 @@
-//! The example map, built statement by statement, and what a builder says of the map so far.
+//! Builds the example map statement by statement, and tests what the builder says about the map so
+//! far.
 
 use crate::map::asking::{Fact, are_true_of};
 use crate::map::same::has_the_same;
@@ -84,7 +85,8 @@ const OPENED: &[Statement] = &[
     Statement::ClassId(-5, "ssd"),
 ];
 
-/// The host isn't an item before its end, but its name and its ids are already used.
+/// The host isn't an item of the map before its closing brace, but its name and its ids are already
+/// used.
 fn knows_the_open_host(rt: &impl Abort, builder: &MapBuilder<Global>) -> bool {
     !builder.is_idle()
         && builder.is_numbered()
@@ -95,7 +97,7 @@ fn knows_the_open_host(rt: &impl Abort, builder: &MapBuilder<Global>) -> bool {
         && builder.item_named(b"h9") == Err(BuildFault::UnknownItem)
 }
 
-/// The root's statement gives the host one unit more than the host weighs.
+/// The root's statement lists the host with a weight that is one unit more than the host weighs.
 const FILLED: &[Statement] = &[
     Statement::Alg,
     Statement::ItemAsItIs("osd.9"),

@@ -1,4 +1,4 @@
-//! Classes of devices, and what the devices of a class weigh.
+//! Tests the classes of devices, and what the devices of a class weigh.
 
 use crate::map::asking::{Asked, edit, edits, has_class, make_batch};
 use crate::map::statements::{Statement, finish, make_all};

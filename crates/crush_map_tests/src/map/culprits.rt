@@ -1,4 +1,4 @@
-//! Which name a refusal is about.
+//! Tests which name a refusal of an edit is about.
 
 use crate::map::asking::{Asked, edit};
 use crate::map::whole::whole_example_map;

@@ -1,4 +1,4 @@
-//! The text of a fault, and its number.
+//! Tests the text and the number of each fault.
 
 use crush_builder::BuildFault;
 use crush_map::{EditFault, Refusal};

@@ -1,6 +1,6 @@
-//! Batches whose edits move items, add new ones, and remove and rename others. If an edit is
-//! refused, then the items are in the same order as before and use as much memory. If none is
-//! refused, then the batch does what its edits do one by one.
+//! Tests batches whose edits add, move, remove and rename items. If an edit of a batch is refused,
+//! then the items are in the same order as before the batch, and they use the same amount of
+//! memory. If no edit is refused, then the batch has the same result as its edits one by one.
 
 use crate::map::asking::{Asked, Told, answer, edit, edits};
 use crate::map::same::has_the_same;
@@ -10,9 +10,9 @@ use linked_list_allocator::LocalHeap;
 use std::alloc::Global;
 use std::process::Abort;
 
-/// Edits that put items into full buckets, into new buckets and among the roots. Some are for a
-/// device that is already there, with another weight or the same. Some move a bucket, or a bucket
-/// into which others have moved, or move it back.
+/// Edits that put items into full buckets, into new buckets and among the roots. Some edits put a
+/// device where it already is, with another weight or with the same weight. Some edits move a
+/// bucket, or move a bucket into which other items have moved, or move a bucket back.
 const EDITS: &[Asked] = &[
     Asked::Move("osd.0", &[("host", "h2")]),
     Asked::Add(
@@ -60,8 +60,8 @@ fn is_the_example_map(rt: &impl Abort, alloc: Global, map: &CrushMap<&LocalHeap>
     same
 }
 
-/// Whether the batch is refused at this position, and the heap then has as much memory in use as
-/// before.
+/// Whether the batch is refused at the edit with this position, and the heap has the same amount of
+/// memory in use afterwards as before.
 fn is_refused(
     rt: &impl Abort,
     heap: &LocalHeap,

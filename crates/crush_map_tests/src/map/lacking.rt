@@ -1,6 +1,6 @@
-//! Edits and batches for which memory runs out, at each of the points at which they need more. The
-//! map must then be as before, and the same call must have its usual result when there is memory
-//! again. A call that is refused must also leave the map as before.
+//! Tests edits and batches for which memory runs out, at each point at which they need more memory.
+//! The map must then be unchanged, and the same call must have its usual result when there is
+//! enough memory again. A call that is refused must also leave the map unchanged.
 
 use crate::map::asking::{
     Asked, CHANGED, Fact, Told, answer, are_true_of, edit, edits, make_batch,
@@ -14,7 +14,7 @@ use std::process::Abort;
 
 const HEAP: usize = 65536;
 
-/// The size of the largest free piece of the heap, found in steps of 64 bytes.
+/// Returns the size of the largest free piece of the heap, in steps of 64 bytes.
 fn largest_piece(heap: &LocalHeap) -> usize {
     for step in 0..1024 {
         let size = HEAP - 64 * step;
@@ -30,17 +30,19 @@ fn ballast<'h>(rt: &impl Abort, heap: &'h LocalHeap, size: usize) -> Vec<u8, &'h
     Vec::with_capacity(heap, size).expect(rt, "a piece")
 }
 
-/// A call, which is one edit, or several as a batch; its result, and facts about the map after it.
+/// A call with its result and facts about the map after the call. The call is one edit, or a batch
+/// of several edits.
 struct Call {
     asked: &'static [Asked],
     told: Told,
     then: &'static [Fact],
-    /// In how many of the heaps memory must run out at least.
+    /// The least number of heaps in which memory must run out.
     least: usize,
 }
 
-/// Makes the edits while the largest free piece of the heap has `spare` bytes. The piece that was
-/// freed when the map was finished is filled, and the largest piece is filled up to `spare` bytes.
+/// Applies the edits while the largest free piece of the heap has `spare` bytes. For this, the
+/// function allocates the piece that was freed when the map was finished, and the largest piece
+/// except for `spare` bytes.
 fn answer_with(
     rt: &impl Abort,
     heap: &LocalHeap,
@@ -121,7 +123,8 @@ fn lacks_with(rt: &impl Abort, alloc: Global, spare: usize, asking: &Asking<'_>)
     lacks
 }
 
-/// Makes the call in heaps with 64 more free bytes each, until there is enough memory.
+/// Makes the call in one heap after another until there is enough memory. Each heap has 64 more
+/// free bytes than the heap before.
 fn lacks_often(rt: &impl Abort, alloc: Global, asking: &Asking<'_>) {
     let place = asking.place;
     for times in 0..256 {
@@ -151,8 +154,8 @@ const ADDED: Told = Told::One(Ok(Done {
     made: 1,
 }));
 
-/// A device that is added in new buckets, one that moves, one that gets another weight at its
-/// place, and a host that moves to a new bucket.
+/// A device that is added in new buckets, a device that moves, a device that gets another weight at
+/// its place, and a host that moves to a new bucket.
 const PUTS: &[Call] = &[
     Call {
         asked: &[Asked::Add(
@@ -206,7 +209,7 @@ fn memory_lacks_for_what_is_put(rt: HostRuntime) {
     lack_at_each_growth(&rt, rt.alloc(), PUTS);
 }
 
-/// Other edits. Of these an exchange, new weights and a removal need no memory.
+/// Other edits. The exchange, the new weights and the removal among them need no memory.
 const OTHERS: &[Call] = &[
     Call {
         asked: &[Asked::Swap("h1", "h2")],
@@ -284,10 +287,10 @@ fn memory_lacks_for_other_edits(rt: HostRuntime) {
     lack_at_each_growth(&rt, rt.alloc(), OTHERS);
 }
 
-/// In this order: a batch that is made; one that is refused at its third edit; one that is made, in
-/// which the first and the last edit need memory; one that is made, which puts items into full and
-/// new buckets; one that is refused after new weights below a bucket; and one that is refused after
-/// items are removed and a bucket takes the name of another.
+/// Six batches. The first succeeds. The second is refused at its third edit. The third succeeds,
+/// and its first and last edits need memory. The fourth succeeds, and puts items into full and new
+/// buckets. The fifth is refused after it has set weights below a bucket. The sixth is refused
+/// after it has removed items and a bucket has taken the name of another bucket.
 const BATCHES: &[Call] = &[
     Call {
         asked: &[

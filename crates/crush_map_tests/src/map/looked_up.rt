@@ -1,4 +1,4 @@
-//! After each edit, a look-up by name must find what a search of the forest finds.
+//! Tests that after each edit a look-up by name finds what a search of the forest finds.
 
 use crate::map::asking::{Asked, edit};
 use crate::map::whole::whole_example_map;
@@ -7,8 +7,8 @@ use crush_units::{BucketId, ItemId, Weight};
 use std::alloc::Global;
 use std::process::Abort;
 
-/// Each name that an item has before or after an edit, or that an edit mentions, and one that no
-/// item has.
+/// Each name that an item has before or after an edit, each name that an edit mentions, and one
+/// name that no item has.
 pub(super) const NAMES: &[&str] = &[
     "osd.0", "osd.1", "osd.2", "osd.3", "osd.10", "osd.11", "osd.12", "osd.13", "h1", "h2", "h3",
     "h9", "hq", "hx", "hy", "r1", "r9", "rx", "default", "other", "x",

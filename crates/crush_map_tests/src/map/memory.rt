@@ -1,5 +1,5 @@
-//! The example map in heaps of each size. Its setting is in the global allocator, which a test
-//! can't make fail.
+//! Builds the example map in heaps of increasing size. The map's setting is in the global
+//! allocator, which a test can't make fail.
 
 use crate::map::same::has_the_same;
 use crate::map::statements::make;
@@ -11,14 +11,15 @@ use linked_list_allocator::LocalHeap;
 use std::alloc::Global;
 use std::process::Abort;
 
-/// An item, after how many statements it exists, and after how many it is in a bucket.
+/// An item, the number of statements after which it exists (`there`), and the number of statements
+/// after which it is in a bucket (`held`).
 struct Item {
     name: &'static str,
     there: usize,
     held: usize,
 }
 
-/// The root is in no bucket: its second number is above the number of statements.
+/// The root is in no bucket, so its number `held` is greater than the number of statements.
 const ITEMS: &[Item] = &[
     Item {
         name: "osd.0",

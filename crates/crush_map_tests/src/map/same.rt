@@ -1,4 +1,4 @@
-//! Whether two maps have the same items, as a search of each forest finds them.
+//! Tests whether two maps have the same items. A search of each forest finds the items.
 
 use crate::map::looked_up::NAMES;
 use crush_map::CrushMap;
@@ -67,7 +67,8 @@ fn is_same_name<A: Allocator, B: Allocator>(
     }
 }
 
-/// Whether the maps have the same items. Every item of `other` must have one of the tests' names.
+/// Whether the maps have the same items. The name of every item of `other` must be in the list
+/// `NAMES`.
 pub(super) fn has_the_same<A: Allocator, B: Allocator>(
     map: &CrushMap<A>,
     other: &CrushMap<B>,

@@ -1,5 +1,5 @@
-//! The statements of a map's text, given to a builder. The conditions of the builder's methods are
-//! tested first.
+//! Passes the statements of a map's text to a builder. Before each call, the conditions of the
+//! builder's method are tested.
 
 use crush_builder::{BuildFault, MapBuilder};
 use crush_map::{CrushMap, is_reserved};
@@ -7,7 +7,7 @@ use crush_units::{Alg, BucketId, DeviceId, TypeId, Weight, is_name};
 use std::alloc::{Allocator, Global};
 use std::process::Abort;
 
-/// A statement, or a part of a bucket's. Weights are in units.
+/// A statement, or a part of a bucket's statement. Weights are in units of 1/65536.
 #[derive(Clone, Copy)]
 pub(super) enum Statement<'a> {
     Type(u16, &'a str),

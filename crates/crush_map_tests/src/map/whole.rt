@@ -1,4 +1,4 @@
-//! The example map, which is the plain example map with a tunable and a rule, in the global
+//! Builds the example map, which is the plain example map with a tunable and a rule, in the global
 //! allocator and in heaps.
 
 ghost use Rattle.std.specs.Prelude.{All};

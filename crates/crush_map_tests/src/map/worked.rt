@@ -1,5 +1,6 @@
-//! Calls on the example map, with results that were worked by hand. After each call, every name
-//! must be found as the plain table has it, and as a search of the forest finds it.
+//! Tests calls on the example map, with results that were worked out by hand. After each call, a
+//! look-up of every name must find what the expected rows have, and what a search of the forest
+//! finds.
 
 use crate::map::asking::{Asked, CHANGED, Told, answer, edits};
 use crate::map::looked_up::{NAMES, are_looked_up};
@@ -18,7 +19,8 @@ enum Kids {
     Of(&'static str, &'static [Item]),
 }
 
-/// A call on the map that the line before left, its result, and the rows of the map after it.
+/// A call, its result, and the rows of the map after the call. The call is made on the map after
+/// the previous line.
 struct Line {
     asked: &'static [Asked],
     told: Told,
@@ -138,7 +140,7 @@ const IN_A_NEW_RACK: &[Line] = &[Line {
     ],
 }];
 
-/// The host of the location exists, so the buckets after it in the location are not made.
+/// The host of the location exists, so the buckets after the host in the location are not created.
 const IN_THE_FIRST_THERE: &[Line] = &[Line {
     asked: &[Asked::Add(
         3,
@@ -161,7 +163,8 @@ const IN_THE_FIRST_THERE: &[Line] = &[Line {
     ],
 }];
 
-/// Among these, a bucket can't be moved below itself.
+/// Edits of items that exist: a device that is already at the location, two buckets that can't be
+/// moved below themselves, and a device that moves.
 const PLACED: &[Line] = &[
     Line {
         asked: &[Asked::CreateOrMove(0, 327680, &[("host", "h1"), ("root", "other")])],
@@ -208,7 +211,7 @@ const EXCHANGED: &[Line] = &[Line {
     ],
 }];
 
-/// All items are removed, but the root can't be, because a rule takes it.
+/// All items are removed except for the root, which can't be removed because a rule takes it.
 const REMOVED: &[Line] = &[
     Line {
         asked: &[Asked::Remove("default")],
@@ -370,8 +373,8 @@ fn what_batches_do_is_looked_up(rt: HostRuntime) {
     make_all(&rt, rt.alloc(), BATCHES);
 }
 
-/// Two batches that are refused at their last edit, one that is refused earlier, and one that is
-/// made, whose last edit is an exchange.
+/// Two batches that are refused at their last edit, a batch that is refused earlier, and a batch
+/// that succeeds, whose last edit is an exchange.
 const BATCHES_OF_WEIGHTS: &[Line] = &[
     Line {
         asked: &[
@@ -423,8 +426,9 @@ const BATCHES_OF_WEIGHTS: &[Line] = &[
     },
 ];
 
-/// A batch that is refused after it has set the weights below three buckets, of which one is below
-/// another and one is set after an exchange; one that is refused earlier; and one that is made.
+/// Three batches. The first is refused after it has set the weights below three buckets. One of
+/// these buckets is below another of them, and the weights of one are set after an exchange. The
+/// second batch is refused earlier, and the third succeeds.
 const BATCHES_BELOW: &[Line] = &[
     Line {
         asked: &[
@@ -476,8 +480,8 @@ fn what_batches_of_weights_do_is_looked_up(rt: HostRuntime) {
     make_all(&rt, rt.alloc(), BATCHES_OF_WEIGHTS);
 }
 
-/// Batches that remove devices and empty buckets, and add some of them again, with the same ids and
-/// names or with others: two that are refused at their last edit, and one that is made.
+/// Batches that remove devices and empty buckets, and add some of them again, with the same or with
+/// other ids and names. Two batches are refused at their last edit, and one succeeds.
 const BATCHES_OF_REMOVALS: &[Line] = &[
     Line {
         asked: &[
@@ -527,8 +531,8 @@ fn what_batches_of_removals_do_is_looked_up(rt: HostRuntime) {
     make_all(&rt, rt.alloc(), BATCHES_OF_REMOVALS);
 }
 
-/// Batches in which a name is changed and changed back, another bucket takes a name, and two
-/// buckets exchange their names.
+/// Batches in which a name is changed and changed back, a bucket takes the old name of another
+/// bucket, and two buckets exchange their names.
 const BATCHES_OF_NAMES: &[Line] = &[
     Line {
         asked: &[

@@ -1,4 +1,4 @@
-//! Whether two forests are the same in the items of the example map.
+//! Tests whether two forests agree in the items of the example map.
 
 use super::items::{bucket, bucket_item, device_item};
 use crush_tree::{Forest, Node, View};

@@ -1,5 +1,5 @@
-//! As many buckets as a map can have, each in the one before it, on the main thread, and fewer on
-//! another.
+//! Tests forests that are chains: each bucket is in the bucket before it. The chain on the main
+//! thread has as many buckets as a map can have, and the chain on another thread has fewer.
 
 use super::alike::copy_of;
 use super::items::{Item, bucket, bucket_item, node, node_with};
@@ -9,11 +9,12 @@ use std::alloc::Global;
 use std::process::Abort;
 use std::thread;
 
-/// The most buckets of a map.
+/// The largest number of buckets that a map can have.
 const MOST: u32 = 4096;
 
-/// How many buckets the forest on another thread has. Attaching a node compares its buckets with one
-/// another, so a test with the most buckets takes 100 seconds if it isn't proved.
+/// The number of buckets of the forest on another thread. Attaching a node compares the node's
+/// buckets with one another. So a test with `MOST` buckets takes 100 seconds if the test runs
+/// without proofs.
 const FEW: u32 = 512;
 
 fn link(rt: &(impl Abort + AllocGlobal), distance: u32, item: Node<Global>) -> Node<Global> {
@@ -31,7 +32,8 @@ fn links(rt: &(impl Abort + AllocGlobal), depth: u32) -> Node<Global> {
     item
 }
 
-/// A forest with a chain of buckets, which was put together before it was added to the forest.
+/// Returns a forest with a chain of buckets. The chain was put together before it was added to the
+/// forest.
 fn chain(rt: &(impl Abort + AllocGlobal), depth: u32) -> Forest<Global> {
     let mut forest = Forest::new(rt.alloc(), rt.alloc());
     put(&mut forest, Place::Root, links(rt, depth)).expect(rt, "a place");
@@ -68,7 +70,8 @@ fn on_the_main_thread(rt: HostRuntime) {
     assert!(rt; is_sound(&rt, MOST));
 }
 
-/// Builds and drops the most buckets on the thread, for its stack, and then searches fewer.
+/// Builds and drops a chain of `MOST` buckets on the thread, which tests that the thread's stack is
+/// large enough. Then searches a chain of fewer buckets.
 #[test]
 fn on_another_thread(rt: HostRuntime) {
     let worker = thread::spawn(&rt, move || is_weighed(&rt, MOST) && is_sound(&rt, FEW)).expect(

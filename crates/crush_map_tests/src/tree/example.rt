@@ -1,5 +1,5 @@
-//! The forest of the example map, in the global allocator and in small heaps, with each method of a
-//! forest called once.
+//! Builds the forest of the example map, in the global allocator and in small heaps, and calls each
+//! method of a forest once.
 
 use super::alike::{copy_of, is_same};
 use super::asks::{fits, fits_moved, has_item};
@@ -50,7 +50,8 @@ fn put_h2<A: Allocator + Copy>(
     put(forest, inside(rt, 1), h2)
 }
 
-/// The forest with osd.0 and osd.1 in h1, which weigh 1.0 each, and osd.2 in h2, which weighs 0.5.
+/// Returns the forest with osd.0 and osd.1 in h1, with the weight 1.0 each, and osd.2 in h2, with
+/// the weight 0.5.
 fn example_in<A: Allocator + Copy>(rt: &impl Abort, alloc: A) -> Result<Forest<A>, Refused> {
     let mut forest = Forest::new(alloc, alloc);
     match put_all(rt, alloc, &mut forest) {
@@ -93,8 +94,8 @@ fn has_so_many<A: Allocator>(
     has_first(rt, forest, devices, buckets) && forest.total() == units
 }
 
-/// Whether the forest has a beginning of its items, which are added in the order root, h1, osd.0,
-/// osd.1, and h2 with osd.2.
+/// The items are added in this order: the root, h1, osd.0, osd.1, and h2 with osd.2. Returns
+/// whether the forest has the first items of this order and no others.
 fn is_begun<A: Allocator>(rt: &impl Abort, forest: &Forest<A>) -> bool {
     if !has_item(forest, &bucket_item(rt, 1)) {
         return has_so_many(rt, forest, 0, 0, 0);
@@ -398,8 +399,8 @@ fn memory_and_back(rt: HostRuntime) {
     assert!(rt; is_back);
 }
 
-/// The root weighs 163840 units, and may weigh at most 4294967295. A device that moves within the
-/// root is counted once.
+/// The root weighs 163840 units, and may weigh at most 4294967295. The weight of a device that
+/// moves within the root is counted once.
 fn tells_what_fits(rt: &impl Abort, forest: &Forest<Global>) -> bool {
     let (h2, osd_0) = (bucket(rt, 3), device(rt, 0));
     let too_much = Weight::from_units(4294803456);

@@ -1,5 +1,5 @@
-//! Short ways for tests to make items and ids. A bucket is given by how far its id is below 0, a
-//! device by its number.
+//! Short functions with which tests create items and ids. A bucket is given by the distance of its
+//! id below 0, and a device is given by its number.
 
 use super::puts::Refused;
 use crush_tree::{Header, Node, Place, ShadowId};
@@ -7,12 +7,13 @@ use crush_units::{Alg, BucketId, DeviceId, ItemId, Name, TypeId, Weight};
 use std::alloc::{Allocator, Global};
 use std::process::Abort;
 
-/// An item to make. A bucket has its id and name, a device its id, name and weight in units.
+/// An item to create. A bucket is given by its id and its name. A device is given by its id, its
+/// name and its weight in units of 1/65536.
 #[derive(Clone, Copy)]
 pub(super) enum Item<'a> {
     Root(u32, &'a str),
     Host(u32, &'a str),
-    /// A host that has a class id for `ssd`, given by how far it is below 0.
+    /// A host with a class id for `ssd`. The last number is the distance of the class id below 0.
     HostOfClass(u32, &'a str, u32),
     Device(u32, &'a str, u32),
     /// A device of the class `ssd`.

@@ -1,4 +1,4 @@
-//! Changes of a forest, each of which is made after a test that it is allowed.
+//! Changes a forest. Before each change, a test says whether the change is allowed.
 
 use super::asks::{are_nested, has_item, has_name, is_held};
 use super::items::{Item, made};
@@ -162,8 +162,8 @@ pub(super) fn exchange<A: Allocator>(
     Ok(())
 }
 
-/// Lets a bucket grow, and undoes that. Returns whether the bucket had the capacity `had` before it
-/// grew, and the capacity `has` in between.
+/// Makes room for one more item in a bucket, and then undoes this. Returns whether the bucket had
+/// the capacity `had` before, and the capacity `has` before this was undone.
 pub(super) fn grows_and_back<A: Allocator + Clone>(
     forest: &mut Forest<A>,
     bucket: BucketId,

@@ -1,4 +1,4 @@
--- The setting and the table of the text are those of the map that was read, and the contracts of the methods refer to these.
+-- The setting and the table that the text means are those of the map that was read. The contracts of the map's methods refer to this setting and this table.
 use Rattle.std.proofs.Common.{◌≡◌, ap, subst, ◌∙◌, Err}
 use Rattle.std.specs.Io.KnownBytes.{Appends}
 use Rattle.crush_edits.specs.declared.refusal.EditFault.TheVariants.{Refused}

@@ -1,4 +1,4 @@
-//! The section of the buckets.
+//! Appends the section of the buckets.
 
 ghost use Rattle.std.specs.Prelude.{◌≡◌, List, ◌++◌, OnOk, flat_map};
 ghost use Rattle.crush_model.specs.Stands.{Stands};
@@ -14,7 +14,8 @@ use crush_map::Setting;
 use crush_tree::{Bucket, Forest};
 use std::alloc::{AllocError, Allocator, Global};
 
-/// Appends the section of the buckets: its heading, and each bucket after the buckets below it.
+/// Appends the heading of the section of the buckets, and then all buckets. Each bucket comes after
+/// the buckets below it.
 #[tactic(auto, unfolding(crate::specs::MapText::bucket_section))]
 pub(crate) fn push_roots<A: Allocator>(
     alloc: Global,

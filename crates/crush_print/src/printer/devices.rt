@@ -1,4 +1,4 @@
-//! The section of the devices.
+//! Appends the section of the devices.
 
 ghost use Rattle.std.specs.Prelude.{◌≡◌, List, ◌++◌, None, OnOk, flat_map};
 ghost use Rattle.crush_model.specs.ItemRows.{device_row};
@@ -13,7 +13,7 @@ use crate::order::devices_in_order;
 use crush_tree::{Forest, Leaf};
 use std::alloc::{AllocError, Allocator, Global};
 
-/// Appends the section of the devices: its heading, and the devices by ascending id.
+/// Appends the heading of the section of the devices, and then the devices by ascending id.
 #[tactic(auto, unfolding(crate::specs::MapText::device_section))]
 pub(crate) fn push_devices<A: Allocator>(
     alloc: Global,

@@ -1,4 +1,4 @@
-//! The section of the types.
+//! Appends the section of the types.
 
 ghost use Rattle.std.specs.Prelude.{◌≡◌, ◌++◌, OnOk, IfOk, flat_map};
 ghost use Rattle.indexmap.specs.IndexMap.{keys};
@@ -11,7 +11,7 @@ use crush_units::{Name, TypeId};
 use indexmap::IndexMap;
 use std::alloc::{AllocError, Global};
 
-/// Appends the section of the types: its heading, and the types by ascending number.
+/// Appends the heading of the section of the types, and then the types by ascending number.
 #[tactic(auto, unfolding(crate::specs::MapText::kind_section))]
 pub(crate) fn push_kinds(
     alloc: Global,
@@ -50,7 +50,7 @@ fn numbers_of(alloc: Global, kinds: &IndexMap<TypeId, Name<Global>>) -> Result<V
     kinds.keys().map(|number| number.number()).collect(alloc)
 }
 
-/// Returns the name of the type; empty if the setting doesn't have the type.
+/// Returns the name of the type, or an empty name if the setting doesn't have the type.
 #[tactic(auto, unfolding(crate::specs::MapText::kind_text))]
 pub(crate) fn kind_name(setting: &Setting, number: TypeId) -> &[u8]
     ensures { result.now ≡ kind_text setting.now number }

@@ -1,4 +1,4 @@
-//! The section of the rules.
+//! Appends the section of the rules.
 
 ghost use Rattle.std.specs.Prelude.{◌≡◌, ◌++◌, List, OnOk, flat_map, map};
 ghost use Rattle.crush_model.specs.Stands.{Stands};
@@ -14,8 +14,8 @@ use crush_units::{BucketId, ItemId, Name};
 use itoa::Buffer;
 use std::alloc::{AllocError, Allocator, Global};
 
-/// Appends the section of the rules: its heading, and the rules in the order in which they were
-/// declared. The names of the buckets that they take are those in the map `from`.
+/// Appends the heading of the section of the rules, and then the rules in the order in which they
+/// were declared. A step that takes a bucket has the name that this bucket has in the map `from`.
 #[tactic(auto, unfolding(crate::specs::MapText::rule_section))]
 pub(crate) fn push_rules<A: Allocator>(
     setting: &Setting,
@@ -60,7 +60,7 @@ fn push_rule<A: Allocator>(
     out.extend_from_slice(b"}\n")
 }
 
-/// Appends `rule NAME {` and the lines of the id and of the `type` word.
+/// Appends `rule NAME {`, the line of the rule's id, and the line of its type.
 #[tactic(auto, unfolding(crate::specs::RuleLines::rule_head))]
 fn push_head(rule: &KeptRule, out: &mut Vec<u8>) -> Result<(), AllocError>
     ensures { OnOk result (out.new.items ≡ out.old.items ++ rule_head (rule_data rule.now)) }
@@ -81,7 +81,7 @@ fn push_head(rule: &KeptRule, out: &mut Vec<u8>) -> Result<(), AllocError>
     )
 }
 
-/// Appends the line of a size, if the rule has it.
+/// Appends the line `key size`, or nothing if the rule doesn't have this size.
 #[tactic(auto, unfolding(crate::specs::RuleLines::size_line))]
 fn push_size(key: &[u8], size: Option<u32>, out: &mut Vec<u8>) -> Result<(), AllocError>
     ensures { OnOk result (out.new.items ≡ out.old.items ++ size_line key.now size) }
@@ -131,7 +131,8 @@ fn push_step<A: Allocator>(
     }
 }
 
-/// Returns the name that the bucket has in the map; empty if the map doesn't have the bucket.
+/// Returns the name that the bucket has in the map, or an empty name if the map doesn't have the
+/// bucket.
 #[tactic(auto, unfolding(crate::specs::RuleLines::bucket_name))]
 fn name_of<A: Allocator>(from: &CrushMap<A>, bucket: BucketId) -> &[u8]
     ensures { (t : List Row) → Stands from.now.forest t → result.now ≡ bucket_name t bucket }
@@ -156,7 +157,7 @@ fn push_take(name: &[u8], class: &Option<Name<Global>>, out: &mut Vec<u8>) -> Re
     }
 }
 
-/// Returns the first words of a step that chooses.
+/// Returns the words with which a `choose` step or a `chooseleaf` step begins.
 #[tactic(auto, unfolding(crate::specs::RuleLines::choice_text))]
 fn choice(leaf: bool, firstn: bool) -> &'static [u8]
     ensures { result.now ≡ choice_text leaf firstn }

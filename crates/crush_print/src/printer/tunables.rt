@@ -1,4 +1,4 @@
-//! The section of the tunables.
+//! Appends the section of the tunables.
 
 ghost use Rattle.std.specs.Prelude.{◌≡◌, ◌++◌, OnOk, flat_map, map};
 ghost use Rattle.crush_edits.specs.SettingSeen.{tunable_data};

@@ -1,4 +1,4 @@
-//! What an editor hands out at its close.
+//! Tests what an editor returns when it is closed.
 
 ghost use Rattle.std.specs.Prelude.{◌≡◌};
 ghost use Rattle.crush_run_tests.specs.Seats.{AreAll};
@@ -30,7 +30,7 @@ const THREE: &[u8] = b"\
     rm h2\n\
     commit\n";
 
-/// Each operator makes its first call before any makes its second.
+/// The history if each operator makes its first call before any operator makes its second call.
 const CLOSED: &[u8] = b"\
     # 1 a reweight osd.0 2.00000 = done changed 1 made 0\n\
     # 2 b reweight osd.1 2.00000 = done changed 1 made 0\n\

@@ -1,4 +1,5 @@
-//! As many entries as a history may have, and the call after them.
+//! Tests a history that has as many entries as a history may have, and the call after the last
+//! entry.
 
 ghost use Rattle.std.specs.Prelude.{◌≡◌};
 ghost use Rattle.crush_run_tests.specs.Seats.{AreAll};
@@ -14,7 +15,7 @@ use std::marker::Brand;
 use std::process::Abort;
 use std::sync::Wait;
 
-/// No item of the example map has the name.
+/// Returns a call that removes an item whose name no item of the example map has.
 fn remove_nobody(rt: &(impl Abort + AllocGlobal)) -> Call {
     let name = Name::read(rt.alloc(), b"x").expect(rt, "no name");
     Call::One(Edit::Remove { name })

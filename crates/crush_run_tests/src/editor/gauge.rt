@@ -1,4 +1,4 @@
-//! Gauges whose entries are pairs.
+//! Tests gauges for histories whose entries are pairs: a number of changes and a weight.
 
 ghost use Rattle.std.specs.Prelude.{◌≡◌, ◌≤◌, ◌<◌, [], ◌∷◌};
 ghost use Rattle.crush_gauge.specs.declared.view.View.TheVariants.{Book as BookSees, Reader};
@@ -7,8 +7,8 @@ ghost use Rattle.crush_gauge.specs.Held.{held};
 
 use crush_gauge::{Gauge, Law};
 
-/// Any history is legal, and its pair is its last entry; without one it has no change and the
-/// opening's weight.
+/// The law by which every history is legal. The last entry of a history has its number of changes
+/// and its weight. A history without entries has no changes and the weight of the opening.
 struct Pairs;
 
 impl Law<u64, (u64, u64)> for Pairs {

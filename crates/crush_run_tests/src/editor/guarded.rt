@@ -1,4 +1,4 @@
-//! Guarded batches of one seat, beside the calls of another.
+//! Tests guarded batches of one seat while another seat makes calls.
 
 ghost use Rattle.std.specs.Prelude.{◌≡◌};
 

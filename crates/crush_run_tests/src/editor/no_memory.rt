@@ -1,5 +1,5 @@
-//! Calls that take no memory, made once and often: `tests/refused_memory.py` compares the requests
-//! for memory of each pair of tests.
+//! Tests calls that allocate no memory. Each pair of tests makes the same call once and many times,
+//! and `tests/refused_memory.py` compares the requests for memory of the two tests.
 
 ghost use Rattle.std.specs.Prelude.{◌≡◌};
 ghost use Rattle.crush_run_tests.specs.Seats.{AreAll};
@@ -106,7 +106,8 @@ fn an_editor_is_read_often(rt: HostRuntime) {
     read_editor::<Brand>(&rt, started(&rt, 2), OFTEN);
 }
 
-/// Closes the editor or drops it.
+/// Opens an editor and makes one call. Then closes the editor if `closes` is true, and otherwise
+/// drops it.
 fn end_editor<N: Desk>(rt: &(impl Abort + AllocGlobal + Wait), started: Started, closes: bool)
     requires gauge { started.table ≡ N.gauge }
     requires opening { started.opening ≡ N.opening }
@@ -127,7 +128,8 @@ fn is_closed<N: Desk>(editor: Editor<N>, seats: Vec<Seat<N>>) -> bool
     editor.close(seats).history.len() == 1
 }
 
-/// As many editors are made however many are closed.
+/// Opens `EDITORS` editors, and closes the first `times` of them. So the number of editors doesn't
+/// depend on `times`.
 fn close_editors(rt: &(impl Abort + AllocGlobal + Wait), times: u32) {
     for number in 0..EDITORS {
         let started = started(rt, 2);

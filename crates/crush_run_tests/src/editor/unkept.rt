@@ -1,4 +1,5 @@
-//! A book and an editor without their opening, by calls that are moved into their entries.
+//! Tests a book and an editor that don't keep the opening map. Each call is moved into its entry of
+//! the history.
 
 ghost use Rattle.std.specs.Prelude.{◌≡◌};
 

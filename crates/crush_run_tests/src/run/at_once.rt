@@ -1,5 +1,5 @@
-//! Runs of operators at once. Gates show that threads are at work at the same time, which no clause
-//! says.
+//! Tests runs in which operators work at once. The tests use gates, which are called before and
+//! after each call, to show that threads work at the same time. No contract promises this.
 
 use super::{AT_ONCE, joined, run_map, summary};
 use crate::maps::PLAIN;
@@ -9,7 +9,7 @@ use std::sync::atomic::{AtomicU64, Ordering};
 use std::thread;
 use std::time::{Clock, Duration};
 
-/// Of at most a millisecond each, before a gate gives up.
+/// The number of times that a gate sleeps for a millisecond before it gives up.
 const MOST_NAPS: u64 = 10_000;
 
 pub(super) fn reaches(clock: &impl Clock, count: &AtomicU64, goal: u64) -> bool {
@@ -22,7 +22,7 @@ pub(super) fn reaches(clock: &impl Clock, count: &AtomicU64, goal: u64) -> bool 
     false
 }
 
-/// The first two calls begin when both are there.
+/// A gate at which the first two calls wait for each other.
 #[derive(Drop)]
 struct Meeting<'a, C> {
     clock: &'a C,
@@ -41,7 +41,7 @@ impl<C: Clock> Gate for Meeting<'_, C> {
     fn after<R: Wait>(&self, _rt: &R, _operator: usize, _number: usize) {}
 }
 
-/// Calls of two operators come by turns, the first operator's first.
+/// A gate that lets two operators make their calls alternately. The first operator begins.
 #[derive(Drop)]
 pub(super) struct ByTurns<'a, C> {
     clock: &'a C,

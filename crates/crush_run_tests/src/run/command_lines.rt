@@ -1,4 +1,4 @@
-//! Command lines: their words, and what they ask for.
+//! Tests the words of command lines, and the options that they mean.
 
 use crush_options::{MapForm, Options, OutputSpec, options};
 
@@ -54,7 +54,8 @@ fn flags_and_a_file_are_read(rt: HostRuntime) {
     );
 }
 
-/// Whether the words after `apply` ask for what they are short for.
+/// Whether a command line with the verb `apply` means the options for which this verb is a short
+/// form.
 fn applies(rt: &impl AllocGlobal, words: &[&str], is_dry: bool, scripts: usize) -> bool {
     let read = options(rt.alloc(), words);
     let is_right = match &read {

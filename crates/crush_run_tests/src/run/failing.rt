@@ -1,4 +1,5 @@
-//! Readers and writers that fail, and readers of blanks alone, some without an end.
+//! Tests readers and writers that fail, and readers that return only blanks, some of them without
+//! an end.
 
 use super::{MODE, REWEIGHED, is_listed, joined, run_map};
 use crate::maps::PLAIN;
@@ -9,8 +10,8 @@ use std::random::RandomSource;
 use std::sync::Wait;
 use std::thread::Threads;
 
-/// A stream fails once, as an interrupted one does, or for good. A second try of an interrupted one
-/// would get all.
+/// The way in which a stream fails: once, like an interrupted stream, or for good. If the stream
+/// fails only once, a second try would succeed.
 #[derive(Clone, Copy)]
 struct Failing {
     kind: ErrorKind,
@@ -51,8 +52,8 @@ impl Read for FailingReader<'_> {
     }
 }
 
-/// Takes at most 7 bytes a write. Without room a write answers an error or takes nothing, and there
-/// is room again where it fails once.
+/// A writer that accepts at most 7 bytes in each write. When there is no room left, a write fails
+/// or accepts no bytes. If the writer fails only once, there is room again after that.
 #[derive(Drop)]
 struct FailingWriter {
     taken: Vec<u8>,
@@ -133,7 +134,8 @@ fn stops_at_a_failed_read(rt: HostRuntime) {
     }
 }
 
-/// `run` is a job and its output, of which as much is written as there is room for.
+/// `run` is a job and its output. Returns whether the run fails with a write fault, and the writer
+/// has received exactly the first `room` bytes of the output.
 fn leaves_a_prefix(
     rt: &(impl AllocGlobal + RandomSource + Threads + Wait + Sync),
     run: (&[u8], &[u8]),

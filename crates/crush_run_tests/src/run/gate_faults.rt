@@ -1,6 +1,6 @@
-//! A gate is called behind each call before which it was called, also where the call fails.
-//! `tests/refused_memory.py` refuses the requests for memory of these tests one by one: they make
-//! none outside a run.
+//! Tests that a gate is called after each call before which it was called, even if the call fails.
+//! `tests/refused_memory.py` refuses the requests for memory of these tests one by one. The tests
+//! make no such requests outside a run.
 
 use super::{AT_ONCE, MODE, run_map};
 use crush_options::Mode;
@@ -32,7 +32,8 @@ impl Gate for Counts {
     }
 }
 
-/// Two operators, each with a call that takes memory of the map and one that is refused.
+/// A job with two operators. Each of them has a call for which the map allocates memory, and a call
+/// that is refused.
 const JOB: &[u8] =
     b"device 0 osd.0\ntype 0 osd\ntype 1 host\nhost h1 { id -1 alg straw2 item osd.0 }\nhost h2 { id -2 alg straw2 }\n%operator a\nmove osd.0 host=h2\nrm x\n%operator b\nrm x\nadd osd.7 1 host=h1\n";
 

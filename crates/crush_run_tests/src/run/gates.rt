@@ -1,4 +1,5 @@
-//! What gates see and set: each call of a run in turn, and which of two guarded batches is first.
+//! Tests that a gate sees each call of a run in turn, and that a gate can decide which of two
+//! guarded batches is applied first.
 
 use super::at_once::reaches;
 use super::{AT_ONCE, MODE, joined, run_map, summary};
@@ -23,7 +24,7 @@ impl Watch {
     }
 }
 
-/// The digit before a call; the one after it is the next.
+/// Returns the digit that the gate notes before a call. After the call, it notes the next digit.
 fn digit(operator: usize, number: usize) -> usize {
     (operator % 2) * 4 + (number % 2) * 2 + 1
 }
@@ -73,7 +74,8 @@ impl<C: Clock> Gate for First<'_, C> {
     }
 }
 
-/// Both put one device into a host of their own, where nothing has changed yet.
+/// Two operators, each with a batch that puts the same device into another host if nothing has
+/// changed yet.
 const TWO_GUARDS: &[u8] =
     b"%operator a\nbegin at 0\nadd osd.7 1 host=h1\ncommit\n%operator b\nbegin at 0\nadd osd.7 1 host=h2\ncommit\n";
 

@@ -1,10 +1,10 @@
-//! Operators at once on a map of the most buckets.
+//! Tests operators that work at once on a map with the largest number of buckets.
 
 use super::at_once::ByTurns;
 use super::{AT_ONCE, joined, run_map, summary};
 use std::process::Abort;
 
-/// The most buckets of a map.
+/// The largest number of buckets that a map can have.
 const DEPTH: u32 = 4096;
 
 fn put_behind(rt: &impl Abort, text: &mut Vec<u8>, bytes: &[u8]) {
@@ -24,7 +24,8 @@ fn put_host(
     put_behind(rt, text, host.as_bytes());
 }
 
-/// The printed map of one device below the most buckets, each in the next, where all weigh this.
+/// Returns the printed text of a map with one device below a chain of `DEPTH` buckets. The device
+/// and all buckets have the weight `weight`.
 fn chain(rt: &(impl Abort + AllocGlobal), weight: &str) -> Vec<u8> {
     let mut text = Vec::new(rt.alloc());
     put_behind(
@@ -41,7 +42,8 @@ fn chain(rt: &(impl Abort + AllocGlobal), weight: &str) -> Vec<u8> {
     text
 }
 
-/// The innermost device and bucket are edited and end where they were.
+/// Two scripts that edit the innermost device and bucket. At the end these are where they were
+/// before.
 const TWO_SCRIPTS: &[u8] =
     b"%operator a\nreweight osd.0 3.0\nmove b1 host=b4096\n%operator b\nbegin\nreweight-subtree b4096 1.0\nreweight osd.0 2.0\ncommit\nmove b1 host=b2\n";
 

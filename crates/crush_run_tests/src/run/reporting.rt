@@ -1,4 +1,5 @@
-//! What standard error gets, and standard output where help is wanted.
+//! Tests what is written to standard error, and what is written to standard output if help is
+//! requested.
 
 use crate::run::is_listed;
 use crush_input::{Words, report, report_options};

@@ -1,5 +1,5 @@
-//! Scripts in files that no file system has: one whose name ends with its folder, one with a name
-//! of 256 bytes, and files that count the bytes which are read.
+//! Tests scripts in files that no file system can have: a file whose name ends after its folder, a
+//! file with a name of 256 bytes, and files that count the bytes that are read.
 
 use super::{joined, summary};
 use crate::maps::PLAIN;
@@ -35,7 +35,8 @@ impl<'a> Opens for Shelf<'a> {
     }
 }
 
-/// Whether a run of the map in the file `m`, with the script in the file `name`, ends so.
+/// Runs the script in the file `name` on the map in the file `m`. Returns whether the run has this
+/// outcome and this output.
 fn ends_so(
     rt: &(impl Abort + AllocGlobal + RandomSource + Threads + Wait + Sync),
     name: &str,
@@ -62,14 +63,14 @@ const BOB: &[u8] = b"%operator bob\nreweight osd.2 0.5\n";
 
 const BOB_LINE: &[u8] = b"# 1 bob reweight osd.2 0.50000 = done changed 0 made 0\n";
 
-/// An operator's name has 1 to 255 bytes: the first name has none after its folder, the second has
-/// 256.
+/// Names of files. Their last parts can't be names of operators, which have 1 to 255 bytes: the
+/// first has no bytes after its folder, and the second has 256 bytes.
 const NAMELESS: [&str; 2] = [
     "a/",
     "aaaaaaaaaaaaaaaaaaaaaaaaaaaaaaaaaaaaaaaaaaaaaaaaaaaaaaaaaaaaaaaaaaaaaaaaaaaaaaaaaaaaaaaaaaaaaaaaaaaaaaaaaaaaaaaaaaaaaaaaaaaaaaaaaaaaaaaaaaaaaaaaaaaaaaaaaaaaaaaaaaaaaaaaaaaaaaaaaaaaaaaaaaaaaaaaaaaaaaaaaaaaaaaaaaaaaaaaaaaaaaaaaaaaaaaaaaaaaaaaaaaaaaaaaaaaaaaa",
 ];
 
-/// The script's line is the 42nd, below the map.
+/// The `%operator` line of the script is line 42 of the job, after the map.
 #[test]
 fn a_file_whose_name_is_no_operators_is_a_bad_line(rt: HostRuntime) {
     let why = BadLine::Word(Misfit {
@@ -87,7 +88,7 @@ fn a_file_whose_name_is_no_operators_is_a_bad_line(rt: HostRuntime) {
     }
 }
 
-/// Files of 10,000,000 bytes each, with a count of the bytes read of all.
+/// Files of 10,000,000 bytes each. `taken` counts the bytes that are read from all these files.
 #[derive(Clone, Copy)]
 struct Counted<'a> {
     taken: &'a AtomicU64,
@@ -100,7 +101,7 @@ struct Rest<'a> {
 }
 
 impl Read for Rest<'_> {
-    /// Leaves `buf` as it is: no byte of so many is looked at.
+    /// Leaves `buf` unchanged, because nothing looks at the bytes of a job that is too long.
     fn read(&mut self, buf: &mut [u8]) -> io::Result<usize> {
         let count = buf.len().min(self.left);
         self.left -= count;
@@ -124,7 +125,8 @@ impl<'a> Opens for Counted<'a> {
     }
 }
 
-/// Of the first file all is read, and of the second what a job may still have and a byte more.
+/// The first file is read as a whole. From the second file, the run reads as many bytes as the job
+/// may still have, and one byte more.
 #[test]
 fn the_files_of_a_job_are_read_up_to_one_limit(rt: HostRuntime) {
     let taken = AtomicU64::new(0);

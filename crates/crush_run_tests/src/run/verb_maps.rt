@@ -1,4 +1,5 @@
-//! The maps of verbs: which texts are read, and what standard error gets of the others.
+//! Tests the maps that verbs read: which texts are accepted, and what is written to standard error
+//! about the other texts.
 
 use super::scripts::Shelf;
 use crate::maps::PLAIN;

@@ -1,7 +1,7 @@
-//! The texts of maps, and the JSON documents expected for them.
+//! Has the texts of maps, and the JSON documents that are expected for these maps.
 
-/// What `crushtool --dump` prints, except for the other tunables, with members in the order of
-/// their names and on one line.
+/// The document that `crushtool --dump` prints, with three differences: the other tunables are left
+/// out, members are in the order of their names, and everything is on one line.
 pub const EXAMPLE_DOCUMENT: &[u8] = b"\
     {\"map\":{\
     \"buckets\":[\
@@ -35,7 +35,8 @@ pub const CLASSED_MAP: &[u8] = b"\
     rule slow { id 5 type erasure step set_choose_tries 100 step take default class hdd step choose indep -1 type root step emit }\n\
     rule fast { id 2 type any step take default class ssd step emit }\n";
 
-/// The rule `slow` takes a class for which the bucket has no class id, so that step has no `item`.
+/// The rule `slow` takes a class for which the bucket has no class id, so the step that takes it
+/// has no `item`.
 pub const CLASSED_DOCUMENT: &[u8] = b"\
     {\"map\":{\
     \"buckets\":[\
@@ -58,7 +59,7 @@ pub const CLASSED_DOCUMENT: &[u8] = b"\
 pub const EMPTY_DOCUMENT: &[u8] =
     b"{\"map\":{\"buckets\":[],\"devices\":[],\"rules\":[],\"tunables\":{},\"types\":[]}}\n";
 
-/// A job with a command of each kind, whose replies have each form.
+/// A job with a command of each kind. The replies to the commands have all forms of replies.
 pub const JOB: &[u8] = b"\
     type 1 root\n\
     root default { id -1 alg straw2 hash 0 }\n\

@@ -1,4 +1,5 @@
-//! The JSON documents of plans, which have the commands as a monitor accepts them.
+//! Tests the JSON documents of plans. They have the commands in the form that a Ceph monitor
+//! accepts.
 
 use crush_history::Call;
 use crush_json::write_plan_document;
@@ -26,7 +27,7 @@ const COMMANDS: &[u8] = b"\
 
 const REST: &[u8] = b"osd.1: class hdd, wanted (none)\ntunables differ\n";
 
-/// The expected document. Its keys are those of Ceph's own table of commands.
+/// The expected document. The keys of its commands are the keys in Ceph's own table of commands.
 const PLAN: &[u8] = b"\
     {\"aside\":{\"class_ids\":1,\"ids\":2},\"plan\":[\
     {\"args\":[\"host=h3\",\"root=default\"],\"id\":3,\"prefix\":\"osd crush add\",\"weight\":0.332993},\

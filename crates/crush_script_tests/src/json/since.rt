@@ -1,4 +1,4 @@
-//! The JSON documents of what has changed from one map to another.
+//! Tests the JSON documents that say what has changed from one map to another.
 
 use super::maps::STRAY_MAP;
 use crate::maps::EXAMPLE_MAP;
@@ -27,8 +27,8 @@ const MOVING: &[u8] = b"\
     %operator a\n\
     create-or-move osd.0 5.0 host=h2\n";
 
-/// The device keeps its weight of 1.0: h1 changes from 2.0 to 1.0 and h2 from 0.5 to 1.5, and the
-/// total remains 2.5.
+/// The device moves from h1 to h2 and keeps its weight of 1.0. So the weight of h1 changes from 2.0
+/// to 1.0, the weight of h2 changes from 0.5 to 1.5, and the total remains 2.5.
 const MOVED: &[u8] = b"\
     {\"since\":{\"classes\":[],\
     \"counts\":{\"class\":0,\"made\":0,\"moved\":1,\"removed\":0,\"renamed\":0,\"weight\":2},\
@@ -53,7 +53,7 @@ const MOVED_BELOW: &[u8] = b"\
     \"is\":{\"name\":\"osd.0\",\"parent\":\"h2\",\"type\":\"osd\",\"weight\":65536},\
     \"was\":{\"name\":\"osd.0\",\"parent\":\"h1\",\"type\":\"osd\",\"weight\":65536}}]}}\n";
 
-/// A root, and a device that is in no bucket, have no parent.
+/// A root has no parent, and neither has a device that is in no bucket.
 const MADE: &[u8] = b"\
     {\"since\":{\
     \"classes\":[{\"is\":98304,\"name\":\"ssd\",\"taken\":false,\"was\":0}],\
@@ -65,8 +65,8 @@ const MADE: &[u8] = b"\
     \"is\":{\"class\":\"ssd\",\"name\":\"osd.7\",\"parent\":\"default\",\"type\":\"osd\",\"weight\":98304}}],\
     \"rules\":[],\"total\":[0,98304],\"tunables\":false,\"types\":true}}\n";
 
-/// Two maps with the same items, of which the bucket has another algorithm and another class id,
-/// and the device another class.
+/// Two maps with the same items. In the second map the bucket has another algorithm and another
+/// class id, and the device has another class.
 const CLASSES_BEFORE: &[u8] = b"\
     device 0 osd.0 class hdd\n\
     type 1 root\n\

@@ -1,4 +1,5 @@
-//! The JSON documents of the trees of maps. Weights in them are in units.
+//! Tests the JSON documents that show a map as a tree. The weights in these documents are in units
+//! of 1/65536.
 
 use super::maps::STRAY_MAP;
 use crate::maps::EXAMPLE_MAP;

@@ -1,12 +1,12 @@
-//! The maps from which and to which plans lead. The text of a map is a list of parts, so that maps
-//! share the lines in which they agree. Most maps are the example map with one difference.
+//! Has the maps between which plans lead. The text of a map is a list of parts, so that several
+//! maps can share the lines in which they agree. Most maps are the example map with one difference.
 
 use crate::maps::{EXAMPLE_MAP, map_of};
 use crush_map::CrushMap;
 use std::alloc::Global;
 use std::process::Abort;
 
-/// Parses the text that the parts form one after the other. The text must be valid.
+/// Joins the parts to one text, and parses this text. The text must be valid.
 pub fn map_of_parts(rt: &(impl Abort + AllocGlobal), parts: &[&[u8]]) -> CrushMap<Global> {
     let mut text = Vec::new(rt.alloc());
     for part in parts {
@@ -43,7 +43,7 @@ const H1: &[u8] =
 
 const H2: &[u8] = b"host h2 { id -3 alg straw2 hash 0 item osd.2 weight 0.5 }\n";
 
-/// The hosts h1 and h2 have each other's ids.
+/// The hosts h1 and h2 have exchanged their ids.
 const HOSTS_SWAPPED: &[u8] = b"\
     host h2 { id -2 alg straw2 hash 0 item osd.2 weight 0.5 }\n\
     host h1 { id -3 alg straw2 hash 0 item osd.0 weight 1.0 item osd.1 weight 1.0 }\n";
@@ -55,7 +55,7 @@ const END: &[u8] = b"\
     root default { id -1 alg straw2 hash 0 item h1 item h2 }\n\
     rule replicated_rule { id 0 type replicated step take default step chooseleaf firstn 0 type host step emit }\n";
 
-/// The hosts h1 and h2 have each other's positions in the root.
+/// The hosts h1 and h2 have exchanged their positions in the root.
 const ROOT_SWAPPED: &[u8] = b"root default { id -1 alg straw2 hash 0 item h2 item h1 }\n";
 
 const RULE: &[u8] =
@@ -71,7 +71,7 @@ pub const MOVED: &[&[u8]] = &[
     END,
 ];
 
-/// The buckets h1 and h2 are exchanged: each has the other's id and position.
+/// The buckets h1 and h2 are swapped: each of them has the id and the position of the other bucket.
 pub const SWAPPED: &[&[u8]] = &[HEAD, HOSTS_SWAPPED, ROOT_SWAPPED, RULE];
 
 /// The rack r1, the host h3 in it, and the device osd.3 in h3 are new.
@@ -116,7 +116,7 @@ pub const NUMBERED: &[&[u8]] = &[
     END,
 ];
 
-/// The buckets h1 and h2 have each other's names.
+/// The buckets h1 and h2 have exchanged their names.
 pub const RENAMED: &[&[u8]] = &[
     HEAD,
     b"host h2 { id -2 alg straw2 hash 0 item osd.0 weight 1.0 item osd.1 weight 1.0 }\n",
@@ -130,6 +130,42 @@ pub const WEIGHTLESS: &[&[u8]] = &[
     HEAD,
     b"host h1 { id -2 alg straw2 hash 0 item osd.0 weight 0 item osd.1 weight 0 }\n",
     b"host h2 { id -3 alg straw2 hash 0 item osd.2 weight 0 }\n",
+    END,
+];
+
+/// All devices have the weight 0.75.
+pub const EVEN: &[&[u8]] = &[
+    HEAD,
+    b"host h1 { id -2 alg straw2 hash 0 item osd.0 weight 0.75 item osd.1 weight 0.75 }\n",
+    b"host h2 { id -3 alg straw2 hash 0 item osd.2 weight 0.75 }\n",
+    END,
+];
+
+/// The device osd.0 is in h2, where both devices have the weight 0.75, and osd.1 has the weight 0.25.
+pub const MOVED_AND_LIGHTER: &[&[u8]] = &[
+    HEAD,
+    b"host h1 { id -2 alg straw2 hash 0 item osd.1 weight 0.25 }\n",
+    b"host h2 { id -3 alg straw2 hash 0 item osd.2 weight 0.75 item osd.0 weight 0.75 }\n",
+    END,
+];
+
+/// The devices osd.0 and osd.1 have the class hdd, and osd.2 has the class ssd.
+pub const CLASSES: &[&[u8]] = &[
+    TUNABLE,
+    b"device 0 osd.0 class hdd\ndevice 1 osd.1 class hdd\ndevice 2 osd.2 class ssd\n",
+    TYPES,
+    H1,
+    H2,
+    END,
+];
+
+/// The device osd.0 has the class ssd, and osd.2 has the class hdd.
+pub const OTHER_CLASSES: &[&[u8]] = &[
+    TUNABLE,
+    b"device 0 osd.0 class ssd\ndevice 1 osd.1\ndevice 2 osd.2 class hdd\n",
+    TYPES,
+    H1,
+    H2,
     END,
 ];
 
@@ -154,7 +190,7 @@ pub const DEVICE_IN_H2: &[&[u8]] = &[
     END,
 ];
 
-/// The weight of osd.0 isn't a whole number.
+/// The weight of osd.0 is 1.81898, which isn't a whole number.
 pub const HEAVY: &[&[u8]] = &[
     HEAD,
     b"host h1 { id -2 alg straw2 hash 0 item osd.0 weight 1.81898 item osd.1 weight 1.0 }\n",
@@ -162,8 +198,8 @@ pub const HEAVY: &[&[u8]] = &[
     END,
 ];
 
-/// The same map as Ceph's own tool prints it. The tool cuts off the weight of osd.0, so the weight
-/// is one unit less.
+/// The map `HEAVY` in the form in which Ceph's own tool prints it. The tool cuts the weight of
+/// osd.0, so the printed weight is one unit less.
 pub const HEAVY_CUT: &[&[u8]] = &[
     HEAD,
     b"host h1 { id -2 alg straw2 hash 0 item osd.0 weight 1.81897 item osd.1 weight 1.0 }\n",
@@ -171,8 +207,8 @@ pub const HEAVY_CUT: &[&[u8]] = &[
     END,
 ];
 
-/// The type and the algorithm of h1, the weight and the class of osd.1, and the place of osd.0 are
-/// different. osd.2 is missing; osd.3 and h3 are new.
+/// This map differs from the example map in the type and the algorithm of h1, the weight and the
+/// class of osd.1, and the place of osd.0. osd.2 is missing, and osd.3 and h3 are new.
 pub const OTHERWISE: &[&[u8]] = &[
     TUNABLE,
     b"device 0 osd.0\ndevice 1 osd.1 class hdd\ndevice 3 osd.3\n",
@@ -194,7 +230,7 @@ pub const RETYPED: &[&[u8]] = &[
 
 const ROW_TYPES: &[u8] = b"type 0 osd\ntype 1 host\ntype 4 row\ntype 11 root\n";
 
-/// A row that has a device, and an empty root that a rule takes.
+/// A bucket of the type row that has a device, and an empty root that a rule takes.
 pub const NAMES_OF_OTHER_TYPES: &[&[u8]] = &[
     b"device 2 osd.2\ndevice 4 osd.4\n",
     ROW_TYPES,
@@ -222,7 +258,7 @@ pub const TWO_ROOTS: &[&[u8]] = &[
     b"root r2 { id -4 alg straw2 hash 0 item h2 }\n",
 ];
 
-/// The two hosts are swapped: each has the other's id and place.
+/// The two hosts are swapped: each of them has the id and the parent of the other host.
 pub const TWO_ROOTS_SWAPPED: &[&[u8]] = &[
     DEVICES,
     TYPES,
@@ -235,7 +271,7 @@ const HOSTS_OF_REGIONS: &[u8] = b"\
     host h1 { id -2 alg straw2 hash 0 item osd.0 weight 1.0 }\n\
     host h2 { id -3 alg straw2 hash 0 item osd.1 weight 1.0 }\n";
 
-/// A region has the type 9.
+/// The type region has the number 9.
 pub const REGION_9: &[&[u8]] = &[
     TWO_DEVICES,
     b"type 0 osd\ntype 1 host\ntype 9 region\ntype 10 root\n",
@@ -243,7 +279,7 @@ pub const REGION_9: &[&[u8]] = &[
     ROOT,
 ];
 
-/// A region has the type 10, and there is one.
+/// The type region has the number 10, and there is a region.
 pub const REGION_10: &[&[u8]] = &[
     TWO_DEVICES,
     b"type 0 osd\ntype 1 host\ntype 9 zone\ntype 10 region\ntype 11 root\n",
@@ -258,7 +294,8 @@ const N1: &[u8] = b"host n1 { id -3 alg straw2 hash 0 item osd.0 weight 1.0 }\n"
 
 const ROOT_OF_THREE: &[u8] = b"root default { id -1 alg straw2 hash 0 item n1 item n2 item n3 }\n";
 
-/// The ids that a monitor gives, which also gives ids to class trees.
+/// Three hosts with the ids that a Ceph monitor gives them. The monitor also gives ids to the class
+/// trees, so some ids are skipped.
 pub const HOSTS_OF_CEPH: &[&[u8]] = &[
     DEVICES,
     HOST_TYPES,
@@ -268,7 +305,7 @@ pub const HOSTS_OF_CEPH: &[&[u8]] = &[
     ROOT_OF_THREE,
 ];
 
-/// The same hosts with the ids nearest to 0: n3 has the id that n2 has above.
+/// The hosts of `HOSTS_OF_CEPH` with the ids nearest to 0. Here n3 has the id that n2 has there.
 pub const HOSTS: &[&[u8]] = &[
     DEVICES,
     HOST_TYPES,
@@ -278,7 +315,7 @@ pub const HOSTS: &[&[u8]] = &[
     ROOT_OF_THREE,
 ];
 
-/// Two devices of the weight 1 are in h1, which is outside of the rack r1.
+/// Two devices with the weight 1 are in h1, which is outside the rack r1.
 pub const STRANGER_BELOW: &[&[u8]] = &[
     TWO_DEVICES,
     TYPES,

@@ -1,5 +1,5 @@
-//! Which differences remain between a part of two maps. Expected values are worked by hand from the
-//! table of docs/dev/names.md.
+//! Tests which differences remain in a part of two maps. The expected values were worked out by
+//! hand from the table in docs/dev/names.md.
 
 use crate::plan::maps::*;
 use crush_since::{count_aside, stays_part};

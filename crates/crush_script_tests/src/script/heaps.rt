@@ -1,4 +1,4 @@
-//! Maps that are read into a heap of the test.
+//! Tests maps that are read into a heap of limited size.
 
 use crate::script::{PLAIN_EXAMPLE_MAP, text_of};
 use crush_map::{CrushMap, Hashing};
@@ -28,8 +28,8 @@ fn the_plain_example_map_is_read_into_a_heap(rt: HostRuntime) {
     assert!(rt; holds_the_map(&rt, 65536) == Ok(true));
 }
 
-/// Whether the fault is that memory ran out. In the smallest heap it runs out for the first device,
-/// whose name is at byte 38.
+/// Whether the fault is that memory ran out. In the smallest heap, memory runs out for the first
+/// device, whose name is at byte 38.
 fn is_lack(fault: TextFault, is_smallest: bool) -> bool {
     fault.kind == TextFaultKind::OutOfMemory
         && fault.place < PLAIN_EXAMPLE_MAP.len()

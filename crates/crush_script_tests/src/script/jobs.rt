@@ -1,4 +1,4 @@
-//! Jobs, and runs of their scripts one after the other.
+//! Tests jobs, and runs in which their scripts are applied one after the other.
 
 use crate::script::{PLAIN_EXAMPLE_MAP, is_no_job, job_of, joined};
 use crush_edits::Edit;
@@ -119,7 +119,8 @@ fn misfit_in(line: usize, word: usize, due: Due) -> JobFault {
     }
 }
 
-/// Words of a line that don't fit: the line, the index of the word, and what is due.
+/// Lines with a word that doesn't fit: the line, the index of this word, and what is expected at
+/// its place.
 const MISFITS: &[(&[u8], usize, Due)] = &[
     (b"add h1 1 host=h1", 1, Due::Device),
     (b"add \"osd.0\" 1 host=h1", 1, Due::Device),

@@ -1,5 +1,5 @@
-//! As many devices and buckets as a map can have, and as great a weight, and one more of each. The
-//! other limits are in examples/refused/limits.txt.
+//! Tests the largest numbers of devices and of buckets and the greatest weight that a map can have,
+//! and that one more is rejected. The other limits are in examples/refused/limits.txt.
 
 use crate::maps::map_of;
 use crate::script::{is_refused_behind, joined, put_behind};
@@ -12,8 +12,8 @@ fn put_number(rt: &(impl Abort + AllocGlobal), text: &mut Vec<u8>, number: u32) 
     put_behind(rt, text, digits.as_bytes());
 }
 
-/// Appends the line with the number in place of each `@`, and the number before it in place of each
-/// `~`.
+/// Appends the line. Each `@` in it is replaced by the number `number`, and each `~` by the number
+/// before that.
 fn put_line(rt: &(impl Abort + AllocGlobal), text: &mut Vec<u8>, line: &[u8], number: u32) {
     for byte in line {
         match *byte {
@@ -61,8 +61,8 @@ fn at_most_65536_devices(rt: HostRuntime) {
     assert!(rt; devices == 65536 && is_refused);
 }
 
-/// A map of 4,096 buckets, each of which, except the first, has the bucket of the line before it as
-/// its item.
+/// Returns the text of a map with 4,096 buckets. The item of each bucket is the bucket of the
+/// previous line; the first bucket has no items.
 fn chain(rt: &(impl Abort + AllocGlobal)) -> Vec<u8> {
     let before = b"type 1 host\nhost b1 { id -1 alg straw2 }\n";
     let line = b"host b@ { id -@ alg straw2 item b~ weight 0 }\n";
@@ -93,14 +93,14 @@ fn at_most_4096_buckets(rt: HostRuntime) {
 
 const THREE_DEVICES: &[u8] = b"device 1@ d@\ndevice 2@ e@\ndevice 3@ f@\n";
 
-/// A host whose devices weigh 2147483647, 2147483647 and 1 units: together the most that a bucket
-/// can weigh.
+/// A host whose devices weigh 2147483647, 2147483647 and 1 units. Their sum is the most that a
+/// bucket can weigh.
 const HOST_OF_THREE: &[u8] = b"\
     host h@ { id -1@ alg straw2 item d@ weight 32767.99998 item e@ weight 32767.99998 \
     item f@ weight 0.00002 }\n";
 
-/// 2,048 hosts of 4294967295 units each, and the beginning of one more host, up to the weight of
-/// its device.
+/// Returns the text of a map with 2,048 hosts that weigh 4294967295 units each. The text ends in
+/// the middle of one more host, before the weight of its device.
 fn heaviest(rt: &(impl Abort + AllocGlobal)) -> Vec<u8> {
     let mut text = with_lines(rt, b"type 1 host\ndevice 0 d\n", THREE_DEVICES, 0..2048);
     put_lines(rt, &mut text, HOST_OF_THREE, 0..2048);

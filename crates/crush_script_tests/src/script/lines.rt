@@ -1,4 +1,5 @@
-//! Lines of a history, made from copies of calls. No job of these tests has such lines.
+//! Tests lines of a history that are written for copies of calls. No job of these tests has such
+//! lines.
 
 use crush_edits::{Done, Dones, Edit, Refusal};
 use crush_history::{Call, Edits, Reply, write_entry};
@@ -47,14 +48,14 @@ fn is_single(rt: &impl AllocGlobal, call: &Call) -> bool {
     has_line(rt, call, (4, b"b"), done, line) && has_line(rt, call, (65536, b"op-1"), refused, last)
 }
 
-/// The line of a batch of one edit, which is refused like a single edit.
+/// Tests the line of a batch that has one edit and is refused with the reply of a single edit.
 fn is_batch(rt: &impl AllocGlobal, call: &Call) -> bool {
     let refused = Reply::Refused(Refusal::Loop);
     let line = b"# 1 a begin ; reweight osd.2 1.00000 ; commit = refused Loop 40\n";
     has_line(rt, call, (1, b"a"), refused, line)
 }
 
-/// The line of an empty batch, with a reply like that of a batch of many edits.
+/// Tests the line of an empty batch that has the reply of a batch of many edits.
 fn is_empty_batch(rt: &impl AllocGlobal, call: &Call) -> bool {
     let done = Reply::Dones(Dones {
         edits: 65536,

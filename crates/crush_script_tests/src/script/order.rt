@@ -1,4 +1,4 @@
-//! The order of the ids of devices and buckets in texts that `crushtool` printed.
+//! Tests the order of devices and buckets in texts that `crushtool` has printed.
 
 use crate::maps::map_of;
 use crate::script::text_of;
@@ -37,7 +37,8 @@ fn a_device_that_no_bucket_holds_stands_by_its_id(rt: HostRuntime) {
     assert!(rt; are_in_order(&rt, UNPLACED, &[0, 1, 2, 9], &[-2, -3, -1]));
 }
 
-/// The map of `examples/maps/conf-3.job`: a later host has an id farther below 0 than its rack.
+/// The map of `examples/maps/conf-3.job`: a host that comes later has an id that is farther below 0
+/// than the id of its rack.
 const NESTED: &[u8] = b"\
     # begin crush map\n\
     tunable choose_local_tries 0\n\

@@ -1,5 +1,5 @@
-//! Reads each prefix of the example map's text. A simple rule about its lines says which prefixes
-//! are the text of a map.
+//! Reads each prefix of the example map's text. A simple rule about the text's lines says which
+//! prefixes are the text of a map.
 
 use crate::script::{put_behind, text_of};
 use crush_map::CrushMap;
@@ -94,8 +94,9 @@ fn count_words(line: &[u8]) -> u32 {
     count
 }
 
-/// Whether the prefix is the text of a map. It is so even if the last word of a tunable, a device
-/// or a type is cut short, because what is left is a number, or a name that isn't used otherwise.
+/// Whether the prefix is the text of a map. It may be one even if the last word of a tunable, a
+/// device or a type is cut short, because the rest of this word is still a number, or a name that
+/// isn't used elsewhere.
 fn is_whole(prefix: &[u8]) -> bool {
     let line = last_line(prefix);
     let is_between = line.is_empty() || line.starts_with(b"#") || line == b"}".as_slice();
@@ -140,7 +141,8 @@ fn has_the_statements(
     statements(rt, text.as_slice()) == statements(rt, prefix)
 }
 
-/// Whether the prefix is read as expected. `is_cut` says that the prefix ends within a word.
+/// Whether reading the prefix has the expected result. `is_cut` says whether the prefix ends within
+/// a word.
 fn is_due(rt: &(impl Abort + AllocGlobal), prefix: &[u8], is_cut: bool) -> bool {
     match read_map(rt.alloc(), prefix) {
         Ok((map, adjusted)) => {

@@ -1,4 +1,4 @@
-//! How the plain example map is read and printed, and how faults are printed.
+//! Tests how the plain example map is read and printed, and how faults are printed.
 
 use crate::script::{PLAIN_EXAMPLE_MAP, text_of};
 use crush_map::CrushMap;

@@ -1,4 +1,5 @@
-//! The two forms in which a map's text has its weights. The weights are 1, 119208 and 238465 units.
+//! Tests the two forms in which weights are printed in a map's text. The weights are 1, 119208 and
+//! 238465 units.
 
 use crate::script::text_of;
 use crush_print::{WeightForm, write_map};

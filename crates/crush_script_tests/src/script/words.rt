@@ -1,4 +1,4 @@
-//! How a text is split into words, and which words are numbers.
+//! Tests how a text is split into words, and which words are numbers.
 
 use crate::script::{LONGEST, TOO_LONG, joined};
 use crush_units::number::number_up_to;

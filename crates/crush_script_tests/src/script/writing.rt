@@ -1,10 +1,10 @@
-//! Writers that accept only a few bytes at a time, and that fail.
+//! Tests writers that accept only a few bytes at a time, and writers that fail.
 
 use crush_units::{WriteFault, put, put_all};
 use std::io::{self, Error, ErrorKind, Write};
 
-/// A writer that accepts at most seven bytes in a call. After `room` bytes it fails once, or
-/// accepts nothing once. Then it accepts all, so that code that tried again would be noticed.
+/// A writer that accepts at most seven bytes in a call. After `room` bytes, one call fails or
+/// accepts no bytes. Later calls accept bytes again, so a test would notice code that tries again.
 #[derive(Drop)]
 struct Slow {
     held: Vec<u8>,

@@ -1,4 +1,4 @@
-//! What has changed from one map to another, as a tree.
+//! Tests the tree that shows what has changed from one map to another.
 
 use super::EXAMPLE_MAP;
 use super::changes::MOVED;
@@ -63,7 +63,7 @@ pub(super) const ROW: &[u8] = b"\
     row row00 { id -2 alg straw2 hash 0 item rack000 weight 1.0 item rack001 weight 0.0 }\n\
     root default { id -1 alg straw2 hash 0 item row00 weight 1.0 }\n";
 
-/// The empty rack is gone, and a new host has its id.
+/// The empty rack of the map `ROW` is removed, and a new host has the rack's id.
 pub(super) const ROW_AGAIN: &[u8] = b"\
     device 0 osd.0\n\
     device 1 osd.1\n\

@@ -1,4 +1,4 @@
-//! What has changed in a part of a map, and whether anything has.
+//! Tests what has changed in a part of a map, and whether anything has changed.
 
 use super::EXAMPLE_MAP;
 use super::changes::MOVED;

@@ -1,4 +1,4 @@
-//! What has changed from one map to another, as text.
+//! Tests the text that says what has changed from one map to another.
 
 use super::EXAMPLE_MAP;
 use crate::maps::map_of;
@@ -60,7 +60,7 @@ const RULE: &[u8] = b"\
     root default { id -1 alg straw2 hash 0 item h1 weight 1.0 item h2 weight 0.0 }\n\
     rule data { id 0 type replicated step take default class hdd step take h1 step take h2 step emit }\n";
 
-/// The map after `move osd.0 host=h2`, and with another class of osd.0.
+/// The map `RULE` after `move osd.0 host=h2`. In addition, osd.0 has another class.
 const RULE_EMPTIED: &[u8] = b"\
     device 0 osd.0 class ssd\n\
     type 1 host\n\
@@ -86,7 +86,8 @@ fn a_rule_that_finds_nothing_now_is_told(rt: HostRuntime) {
     assert!(rt; is_since(&rt, RULE, RULE_EMPTIED, changes));
 }
 
-/// With another rule of the name data, a new rule, and without the rule gone.
+/// A map with the three rules `gone`, `kept` and `data`. The map `OTHER_RULES` has no rule `gone`,
+/// a new rule `fast`, and another rule with the name `data`.
 const THREE_RULES: &[u8] = b"\
     type 11 root\n\
     root a { id -1 alg straw2 hash 0 }\n\

@@ -1,8 +1,9 @@
-//! Trees of one class, and the weights of the class of which their lines are made.
+//! Tests the trees that show only one class, and the weights of the class that their lines show.
 
 use crate::maps::map_of;
 use crush_map::CrushMap;
 use crush_print::{TreePart, class_weights, has_class, write_tree_of_class};
+use crush_since::write_changes_of_class;
 use crush_units::Weight;
 use std::alloc::Global;
 use std::process::Abort;
@@ -85,7 +86,7 @@ fn a_class_is_that_of_a_device(rt: HostRuntime) {
     assert!(rt; is);
 }
 
-/// Whether this is a weight of these units, or neither is there.
+/// Whether `weight` is a weight of `units` units, or both are `None`.
 fn weighs(weight: &Option<Weight>, units: &Option<u32>) -> bool {
     match (weight, units) {
         (Some(weight), Some(units)) => weight.units() == *units,
@@ -123,4 +124,106 @@ fn each_item_weighs_what_its_devices_of_the_class_weigh(rt: HostRuntime) {
     drop(weights);
     drop(map);
     assert!(rt; are);
+}
+
+/// The map of `CLASSED` after `move osd.0 host=h3`.
+const MOVED: &[u8] = b"\
+    device 0 osd.0 class ssd\n\
+    device 1 osd.1 class hdd\n\
+    device 2 osd.2 class ssd\n\
+    device 3 osd.3\n\
+    device 4 osd.4 class ssd\n\
+    device 5 osd.5 class hdd\n\
+    type 0 osd\n\
+    type 1 host\n\
+    type 3 rack\n\
+    type 11 root\n\
+    host h1 { id -2 alg straw2 hash 0 item osd.1 weight 2.0 }\n\
+    rack r1 { id -4 alg straw2 hash 0 item h1 weight 2.0 }\n\
+    host h2 { id -3 alg straw2 hash 0 item osd.2 weight 0.5 item osd.3 weight 4.0 }\n\
+    host h3 { id -5 alg straw2 hash 0 item osd.5 weight 1.0 item osd.0 weight 1.0 }\n\
+    root default { id -1 alg straw2 hash 0 item r1 weight 2.0 item h2 weight 4.5 item h3 weight 2.0 }\n";
+
+fn are_changes(
+    rt: &(impl Abort + AllocGlobal),
+    maps: (&[u8], &[u8]),
+    class: &str,
+    under: &str,
+    tree: &[u8],
+) -> bool {
+    let old = map_of(rt, maps.0);
+    let new = map_of(rt, maps.1);
+    let part = part_of(&new, under, "");
+    let mut told = Vec::new(rt.alloc());
+    write_changes_of_class(rt.alloc(), &old, &new, part, class, &mut told).expect(rt, "no tree");
+    let is = told.as_slice() == tree;
+    drop(told);
+    drop(new);
+    drop(old);
+    is
+}
+
+#[test]
+fn in_a_tree_of_changes_the_devices_of_one_class_count(rt: HostRuntime) {
+    let tree = b"\
+        ID  CLASS  WAS      WEIGHT   TYPE NAME\n\
+        -1         1.50000  1.50000  root default\n\
+        -4         1.00000  0.00000      rack r1\n\
+        -2         1.00000  0.00000          host h1\n \
+        0    ssd  1.00000        -              osd.0\n\
+        -5         0.00000  1.00000      host h3\n \
+        0    ssd        -  1.00000          osd.0 (from h1)\n\
+        total 8.50000 to 8.50000\n\
+        0 made, 0 removed, 0 renamed, 1 moved, 3 of other weight, 0 of other class\n";
+    assert!(rt; are_changes(&rt, (CLASSED, MOVED), "ssd", "", tree));
+}
+
+#[test]
+fn changes_below_an_item_without_the_class_are_headings_alone(rt: HostRuntime) {
+    let tree = b"ID  CLASS  WAS  WEIGHT  TYPE NAME\n";
+    assert!(rt; are_changes(&rt, (CLASSED, MOVED), "hdd", "osd.0", tree));
+}
+
+/// A host and its only device, which has the class `ssd`.
+const IN_R1: &[u8] = b"\
+    device 0 osd.0 class ssd\n\
+    type 0 osd\n\
+    type 1 host\n\
+    type 3 rack\n\
+    type 11 root\n\
+    host h1 { id -4 alg straw2 hash 0 item osd.0 weight 1.0 }\n\
+    rack r1 { id -2 alg straw2 hash 0 item h1 weight 1.0 }\n\
+    rack r2 { id -3 alg straw2 hash 0 }\n\
+    root default { id -1 alg straw2 hash 0 item r1 weight 1.0 item r2 weight 0.0 }\n";
+
+/// The map of `IN_R1` after the host has moved to the other rack, and its device has another class.
+const IN_R2: &[u8] = b"\
+    device 0 osd.0 class hdd\n\
+    type 0 osd\n\
+    type 1 host\n\
+    type 3 rack\n\
+    type 11 root\n\
+    host h1 { id -4 alg straw2 hash 0 item osd.0 weight 1.0 }\n\
+    rack r1 { id -2 alg straw2 hash 0 }\n\
+    rack r2 { id -3 alg straw2 hash 0 item h1 weight 1.0 }\n\
+    root default { id -1 alg straw2 hash 0 item r1 weight 0.0 item r2 weight 1.0 }\n";
+
+/// Neither map has a device of the class below the rack r2, but the rack has a row: its host had
+/// such a device.
+#[test]
+fn a_row_has_the_rows_of_all_buckets_above_it(rt: HostRuntime) {
+    let tree = b"\
+        ID  CLASS  WAS      WEIGHT   TYPE NAME\n\
+        -1         1.00000  0.00000  root default\n\
+        -2         1.00000  0.00000      rack r1\n\
+        -4         1.00000        -          host h1\n\
+        -3         0.00000  0.00000      rack r2\n\
+        -4               -  0.00000          host h1 (from r1)\n \
+        0    hdd  1.00000  0.00000              osd.0 (class ssd to hdd)\n\
+        class hdd weighed 0.00000, weighs 1.00000\n\
+        class ssd weighed 1.00000, weighs 0.00000\n\
+        class hdd is new, and no rule takes it\n\
+        total 1.00000 to 1.00000\n\
+        0 made, 0 removed, 0 renamed, 1 moved, 2 of other weight, 1 of other class\n";
+    assert!(rt; are_changes(&rt, (IN_R1, IN_R2), "ssd", "", tree));
 }

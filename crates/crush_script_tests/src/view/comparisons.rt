@@ -1,11 +1,11 @@
-//! Two maps whose items are matched by their ids, or by their names.
+//! Tests comparisons of two maps whose items are matched by their ids or by their names.
 
 use super::EXAMPLE_MAP;
 use crate::maps::map_of;
 use crush_compare::{Comparison, Devices, Difference, Report};
 use std::alloc::Global;
 
-/// The example map without h2 and osd.2, with h4 and osd.3 in their place, and with a class.
+/// The example map in which h4 and osd.3 replace h2 and osd.2, and osd.1 has a class.
 const OTHER_MAP: &[u8] = b"\
     tunable chooseleaf_stable 1\n\
     device 0 osd.0\n\
@@ -19,9 +19,8 @@ const OTHER_MAP: &[u8] = b"\
     host h4 { id -4 alg straw2 hash 0 item osd.3 weight 0.5 }\n\
     root default { id -1 alg straw2 hash 0 item h1 weight 2.0 item h4 weight 0.5 }\n";
 
-/// The example map in another cluster: with other ids, with another number for the type of hosts,
-/// and with its hosts the other way round. osd.2 has made way for osd.3, and osd.1 weighs twice as
-/// much.
+/// The example map in another cluster: the ids differ, the type of hosts has another number, and
+/// the hosts are in the reverse order. osd.3 replaces osd.2, and osd.1 weighs twice as much.
 const OTHER_CLUSTER: &[u8] = b"\
     tunable chooseleaf_stable 1\n\
     device 1 osd.1\n\
@@ -71,7 +70,8 @@ fn word_of(difference: Option<Difference>) -> &'static [u8] {
     }
 }
 
-/// Whether the pairs have these names, each before or after, and differ as these words say.
+/// Whether the pairs are those of `rows`. Each row has the name of a pair's item and the words that
+/// say how the two maps differ in it.
 fn are_pairs(
     both: &Comparison<'_, Global, Global>,
     report: Report,

@@ -1,4 +1,5 @@
-//! The items of a map as one list, in the order of its tree and in the order of their ids.
+//! Tests the list of all items of a map, in the order of the map's tree and in the order of the
+//! ids.
 
 ghost use Rattle.std.specs.Prelude.{◌<◌, ◌^◌, length};
 
@@ -16,8 +17,8 @@ fn items_of<'a>(rt: &(impl Abort + AllocGlobal), map: &'a CrushMap<Global>) -> I
     Items::of(rt.alloc(), map).expect(rt, "no memory")
 }
 
-/// An item's name, its depth, and the name of the bucket that holds it, which is empty if there is
-/// none.
+/// The name of an item, its depth, and the name of its parent. The parent's name is empty if the
+/// item has no parent.
 type Row<'a> = (&'a [u8], u32, &'a [u8]);
 
 fn is_row(item: &Item<'_, Global>, row: &Row<'_>) -> bool {
@@ -55,8 +56,8 @@ fn the_example_map_has_its_items(rt: HostRuntime) {
     assert!(rt; are);
 }
 
-/// Two roots, of which the one that is read first has the id that is further from 0, and two
-/// devices that no bucket holds.
+/// A map with two roots and two devices that are in no bucket. The root that comes first in the
+/// text has the id that is farther from 0.
 const TWO_ROOTS: &[u8] = b"\
     device 7 osd.7\n\
     device 0 osd.0 class ssd\n\

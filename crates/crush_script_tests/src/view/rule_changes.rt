@@ -1,4 +1,5 @@
-//! Differences between the rules and the classes of two maps, as values.
+//! Tests the values `RuleChange` and `ClassChange`, which describe differences between the rules
+//! and the classes of two maps.
 
 use crate::maps::map_of;
 use crush_compare::{Devices, Identity};
@@ -9,8 +10,10 @@ use std::process::Abort;
 
 const BY_NAMES: Identity = Identity::Names(Devices::ByName);
 
-/// The root main takes the id of the root default, which is empty. So by ids the rule gone takes
-/// what holds the host, and by names it takes nothing. The rule kept takes main in both maps.
+/// In the second map, the root `main` has the id that the root `default` had, and `default` is
+/// empty. If buckets are matched by their ids, the rule `gone` takes the bucket that has the host.
+/// If they are matched by their names, it takes a bucket without weight. The rule `kept` takes
+/// `main` in both maps.
 const BEFORE: &[u8] = b"\
     device 0 osd.0 class hdd\n\
     device 1 osd.1 class ssd\n\
@@ -35,7 +38,7 @@ const AFTER: &[u8] = b"\
     rule fast { id 2 type replicated step take default class ssd step emit }\n\
     rule made { id 0 type replicated step take default step emit }\n";
 
-/// One word for each difference, with its names.
+/// Appends one word for the kind of the difference, and the names in it.
 fn push_word(rt: &(impl Abort + AllocGlobal), change: &RuleChange<'_>, words: &mut Vec<u8>) {
     match change {
         RuleChange::New(name) => push(rt, &[b"new ", name.as_bytes()], words),

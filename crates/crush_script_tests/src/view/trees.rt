@@ -1,4 +1,4 @@
-//! Trees as text, and the walks of which their lines are made.
+//! Tests the texts of trees, and the walks from which their lines are printed.
 
 use super::EXAMPLE_MAP;
 use crate::maps::map_of;

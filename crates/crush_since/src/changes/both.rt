@@ -1,4 +1,4 @@
-//! Two maps whose items are matched by ids, and look-ups in them.
+//! Two maps whose items are matched by ids, prepared for fast searches.
 
 ghost use Rattle.std.specs.Prelude.{◌≡◌, List, IfOk};
 ghost use Rattle.crush_compare.specs.Comparison.{pair_entries};
@@ -15,15 +15,15 @@ use crush_map::CrushMap;
 use crush_units::ItemId;
 use std::alloc::{AllocError, Allocator, Global};
 
-/// Two maps whose items are matched by ids. Each look-up is a binary search.
+/// Two maps whose items are matched by ids. Each search for an item is a binary search.
 #[derive(Drop)]
 pub(crate) struct Both<'a, A: Allocator, B: Allocator> {
     pub maps: Comparison<'a, A, B>,
-    /// The places of the old map's items.
+    /// The places of the old map's items, sorted by id.
     pub before: ById,
-    /// The places of the new map's items.
+    /// The places of the new map's items, sorted by id.
     pub after: ById,
-    /// The old map's buckets.
+    /// The old map's buckets, sorted by id.
     pub buckets: Buckets<'a, A>,
 }
 
@@ -52,7 +52,7 @@ impl<'a, A: Allocator, B: Allocator> Both<'a, A, B> {
         })
     }
 
-    /// Returns where each map has the item with this id.
+    /// Returns the positions of the item with this id in both maps.
     pub(super) fn pair_of(&self, id: &ItemId) -> Pair
         ensures { (t u : List Row) → AreTables t u self.now
             → pair_entries self.now.maps result ≡ id_entries t u id.now }

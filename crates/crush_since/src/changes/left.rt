@@ -1,4 +1,4 @@
-//! The rows of items that stood here in the old map and do no longer.
+//! The rows of the items that were in a place in the old map and are not there in the new map.
 
 ghost use Rattle.std.specs.Prelude.{◌≡◌, ◌+◌, ◌<◌, ◌^◌, List, [], ◌∷◌, ◌++◌, None, Some, OnOk, All, false, flat_map, map as each};
 ghost use Rattle.crush_model.specs.Items.{size_of};
@@ -49,8 +49,8 @@ pub(super) fn push_left_unplaced<A: Allocator, B: Allocator>(
     push_left_tops(both, unplaced.as_slice(), rows)
 }
 
-/// Appends the rows of those nodes of the old map that were at the top of its tree, and that are in
-/// another place in the new map or don't exist any more.
+/// Appends the rows of those roots or unplaced devices of the old map that are in another place in
+/// the new map, or that the new map doesn't have.
 fn push_left_tops<A: Allocator, B: Allocator>(
     both: &Both<'_, A, B>,
     nodes: &[&Node<A>],
@@ -121,7 +121,7 @@ fn push_if_left<A: Allocator, B: Allocator>(
 }
 
 /// Appends the row of a node that is no longer in its place. If the new map doesn't have the item
-/// at all, the rows of all items that were below it follow.
+/// at all, appends the rows of all items that were below it too.
 fn push_stood<A: Allocator, B: Allocator>(
     both: &Both<'_, A, B>,
     node: &Node<A>,
@@ -172,7 +172,8 @@ fn push_row<A: Allocator, B: Allocator>(
     Ok(())
 }
 
-/// Whether the item is in this place of the new map: below the bucket, or below none.
+/// Whether the new map has the item in this place: in the bucket, or in no bucket if `place` is
+/// `None`.
 fn stands_in<A: Allocator, B: Allocator>(
     both: &Both<'_, A, B>,
     id: ItemId,

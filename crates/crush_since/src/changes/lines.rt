@@ -3,13 +3,15 @@
 ghost use Rattle.std.specs.Prelude.{◌≡◌, ◌++◌, IfOk, OnOk, flat_map, map as each};
 ghost use Rattle.std.specs.Option.{option_map};
 ghost use Rattle.crush_since.specs.ChangeText.{change_line, heading, kind_and_name, name_column, name_word, rows_text, side_by_side, weight_or_dash as dashed, weights_column};
-ghost use Rattle.crush_since.specs.SeenChange.{change_data, row_change};
+ghost use Rattle.crush_since.specs.ClassChangesSeen.{shown_change};
+ghost use Rattle.crush_since.specs.SeenChange.{change_data};
 ghost use Rattle.crush_items.specs.SeenItem.{seen_data};
 ghost use Rattle.crush_print.specs.TreeText.{at_left, at_right};
 
 use crate::changes::notes::push_brackets;
+use crate::changes::of_class::{ClassWeights, shown_change};
 use crate::changes::rows::TreeRow;
-use crate::changes::seen::{Change, change_of};
+use crate::changes::seen::Change;
 use crate::changes::weights::{class_bytes, weighed, weighs, weight_or_dash};
 use crate::changes::widths::{ChangeWidths, widths_of};
 use crate::since::seen::Seen;
@@ -21,20 +23,23 @@ use crush_print::words::{push_all, push_indent, push_kind, push_row};
 use crush_units::{ItemId, Weight};
 use std::alloc::{AllocError, Allocator, Global};
 
+/// Appends the headings and the lines of the rows. If there are weights of a class, then the lines
+/// have these weights.
 #[tactic(auto, unfolding(crate::specs::ChangeText::rows_text))]
 pub(super) fn push_rows<A: Allocator, B: Allocator>(
     alloc: Global,
     maps: &Comparison<'_, A, B>,
+    weights: &Option<ClassWeights>,
     rows: &[TreeRow],
     out: &mut Vec<u8>,
 ) -> Result<(), AllocError>
     ensures { OnOk result (out.new.items ≡ out.old.items
         ++ rows_text maps.now.old.map.now.setting maps.now.new.map.now.setting
-        (each (row_change maps.now) rows.now)) }
+        (each (shown_change maps.now weights.now) rows.now)) }
 {
-    let widths = widths_of(alloc, maps, rows)?;
+    let widths = widths_of(alloc, maps, weights, rows)?;
     push_heading(alloc, &widths, out)?;
-    push_lines(alloc, maps, &widths, rows, out)
+    push_lines(alloc, maps, weights, &widths, rows, out)
 }
 
 #[tactic(auto, unfolding(crate::specs::ChangeText::heading))]
@@ -58,16 +63,17 @@ fn push_heading(alloc: Global, widths: &ChangeWidths, out: &mut Vec<u8>) -> Resu
 fn push_lines<A: Allocator, B: Allocator>(
     alloc: Global,
     maps: &Comparison<'_, A, B>,
+    weights: &Option<ClassWeights>,
     widths: &ChangeWidths,
     rows: &[TreeRow],
     out: &mut Vec<u8>,
 ) -> Result<(), AllocError>
     ensures { OnOk result (out.new.items ≡ out.old.items
         ++ flat_map (λ row. change_line maps.now.old.map.now.setting
-        maps.now.new.map.now.setting widths.now (row_change maps.now row)) rows.now) }
+        maps.now.new.map.now.setting widths.now (shown_change maps.now weights.now row)) rows.now) }
 {
     for row in rows {
-        push_row_of(alloc, maps, widths, row, out)?;
+        push_row_of(alloc, maps, weights, widths, row, out)?;
     }
     Ok(())
 }
@@ -75,15 +81,16 @@ fn push_lines<A: Allocator, B: Allocator>(
 fn push_row_of<A: Allocator, B: Allocator>(
     alloc: Global,
     maps: &Comparison<'_, A, B>,
+    weights: &Option<ClassWeights>,
     widths: &ChangeWidths,
     row: &TreeRow,
     out: &mut Vec<u8>,
 ) -> Result<(), AllocError>
     ensures { OnOk result (out.new.items ≡ out.old.items
         ++ change_line maps.now.old.map.now.setting maps.now.new.map.now.setting
-        widths.now (row_change maps.now row.now)) }
+        widths.now (shown_change maps.now weights.now row.now)) }
 {
-    let change = change_of(maps, row);
+    let change = shown_change(maps, weights, row);
     let layout = Layout {
         old: maps.old.map.setting(),
         new: maps.new.map.setting(),
@@ -154,7 +161,7 @@ fn name_column(
     Ok(column)
 }
 
-/// Appends the type and the name of a row's item, as the map has them in which the item is in this
+/// Appends the type and the name of a row's item. They come from the map that has the item in this
 /// place.
 fn push_name(
     old: &Setting,
@@ -172,7 +179,7 @@ fn push_name(
     }
 }
 
-/// Appends the type and the name of an item; nothing if there is no item.
+/// Appends the type and the name of an item. Appends nothing if there is no item.
 fn push_kind_and_name(
     setting: &Setting,
     id: ItemId,

@@ -1,4 +1,4 @@
-//! The notes on an item beside its weight, in brackets.
+//! The notes in brackets after an item. They say what has changed in the item besides its weight.
 
 ghost use Rattle.std.specs.Prelude.{◌≡◌, ◌++◌, OnOk};
 ghost use Rattle.std.specs.Option.{option_map};
@@ -44,7 +44,7 @@ fn push_text(text: &[u8], out: &mut Vec<u8>) -> Result<(), AllocError>
     push_all(&[b" (".as_slice(), text, b")".as_slice()], out)
 }
 
-/// Appends the notes on a row, each after a semicolon and a space.
+/// Appends the notes on a row. Before each note come a semicolon and a space.
 fn push_notes(
     old: &Setting,
     new: &Setting,
@@ -61,8 +61,8 @@ fn push_notes(
     }
 }
 
-/// Appends the notes on an item that was here in the old map and isn't here any more: whether the
-/// new map still has the item.
+/// Appends the notes on an item that was in this place in the old map and isn't there any more.
+/// They say whether the new map still has the item.
 fn push_stood(after: &Option<Seen<'_>>, notes: &mut Vec<u8>) -> Result<(), AllocError>
     ensures { OnOk result (notes.new.items ≡ notes.old.items
         ++ behind (stood_notes (option_map seen_data after.now))) }
@@ -73,7 +73,7 @@ fn push_stood(after: &Option<Seen<'_>>, notes: &mut Vec<u8>) -> Result<(), Alloc
     }
 }
 
-/// Appends the notes on an item that is here in the new map.
+/// Appends the notes on an item that is in this place in the new map.
 fn push_standing(
     old: &Setting,
     new: &Setting,
@@ -96,7 +96,7 @@ fn push_standing(
     }
 }
 
-/// Appends the notes on the columns in which an item differs, except for its class ids and its
+/// Appends a note for each column in which an item differs, except for its class ids and its
 /// weight.
 fn push_changed(
     old: &Setting,

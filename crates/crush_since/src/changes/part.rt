@@ -1,4 +1,4 @@
-//! A part of the rows of the tree of what has changed.
+//! Selects a part of the rows of the tree of what has changed.
 
 ghost use Rattle.std.specs.Prelude.{◌≡◌, ◌∷◌, ◌++◌, [], List, IfOk, None, OnOk, Some, map as each};
 ghost use Rattle.std.specs.Option.{option_map};
@@ -17,18 +17,20 @@ use crush_print::TreePart;
 use crush_units::{ItemId, TypeId};
 use std::alloc::{AllocError, Allocator, Global};
 
-/// How far a walk over the rows has come in the part below an item.
+/// Where a walk over the rows is: before the rows of an item and all below it, in them, or after
+/// them.
 #[derive(Clone, Copy, Debug)]
 pub(crate) enum Reached {
-    /// The part hasn't begun.
+    /// The item's own row hasn't come yet.
     Before,
-    /// In the part, whose top is this many levels deep.
+    /// The walk is in the item's part. The item's own row has this depth.
     Within(u32),
-    /// The part has ended.
+    /// All rows of the item's part have come.
     After,
 }
 
-/// Returns the rows under the item of the part, down to the type of the part.
+/// Returns the rows of the part: those of its top item and below, without those below buckets of
+/// its type.
 pub(super) fn part_of<A: Allocator, B: Allocator>(
     alloc: Global,
     maps: &Comparison<'_, A, B>,
@@ -57,7 +59,7 @@ fn under<A: Allocator, B: Allocator>(
     }
 }
 
-/// Returns the row at the item's own place, and the rows of all that is or was below it.
+/// Returns the item's own row, and the rows of all that is or was below the item.
 fn rows_at<A: Allocator, B: Allocator>(
     alloc: Global,
     maps: &Comparison<'_, A, B>,
@@ -75,7 +77,7 @@ fn rows_at<A: Allocator, B: Allocator>(
     Ok(kept)
 }
 
-/// Appends the row to `kept` if it is in the part. Returns how far the walk has come behind it.
+/// Appends the row to `kept` if it is in the part. Returns where the walk is after the row.
 fn keep_from<A: Allocator, B: Allocator>(
     maps: &Comparison<'_, A, B>,
     item: &ItemId,
@@ -93,7 +95,8 @@ fn keep_from<A: Allocator, B: Allocator>(
     Ok(now)
 }
 
-/// Appends the row as one of the part, if the walk is in the part with it.
+/// Appends the row if the walk is in the part when it comes to this row. The row's new depth is
+/// counted from the part's top item.
 fn push_reached(now: Reached, row: &TreeRow, kept: &mut Vec<TreeRow>) -> Result<(), AllocError>
     ensures { OnOk result (kept.new.items ≡ kept.old.items ++ rows_reached now row.now) }
 {
@@ -103,7 +106,7 @@ fn push_reached(now: Reached, row: &TreeRow, kept: &mut Vec<TreeRow>) -> Result<
     }
 }
 
-/// Appends the row with this depth.
+/// Appends a copy of the row that has this depth.
 fn push_row(
     id: &ItemId,
     row: &TreeRow,
@@ -122,7 +125,7 @@ fn push_row(
     Ok(())
 }
 
-/// Returns how far the walk has come with this row.
+/// Returns where the walk is when it comes to this row.
 fn reach<A: Allocator, B: Allocator>(
     maps: &Comparison<'_, A, B>,
     item: &ItemId,
@@ -150,7 +153,8 @@ fn reach<A: Allocator, B: Allocator>(
     }
 }
 
-/// Whether the row is where the item is now or, if the new map doesn't have the item, where it was.
+/// Whether this is the item's own row: the row where the new map has the item or, if the new map
+/// doesn't have the item, where the old map had it.
 fn is_own_row<A: Allocator, B: Allocator>(
     maps: &Comparison<'_, A, B>,
     item: &ItemId,
@@ -161,7 +165,7 @@ fn is_own_row<A: Allocator, B: Allocator>(
     row.id.is_same(*item) && (row.stands || !is_there(maps, row.pair))
 }
 
-/// Returns the rows without those below a bucket of the type `kind`.
+/// Returns the rows, but leaves out those below a bucket of the type `kind`.
 fn cut<A: Allocator, B: Allocator>(
     alloc: Global,
     maps: &Comparison<'_, A, B>,
@@ -194,8 +198,8 @@ fn down_to<A: Allocator, B: Allocator>(
     Ok(kept)
 }
 
-/// Appends the row to `kept`, unless it is below the bucket whose depth is `closed`. Returns the
-/// depth of the bucket below which the rows after this one are left out, if there is one.
+/// Appends the row to `kept`, unless it is below a bucket of the type `kind`. Such a bucket has the
+/// depth `closed`; `None` says that no such bucket is open. Returns `closed` for the next row.
 fn keep_open<A: Allocator, B: Allocator>(
     maps: &Comparison<'_, A, B>,
     kind: TypeId,
@@ -215,8 +219,7 @@ fn keep_open<A: Allocator, B: Allocator>(
     Ok(closed_by(maps, kind, row))
 }
 
-/// Whether a row of this depth is deeper than `closed`, so that it is below the bucket of that
-/// depth.
+/// Whether a row of this depth is deeper than `closed`, and so is below the bucket of that depth.
 fn is_closed(closed: Option<u32>, depth: u32) -> bool
     ensures { result ≡ is_closed closed depth }
 {
@@ -226,7 +229,7 @@ fn is_closed(closed: Option<u32>, depth: u32) -> bool
     }
 }
 
-/// Returns the row's depth if its item has the type `kind`.
+/// Returns the row's depth if its item has the type `kind`, and `None` otherwise.
 fn closed_by<A: Allocator, B: Allocator>(
     maps: &Comparison<'_, A, B>,
     kind: TypeId,
@@ -250,7 +253,7 @@ fn same_kind(own: Option<TypeId>, kind: TypeId) -> bool
     }
 }
 
-/// Returns the type of the row's item, in the map in which the item is at this place.
+/// Returns the type of the row's item. It comes from the map that has the item in this place.
 fn kind_of<A: Allocator, B: Allocator>(maps: &Comparison<'_, A, B>, row: &TreeRow) -> Option<TypeId>
     ensures { result ≡ row_kind (row_change maps.now row.now) }
 {

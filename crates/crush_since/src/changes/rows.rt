@@ -24,16 +24,16 @@ use std::alloc::{AllocError, Allocator, Global};
 #[derive(Clone, Copy, Debug)]
 pub(crate) struct TreeRow {
     pub id: ItemId,
-    /// Where each map has the item.
+    /// The positions of the item in both maps.
     pub pair: Pair,
-    /// How many buckets are above it.
+    /// The number of buckets above the item.
     pub depth: u32,
     pub stands: bool,
 }
 
-/// Returns the rows of the tree. First come the new map's roots from -1 downward, each with the
-/// rows below it, and then the old map's roots that are no roots any more. The devices that no
-/// bucket holds follow in the same way, by ascending id.
+/// Returns the rows of the tree. First come the new map's roots from -1 downward, each followed by
+/// the rows below it. Then come the old map's roots that aren't roots any more. The unplaced
+/// devices follow in the same way, by ascending id.
 #[tactic(auto, unfolding(crate::specs::Changes::change_rows))]
 pub(crate) fn rows_of<A: Allocator, B: Allocator>(
     alloc: Global,
@@ -98,8 +98,8 @@ fn push_tops<A: Allocator, B: Allocator>(
     Ok(())
 }
 
-/// Appends the row of a node of the new map, and the rows below it. It appends nothing if the item
-/// of the node and all items that are or were below it are the same in both maps.
+/// Appends the row of a node of the new map, and the rows below it. Appends nothing if the item of
+/// the node and all items that are or were below it are the same in both maps.
 fn push_standing<B: Allocator, A: Allocator>(
     both: &Both<'_, A, B>,
     node: &Node<B>,
@@ -157,8 +157,8 @@ fn push_told<A: Allocator, B: Allocator>(
     Ok(is_told(&both.maps, pair))
 }
 
-/// Removes the row at the position `at`, unless the item of the row differs or other rows follow
-/// the row.
+/// Removes the row at the position `at` if it is the last row and `is_listed` is false. So a row
+/// stays only if its own item differs or if other rows follow it.
 fn settle(at: usize, is_listed: bool, rows: &mut Vec<TreeRow>)
     ensures { (see : TreeRow → ChangeData) (before below : List ChangeData) (row : ChangeData)
         → length before ≡ at → each see rows.old.items ≡ before ++ row ∷ below

@@ -1,4 +1,4 @@
-//! What both maps have of the item of a row.
+//! What both maps say about the item of a row.
 
 ghost use Rattle.std.specs.Prelude.{◌≡◌, is_some, map as each, option_and_then};
 ghost use Rattle.std.specs.Cmp.Lexicographic.{pointwise};

@@ -1,4 +1,4 @@
-//! What an item weighed here, and weighs here.
+//! The weights that an item had and has in a place.
 
 ghost use Rattle.std.specs.Prelude.{◌≡◌, ◌++◌, true, Some, IfOk, OnOk};
 ghost use Rattle.std.specs.Option.{option_map};
@@ -13,7 +13,7 @@ use crush_print::words::{bytes_of, push_all, push_weight};
 use crush_units::Weight;
 use std::alloc::{AllocError, Global};
 
-/// Returns the class of a row's item, as the map has it in which the item is in this place.
+/// Returns the class of a row's item. It comes from the map that has the item in this place.
 pub(super) fn class_bytes<'a>(change: &Change<'a>) -> &'a [u8]
     ensures { result.now ≡ class_word (change_data change.now) }
 {
@@ -33,9 +33,9 @@ fn class_of<'a>(item: &Option<Seen<'a>>) -> &'a [u8]
     }
 }
 
-/// Returns what the item weighed in this place in the old map; `None` if the old map had the item
-/// in another place or didn't have the item. If the new map has the item in this place, then the
-/// old map had it here if the item has the same parent in both maps.
+/// Returns what the item weighed in this place in the old map. Returns `None` if the old map had
+/// the item in another place or didn't have it. If the new map has the item in this place, the old
+/// map had it here too exactly if the item has the same parent in both maps.
 pub(super) fn weighed(change: &Change<'_>) -> Option<Weight>
     ensures { result ≡ weighed (change_data change.now) }
 {

@@ -1,11 +1,11 @@
-//! How wide the columns are.
+//! The widths of the columns.
 
 ghost use Rattle.std.specs.Prelude.{◌≡◌, IfOk, length, max, map as each};
 ghost use Rattle.crush_since.specs.ChangeText.{weight_or_dash as dashed, widths_of};
-ghost use Rattle.crush_since.specs.SeenChange.{row_change};
+ghost use Rattle.crush_since.specs.ClassChangesSeen.{shown_change};
 
+use crate::changes::of_class::{ClassWeights, shown_change};
 use crate::changes::rows::TreeRow;
-use crate::changes::seen::change_of;
 use crate::changes::weights::{class_bytes, weighed, weighs, weight_or_dash};
 use crush_compare::Comparison;
 use crush_print::{wider, wider_id};
@@ -25,16 +25,17 @@ pub(crate) struct ChangeWidths {
 pub(super) fn widths_of<A: Allocator, B: Allocator>(
     alloc: Global,
     maps: &Comparison<'_, A, B>,
+    weights: &Option<ClassWeights>,
     rows: &[TreeRow],
 ) -> Result<ChangeWidths, AllocError>
-    ensures { IfOk result (λ widths. widths ≡ widths_of (each (row_change maps.now) rows.now)) }
+    ensures { IfOk result (λ widths. widths ≡ widths_of (each (shown_change maps.now weights.now) rows.now)) }
 {
     let mut id = 2;
     let mut class = 5;
     let mut was = 3;
     let mut weight = 6;
     for row in rows {
-        let change = change_of(maps, row);
+        let change = shown_change(maps, weights, row);
         id = wider_id(alloc, id, change.id)?;
         class = wider(class, class_bytes(&change));
         was = wider_weight(alloc, was, weighed(&change))?;

@@ -1,4 +1,5 @@
-//! Counts of the ids that differ. No command sets an id, so they count as no difference.
+//! Counts the buckets whose ids differ between two maps. No command sets an id, so a plan can't
+//! remove these differences, and they are only counted.
 
 ghost use Rattle.std.specs.Prelude.{◌≡◌, ◌+◌, ◌^◌, ◌<◌, ◌≤◌, ◌++◌, ◌&&◌, List, OnOk, IfOk, is_some, map as each};
 ghost use Rattle.std.specs.List.{count_by};
@@ -18,18 +19,20 @@ use crush_units::put_all;
 use itoa::Buffer;
 use std::alloc::{AllocError, Allocator, Global};
 
-/// How many buckets that both maps have, by their names, differ in their ids.
+/// The numbers of buckets that have different ids in two maps. The buckets are matched by their
+/// names.
 #[derive(Clone, Copy, Debug, PartialEq, Eq)]
 pub struct Counts {
-    /// Buckets that have another id in the other map.
+    /// The number of buckets that have different ids in the two maps.
     pub ids: usize,
-    /// Buckets that have other ids for device classes in the other map.
+    /// The number of buckets that have different class ids in the two maps.
     pub class_ids: usize,
 }
 
-/// Counts the buckets that both maps have, by their names, and whose ids or class ids differ. If a
-/// name is given, only buckets in the part of this name count: the item that has the name, and all
-/// items below it, in either map. An `Err` says that memory ran out.
+/// Counts the buckets that both maps have and whose ids or class ids differ. The buckets are
+/// matched by their names. If `under` is a name, the call counts only some buckets: the bucket with
+/// this name, and the buckets that are below the item with this name in at least one of the maps.
+/// It fails only if memory runs out.
 pub fn count_aside<A: Allocator, B: Allocator>(
     alloc: Global,
     under: Option<&str>,
@@ -70,8 +73,8 @@ fn more(count: usize, test: bool) -> usize
     if test { count + 1 } else { count }
 }
 
-/// Whether both maps have the item of a pair, under different ids. Devices never do, because they
-/// are matched by their ids too.
+/// Whether both maps have the item of a pair, and its ids differ. The result is always false for a
+/// device, because two devices are matched only if they have the same id.
 fn has_other_id<A: Allocator, B: Allocator>(both: &Comparison<'_, A, B>, pair: &Pair) -> bool
     ensures { result ≡ of_pair has_other_id (pair_items both.now pair.now) }
 {
@@ -93,7 +96,8 @@ fn is_other_id(before: &Option<Seen<'_>>, after: &Option<Seen<'_>>) -> bool
     }
 }
 
-/// Whether both maps have the item of a pair, with different class ids. No device has class ids.
+/// Whether both maps have the item of a pair, and its class ids differ. The result is always false
+/// for a device, because a device has no class ids.
 fn has_other_class_ids<A: Allocator, B: Allocator>(both: &Comparison<'_, A, B>, pair: &Pair) -> bool
     ensures { (t u : List Row)
         → HasEntries t (each item_entry both.now.old.all.items)

@@ -1,5 +1,4 @@
-//! What has changed between two maps whose items are matched by names, laid out in memory before it
-//! is written.
+//! Writes what has changed between two maps whose items are matched by their names.
 
 ghost use Rattle.std.specs.Prelude.{◌≡◌, ◌++◌, ℕ, List, Option, Some, Err, OnOk, IfOk, flat_map};
 ghost use Rattle.std.specs.Io.KnownBytes.{Keeps};
@@ -24,12 +23,14 @@ use parts::push_changed_pair;
 use std::alloc::{AllocError, Allocator, Global};
 use std::io::Write;
 
-/// Writes what has changed from an old map to a new map, by the names of the items. There is a line
-/// for each item of the new map that differs, in the order of the new map's tree, and then for each
-/// item that only the old map has, in the order of the old map's tree. Then there is a line each if
-/// the tunables or the types differ, and then the lines of rules, where a bucket that a rule takes
-/// is compared by its name, and the lines of classes. The last two lines have the total weights, and
-/// how many items differ in which way. Ids are left out. If memory runs out, nothing is written.
+/// Writes what has changed from an old map to a new map. The items of the two maps are matched by
+/// their names, and ids are left out. First comes a line for each item of the new map that differs,
+/// in the order of the new map's tree. Then comes a line for each item that only the old map has,
+/// in the order of the old map's tree. Then there may be a line that says that the tunables differ,
+/// and a line that says that the types differ. Lines about rules and lines about classes follow.
+/// The buckets that rules take are compared by their names. The last two lines have the total
+/// weight of each map, and for each kind of difference the number of items that have it. If memory
+/// runs out, nothing is written.
 pub fn write_since_by_name<A: Allocator, B: Allocator, W: Write>(
     alloc: Global,
     old: &CrushMap<A>,
@@ -49,9 +50,10 @@ pub fn write_since_by_name<A: Allocator, B: Allocator, W: Write>(
     }
 }
 
-/// Writes the lines of [`write_since_by_name`] for the items of a part: the item that has the name
-/// `under` and all items below it, in either map. Settings, totals and counts are left out. If
-/// memory runs out, nothing is written.
+/// Writes only some lines of [`write_since_by_name`]: those about the item with the name `under`,
+/// and about all items that are below this item in at least one of the maps. The lines about
+/// settings, classes, total weights and counts are left out. If memory runs out, nothing is
+/// written.
 pub fn write_since_by_name_part<A: Allocator, B: Allocator, W: Write>(
     alloc: Global,
     old: &CrushMap<A>,
@@ -72,8 +74,9 @@ pub fn write_since_by_name_part<A: Allocator, B: Allocator, W: Write>(
     }
 }
 
-/// Whether an item of the part of a name has changed; without a name, whether any item or any
-/// setting has. An `Err` says that memory ran out.
+/// If `under` is a name, returns whether the item with this name, or an item below it in at least
+/// one of the maps, has changed. If `under` is `None`, returns whether any item, tunable, type,
+/// rule or class has changed. The call fails only if memory runs out.
 pub fn is_changed_by_name<A: Allocator, B: Allocator>(
     alloc: Global,
     under: Option<&str>,

@@ -1,4 +1,4 @@
-//! What differs, by names, between a map and the map that is wanted.
+//! Lists what still differs between a map and a wanted map. Their items are matched by their names.
 
 ghost use Rattle.std.specs.Prelude.{◌≡◌, ◌++◌, List, OnOk, IfOk, flat_map};
 ghost use Rattle.std.specs.Option.{option_map};
@@ -22,12 +22,14 @@ use crush_units::put_all;
 use rules::push_rules;
 use std::alloc::{AllocError, Allocator, Global};
 
-/// Returns what differs, by names, between a map and the map that is wanted. There is a line for
-/// each item of the wanted map that the map doesn't have or has otherwise, in the order of the
-/// wanted map's tree. Then there is a line for each item that isn't wanted, in the order of the
-/// map's tree, and a line each if the tunables, the types or the rules differ. Ids are no
-/// difference, nor are weights of devices that are at most one unit (1/65536 TiB) apart. An `Err`
-/// says that memory ran out.
+/// Returns what differs between a map and the wanted map, as lines of text. The items of the two
+/// maps are matched by their names. First comes a line for each item of the wanted map that the map
+/// doesn't have or that differs in the map, in the order of the wanted map's tree. Then comes a
+/// line for each item that only the map has, in the order of the map's tree. Then there may be a
+/// line that says that the tunables differ, a line that says that the types differ, and a line that
+/// says that the rules differ. Two kinds of differences are not listed: different ids, and weights
+/// of a device that are at most one unit (1/65536 TiB) apart. The call fails only if memory runs
+/// out.
 pub fn stays<A: Allocator, B: Allocator>(
     alloc: Global,
     map: &CrushMap<A>,
@@ -40,9 +42,10 @@ pub fn stays<A: Allocator, B: Allocator>(
     stays_part(alloc, None, map, wanted)
 }
 
-/// Returns the lines of [`stays`] for the items of a part: the item that has the name `under` and all
-/// items below it, in either map. There are no lines for settings. Without a name, this is
-/// [`stays`]. An `Err` says that memory ran out.
+/// Returns only some lines of [`stays`]: those about the item with the name `under`, and about all
+/// items that are below this item in at least one of the maps. The lines about tunables, types and
+/// rules are left out. If `under` is `None`, returns all lines of [`stays`]. The call fails only if
+/// memory runs out.
 pub fn stays_part<A: Allocator, B: Allocator>(
     alloc: Global,
     under: Option<&str>,
@@ -189,7 +192,8 @@ fn push_differing(
     Ok(())
 }
 
-/// Returns the name of the item of a pair.
+/// Returns the name of the item of a pair: the wanted map's name or, if only the map has the item,
+/// the map's name.
 pub(crate) fn pair_name<'a>(before: &Option<Seen<'a>>, after: &Option<Seen<'a>>) -> &'a [u8]
     ensures { result.now
         ≡ pair_name (option_map seen_data before.now) (option_map seen_data after.now) }
@@ -203,7 +207,8 @@ pub(crate) fn pair_name<'a>(before: &Option<Seen<'a>>, after: &Option<Seen<'a>>)
     }
 }
 
-/// Appends the line of an item, if there are any parts. Each part is after a semicolon and a space.
+/// Appends the line of an item, or nothing if `parts` is empty. In `parts`, a semicolon and a space
+/// come before each part.
 pub(crate) fn push_line(name: &[u8], parts: &[u8], lines: &mut Vec<u8>) -> Result<(), AllocError>
     ensures { OnOk result (lines.new.items ≡ lines.old.items ++ stay_text_line name.now parts.now) }
 {

@@ -1,4 +1,4 @@
-//! The items below a bucket, by their ids.
+//! Lists the ids of the items below a bucket.
 
 ghost use Rattle.std.specs.Prelude.{◌≡◌, ℕ, [], List, IfOk, None, map as each};
 ghost use Rattle.crush_nodes.specs.Search.{kids_in};
@@ -14,7 +14,8 @@ use crush_map::CrushMap;
 use crush_units::{BucketId, ItemId};
 use std::alloc::{AllocError, Allocator, Global};
 
-/// The ids of the items below a bucket at any depth, so ordered that [`is_among`] finds one.
+/// Returns the ids of all items below a bucket, at any depth. They are sorted, so that [`is_among`]
+/// can search them.
 pub fn all_below<A: Allocator>(
     alloc: Global,
     map: &CrushMap<A>,
@@ -45,7 +46,8 @@ fn items_below<'a, A: Allocator>(
     Ok(items)
 }
 
-/// Whether an item is one of those below a bucket, whose ids [`all_below`] lists.
+/// Whether an item is below a bucket. `ids` are the ids that [`all_below`] returned for this
+/// bucket.
 pub fn is_among(ids: &[ItemId], id: ItemId) -> bool
     ensures { (t : List Row) (bucket : ℕ) → AreBelow t bucket ids.now
         → result ≡ is_below t bucket id }

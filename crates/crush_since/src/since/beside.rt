@@ -1,4 +1,5 @@
-//! The lines beside the items: tunables, types, rules and classes in which two maps differ.
+//! Appends the lines that aren't about single items: about tunables, types, rules and classes that
+//! differ between two maps.
 
 ghost use Rattle.std.specs.Prelude.{◌≡◌, ◌++◌, List, OnOk};
 ghost use Rattle.std.specs.Option.{option_map};
@@ -18,8 +19,8 @@ use crush_compare::Identity;
 use crush_map::CrushMap;
 use std::alloc::{AllocError, Allocator};
 
-/// Appends a line each where the tunables and the types differ, and then the lines of rules and
-/// classes. `identity` says how the buckets that rules take are matched.
+/// Appends a line if the tunables differ, a line if the types differ, and then the lines about
+/// rules and classes. `identity` says how the buckets that rules take are matched.
 #[tactic(auto, unfolding(crate::specs::RuleChanges::lines_beside))]
 pub(crate) fn push_lines_beside<A: Allocator, B: Allocator>(
     identity: Identity,
@@ -37,8 +38,8 @@ pub(crate) fn push_lines_beside<A: Allocator, B: Allocator>(
     push_classes(old, new, out)
 }
 
-/// Appends these lines if whole maps are compared. If the part below an item of a name is compared,
-/// it appends nothing.
+/// Appends the lines of [`push_lines_beside`] if `under` is `None`, so that whole maps are
+/// compared. If `under` is a name, only a part of the maps is compared, and nothing is appended.
 pub fn push_lines_beside_part<A: Allocator, B: Allocator>(
     identity: Identity,
     under: Option<&str>,

@@ -1,4 +1,4 @@
-//! Whether anything has changed from one map to another.
+//! Tests whether anything has changed from one map to another.
 
 ghost use Rattle.std.specs.Prelude.{◌≡◌, List, IfOk};
 ghost use Rattle.crush_model.specs.Stands.{Stands};
@@ -15,8 +15,8 @@ use crush_map::{CrushMap, Setting};
 use crush_units::ItemId;
 use std::alloc::{AllocError, Allocator, Global};
 
-/// Whether [`write_since`](crate::write_since) writes a line for an item, or a line which says that
-/// tunables, types or rules differ. An `Err` says that memory ran out.
+/// Whether [`write_since`](crate::write_since) writes a line for an item, or a line that says that
+/// tunables, types or rules differ. It fails only if memory runs out.
 pub fn is_changed<A: Allocator, B: Allocator>(
     alloc: Global,
     old: &CrushMap<A>,
@@ -33,8 +33,8 @@ pub fn is_changed<A: Allocator, B: Allocator>(
     Ok(is_different(&both))
 }
 
-/// Whether [`since_part_text`](crate::since_part_text) has a line. An `Err` says that memory ran
-/// out.
+/// Whether [`since_part_text`](crate::since_part_text) returns any line. It fails only if memory
+/// runs out.
 pub fn is_part_changed<A: Allocator, B: Allocator>(
     alloc: Global,
     old: &CrushMap<A>,

@@ -1,4 +1,4 @@
-//! The lines of classes that weigh another sum, or that are new though no rule takes them.
+//! Appends the lines about device classes.
 
 ghost use Rattle.std.specs.Prelude.{◌≡◌, ◌++◌, OnOk, flat_map, length, get_or, ◌<◌, map as each};
 ghost use Rattle.crush_since.specs.Classes.{class_line, lines_of_classes, reweighed_line, untaken_line, untaken_text};
@@ -9,8 +9,8 @@ use crate::since::words::push_units;
 use crush_print::words::push_all;
 use std::alloc::AllocError;
 
-/// Appends a line for each class whose devices weigh another sum, and then one for each class that
-/// is new though no rule takes it.
+/// Appends a line for each class whose devices weigh more or less in total in the new map than in
+/// the old map. Then appends a line for each class that is new and that no rule takes.
 pub(crate) fn push_class_lines<'a>(
     changes: &[ClassChange<'a>],
     out: &mut Vec<u8>,

@@ -1,4 +1,5 @@
-//! Which classes weigh another sum in two maps, and which are new though no rule takes them.
+//! Finds the classes whose total weights differ between two maps, and the new classes that no rule
+//! takes.
 
 ghost use Rattle.std.specs.Prelude.{◌≡◌, ◌++◌, List, OnOk, IfOk, flat_map, length, get_or, ◌<◌, map as each};
 ghost use Rattle.std.specs.Option.{option_map};
@@ -19,23 +20,26 @@ use crush_map::{CrushMap, KeptRule, KeptStep};
 use crush_units::Name;
 use std::alloc::{AllocError, Allocator, Global};
 
-/// A class whose devices weigh another sum in two maps, or which is new though no rule takes it.
+/// A class that has changed: either the total weight of its devices differs between the two maps,
+/// or the class is new and no rule takes it.
 #[derive(Clone, Copy, Debug)]
 pub struct ClassChange<'a> {
     pub name: &'a str,
-    /// The weight of the class's devices in the old map, in units of 1/65536.
+    /// The total weight of the class's devices in the old map, in units of 1/65536.
     pub was: u128,
-    /// The weight of the class's devices in the new map, in units of 1/65536.
+    /// The total weight of the class's devices in the new map, in units of 1/65536.
     pub is: u128,
-    /// Whether no device of the old map has the class, and a device of the new map has it.
+    /// Whether the class is new: a device of the new map has the class, and no device of the old
+    /// map has it.
     pub is_new: bool,
-    /// Whether a step of a rule of the new map takes the class.
+    /// Whether a rule of the new map has a step that takes the class.
     pub is_taken: bool,
 }
 
-/// Returns each class whose devices weigh another sum in the new map, and each class that no device
-/// of the old map has, that a device of the new map has, and that no rule of the new map takes. The
-/// classes are by name in ascending order. An `Err` says that memory ran out.
+/// Returns the classes that have changed, by name in ascending order. A class has changed if the
+/// total weight of its devices differs between the two maps. It has also changed if a device of the
+/// new map has it, no device of the old map has it, and no rule of the new map takes it. The call
+/// fails only if memory runs out.
 pub fn class_changes<'a, A: Allocator, B: Allocator>(
     alloc: Global,
     old: &'a CrushMap<A>,
@@ -91,23 +95,23 @@ fn push_if_changed<'a>(
     Ok(())
 }
 
-/// Whether the class's devices weigh another sum in the new map.
+/// Whether the total weight of the class's devices differs between the two maps.
 pub(crate) fn is_reweighed(class: &ClassChange<'_>) -> bool
     ensures { result ≡ is_reweighed (class_change_data class.now) }
 {
     class.was != class.is
 }
 
-/// Whether no device of the old map has the class, a device of the new map has it, and no rule takes
-/// it.
+/// Whether the class is new and no rule takes it: a device of the new map has the class, and no
+/// device of the old map has it.
 pub(crate) fn is_untaken(class: &ClassChange<'_>) -> bool
     ensures { result ≡ is_untaken (class_change_data class.now) }
 {
     class.is_new && !class.is_taken
 }
 
-/// Returns the classes that a device of either map has or that a rule of the new map takes, each
-/// once, by name in ascending order.
+/// Returns each class that a device of at least one map has, or that a rule of the new map takes.
+/// Each class comes once, in ascending order of the names.
 fn classes_of<'a, A: Allocator, B: Allocator>(
     alloc: Global,
     old: &'a CrushMap<A>,
@@ -182,7 +186,7 @@ fn push_step<'a>(step: &'a KeptStep, items: &mut Vec<ClassItem<'a>>) -> Result<(
     }
 }
 
-/// The class of a step, if it takes one.
+/// Returns the class that a step takes, or `None` if the step takes no class.
 pub(crate) fn class_named(class: &Option<Name<Global>>) -> Option<&str>
     ensures { option_map (λ c. c.now) result ≡ class.now }
 {

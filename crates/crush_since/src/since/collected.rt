@@ -1,4 +1,4 @@
-//! Device classes, each once with what two maps say of it.
+//! Collects what two maps say about each device class.
 
 ghost use Rattle.std.specs.Prelude.{◌≡◌, ◌*◌, ◌+◌, ◌<◌, ◌≤◌, ◌^◌, ◌∷◌, ◌++◌, [], List, IfOk, bytes_eq, length, get_or, map as each};
 ghost use Rattle.std.specs.Prelude.{reverse};
@@ -8,7 +8,8 @@ ghost use Rattle.crush_since.specs.Grouped.{grouped, with_first};
 
 use std::alloc::{AllocError, Global};
 
-/// What names a class: a device of the old map or of the new map, or a step of a rule.
+/// Where a class is named: at a device of the old map, at a device of the new map, or in a step of
+/// a rule.
 #[derive(Clone, Copy, Debug)]
 pub(crate) enum Source {
     Old,
@@ -16,20 +17,21 @@ pub(crate) enum Source {
     Rule,
 }
 
-/// A class that a device has, with the device's weight in units, or that a step of a rule takes.
+/// One use of a class: either a device that has the class, or a step of a rule that takes the
+/// class.
 #[derive(Clone, Copy, Debug)]
 pub(crate) struct ClassItem<'a> {
     pub name: &'a str,
     pub source: Source,
-    /// 0 if a rule names the class.
+    /// The weight of the device in units of 1/65536; 0 for a step of a rule.
     pub weight: u32,
 }
 
-/// What two maps say of a class.
+/// What two maps say about a class.
 #[derive(Clone, Copy, Debug)]
 pub(crate) struct ClassUse<'a> {
     pub name: &'a str,
-    /// The weight of the class's devices in the old map, in units.
+    /// The total weight of the class's devices in the old map, in units of 1/65536.
     pub old_weight: u128,
     pub new_weight: u128,
     /// The number of devices of the old map that have the class.
@@ -90,7 +92,8 @@ impl<'a> ClassUse<'a> {
     }
 }
 
-/// Returns the classes of these items by name in ascending order, each once.
+/// Returns the classes that the items use. Each class comes once, in ascending order of the names,
+/// with the sums over its items.
 pub(crate) fn collected<'a>(
     alloc: Global,
     items: Vec<ClassItem<'a>>,
@@ -104,7 +107,8 @@ pub(crate) fn collected<'a>(
     Ok(uses)
 }
 
-/// Returns the classes of items that are sorted by name. The classes are in descending order.
+/// Returns the classes that the items use, each once. The items must be sorted by the names of
+/// their classes, and the classes are returned in descending order of their names.
 fn grouped<'a>(alloc: Global, items: &[ClassItem<'a>]) -> Result<Vec<ClassUse<'a>>, AllocError>
     ensures { IfOk result (λ uses. reverse (each use_data uses.items) ≡ grouped (each item_data items.now)) }
 {
@@ -123,8 +127,9 @@ fn grouped<'a>(alloc: Global, items: &[ClassItem<'a>]) -> Result<Vec<ClassUse<'a
     Ok(done)
 }
 
-/// Returns the class of this item. If it is the current class, the item is added to it. Otherwise
-/// the current class is complete and is appended to `done`.
+/// Adds an item to the classes. If the item uses the current class, adds the item to this class,
+/// and returns the class. Otherwise the current class is complete: appends it to `done`, and
+/// returns the item's class as the new current class.
 fn next<'a>(
     current: ClassUse<'a>,
     item: &ClassItem<'a>,

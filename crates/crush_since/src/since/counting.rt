@@ -1,4 +1,4 @@
-//! Items of two maps that differ, counted.
+//! Counts the items that differ between two maps.
 
 ghost use Rattle.std.specs.Prelude.{◌≡◌, List, IfOk};
 ghost use Rattle.crush_model.specs.Stands.{Stands};
@@ -11,7 +11,8 @@ use crush_compare::Comparison;
 use crush_map::CrushMap;
 use std::alloc::{AllocError, Allocator, Global};
 
-/// How many items of two maps differ in which way.
+/// Returns, for each kind of difference, the number of items that have it. The items of the two
+/// maps are matched by their ids.
 pub fn count_changes<A: Allocator, B: Allocator>(
     alloc: Global,
     old: &CrushMap<A>,

@@ -1,4 +1,4 @@
-//! Rules that take nothing.
+//! Finds the steps of rules that take a bucket which has lost all its weight.
 
 ghost use Rattle.std.specs.Prelude.{◌≡◌, ◌++◌, List, OnOk, flat_map, option_and_then, unwrap_or, map as each};
 ghost use Rattle.std.specs.Option.{option_map};
@@ -16,9 +16,10 @@ use crush_map::{CrushMap, KeptRule, KeptStep};
 use crush_units::{BucketId, ItemId, Weight};
 use std::alloc::{AllocError, Allocator};
 
-/// Appends each step of the new map's rules whose bucket, or its devices of a class, weighed
-/// something and weighs nothing now. The bucket in the old map is the one of the same id, or of the
-/// same name, as `identity` says.
+/// Appends a difference for each step of the new map's rules that takes a bucket which weighed
+/// something in the old map and weighs nothing in the new map. If the step takes a class, only the
+/// bucket's devices of this class count for both weights. `identity` says whether the bucket of the
+/// old map is the one with the same id or the one with the same name.
 pub(crate) fn push_emptied<'a, A: Allocator, B: Allocator>(
     identity: Identity,
     old: &CrushMap<A>,
@@ -117,7 +118,7 @@ fn push_step<'a, A: Allocator, B: Allocator>(
     }
 }
 
-/// Appends the difference that a step of a rule takes nothing any more, if `is` is true.
+/// If `is` is true, appends a [`RuleChange::TakesNothing`] for a step of a rule.
 fn push_if<'a>(
     is: bool,
     rule: &'a str,
@@ -153,8 +154,8 @@ fn is_emptied<A: Allocator, B: Allocator>(
         && !(weight_before(identity, old, new, bucket, class).units() == 0)
 }
 
-/// Returns what the bucket weighed in the old map, or its devices of a class; 0 if the old map
-/// doesn't have the bucket.
+/// Returns what the bucket weighed in the old map. If `class` is a class, returns what the bucket's
+/// devices of this class weighed. Returns 0 if the old map doesn't have the bucket.
 fn weight_before<A: Allocator, B: Allocator>(
     identity: Identity,
     old: &CrushMap<A>,
@@ -171,7 +172,7 @@ fn weight_before<A: Allocator, B: Allocator>(
     }
 }
 
-/// Returns the bucket of the old map that is this bucket of the new map, if there is one.
+/// Returns the bucket of the old map that is matched with this bucket of the new map, or `None`.
 fn old_bucket<A: Allocator, B: Allocator>(
     identity: Identity,
     old: &CrushMap<A>,
@@ -190,7 +191,7 @@ fn old_bucket<A: Allocator, B: Allocator>(
     }
 }
 
-/// Returns the bucket of this name, or `None` if no bucket has it.
+/// Returns the bucket with this name, or `None` if no bucket has the name.
 fn bucket_named<A: Allocator>(map: &CrushMap<A>, name: &str) -> Option<BucketId>
     ensures { (t : List Row) → Stands map.now.forest t → result ≡ bucket_named t name.now }
 {
@@ -203,8 +204,8 @@ fn bucket_named<A: Allocator>(map: &CrushMap<A>, name: &str) -> Option<BucketId>
     }
 }
 
-/// Returns what the bucket weighs, or what its devices of a class weigh; 0 if the map doesn't have
-/// the bucket.
+/// Returns the weight of the bucket. If `class` is a class, returns the weight of the bucket's
+/// devices of this class. Returns 0 if the map doesn't have the bucket.
 fn taken_weight<A: Allocator>(map: &CrushMap<A>, bucket: BucketId, class: Option<&str>) -> Weight
     ensures { (t : List Row) → Stands map.now.forest t
         → result ≡ taken_weight t bucket (option_map (λ c. c.now) class.entry) }
@@ -235,7 +236,7 @@ fn or_nothing(weight: Option<Weight>) -> Weight
     }
 }
 
-/// Returns the bucket's name, or an empty text if there is no such bucket.
+/// Returns the bucket's name, or an empty text if the map has no such bucket.
 #[tactic(auto, unfolding(crush_print::specs::RuleLines::bucket_name))]
 fn bucket_word<A: Allocator>(map: &CrushMap<A>, bucket: BucketId) -> &str
     ensures { (t : List Row) → Stands map.now.forest t → result.now ≡ bucket_name t bucket }

@@ -1,4 +1,4 @@
-//! The ids of the items below a bucket.
+//! Collects the ids of the items below a bucket.
 
 ghost use Rattle.std.specs.Prelude.{◌≡◌, ◌++◌, OnOk, map as each};
 ghost use Rattle.crush_since.specs.Listing.{listed_id};

@@ -1,4 +1,4 @@
-//! Whether an item differs in two maps.
+//! Tests whether an item has a line in the text about what has changed.
 
 ghost use Rattle.std.specs.Prelude.{◌≡◌};
 ghost use Rattle.std.specs.Option.{option_map};

@@ -1,4 +1,5 @@
-//! The pairs of two maps' items: the line of each pair, and whether any pair differs.
+//! Appends the line of each pair of a comparison, and tests whether any pair differs. A pair is an
+//! item that both maps have, or that only one of them has.
 
 ghost use Rattle.std.specs.Prelude.{◌≡◌, ◌++◌, List, OnOk, flat_map, map as each};
 ghost use Rattle.std.specs.Option.{option_map};
@@ -18,7 +19,7 @@ use crush_compare::{Comparison, Pair, Report};
 use crush_units::ItemId;
 use std::alloc::{AllocError, Allocator};
 
-/// Appends the line of each pair of a comparison by ids. A pair in which nothing differs has no
+/// Appends the lines of all pairs of a comparison by ids. A pair in which nothing differs has no
 /// line.
 pub(crate) fn push_lines<A: Allocator, B: Allocator>(
     both: &Comparison<'_, A, B>,
@@ -82,7 +83,8 @@ fn push_compared(item: &Compared<'_>, out: &mut Vec<u8>) -> Result<(), AllocErro
     }
 }
 
-/// Returns the id of the item, which is the same in both maps; `None` if neither map has the item.
+/// Returns the id of the item, or `None` if neither map has the item. If both maps have it, its id
+/// is the same in both.
 fn told_id(before: &Option<Seen<'_>>, after: &Option<Seen<'_>>) -> Option<ItemId>
     ensures { result
         ≡ told_id (option_map seen_data before.now) (option_map seen_data after.now) }
@@ -96,7 +98,7 @@ fn told_id(before: &Option<Seen<'_>>, after: &Option<Seen<'_>>) -> Option<ItemId
     }
 }
 
-/// Whether anything differs in a pair of a comparison by ids.
+/// Whether anything differs in at least one pair of a comparison by ids.
 pub(crate) fn is_different<A: Allocator, B: Allocator>(both: &Comparison<'_, A, B>) -> bool
     requires { both.now.identity ≡ Ids }
     ensures { (t u : List Row) (ids : List Id)

@@ -1,4 +1,4 @@
-//! What has changed below an item.
+//! Lists what has changed in one item, given by its id, and in the items below it.
 
 ghost use Rattle.std.specs.Prelude.{◌≡◌, List, IfOk};
 ghost use Rattle.crush_model.specs.Stands.{Stands};
@@ -12,10 +12,10 @@ use crush_map::CrushMap;
 use crush_units::ItemId;
 use std::alloc::{AllocError, Allocator, Global};
 
-/// Returns the lines of [`write_since`](crate::write_since) for a part of the maps: the item
-/// `under`, and all items that are below it in the old map or in the new map. Lines about settings,
-/// rules, classes, total weights and counts aren't part of the text. An `Err` says that memory ran
-/// out.
+/// Returns only some lines of [`write_since`](crate::write_since): those about the item `under`,
+/// and about all items that are below this item in the old map or in the new map. The lines about
+/// settings, rules, classes, total weights and counts are left out. The call fails only if memory
+/// runs out.
 #[tactic(auto, unfolding(crate::specs::SincePart::since_part_text))]
 pub fn since_part_text<A: Allocator, B: Allocator>(
     alloc: Global,

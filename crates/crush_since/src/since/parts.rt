@@ -1,4 +1,4 @@
-//! The line of an item.
+//! Builds the line about an item that differs, if items are matched by their ids.
 
 ghost use Rattle.std.specs.Prelude.{◌≡◌, ◌≤◌, ◌++◌, OnOk, length, drop, flat_map};
 ghost use Rattle.std.specs.Option.{option_map};
@@ -17,7 +17,7 @@ use crush_tree::View;
 use crush_units::ItemId;
 use std::alloc::{AllocError, Global};
 
-/// What two maps say of the item that has an id.
+/// What two maps say about an item, which has the same id in both.
 #[derive(Clone, Copy)]
 pub(crate) struct Compared<'a> {
     pub old: &'a Setting,
@@ -27,7 +27,7 @@ pub(crate) struct Compared<'a> {
     pub same_class_ids: bool,
 }
 
-/// Appends the line of an item; nothing if both maps say the same of its id.
+/// Appends the line of an item, or nothing if both maps say the same about its id.
 pub(crate) fn push_line(
     alloc: Global,
     id: ItemId,
@@ -53,7 +53,7 @@ pub(crate) fn push_line(
     Ok(())
 }
 
-/// Returns the parts without the semicolon and the space before the first part.
+/// Returns the parts without the semicolon and the space that come before the first part.
 pub(crate) fn after_mark(parts: &[u8]) -> &[u8]
     requires { 2 ≤ length parts.now }
     ensures { result.now ≡ drop 2 parts.now }
@@ -68,8 +68,8 @@ fn push_text(name: &[u8], id: ItemId, text: &[u8], out: &mut Vec<u8>) -> Result<
     push_all(&[b": ".as_slice(), text, b"\n".as_slice()], out)
 }
 
-/// Returns the name that the item has in the new map, or its name in the old map if the new map
-/// doesn't have the item.
+/// Returns the name that the item has in the new map. If the new map doesn't have the item, returns
+/// its name in the old map.
 fn listed_name<'a>(before: &'a Option<Seen<'_>>, after: &'a Option<Seen<'_>>) -> &'a [u8]
     ensures { result.now
         ≡ listed_name (option_map seen_data before.now) (option_map seen_data after.now) }
@@ -83,7 +83,8 @@ fn listed_name<'a>(before: &'a Option<Seen<'_>>, after: &'a Option<Seen<'_>>) ->
     }
 }
 
-/// Appends the parts of an item's line, each after a semicolon and a space.
+/// Appends the parts of an item's line: one part for each column that differs. A semicolon and a
+/// space come before each part.
 fn push_parts(alloc: Global, item: &Compared<'_>, parts: &mut Vec<u8>) -> Result<(), AllocError>
     ensures { OnOk result (parts.new.items ≡ parts.old.items
         ++ behind (all_parts item.now.old.now item.now.new.now
@@ -129,7 +130,7 @@ fn push_changes(
     Ok(())
 }
 
-/// Appends a part with these words, after a semicolon and a space, unless `same` is true.
+/// Appends a part: a semicolon, a space, and the words `words`. If `same` is true, appends nothing.
 pub(crate) fn push_part(same: bool, words: &[&[u8]], parts: &mut Vec<u8>) -> Result<(), AllocError>
     ensures { OnOk result (parts.new.items ≡ parts.old.items
         ++ behind (part same (flat_map (λ w. w.now) words.now))) }

@@ -1,4 +1,4 @@
-//! The lines of rules that differ or take nothing.
+//! Appends the lines about rules.
 
 ghost use Rattle.std.specs.Prelude.{◌≡◌, ◌++◌, OnOk, flat_map, length, get_or, ◌<◌, map as each};
 ghost use Rattle.std.specs.Option.{option_map};
@@ -9,7 +9,7 @@ use crate::since::rules::RuleChange;
 use crush_print::words::push_all;
 use std::alloc::AllocError;
 
-/// Appends a line for each difference.
+/// Appends a line for each difference between the rules of two maps.
 pub(crate) fn push_rule_lines<'a>(
     changes: &[RuleChange<'a>],
     out: &mut Vec<u8>,

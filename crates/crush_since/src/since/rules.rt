@@ -1,4 +1,4 @@
-//! In which rules two maps differ, and which rules take nothing.
+//! Finds the differences between the rules of two maps.
 
 ghost use Rattle.std.specs.Prelude.{◌≡◌, ◌++◌, List, OnOk, IfOk, find, flat_map, bytes_eq, map as each};
 ghost use Rattle.std.specs.Option.{option_map};
@@ -18,7 +18,7 @@ use crush_compare::Identity;
 use crush_map::{CrushMap, KeptRule};
 use std::alloc::{AllocError, Allocator, Global};
 
-/// A difference between the rules of two maps. Its texts are those of the maps.
+/// A difference between the rules of two maps. Its names are borrowed from the maps.
 #[derive(Clone, Copy, Debug)]
 pub enum RuleChange<'a> {
     /// Only the new map has a rule of this name.
@@ -27,11 +27,11 @@ pub enum RuleChange<'a> {
     Differs(&'a str),
     /// Only the old map has a rule of this name.
     Gone(&'a str),
-    /// No rule differs, but the rules of the new map are in another order.
+    /// Both maps have the same rules, but in another order.
     OtherOrder,
-    /// A step of this rule of the new map takes a bucket that weighed something in the old map and
-    /// weighs nothing in the new map. If the step takes a class, only the devices of this class
-    /// count for both weights.
+    /// The rule `rule` of the new map has a step that takes a bucket which weighed something in the
+    /// old map and weighs nothing in the new map. If the step takes a class, only the bucket's
+    /// devices of this class count for both weights.
     TakesNothing {
         rule: &'a str,
         /// The bucket's name in the new map.
@@ -42,14 +42,14 @@ pub enum RuleChange<'a> {
 
 /// Returns the differences between the rules of two maps. First come the rules of the new map that
 /// are new or differ, in the new map's order, and then the rules that are gone, in the old map's
-/// order. If the two maps have the same rules in another order, `OtherOrder` comes first instead.
-/// The last differences are those of steps that take a bucket which has lost all its weight, in the
-/// order of the new map's rules.
+/// order. If the two maps have the same rules in another order, the list begins with `OtherOrder`,
+/// and no rule is new, differs or is gone. Last comes a `TakesNothing` for each step that takes a
+/// bucket which has lost all its weight, in the order of the new map's rules.
 ///
-/// Two steps that take a bucket are the same if the two buckets have the same id. If `identity`
-/// matches items by their names, they are the same if the two buckets have the same name. The
-/// bucket of the old map that a step of the new map takes is found in the same way. An `Err` says
-/// that memory ran out.
+/// `identity` says how buckets are matched: by their ids or by their names. Two steps that take a
+/// bucket are the same only if the two buckets are matched. A bucket has lost all its weight if it
+/// weighs nothing in the new map, and the bucket of the old map that is matched with it weighed
+/// something. The call fails only if memory runs out.
 pub fn rule_changes<'a, A: Allocator, B: Allocator>(
     alloc: Global,
     identity: Identity,
@@ -65,7 +65,8 @@ pub fn rule_changes<'a, A: Allocator, B: Allocator>(
     Ok(changes)
 }
 
-/// Returns the rules that differ, or the other order of the rules.
+/// Returns a difference for each rule that differs. If no rule differs, but the rules are in
+/// another order, returns only `OtherOrder`.
 fn rule_differences<'a, A: Allocator, B: Allocator>(
     alloc: Global,
     identity: Identity,
@@ -86,8 +87,8 @@ fn rule_differences<'a, A: Allocator, B: Allocator>(
     Ok(changes)
 }
 
-/// Returns the rules that differ: first those of the new map that are new or differ, in its order,
-/// and then those that are gone, in the old map's order.
+/// Returns a difference for each rule that differs. First come the rules of the new map that are
+/// new or differ, in the new map's order, and then the rules that are gone, in the old map's order.
 fn changed_rules<'a, A: Allocator, B: Allocator>(
     alloc: Global,
     identity: Identity,
@@ -163,7 +164,8 @@ fn push_gone_rules<'a>(
     Ok(())
 }
 
-/// Appends a rule of the old map if the new map has no rule of its name.
+/// `rule` is a rule of the old map. If the new map has no rule with its name, appends a
+/// [`RuleChange::Gone`].
 fn push_gone_rule<'a>(
     after: &'a [KeptRule],
     rule: &'a KeptRule,
@@ -193,7 +195,7 @@ pub(crate) fn push_unless<'a>(
     Ok(())
 }
 
-/// Appends that the rules are in another order, if there is no other difference.
+/// If `changes` is empty, appends [`RuleChange::OtherOrder`].
 fn push_order_if_none(changes: &mut Vec<RuleChange<'_>>) -> Result<(), AllocError>
     ensures { OnOk result (each rule_change_data changes.new.items
         ≡ or_order (each rule_change_data changes.old.items)) }
@@ -204,7 +206,7 @@ fn push_order_if_none(changes: &mut Vec<RuleChange<'_>>) -> Result<(), AllocErro
     Ok(())
 }
 
-/// Returns the first rule of this name, if there is one.
+/// Returns the first rule with this name, or `None` if no rule has the name.
 fn rule_named<'a>(rules: &'a [KeptRule], name: &str) -> Option<&'a KeptRule>
     ensures { option_map (λ r. rule_data r.now) result
         ≡ rule_named name.now (each rule_data rules.now) }

@@ -1,4 +1,5 @@
-//! Whether rules of two maps are the same, by the ids or by the names of the buckets that they take.
+//! Compares the rules of two maps. The buckets that the rules take are compared by their ids or by
+//! their names.
 
 ghost use Rattle.std.specs.Prelude.{◌≡◌, List, map as each};
 ghost use Rattle.std.specs.Cmp.Lexicographic.{pointwise};
@@ -14,8 +15,8 @@ use crush_map::{CrushMap, KeptRule, KeptStep};
 use crush_units::{BucketId, ItemId};
 use std::alloc::Allocator;
 
-/// Whether two lists have the same rules in the same order. `identity` says how the buckets that
-/// steps take are compared.
+/// Whether two maps have the same rules in the same order. `identity` says how the buckets that
+/// steps take are compared: by their ids or by their names.
 pub(crate) fn are_same_rules<A: Allocator, B: Allocator>(
     identity: Identity,
     old: &CrushMap<A>,
@@ -48,8 +49,8 @@ pub(crate) fn is_same_rule<A: Allocator, B: Allocator>(
     }
 }
 
-/// Whether two lists have the same rules in the same order. The buckets that steps take are
-/// compared by their names.
+/// Whether two maps have the same rules in the same order. The buckets that steps take are compared
+/// by their names.
 pub fn same_named_rules<A: Allocator, B: Allocator>(
     old: &CrushMap<A>,
     new: &CrushMap<B>,

@@ -1,3 +1,3 @@
-//! What a map says of an item.
+//! What a map says about an item.
 
 pub use crush_items::Seen;

@@ -1,4 +1,5 @@
-//! In what two settings differ.
+//! Compares the settings of two maps (tunables, types and rules), and appends the lines about
+//! tunables and types that differ.
 
 ghost use Rattle.std.specs.Prelude.{◌≡◌, ◌++◌, OnOk, map as each};
 ghost use Rattle.std.specs.Cmp.Lexicographic.{pointwise};
@@ -8,7 +9,7 @@ ghost use Rattle.crush_since.specs.Settings.{same_tunable, same_kinds, same_step
 use crush_map::{KeptRule, KeptStep, Setting};
 use std::alloc::AllocError;
 
-/// Appends a line if the tunables or their order differ.
+/// Appends a line if the tunables of the two maps differ, or if they are in different orders.
 pub(crate) fn push_tunables(
     old: &Setting,
     new: &Setting,
@@ -20,7 +21,7 @@ pub(crate) fn push_tunables(
     Ok(())
 }
 
-/// Appends a line if the types differ. The order of the types doesn't matter.
+/// Appends a line if the types of the two maps differ. The order of the types doesn't matter.
 pub(crate) fn push_kinds(old: &Setting, new: &Setting, out: &mut Vec<u8>) -> Result<(), AllocError>
     ensures { OnOk result (out.new.items ≡ out.old.items ++ kinds_line old.now new.now) }
 {
@@ -28,7 +29,7 @@ pub(crate) fn push_kinds(old: &Setting, new: &Setting, out: &mut Vec<u8>) -> Res
     Ok(())
 }
 
-/// Appends the line `text`, unless `same` is true.
+/// Appends the line `text`, or nothing if `same` is true.
 pub(crate) fn tell_unless(same: bool, text: &[u8], out: &mut Vec<u8>) -> Result<(), AllocError>
     ensures { OnOk result (out.new.items ≡ out.old.items ++ listed_if_not same text.now) }
 {
@@ -45,7 +46,7 @@ pub fn same_tunables(old: &Setting, new: &Setting) -> bool
     old.tunables().as_slice() == new.tunables().as_slice()
 }
 
-/// Whether both maps have the same types, in whatever order.
+/// Whether both maps have the same types. The order of the types doesn't matter.
 pub fn same_kinds(old: &Setting, new: &Setting) -> bool
     ensures { result ≡ same_kinds old.now new.now }
 {

@@ -1,4 +1,4 @@
-//! Counts of the items that differ.
+//! Counts the items that differ, for each kind of difference.
 
 ghost use Rattle.std.specs.Prelude.{◌≡◌, ◌+◌, ◌<◌, ◌^◌, List, map as each};
 ghost use Rattle.std.specs.Option.{option_map};
@@ -16,12 +16,13 @@ use crate::since::seen::Seen;
 use crush_compare::{Comparison, Pair};
 use std::alloc::Allocator;
 
-/// How many items differ in which way. The last four numbers count only items that both maps have.
+/// The number of items that have each kind of difference. The fields `renamed`, `moved`,
+/// `reweighed` and `reclassed` count only items that both maps have.
 #[derive(Clone, Copy, Debug)]
 pub struct Tally {
-    /// How many items only the new map has.
+    /// The number of items that only the new map has.
     pub made: usize,
-    /// How many items only the old map has.
+    /// The number of items that only the old map has.
     pub removed: usize,
     pub renamed: usize,
     pub moved: usize,
@@ -30,7 +31,8 @@ pub struct Tally {
 }
 
 impl Tally {
-    /// Returns how many items of a comparison by ids differ in which way.
+    /// `both` is a comparison by ids. Returns, for each kind of difference, the number of items
+    /// that have it.
     pub fn of<A: Allocator, B: Allocator>(both: &Comparison<'_, A, B>) -> Tally
         ensures { (t u : List Row) (ids : List Id)
             → each (pair_entries both.now) both.now.pairs.items ≡ each (id_entries t u) ids

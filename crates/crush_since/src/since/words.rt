@@ -1,4 +1,4 @@
-//! The words of what has changed.
+//! Builds the words of the lines about what has changed.
 
 ghost use Rattle.std.specs.Prelude.{◌≡◌, ◌++◌, OnOk, IfOk};
 ghost use Rattle.std.specs.Option.{option_map};
@@ -59,7 +59,7 @@ pub(crate) fn weight_of(alloc: Global, weight: Weight) -> Result<Vec<u8>, AllocE
     Ok(text)
 }
 
-/// Returns the name of an item's type. For a device it is `osd` if the setting has no type 0.
+/// Returns the name of an item's type. For a device it is `osd` if the map's setting has no type 0.
 pub(crate) fn type_bytes(setting: &Setting, id: ItemId, kind: TypeId) -> &[u8]
     ensures { result.now ≡ type_word setting.now id kind }
 {
@@ -72,7 +72,7 @@ pub(crate) fn type_bytes(setting: &Setting, id: ItemId, kind: TypeId) -> &[u8]
     }
 }
 
-/// Returns the class, or `(none)` if there is no class.
+/// Returns the name of the class, or the text `(none)` if there is no class.
 pub(crate) fn class_bytes<'a>(class: Option<&'a str>) -> &'a [u8]
     ensures { result.now ≡ class_or_none (option_map (λ c. c.now) class.entry) }
 {
@@ -127,12 +127,14 @@ pub(crate) fn push_whole(
     push_with_class(item.view.class, out)
 }
 
-/// Appends the text of a weight of any size.
+/// Appends the text of a weight. `units` is the weight in units of 1/65536, and may be larger than
+/// the weight of any item.
 #[tactic(auto, unfolding(crush_units::specs::Weight::weight_text))]
 pub(crate) fn push_units(units: u128, out: &mut Vec<u8>) -> Result<(), AllocError>
     ensures { OnOk result (out.new.items ≡ out.old.items ++ weight_text units) }
 {
-    // The parts of all units might not fit: those of a weight below 1.0 do.
+    // `units * 200000` might not fit into 128 bits. The same product always fits for the units
+    // below 1.0.
     let parts = (units % 65536 * 200000 + 65536) / 131072;
     let mut buffer = Buffer::new();
     let whole = buffer.format(units / 65536 + parts / 100000).as_bytes();
@@ -147,7 +149,7 @@ pub(crate) fn push_units(units: u128, out: &mut Vec<u8>) -> Result<(), AllocErro
     push_all(&[whole, &fraction], out)
 }
 
-/// Appends the line of the total weights.
+/// Appends the line with the total weights of the old map and of the new map.
 #[tactic(auto, unfolding(crate::specs::Since::totals_line))]
 pub(crate) fn push_totals(before: u64, after: u64, out: &mut Vec<u8>) -> Result<(), AllocError>
     ensures { OnOk result (out.new.items ≡ out.old.items ++ totals_line before after) }
@@ -167,7 +169,7 @@ fn push_count(count: usize, what: &[u8], out: &mut Vec<u8>) -> Result<(), AllocE
     push_all(&[number, what], out)
 }
 
-/// Appends the line of the counts.
+/// Appends the line with the number of items for each kind of difference.
 #[tactic(auto, unfolding(crate::specs::Tallies::counts_line))]
 pub(crate) fn push_counts(counts: &Tally, out: &mut Vec<u8>) -> Result<(), AllocError>
     ensures { OnOk result (out.new.items ≡ out.old.items ++ counts_line counts.now) }

@@ -23,7 +23,7 @@ use crush_units::{Alg, BucketId, Reader};
 use std::alloc::Allocator;
 
 impl<'a, A: Allocator + Clone> MapReader<'a, A> {
-    /// Reads a bucket to its closing brace, after its first word, which is the name of its type.
+    /// Reads a bucket to its closing brace. Its first word, the name of its type, was read before.
     pub(crate) fn bucket(&mut self, kind: &[u8]) -> Result<(), TextFault>
         requires { HasRoomForBucket kind.now self.old.builder }
         ensures { ReadsOn (λ d. arrive d self.old.text.words (bucket_line d (kind_of_word d kind.now)))
@@ -62,7 +62,8 @@ impl<'a, A: Allocator + Clone> MapReader<'a, A> {
         Ok(())
     }
 
-    /// Reads the class ids and, after them, the algorithm. Returns whether its hash was left out.
+    /// Reads the bucket's class ids, and then its algorithm. Returns the optional part that the
+    /// algorithm's line left out: its hash, or nothing.
     fn class_ids(&mut self) -> Result<Optional, TextFault>
         requires { IsAmid is_numbered self.old.builder }
         ensures { ReadsOn (λ d. between (at numbered d)) (λ k. (filling false, k))
@@ -75,8 +76,8 @@ impl<'a, A: Allocator + Clone> MapReader<'a, A> {
         }
     }
 
-    /// Reads a class id and returns `None`, or reads the algorithm and returns whether its hash was
-    /// left out.
+    /// Reads either a class id or the algorithm. For a class id, returns `None`. For the algorithm,
+    /// returns the optional part that its line left out: the hash, or nothing.
     #[tactic(auto, unfolding(crate::specs::Reads::line_at))]
     fn class_id_or_alg(&mut self) -> Result<Option<Optional>, TextFault>
         requires { IsAmid is_numbered self.old.builder }
@@ -91,7 +92,7 @@ impl<'a, A: Allocator + Clone> MapReader<'a, A> {
         Ok(None)
     }
 
-    /// Reads `-N class CLASS`, after `id`.
+    /// Reads `-N class CLASS`. The word `id` was read before.
     #[tactic(auto, unfolding(crate::specs::Reads::line_at))]
     fn class_id(&mut self) -> Result<(), TextFault>
         requires { HasRoomForId self.old.builder }
@@ -105,8 +106,8 @@ impl<'a, A: Allocator + Clone> MapReader<'a, A> {
             .map_err(|fault| out_of_memory_at(class.place, fault))
     }
 
-    /// Reads an algorithm, after `alg`, and its hash if there is one. Returns whether the hash was
-    /// left out. Only hash 0 is supported.
+    /// Reads an algorithm, and its hash if there is one. The word `alg` was read before. Returns
+    /// the optional part that was left out: the hash, or nothing. The only supported hash is 0.
     #[tactic(auto, unfolding(crate::specs::Reads::line_at))]
     fn alg(&mut self) -> Result<Optional, TextFault>
         requires { IsAmid is_numbered self.old.builder }
@@ -141,7 +142,7 @@ impl<'a, A: Allocator + Clone> MapReader<'a, A> {
         Ok(id)
     }
 
-    /// Reads `id` or `alg`, and returns whether it was `id`, so that a class id follows.
+    /// Reads `id` or `alg`. Returns true for `id`, after which a class id follows.
     #[tactic(auto, unfolding(crate::specs::Reads::word_at))]
     fn id_or_alg(&mut self) -> Result<bool, TextFault>
         ensures { FindsValue id_or_alg (λ more. more) self.old self.new result }
@@ -172,7 +173,7 @@ impl<'a, A: Allocator + Clone> MapReader<'a, A> {
     }
 }
 
-/// Returns the bucket id that the text spells, if it spells one.
+/// Returns the bucket id that the text spells, or `None` if the text isn't a bucket id.
 fn below_zero(text: &[u8]) -> Option<BucketId>
     ensures { result ≡ (if is_negative text.now
         then Some (digits_value 10 (drop 1 text.now)) else None) }

@@ -18,7 +18,8 @@ use crush_units::number::number_up_to;
 use std::alloc::Allocator;
 
 impl<'a, A: Allocator + Clone> MapReader<'a, A> {
-    /// Reads `N NAME [class CLASS]`, after `device`, and returns whether the class was left out.
+    /// Reads `N NAME [class CLASS]`. The word `device` was read before. Returns the optional part
+    /// that was left out: the class, or nothing.
     #[tactic(auto, unfolding(crate::specs::Reads::line_at))]
     pub(crate) fn device(&mut self) -> Result<Optional, TextFault>
         requires { HasRoomFor StatementKind.Device self.old.builder }

@@ -1,4 +1,4 @@
-//! The fault of a text if there isn't enough memory even for an empty map.
+//! Finds the fault of a text if there isn't enough memory even for an empty map.
 
 ghost use Rattle.std.specs.Prelude.{◌≡◌};
 ghost use Rattle.crush_text.specs.ReadsStatements.{FailsText, FailsFirst, opens_alone};
@@ -9,8 +9,8 @@ use crate::reader::statement::{comes_first, is_out_of_place};
 use crate::reader::word::{PlacedWord, memory_at};
 use crush_units::{Reader, Token};
 
-/// Returns the fault of the text's first word. If this word has no fault, or the text has no words,
-/// returns out of memory at the word or at the end of the text.
+/// Returns the fault of the text's first word. If this word has no fault, returns that memory ran
+/// out at the word. If the text has no words, returns that memory ran out at the end of the text.
 pub(crate) fn fault_without_memory(reader: &mut Reader<'_>) -> TextFault
     ensures { FailsText result reader.old }
 {
@@ -28,8 +28,8 @@ pub(crate) fn fault_without_memory(reader: &mut Reader<'_>) -> TextFault
     }
 }
 
-/// Returns the fault of the text's first word, or out of memory if it has none. No type is declared
-/// yet, so no word begins a bucket.
+/// Returns the fault of the text's first word, or, if this word has no fault, that memory ran out.
+/// No type is declared yet, so a word that would begin a bucket is a fault.
 fn unopened(word: PlacedWord<'_>) -> TextFault
     ensures { FailsFirst result word.entry.place word.entry.text.now }
 {
@@ -48,7 +48,7 @@ fn unopened(word: PlacedWord<'_>) -> TextFault
     }
 }
 
-/// Whether the word begins a statement without a declared type.
+/// Whether the word can begin a statement before any type is declared.
 fn opens_alone(word: PlacedWord<'_>) -> bool
     ensures { result ≡ opens_alone word.entry.text.now }
 {

@@ -26,8 +26,8 @@ use crush_units::{ItemId, Reader, Weight};
 use std::alloc::Allocator;
 
 impl<'a, A: Allocator + Clone> MapReader<'a, A> {
-    /// Reads the items, and the bucket's closing brace after them. `or` says whether the hash was
-    /// left out before them.
+    /// Reads the items of a bucket and its closing brace. `or` is the optional part that was left
+    /// out just before.
     pub(crate) fn items(&mut self, or: Optional) -> Result<(), TextFault>
         requires { IsAmid is_filling self.old.builder }
         ensures { ReadsOn (λ d. between (passing or (at (filling false) d))) (λ _. (second, Nothing))
@@ -42,8 +42,9 @@ impl<'a, A: Allocator + Clone> MapReader<'a, A> {
         Ok(())
     }
 
-    /// Reads an item and returns whether its weight was left out, or reads the closing brace and
-    /// returns `None`. `any` says that an item was read before, and `or` what was left out there.
+    /// Reads an item, and returns the optional part that was left out: the item's weight, or
+    /// nothing. If the closing brace comes instead, reads it and returns `None`. `any` says whether
+    /// an item was read before, and `or` is the optional part that was left out just before.
     #[tactic(auto, unfolding(crate::specs::Reads::line_at))]
     fn item_or_end(&mut self, any: bool, or: Optional) -> Result<Option<Optional>, TextFault>
         requires { IsAmid is_filling self.old.builder }
@@ -59,9 +60,10 @@ impl<'a, A: Allocator + Clone> MapReader<'a, A> {
         Ok(Some(left))
     }
 
-    /// Reads `NAME [weight WEIGHT]`, after `item`, and returns whether the weight was left out. If
-    /// the item has no weight, a sum that is too large is reported at its name, otherwise at its
-    /// weight.
+    /// Reads `NAME [weight WEIGHT]`. The word `item` was read before. Returns the optional part
+    /// that was left out: the weight, or nothing. If the weight of a bucket or of the whole map
+    /// becomes too large, the place of the fault is the item's weight, or the item's name if the
+    /// weight was left out.
     fn item(&mut self) -> Result<Optional, TextFault>
         requires { IsAmid is_filling self.old.builder }
         ensures { ReadsLine item_line (λ k. (filling true, k)) self.old self.new result }
@@ -76,7 +78,7 @@ impl<'a, A: Allocator + Clone> MapReader<'a, A> {
         Ok(Optional::Weight)
     }
 
-    /// Reads the item's weight, and puts the item into the bucket.
+    /// Reads the item's weight, and adds the item to the bucket.
     fn weight(&mut self, item: ItemId) -> Result<(), TextFault>
         requires { CanTake item self.old.builder }
         ensures { ReadsLine (λ d. item_weight_line d item) (λ _. (filling true, Nothing))
@@ -89,7 +91,7 @@ impl<'a, A: Allocator + Clone> MapReader<'a, A> {
     }
 }
 
-/// Returns that the weight of this item is expected.
+/// Returns what the grammar expects at the place of this item's weight.
 fn weight_of(item: &ItemId) -> Expected
     ensures { result ≡ expected (weight item.now) }
 {
@@ -98,8 +100,10 @@ fn weight_of(item: &ItemId) -> Expected
     }
 }
 
-/// Puts the item into the bucket that is being read; a fault has the place of `word`. `weight` is
-/// the weight, if there is one, and what is expected at the word.
+/// Adds the item to the bucket that is being read. The first part of `weight` is the item's weight,
+/// or `None` if it was left out. The second part is what the grammar expects at `word`. If the
+/// weight of a bucket or of the whole map becomes too large, or memory runs out, the place of the
+/// fault is `word`.
 fn add_item<A: Allocator>(
     word: PlacedWord<'_>,
     item: ItemId,
@@ -118,7 +122,8 @@ fn add_item<A: Allocator>(
     }
 }
 
-/// Returns the weight that the word spells for this item. A device's is at most 2147483647 units.
+/// Returns the weight that the word spells for this item. The weight of a device is at most
+/// 2147483647 units.
 fn parsed_weight(word: PlacedWord<'_>, item: &ItemId) -> Result<Weight, TextFault>
     ensures weighs { (d : Draft)
         → result ≡ placed word.entry.place (expected (weight item.now)) (parsed_weight d item.now word.entry.text.now) }
@@ -137,8 +142,9 @@ fn parsed_weight(word: PlacedWord<'_>, item: &ItemId) -> Result<Weight, TextFaul
     Ok(weight)
 }
 
-/// Reads `item` or `}`, and returns whether it was `item`. `pos` after an item is refused, since
-/// positions aren't supported. `or` says what was left out before.
+/// Reads `item` or `}`, and returns true for `item`. Rejects `pos` after an item, because positions
+/// aren't supported. `any` says whether an item was read before, and `or` is the optional part that
+/// was left out just before.
 #[tactic(auto, unfolding(crate::specs::Reads::word_at))]
 fn read_item_or_end(reader: &mut Reader<'_>, any: bool, or: Optional) -> Result<bool, TextFault>
     ensures { ReadsValue (item_or_end any or) (λ more. more) AnyDraft
@@ -157,8 +163,8 @@ fn read_item_or_end(reader: &mut Reader<'_>, any: bool, or: Optional) -> Result<
     }
 }
 
-/// Returns the item with this name: a device, or a bucket that was read to its end, which no bucket
-/// holds yet.
+/// Returns the item with this name: a device, or a bucket whose closing brace was read. Fails if
+/// there is no such item, or if a bucket already holds the item.
 fn free_item<A: Allocator>(
     word: PlacedWord<'_>,
     builder: &MapBuilder<A>,
@@ -179,7 +185,7 @@ fn free_item<A: Allocator>(
     }
 }
 
-/// Returns the device, or the bucket that was read to its end, with this name.
+/// Returns the device with this name, or the bucket with this name whose closing brace was read.
 fn item_named<A: Allocator>(builder: &MapBuilder<A>, name: &[u8]) -> Option<ItemId>
     ensures value { (d : Draft) → IsDraft builder.now d → result ≡ item_named d name.now }
     ensures closed { IfSome result (λ i. (d : Draft) → IsDraft builder.now d

@@ -32,8 +32,8 @@ use crush_units::number::number_up_to;
 use std::alloc::{Allocator, Global};
 
 impl<'a, A: Allocator> MapReader<'a, A> {
-    /// Reads a rule to its closing brace, after `rule`. Until the rule is complete, it is kept in
-    /// the machine's memory and the map doesn't have it.
+    /// Reads a rule to its closing brace. The word `rule` was read before. Until the rule is
+    /// complete, it is stored in memory of `global`, and the map doesn't have it.
     pub(crate) fn rule(&mut self) -> Result<(), TextFault>
         requires { HasRoomFor StatementKind.Rule self.old.builder }
         ensures { ReadsOn (λ d. arrive d self.old.text.words (rule_line d)) (λ _. (second, Nothing))
@@ -46,7 +46,7 @@ impl<'a, A: Allocator> MapReader<'a, A> {
             .map_err(|refused| out_of_memory_at(place, refused.fault))
     }
 
-    /// Reads the rule up to its first step, and returns it without steps.
+    /// Reads the rule up to its first step, and returns the rule without steps.
     #[tactic(auto, unfolding(crate::specs::Reads::line_at))]
     fn rule_head(&mut self) -> Result<Rule, TextFault>
         ensures { ReadsHead self.old self.new result }
@@ -62,7 +62,7 @@ impl<'a, A: Allocator> MapReader<'a, A> {
         rule_head_values(name, id, kind, (min_size, max_size), self.global)
     }
 
-    /// Reads all steps into the rule, and returns the place of the closing brace.
+    /// Reads all steps, appends them to the rule, and returns the place of the closing brace.
     fn steps(&mut self, rule: &mut Rule) -> Result<usize, TextFault>
         requires { IsRightSoFar self.old.builder rule.old }
         ensures { ReadsSteps rule.old rule.new self.old self.new result }
@@ -74,8 +74,8 @@ impl<'a, A: Allocator> MapReader<'a, A> {
         }
     }
 
-    /// Reads a step into the rule and returns `None`, or reads the closing brace and returns its
-    /// place.
+    /// Reads a step, appends it to the rule, and returns `None`. If the closing brace comes
+    /// instead, reads it and returns its place.
     #[tactic(auto, unfolding(crate::specs::Reads::line_at))]
     fn step_or_end(&mut self, rule: &mut Rule) -> Result<Option<usize>, TextFault>
         requires { IsRightSoFar self.old.builder rule.old }
@@ -118,8 +118,8 @@ impl<'a, A: Allocator> MapReader<'a, A> {
     }
 }
 
-/// Returns a rule without steps, with copies of its name and its `type` word. `sizes` are the least
-/// and the largest pool size.
+/// Returns a rule without steps. It has copies of the name and of the word after `type`. `sizes`
+/// are the least and the largest size of the pools that the rule serves.
 fn rule_head_values(
     name: PlacedWord<'_>,
     id: u32,
@@ -150,7 +150,8 @@ fn rule_head_values(
     })
 }
 
-/// Reads the key `size` and a number, if this key is the next word.
+/// Reads the key `size` and a number. If the next word isn't this key, reads nothing and returns
+/// `None`.
 #[tactic(auto, unfolding(crate::specs::Reads::line_at))]
 fn read_size(reader: &mut Reader<'_>, size: &[u8]) -> Result<Option<u32>, TextFault>
     ensures { ReadsSize size.now reader.old reader.new result }
@@ -162,7 +163,7 @@ fn read_size(reader: &mut Reader<'_>, size: &[u8]) -> Result<Option<u32>, TextFa
     Ok(Some(number))
 }
 
-/// Returns the optional part that was left out before the next step or the closing brace.
+/// Returns the optional part that was left out just before the next step or the closing brace.
 fn left_by(rule: &Rule) -> Optional
     ensures { result ≡ left_by rule.now }
 {
@@ -172,7 +173,7 @@ fn left_by(rule: &Rule) -> Optional
     }
 }
 
-/// Returns the optional part that the step has left out at its end.
+/// Returns the optional part that was left out at the end of the step.
 fn left_by_step(step: &Step) -> Optional
     ensures { result ≡ left_by_step step.now }
 {
@@ -182,7 +183,8 @@ fn left_by_step(step: &Step) -> Optional
     }
 }
 
-/// Returns which sizes of pools the head of a rule with these sizes has left out at its end.
+/// Returns the optional part that was left out at the end of a rule's head: both pool sizes, the
+/// largest size, or nothing. `least` and `most` are the sizes that the head has.
 fn left_sizes(least: Option<u32>, most: Option<u32>) -> Optional
     ensures { result ≡ left_after None least most }
 {
@@ -193,7 +195,8 @@ fn left_sizes(least: Option<u32>, most: Option<u32>) -> Optional
     }
 }
 
-/// Reads `step`, for which the rule must have room, or `}`. `or` says what was left out before.
+/// Reads `step` or `}`, and returns the word. Fails at `step` if the rule already has the maximum
+/// number of steps. `or` is the optional part that was left out just before.
 #[tactic(auto, unfolding(crate::specs::Reads::word_at))]
 fn read_step_or_end<'a>(
     reader: &mut Reader<'a>,
@@ -226,7 +229,7 @@ impl<'a> PlacedWord<'a> {
     }
 }
 
-/// Reads `id`, or `ruleset`, which older releases of Ceph print instead.
+/// Reads `id`, or `ruleset`, which older releases of Ceph print in place of `id`.
 #[tactic(auto, unfolding(crate::specs::Reads::word_at))]
 fn read_rule_id_key(reader: &mut Reader<'_>) -> Result<(), TextFault>
     ensures { ReadsValue rule_id_key (λ x. x) AnyDraft reader.old reader.new result }

@@ -18,17 +18,17 @@ use crate::statement_kind::StatementKind;
 use crush_units::Token;
 use std::alloc::Allocator;
 
-/// What was read before a statement.
+/// What a method needs to know about the text before a statement.
 #[derive(Clone, Copy)]
 pub(crate) struct Before {
-    /// Whether a bucket or a rule was read, so that only buckets and rules may follow.
+    /// Whether a bucket or a rule was read. If so, only buckets and rules may follow.
     pub(crate) late: bool,
-    /// The optional part that was left out at the end.
+    /// The optional part that was left out at the end of what was read.
     pub(crate) or: Optional,
 }
 
 impl Before {
-    /// Returns that the first word of a statement is expected.
+    /// Returns what the grammar expects as the first word of a statement.
     pub(crate) fn expected(self) -> Expected
         ensures { result ≡ Statement self.late self.or }
     {
@@ -40,7 +40,7 @@ impl Before {
 }
 
 impl<'a, A: Allocator + Clone> MapReader<'a, A> {
-    /// Reads all statements, to the end of the text.
+    /// Reads all statements up to the end of the text.
     pub(crate) fn statements(&mut self) -> Result<(), TextFault>
         requires { IsIdle self.old.builder }
         ensures { ReadsAll self.old self.new result }
@@ -55,8 +55,8 @@ impl<'a, A: Allocator + Clone> MapReader<'a, A> {
         Ok(())
     }
 
-    /// Reads the next statement, and returns what was read before the one after it; returns `None`
-    /// at the end of the text.
+    /// Reads the next statement. Returns a [`Before`] for the statement that follows, or `None` at
+    /// the end of the text.
     fn next_statement(&mut self, before: Before) -> Result<Option<Before>, TextFault>
         requires { IsIdle self.old.builder }
         ensures { ReadsNext before self.old self.new result }
@@ -79,7 +79,8 @@ impl<'a, A: Allocator + Clone> MapReader<'a, A> {
         }
     }
 
-    /// Reads the statement after its first word, and returns what was read before the next one.
+    /// Reads the rest of a statement whose first word was read. Returns a [`Before`] for the next
+    /// statement.
     fn statement(&mut self, opening: StatementKind, word: &[u8]) -> Result<Before, TextFault>
         requires { CanOpen opening word.now self.old.builder }
         ensures { ReadsOn (λ d. arrive d self.old.text.words (statement d opening)) behind
@@ -121,8 +122,8 @@ impl<'a, A: Allocator + Clone> MapReader<'a, A> {
         }
     }
 
-    /// Returns which kind of statement the word begins, if the map has room for one more of this
-    /// kind.
+    /// Returns the kind of the statement that the word begins. Fails if no statement can begin with
+    /// this word here, or if the map has no room for one more statement of this kind.
     fn opening_of(&self, word: PlacedWord<'_>, before: Before) -> Result<StatementKind, TextFault>
         ensures { Opens word.entry before self.now.builder result }
     {
@@ -179,7 +180,7 @@ impl<'a, A: Allocator + Clone> MapReader<'a, A> {
 }
 
 /// Whether the word can't begin a statement here. Tunables, devices and types must come before the
-/// first bucket or rule (`late` says that one was read).
+/// first bucket or rule. `late` says whether a bucket or a rule was read.
 pub(crate) fn is_out_of_place(word: PlacedWord<'_>, late: bool) -> bool
     ensures { result ≡ is_out_of_place late word.entry.text.now }
 {
@@ -193,7 +194,9 @@ pub(crate) fn comes_first(word: PlacedWord<'_>) -> bool
     word.is(b"tunable") || word.is(b"device") || word.is(b"type")
 }
 
-/// Returns `opening`, or `TooMany` at the word if the map is full of this kind of statement.
+/// Returns `opening`, which is the kind of the statement that the word begins. `full` says whether
+/// the map already has the maximum number of statements of this kind; if it has, the function fails
+/// with `TooMany` at the word.
 fn with_room(
     word: PlacedWord<'_>,
     before: Before,

@@ -24,12 +24,12 @@ use crush_units::number::number_up_to;
 use crush_units::{Name, Reader};
 use std::alloc::{Allocator, Global};
 
-/// What the first word of a step says.
+/// What the first word of a step means.
 #[derive(Clone, Copy)]
 pub(crate) enum FirstOfStep<'a> {
     Take,
     Choose {
-        /// Whether it is `chooseleaf`, which chooses devices.
+        /// Whether the word is `chooseleaf`, with which a step chooses devices.
         leaf: bool,
     },
     /// A word that begins with `set_`.
@@ -38,7 +38,7 @@ pub(crate) enum FirstOfStep<'a> {
 }
 
 impl<'a, A: Allocator> MapReader<'a, A> {
-    /// Reads a step, after `step`.
+    /// Reads a step. The word `step` was read before.
     #[tactic(auto, unfolding(crate::specs::Reads::line_at))]
     pub(crate) fn step(&mut self) -> Result<Step, TextFault>
         ensures { GivesStep (λ d r. word step_word (step_behind d r)) self.old self.new result }
@@ -54,7 +54,7 @@ impl<'a, A: Allocator> MapReader<'a, A> {
         }
     }
 
-    /// Reads `BUCKET [class CLASS]`, after `take`.
+    /// Reads `BUCKET [class CLASS]`. The word `take` was read before.
     #[tactic(auto, unfolding(crate::specs::Reads::line_at))]
     fn take(&mut self) -> Result<Step, TextFault>
         ensures { GivesStep take_step self.old self.new result }
@@ -69,7 +69,7 @@ impl<'a, A: Allocator> MapReader<'a, A> {
         Ok(Step::Take(bucket, Some(class)))
     }
 
-    /// Reads `(firstn | indep) N type TYPE`, after `choose` or `chooseleaf`.
+    /// Reads `(firstn | indep) N type TYPE`. The word `choose` or `chooseleaf` was read before.
     #[tactic(auto, unfolding(crate::specs::Reads::line_at))]
     fn choose(&mut self, leaf: bool) -> Result<Step, TextFault>
         ensures { GivesStep (λ d r. choose_step d r leaf) self.old self.new result }
@@ -112,7 +112,8 @@ impl<'a, A: Allocator> MapReader<'a, A> {
     }
 }
 
-/// Reads the number after a word that begins with `set_`, and returns the step.
+/// Reads the number after a word that begins with `set_`, and returns a step whose name is this
+/// word.
 #[tactic(auto, unfolding(crate::specs::Reads::line_at))]
 fn read_set(reader: &mut Reader<'_>, name: Name<Global>) -> Result<Step, TextFault>
     requires sets { starts_with nat_eq name (codes "set_") ≡ true }
@@ -127,7 +128,7 @@ fn read_set(reader: &mut Reader<'_>, name: Name<Global>) -> Result<Step, TextFau
     Ok(Step::Set(name, value))
 }
 
-/// Reads the first word of a step. `choosemsr` is refused, since MSR rules aren't supported.
+/// Reads the first word of a step. Rejects `choosemsr`, because MSR rules aren't supported.
 #[tactic(auto, unfolding(crate::specs::Reads::word_at))]
 fn read_first<'a>(reader: &mut Reader<'a>) -> Result<FirstOfStep<'a>, TextFault>
     ensures word { ReadsValue step_word first_of_step AnyDraft reader.old reader.new result }
@@ -158,8 +159,8 @@ fn sets(text: &[u8]) -> bool
     matches!(text, [b's', b'e', b't', b'_', ..])
 }
 
-/// Reads `firstn` or `indep`, and returns whether it was `firstn`. If an item is lost, the items
-/// after it move up with `firstn`, and keep their positions with `indep`.
+/// Reads `firstn` or `indep`, and returns true for `firstn`. If an item is lost, `firstn` lets the
+/// items after it move up, and `indep` keeps them at their positions.
 #[tactic(auto, unfolding(crate::specs::Reads::word_at))]
 fn read_order(reader: &mut Reader<'_>) -> Result<bool, TextFault>
     ensures { ReadsValue step_order (λ b. b) AnyDraft reader.old reader.new result }
@@ -186,7 +187,8 @@ fn read_count(reader: &mut Reader<'_>) -> Result<i32, TextFault>
     }
 }
 
-/// Returns the number from -2147483648 to 2147483647 that the text spells, if it spells one.
+/// Returns the number from -2147483648 to 2147483647 that the text spells, or `None` if it spells
+/// no such number.
 fn signed_number(text: &[u8]) -> Option<i32>
     ensures { result ≡ (if is_signed text.now then Some (signed_value text.now) else None) }
 {

@@ -17,7 +17,7 @@ use crush_units::limits::LARGEST_TUNABLE;
 use std::alloc::Allocator;
 
 impl<'a, A: Allocator> MapReader<'a, A> {
-    /// Reads `NAME N`, after `tunable`.
+    /// Reads `NAME N`. The word `tunable` was read before.
     #[tactic(auto, unfolding(crate::specs::Reads::line_at))]
     pub(crate) fn tunable(&mut self) -> Result<(), TextFault>
         requires { HasRoomFor StatementKind.Tunable self.old.builder }

@@ -20,7 +20,7 @@ use crush_units::number::number_up_to;
 use std::alloc::Allocator;
 
 impl<'a, A: Allocator> MapReader<'a, A> {
-    /// Reads `N NAME`, after `type`.
+    /// Reads `N NAME`. The word `type` was read before.
     #[tactic(auto, unfolding(crate::specs::Reads::line_at))]
     pub(crate) fn kind(&mut self) -> Result<(), TextFault>
         requires { HasRoomFor StatementKind.Type self.old.builder }
@@ -49,8 +49,8 @@ impl<'a, A: Allocator> MapReader<'a, A> {
         Ok(number)
     }
 
-    /// Reads a name that no type has yet. Only type 0 may have one of the grammar's words as its
-    /// name.
+    /// Reads a name that no type has yet. Only the name of type 0 may be a word that the grammar
+    /// reserves.
     #[tactic(auto, unfolding(crate::specs::Reads::word_at))]
     fn type_name(&mut self, number: TypeId) -> Result<PlacedWord<'a>, TextFault>
         ensures { FindsWord (type_name number) self.old self.new result }

@@ -20,8 +20,8 @@ pub(crate) struct PlacedWord<'a> {
     pub(crate) text: &'a [u8],
 }
 
-/// Reads the next word, which may be a brace. The end of the text is a fault; `expected` says what
-/// the grammar expects here.
+/// Reads the next word, which may be a brace. Fails if the text ends here. `expected` says what the
+/// grammar expects here.
 #[tactic(auto, unfolding(crate::specs::Reads::next_at))]
 pub(crate) fn next_word<'a>(
     reader: &mut Reader<'a>,
@@ -55,8 +55,8 @@ pub(crate) fn memory_at(place: usize) -> TextFault
     }
 }
 
-/// Returns the fault of a step of the builder at this place. The word was checked before the step,
-/// so the builder's only possible fault is out of memory.
+/// Returns the fault of a call of the builder that failed at this place. The word was checked
+/// before the call, so the builder can only have run out of memory.
 pub(crate) fn out_of_memory_at(place: usize, fault: BuildFault) -> TextFault
     requires { fault ≡ BuildFault.OutOfMemory }
     ensures { result ≡ record { kind = OutOfMemory; place = place; expected = Memory } }
@@ -68,7 +68,7 @@ pub(crate) fn out_of_memory_at(place: usize, fault: BuildFault) -> TextFault
 }
 
 impl<'a> PlacedWord<'a> {
-    /// Returns a fault of this kind at the word's place, where this is expected.
+    /// Returns a fault of this kind at the word's place, with what is expected there.
     pub(crate) fn fault(self, kind: TextFaultKind, expected: Expected) -> TextFault
         ensures { result ≡ record { kind = kind; place = self.entry.place; expected = expected } }
     {
@@ -91,7 +91,7 @@ impl<'a> PlacedWord<'a> {
         self.is(b"{") || self.is(b"}")
     }
 
-    /// Returns a copy of the word as a name, or out of memory at the word's place.
+    /// Returns a copy of the word as a name. If memory runs out, fails at the word's place.
     pub(crate) fn owned_name(self, global: Global) -> Result<Name<Global>, TextFault>
         requires { IsName self.text.now }
         ensures name { IfOk result (λ name. name ≡ self.entry.text.now) }

@@ -1,4 +1,4 @@
-//! Moves the items of a place into other memory, and back.
+//! Moves the items of a place from one vector to another, and back.
 
 ghost use Rattle.std.specs.Prelude.{◌≡◌, true, vec_capacity};
 ghost use Rattle.crush_model.specs.Forest.{rows_of};
@@ -48,11 +48,11 @@ impl<A: Allocator> Forest<A> {
 }
 
 impl<A: Allocator + Clone> Forest<A> {
-    /// Makes room for one more item at a place that exists, so that the growth can be undone. If
-    /// the place is full, moves its items to a vector with 1.5 times the capacity, rounded down,
-    /// plus one, and returns the old vector for [`Forest::replace_buffer`]. `Ok(None)` means that
-    /// the place had room, and that nothing has changed. Returns an error if memory can't be
-    /// allocated; then nothing changes.
+    /// Ensures that a place, which must exist, has room for one more item, in a way that can be
+    /// undone. If the place is full, moves its items to a vector with 1.5 times the capacity,
+    /// rounded down, plus one, and returns the old vector. With that vector,
+    /// [`Forest::replace_buffer`] undoes the call. If the place had room, returns `Ok(None)` and
+    /// changes nothing. Returns an error if memory can't be allocated; then nothing changes.
     pub fn grow_buffer(&mut self, place: Place) -> Result<Option<Vec<Node<A>, A>>, AllocError>
         requires { is_place (rows_of self.old) place ≡ true }
         ensures { GrowsBuffer place self.old self.new result }

@@ -9,7 +9,7 @@ use Rattle.crush_compare.specs.NamedPairs.{new_pair}
 use Rattle.crush_compare.specs.PairItems.{items_at}
 use Rattle.crush_compare.proofs.by_name.push_new.Given as goal
 
--- the pairs so far are those of the items so far
+-- the pairs appended so far are those of the items visited so far
 abbrev pub invariant-loop-item : goal.invariant-loop-item
 invariant-loop-item g l =
     (

@@ -1,4 +1,4 @@
--- A refused batch: the reply is the table's, and the map stands for the tables for which it stood.
+-- A refused batch: the reply is the one that the model gives, and the map represents the tables that it represented before.
 use Rattle.std.proofs.Common.{◌≡◌, ap, sym, subst, ◌∙◌, Err}
 use Rattle.crush_edits.specs.Batch.{batch, BatchAnswer, batch_refused}
 use Rattle.crush_map.specs.MapData.{MapStands}

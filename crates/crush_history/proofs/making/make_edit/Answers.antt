@@ -1,4 +1,4 @@
--- A refused edit: the reply is the table's, and the map is as before.
+-- A refused edit: the reply is the one that the model gives, and the map represents the tables that it represented before.
 use Rattle.std.proofs.Common.{◌≡◌, ap, sym, subst, Err}
 use Rattle.crush_edits.specs.Answer.{Answer, refused}
 use Rattle.crush_edits.specs.Edit.{edit}

@@ -4,7 +4,7 @@ use Rattle.crush_units.specs.Writes.{AppendsPrefix}
 use Rattle.crush_units.proofs.Appending.{appends_nothing}
 use Rattle.crush_input.proofs.ending.report_options.Goals as goal
 
--- nothing is a prefix of any text
+-- the empty text is a prefix of each text
 no_prefix : (old : Option (List ℕ)) (text : List ℕ) → AppendsPrefix old old text
 no_prefix old text = ([], text, refl, appends_nothing old)
 

@@ -5,12 +5,12 @@ use Rattle.crush_units.specs.Writes.{Writes}
 use Rattle.crush_units.proofs.Appending.{appends_both, less_of_both, then_less}
 use Rattle.crush_input.proofs.ending.write_lines.Goals as goal
 
--- a text that was written, followed by a second one: the result of the second write is that of both
+-- if the text x was written, then the result of writing y after it is the result of writing x followed by y
 then_writes : {X E : Type 0} (r : Result X E) (a b c : Option (List ℕ)) (x y : List ℕ) → Appends a b x → Writes r b c y → Writes r a c (x ++ y)
 then_writes (Ok v) a b c x y first second = appends_both a b c x y first second
 then_writes (Err e) a b c x y first second = then_less a b c x y first second
 
--- less than the line was written
+-- only a proper prefix of the line was written
 pub returns-in_err-write_report : goal.returns-in_err-write_report
 returns-in_err-write_report g c =
     let p = err_from_is_err_and c.from_residual.result c.from_residual.ensures.1 in

@@ -24,7 +24,7 @@ loop-name-preserved g c = λ known spans before.
       one_script_more so_far.0 (content name.bytes.items) _ _ name.bytes.items so_far.1 so_far.4 behind,
     )
 
--- after the last script all of them were read
+-- after the last file, all scripts have been read
 pub returns : goal.returns
 returns g c = record {
   job = λ known spans before.
@@ -38,7 +38,7 @@ returns g c = record {
   noted = tt;
 }
 
--- a file that couldn't be read is that of a script
+-- the file that couldn't be read is a file of scripts
 pub returns-in_err-push_file-clause-noted : goal.returns-in_err-push_file-clause-noted
 returns-in_err-push_file-clause-noted g c =
     let p = err_from_is_err_and c.from_residual.result c.from_residual.ensures.1 in

@@ -4,7 +4,7 @@ use Rattle.crush_input.specs.Input.{IsJoined}
 use Rattle.crush_input.specs.Joined.{ScriptSpanData, script_spans_of, with_scripts}
 use Rattle.crush_input.proofs.input.push_files.Given as goal
 
--- the job and the scripts so far were read, as far as their bytes are known; the remaining scripts follow them
+-- the job and the scripts before the index have been read, as far as their bytes are known; the remaining scripts follow them
 abbrev pub invariant-loop-name : goal.invariant-loop-name
 invariant-loop-name g l = (known : Option (List ℕ)) (spans : List ScriptSpanData) → IfSome known (λ b. IsJoined l.fn.job b spans)
     → (now : Option (List ℕ)) × (own : List ScriptSpanData)

@@ -9,7 +9,7 @@ use Rattle.crush_input.proofs.input.read_first.Goals as goal
 pub returns-in-None-clause-bytes : goal.returns-in-None-clause-bytes
 returns-in-None-clause-bytes g c = rw c.in-None.is (when_ok _ _ c.read_without_notes.result (λ read taken. known_of_take _ read.items taken) c.read_without_notes.ensures.bytes)
 
--- nothing is noted of standard input, and of a file what is noted of it
+-- there are no notes about standard input, and the notes about a file are the notes of reading it
 pub returns-in-None-clause-noted : goal.returns-in-None-clause-noted
 returns-in-None-clause-noted g c = err_as _ _ c.read_without_notes.result (λ s none. quiet_part c.args.options.now s.fault _ none) c.read_without_notes.ensures.quiet
 
@@ -18,6 +18,6 @@ returns-in-Some-clause-noted g c =
     let named : IsFile c.args.options.now.file c.as_str.result.now = rw c.in-Some.is (sym c.as_str.ensures.value) in
     err_as _ _ c.read_file.result (λ s told. part_noted c.args.options.now _ s.fault _ (inl named) told) c.read_file.ensures.noted
 
--- a file is read in place of standard input
+-- if a file is read instead of standard input, then nothing is taken from standard input
 pub returns-in-Some-clause-taken : goal.returns-in-Some-clause-taken
 returns-in-Some-clause-taken g c = few_nothing _ _ refl

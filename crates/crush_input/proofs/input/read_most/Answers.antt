@@ -22,7 +22,7 @@ loop-preserved g c = record {
   taken = Consumes-piece _ _ _ _ _ _ c.loop.invariant.taken c.in-Ok.ensures.bytes.0 c.in_ok-extend_from_slice-in-Ok.ensures.items;
 }
 
--- a fault says nothing of bytes
+-- if the function fails, its contract says nothing about the bytes
 pub returns-in-Err-clause-bytes : goal.returns-in-Err-clause-bytes
 returns-in-Err-clause-bytes g c = tt
 
@@ -37,7 +37,7 @@ pub returns-then-len-most-clause-consumed : goal.returns-then-len-most-clause-co
 returns-then-len-most-clause-consumed g c =
     Consumes-piece _ _ _ _ _ _ c.loop.invariant.taken c.in-Ok.ensures.bytes.0 c.in_ok-extend_from_slice-in-Ok.ensures.items
 
--- a piece for which there is no room was taken too
+-- if there is no memory for a piece that was read, then its bytes have been taken, too
 pub returns-in_err-extend_from_slice-in-Ok-clause-taken : goal.returns-in_err-extend_from_slice-in-Ok-clause-taken
 returns-in_err-extend_from_slice-in-Ok-clause-taken g c =
     let p = err_from_is_err_and c.from_residual.result c.from_residual.ensures.1 in

@@ -6,7 +6,7 @@ use Rattle.crush_input.proofs.Told.{kept_short}
 use Rattle.crush_units.specs.declared.limits.TheConstants.{LONGEST_JOB}
 use Rattle.crush_input.proofs.job.job_of.Goals as goal
 
--- what was read is the job, and what is kept of its text belongs to these bytes
+-- the result is the job of the bytes, and what is stored of its text belongs to these bytes
 pub returns-in-Ok-parsed_job-clause-only : goal.returns-in-Ok-parsed_job-clause-only
 returns-in-Ok-parsed_job-clause-only g c = λ job is.
     let same = c.as_slice-text.ensures.value in
@@ -19,7 +19,7 @@ returns-in-Ok-parsed_job-clause-only g c = λ job is.
       text = λ i. record { origin = origin_of (kept.origins i); lines = lines i; bytes = kept.bytes i; weights = kept.weights job.table stands.map.forest i };
     }
 
--- the bytes of a job are no more than it may have
+-- the bytes of a job are at most as many as a job may have
 pub returns-in-Ok-parsed_job-clause-short : goal.returns-in-Ok-parsed_job-clause-short
 returns-in-Ok-parsed_job-clause-short g c =
     let short = subst (λ (b : List ℕ). length b ≤ LONGEST_JOB) c.as_slice-text.ensures.value c.in-Ok.ensures.job.1.short in

@@ -13,7 +13,7 @@ returns-clause-job g c =
     let all = job_bytes (g.F.Opens.content c.args.files.now) c.args.options.now (g.R.Read.remaining c.args.input.now) in
     has_job_where_done c.job_of.result all _ (input_of_joined all _ _ c.in_ok-bytes.ensures.job) c.job_of.ensures.job
 
--- the job of all bytes is that of the bytes that were read
+-- the job of all bytes is the job of the bytes that were read
 pub returns-clause-only : goal.returns-clause-only
 returns-clause-only g c = λ xs job all is.
     let content = g.F.Opens.content c.args.files.now in
@@ -28,7 +28,7 @@ returns-clause-fault g c =
     let all = job_bytes (g.F.Opens.content c.args.files.now) c.args.options.now (g.R.Read.remaining c.args.input.now) in
     err_as _ _ c.job_of.result (λ s h. no_job_of_all s.fault all _ (input_of_joined all _ _ c.in_ok-bytes.ensures.job) h) c.job_of.ensures.fault
 
--- the notes of a fault have its place in the file that its line comes from
+-- the notes of a fault have its place in the file from which the line comes
 pub returns-clause-noted : goal.returns-clause-noted
 returns-clause-noted g c =
     let content = g.F.Opens.content c.args.files.now in
@@ -36,7 +36,7 @@ returns-clause-noted g c =
     let from = come_from _ _ _ all _ _ c.first_name.ensures refl c.in_ok-bytes.ensures.job in
     err_both _ _ _ c.job_of.result (λ s h told. no_job_as_wanted content c.args.options.now (g.R.Read.remaining c.args.input.now) (Some _) s.fault _ h (noted_of_all _ _ _ all _ s.fault _ from h told)) c.job_of.ensures.fault c.job_of.ensures.noted
 
--- a fault while the bytes are read is a fault of the whole, and its notes are those of a file
+-- a fault that occurs while the bytes are read is a fault of the whole function, and its notes are the notes about a file
 pub returns-in_err-bytes-clause-fault : goal.returns-in_err-bytes-clause-fault
 returns-in_err-bytes-clause-fault g c =
     let p = err_from_is_err_and c.from_residual.result c.from_residual.ensures.1 in

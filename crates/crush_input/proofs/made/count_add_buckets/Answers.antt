@@ -9,7 +9,7 @@ use Rattle.crush_input.proofs.made.count_add_buckets.Goals.{then-is_add_bucket, 
 pub loop-edit-init : goal.loop-edit-init
 loop-edit-init c = record { few = omega arith; count = refl }
 
--- one edit more may be one more that asks for a bucket
+-- one more edit adds 1 if it is an `add-bucket`, and otherwise nothing
 pub loop-edit-preserved : goal.loop-edit-preserved
 loop-edit-preserved c =
     let xs = c.args.edits.now in

@@ -8,7 +8,7 @@ use Rattle.crush_input.proofs.made.count_making.Goals.{then-makes_more, else-mak
 pub loop-entry-init : goal.loop-entry-init
 loop-entry-init c = record { few = omega arith; count = refl }
 
--- one entry more may be one more that makes
+-- one more entry adds 1 if it created more buckets than it has `add-bucket` commands, and otherwise nothing
 pub loop-entry-preserved : goal.loop-entry-preserved
 loop-entry-preserved c =
     let xs = c.args.entries.now in

@@ -1,7 +1,7 @@
 use Rattle.std.proofs.Common.{rules}
 use Rattle.crush_input.proofs.notes.refused_notes.Goals as goal
 
--- with reasons where those are asked for, and without in another strict run
+-- with `explain` the lines have reasons, and in any other strict run they have none
 pub returns-then-mode : goal.returns-then-mode
 returns-then-mode c = search rules
 

@@ -4,6 +4,6 @@ use Rattle.crush_input.specs.Joined.{script_span_data}
 use Rattle.crush_input.specs.Origins.{origin_in, whole_of}
 use Rattle.crush_input.proofs.origins.origin_in.Given as goal
 
--- the parts that are left decide for what was found so far
+-- the parts that are left give the result, if the search continues with what was found so far
 abbrev pub invariant-loop-span : goal.invariant-loop-span
 invariant-loop-span l = origin_in (whole_of l.fn.first) (map script_span_data l.spans) l.fn.line ≡ origin_in (origin_data l.origin) (map script_span_data (drop l.span-index l.spans)) l.fn.line

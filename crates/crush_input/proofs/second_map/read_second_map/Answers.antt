@@ -5,7 +5,7 @@ use Rattle.crush_input.proofs.Outputs.{map_fault_of_all, map_noted_of_all, map_o
 use Rattle.crush_input.proofs.Outcomes.{err_as, err_both}
 use Rattle.crush_input.proofs.second_map.read_second_map.Goals as goal
 
--- what holds of the bytes that were read also holds of all bytes of the file
+-- what is true of the bytes that were read is also true of all bytes of the file
 pub returns-in-Ok-clause-map : goal.returns-in-Ok-clause-map
 returns-in-Ok-clause-map g c =
     let all = g.F.Opens.content c.args.files.now c.args.name.now in
@@ -24,7 +24,7 @@ returns-in-Ok-clause-noted g c =
     let known = subst (λ (z : List ℕ). IfSome all (IsInput z)) (sym c.as_slice.ensures.value) c.in-Ok.ensures.bytes in
     err_both _ _ _ c.map_of.result (λ s h told. map_noted_of_all c.args.explain c.args.which c.args.name.now all c.as_slice.result.now s.fault _ known h told) c.map_of.ensures.fault c.map_of.ensures.noted
 
--- a fault of a file that couldn't be read is one for all bytes of the file
+-- the fault of a file that couldn't be read is possible whatever bytes the file has
 pub returns-in-Err-clause-fault : goal.returns-in-Err-clause-fault
 returns-in-Err-clause-fault g c = c.of_second_map.ensures.fault _
 

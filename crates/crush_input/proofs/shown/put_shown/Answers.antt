@@ -5,7 +5,7 @@ use Rattle.crush_reasons.specs.Shown.{shown_byte}
 use Rattle.crush_input.proofs.ShownBytes.{shown_stops}
 use Rattle.crush_input.proofs.shown.put_shown.Goals as goal
 
--- less than the next byte was written
+-- the next byte was not written
 pub returns-in_err-put : goal.returns-in_err-put
 returns-in_err-put g c =
     let p = err_from_is_err_and c.from_residual.result c.from_residual.ensures.1 in

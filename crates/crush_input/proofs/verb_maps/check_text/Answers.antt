@@ -4,7 +4,7 @@ use Rattle.crush_input.specs.VerbMaps.{IsVerbTextFault}
 use Rattle.crush_input.proofs.Outcomes.{err_as, when_ok}
 use Rattle.crush_input.proofs.verb_maps.check_text.Goals as goal
 
--- what was read is a map of the text, and the text is whole if it has to be
+-- the text is the text of a map, and it is complete if it must be
 pub returns-in-Ok-clause-map : goal.returns-in-Ok-clause-map
 returns-in-Ok-clause-map g c =
     let m = c.in-Ok.ensures.map in

@@ -2,7 +2,7 @@ use Rattle.std.proofs.Common.{List, ℕ, Some, subst}
 use Rattle.crush_input.specs.VerbMaps.{AreNotesOfVerbMap, IsVerbMap, IsVerbTextFault}
 use Rattle.crush_input.proofs.verb_maps.checked_map.Goals as goal
 
--- what holds of the slice holds of the bytes
+-- what is true of the slice is true of the bytes
 pub returns-in-Ok-clause-map : goal.returns-in-Ok-clause-map
 returns-in-Ok-clause-map g c = subst (IsVerbMap c.args.maps) c.as_slice-text.ensures.value c.in-Ok.ensures.map
 

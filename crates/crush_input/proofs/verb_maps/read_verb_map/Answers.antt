@@ -5,7 +5,7 @@ use Rattle.crush_input.proofs.Outcomes.{err_as, err_both, when_ok}
 use Rattle.crush_input.proofs.VerbMaps.{verb_fault_of_all, verb_noted_of_all}
 use Rattle.crush_input.proofs.verb_maps.read_verb_map.Goals as goal
 
--- what holds of the bytes that were read also holds of all bytes of the file
+-- what is true of the bytes that were read is also true of all bytes of the file
 pub returns-in-Ok-clause-bytes : goal.returns-in-Ok-clause-bytes
 returns-in-Ok-clause-bytes g c =
     let all = g.F.Opens.content c.args.files.now c.args.name.now in
@@ -21,7 +21,7 @@ returns-in-Ok-clause-noted g c =
     let all = g.F.Opens.content c.args.files.now c.args.name.now in
     err_both _ _ _ c.checked_map.result (λ s told noted. verb_noted_of_all c.args.maps c.args.name.now c.args.shown.now all c.in-Ok.bytes.items s.fault s.notes.items c.in-Ok.ensures.bytes told (noted c.args.name.now)) c.checked_map.ensures.fault c.checked_map.ensures.noted
 
--- a file that couldn't be read has this fault, whatever bytes it has
+-- the fault of a file that couldn't be read is possible whatever bytes the file has
 pub returns-in-Err-clause-fault : goal.returns-in-Err-clause-fault
 returns-in-Err-clause-fault g c = c.aborted_refusal.ensures.fault c.args.maps _
 

@@ -3,7 +3,7 @@ use Rattle.crush_units.proofs.Appending.{less_of_both}
 use Rattle.crush_input.proofs.Outcomes.{then_writes}
 use Rattle.crush_input.proofs.verb_maps.write_refusal.Goals as goal
 
--- less than the line was written
+-- only a proper prefix of the line was written
 pub returns-in_err-write_line : goal.returns-in_err-write_line
 returns-in_err-write_line g c =
     let p = err_from_is_err_and c.from_residual.result c.from_residual.ensures.1 in

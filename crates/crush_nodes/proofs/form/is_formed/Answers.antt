@@ -28,7 +28,7 @@ holds_anyway : {P : Type 0} (b : Bool) → P → OnTrue b P
 holds_anyway true p = p
 holds_anyway false p = tt
 
--- a bucket without a type, one with too many class ids, and any other
+-- the three cases of a bucket: it has no type, it has too many class ids, or neither
 untyped : (h : HeaderData) → h.kind ≡ 0 → false ≡ is_formed h
 untyped h e = sym (ap (λ k. nat_lt 0 k && (nat_le (length h.class_ids) MOST_CLASS_IDS && are_apart (λ a b. bytes_eq b a) (map (λ (c : ShadowData). c.class) h.class_ids))) e)
 

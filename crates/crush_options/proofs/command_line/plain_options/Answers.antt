@@ -19,7 +19,7 @@ free : is_simple_and_free program ≡ true
 unfolding clap_on_literals
 free = refl
 
--- the program's fault for an error of `clap` is a fault of the words
+-- the fault that the program makes of an error of `clap` is a fault of the command line
 fault_in : (words : List Text) (kind : ErrorKind) (fault : OptionsFault) → (kind ≡ OutOfMemory) ⊎ IsAmong kind (fault_of program words) → IsFaultOf kind fault → IsFaultIn words fault
 fault_in words kind (Help text) (inl lacks) (inl told) = absurd (let bad : OutOfMemory ≡ _ = sym lacks ∙ told in cc)
 fault_in words kind (Help text) (inl lacks) (inr told) = absurd (let bad : OutOfMemory ≡ _ = sym lacks ∙ told in cc)

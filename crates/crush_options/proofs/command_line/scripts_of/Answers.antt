@@ -10,7 +10,7 @@ use Rattle.crush_options.proofs.command_line.scripts_of.Goals as goal
 texts_at : Option (Bor (List (Bor Text))) → Option (List Text)
 texts_at r = option_map (λ (s : Bor (List (Bor Text))). map (λ (v : Bor Text). v.now) s.now) r
 
--- the values that are read are those of the words, or none if the words have none
+-- the values that the program reads are those of the parsed words; if the words have no values, the program reads none
 no_values : (r : Option (Bor (List (Bor Text)))) (x y : Option (List Text)) → r ≡ None → texts_at r ≡ x → x ≡ y → unwrap_or y [] ≡ []
 unfolding texts_at
 no_values r x y is e f = ap (λ (o : Option (List Text)). unwrap_or o []) (sym f ∙ sym e ∙ ap texts_at is)

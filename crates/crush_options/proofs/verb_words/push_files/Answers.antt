@@ -7,7 +7,7 @@ use Rattle.crush_options.specs.Verbs.{VerbData, verb_data, word_if, word_with}
 use Rattle.crush_options.proofs.Pushes.{then_pushed}
 use Rattle.crush_options.proofs.verb_words.push_files.Goals as goal
 
--- the words of the scripts, by their names
+-- the words `--script=NAME`, one for each name
 script_words : (names : List (Bor Text)) → map (λ (name : Bor Text). codes "--script=" ++ name.now) names ≡ map (λ (name : Text). codes "--script=" ++ name) (map (λ (name : Bor Text). name.now) names)
 script_words [] = refl
 script_words (n ∷ names) = ap (λ (z : List Text). (codes "--script=" ++ n.now) ∷ z) (script_words names)

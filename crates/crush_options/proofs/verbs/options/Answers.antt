@@ -6,7 +6,7 @@ use Rattle.crush_options.specs.declared.verbs.Verb.{Verb}
 use Rattle.crush_options.specs.Verbs.{AreOptionsBy, AreOptionsOfVerb, IsFaultBy, IsFaultOfVerb}
 use Rattle.crush_options.proofs.verbs.options.Goals as goal
 
--- the texts of all words but the first
+-- the texts of all words except for the first
 texts_behind : {A : Type 0} (f : A → Text) (words : List A) → map f (take (length words - 1) (drop 1 words)) ≡ drop 1 (map f words)
 texts_behind f words = ap (map f) (take_all (length words - 1) (drop 1 words) (omega (arith, length-drop 1 words))) ∙ sym (drop-map f 1 words)
 

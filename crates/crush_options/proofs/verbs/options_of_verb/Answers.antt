@@ -46,7 +46,7 @@ tree_free : is_simple_and_free tree ≡ true
 unfolding clap_on_literals
 tree_free = refl
 
--- the command line of each verb is one whose matches and faults `clap` promises
+-- the command line of each verb has the simple form for which `clap` promises what it parses and with which errors it fails
 simple : (verb : Verb) → is_simple (app_of_verb verb) ≡ true
 simple Apply = apply_simple
 simple Diff = diff_simple
@@ -59,7 +59,7 @@ free Diff = diff_free
 free Plan = plan_free
 free Tree = tree_free
 
--- the program's fault for an error of `clap` is a fault of the verb's words
+-- the fault that the program makes of an error of `clap` is a fault of the verb's command line
 fault_in : (verb : Verb) (words : List Text) (kind : ErrorKind) (fault : OptionsFault) → (kind ≡ OutOfMemory) ⊎ IsAmong kind (fault_of (app_of_verb verb) words) → IsFaultOf kind fault → IsFaultOfVerb verb words fault
 fault_in verb words kind (Help text) (inl lacks) (inl told) = absurd (let bad : OutOfMemory ≡ _ = sym lacks ∙ told in cc)
 fault_in verb words kind (Help text) (inl lacks) (inr told) = absurd (let bad : OutOfMemory ≡ _ = sym lacks ∙ told in cc)
@@ -67,7 +67,7 @@ fault_in verb words kind (Refused text) (inl lacks) told = absurd (told.2 lacks)
 fault_in verb words kind Memory (inl lacks) told = inl refl
 fault_in verb words kind fault (inr among) told = inr (inl (record { kind = kind; among = among; told = told }))
 
--- a result that keeps two promises if it is `Ok` keeps both together
+-- if two properties hold for the value of a result that is `Ok`, then a property that follows from both also holds
 both_ok : (r : Result Options OptionsFault) (P Q R : Options → Type 0) → ((options : Options) → P options → Q options → R options) → IfOk r P → IfOk r Q → IfOk r R
 both_ok (Ok options) P Q R join p q = join options p q
 both_ok (Err fault) P Q R join p q = tt

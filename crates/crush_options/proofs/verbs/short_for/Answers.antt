@@ -6,7 +6,7 @@ use Rattle.crush_options.specs.Options.{AreOptionsOf, IsFaultIn, names_text}
 use Rattle.crush_options.specs.Verbs.{verb_data, words_of_verb}
 use Rattle.crush_options.proofs.verbs.short_for.Goals as goal
 
--- options of a plain command line are what they were before what only verbs ask for
+-- without the form of the files that the verb says, the options are those of the plain command line
 as_plain : (o : Options) → o.maps ≡ Job → o ≡ record o { maps = Job }
 as_plain o job = ap (λ m. record o { maps = m }) job
 

@@ -3,7 +3,7 @@ use Rattle.crush_units.specs.Words.{words}
 use Rattle.crush_reasons.specs.Around.{further, nothing_yet}
 use Rattle.crush_reasons.proofs.around.go_through.Given as goal
 
--- what all words say is what the words that are left say after those before them
+-- the result for all words is the result for the words that are left, continued from the state after the words so far
 abbrev pub invariant-loop-word : goal.invariant-loop-word
 invariant-loop-word l = further nothing_yet (words 0 l.fn.text).words ≡ further l.around l.reader.words
 

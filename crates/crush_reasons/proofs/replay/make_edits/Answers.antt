@@ -14,10 +14,10 @@ loop-edit-preserved c =
     let edits = c.args.edits.now in
     let so_far = c.loop-edit.invariant in
     record {
-      setting = c.in_ok-make_edit.ensures.setting ∙ so_far.setting;
+      setting = c.in_ok-redo_edit.ensures.setting ∙ so_far.setting;
       stands = λ t st.
-          subst (Stands c.make_edit.new.map.forest) (sym (made-more old.setting c.loop-edit.map.setting t edits c.loop-edit.edit-index c.edit-item.result c.loop-edit-test.true c.edit-item.is so_far.setting))
-          (c.in_ok-make_edit.ensures.stands _ (so_far.stands t st));
+          subst (Stands c.redo_edit.new.map.forest) (sym (made-more old.setting c.loop-edit.map.setting t edits c.loop-edit.edit-index c.edit-item.result c.loop-edit-test.true c.edit-item.is so_far.setting))
+          (c.in_ok-redo_edit.ensures.stands _ (so_far.stands t st));
     }
 
 pub returns-clause-stands : goal.returns-clause-stands

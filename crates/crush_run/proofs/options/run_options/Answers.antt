@@ -4,12 +4,12 @@ use Rattle.crush_run.proofs.Outputs.{early_of_output, ended_as_wanted, ended_bef
 use Rattle.crush_run.proofs.Early.{early_of_read}
 use Rattle.crush_run.proofs.options.run_options.Goals as goal
 
--- a fault of reading comes before there is a job
+-- a fault of reading is possible before there is a job
 pub returns-in-Err-clause-output : goal.returns-in-Err-clause-output
 returns-in-Err-clause-output g c = λ bytes job all is.
     ended_before_output _ _ _ bytes job _ _ _ _ _ c.of_aborted.ensures.outcome (early_of_read (job_bytes (g.F.Opens.content c.args.files.now) c.args.options.now (g.R.Read.remaining c.args.input.now)) _ c.in-Err.ensures.fault)
 
--- so does a fault of the selected output
+-- a fault of the selected output is possible before there is a history
 pub returns-in-Err-output_of-clause-output : goal.returns-in-Err-output_of-clause-output
 returns-in-Err-output_of-clause-output g c = λ bytes job all is.
     ended_before_output _ _ _ bytes job _ _ _ _ _ c.of_aborted-in-Err-output_of.ensures.outcome (early_of_output (g.F.Opens.content c.args.files.now) _ _ c.in-Err-output_of.ensures.fault)
@@ -23,7 +23,7 @@ returns-in-Err-clause-fault g c = rw c.of_aborted.ensures.outcome (options_fault
 pub returns-clause-job : goal.returns-clause-job
 returns-clause-job g c = job_where_done c.run_parsed_job.result.outcome (job_bytes (g.F.Opens.content c.args.files.now) c.args.options.now (g.R.Read.remaining c.args.input.now)) c.in-Ok.ensures.job
 
--- it is the run of the job that was read, with the selected output
+-- the result is that of a run of the job that was read, with the selected output
 pub returns-clause-output : goal.returns-clause-output
 returns-clause-output g c = λ bytes job all is.
     let read = c.in-Ok.ensures.only bytes job all is in

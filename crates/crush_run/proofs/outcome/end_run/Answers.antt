@@ -5,7 +5,7 @@ use Rattle.crush_run.proofs.outcome.end_run.Goals as goal
 pub returns-in_default : goal.returns-in_default
 returns-in_default g c = memory_ends _ _ _ _ _ _ _ _ _ _ _ _ c.without_notes.ensures.outcome c.without_notes.ensures.quiet
 
--- the run ends with the outcome of its write
+-- the result of the run is the result of its write
 pub returns : goal.returns
 returns g c =
     let w = c.write_outcome-outcome.ensures in

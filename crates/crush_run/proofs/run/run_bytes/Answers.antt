@@ -23,7 +23,7 @@ returns-in-Ok-clause-noted g c = c.run_parsed_job.ensures.noted no_origin (Some 
 pub returns-in-Ok-clause-fault : goal.returns-in-Ok-clause-fault
 returns-in-Ok-clause-fault g c = run_fault_of_job c.args.request.now.mode c.run_parsed_job.result.outcome (Some c.args.bytes.items) c.in-Ok.ensures.job c.run_parsed_job.ensures.fault
 
--- if the bytes are no job, then nothing was written, and the fault is a fault of the bytes
+-- if the bytes aren't a job, then nothing was written, and the fault is a fault of the bytes
 pub returns-in-Err-clause-output : goal.returns-in-Err-clause-output
 returns-in-Err-clause-output g c = λ job is.
     ended_early c.args.request.now.mode c.args.request.now.output job _ _ _ _ _ c.of_aborted.ensures.outcome (early_of_no_job (Some c.args.bytes.items) _ c.in-Err.ensures.fault)

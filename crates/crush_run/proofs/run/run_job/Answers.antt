@@ -24,7 +24,7 @@ returns-in-Ok-clause-fault g c = run_fault_of_all c.args.request.now.mode c.run_
 pub returns-in-Ok-clause-taken : goal.returns-in-Ok-clause-taken
 returns-in-Ok-clause-taken g c = (c.in-Ok.bytes.items, c.in-Ok.ensures.few, c.in-Ok.ensures.consumed)
 
--- a fault of the reader comes before there is a job
+-- a fault of the reader is possible before there is a job
 pub returns-in-Err-clause-output : goal.returns-in-Err-clause-output
 returns-in-Err-clause-output g c = λ bytes job all is.
     ended_early c.args.request.now.mode c.args.request.now.output job _ _ _ _ _ c.without_notes.ensures.outcome (early_of_input _ c.in-Err.ensures.fault)

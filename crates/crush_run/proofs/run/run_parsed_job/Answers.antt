@@ -8,7 +8,7 @@ use Rattle.crush_run.proofs.Runs.{ended_early, kept_opening, left_ends}
 use Rattle.crush_run.proofs.Told.{outcome_fault_of_scripts, outcome_fault_of_writing}
 use Rattle.crush_run.proofs.run.run_parsed_job.Goals as goal
 
--- without memory for the names, the run ends early
+-- if there is no memory for the names, the run ends before it has a history
 pub returns-in_default-clause-ends : goal.returns-in_default-clause-ends
 returns-in_default-clause-ends g c = λ read stands.
     ended_early c.args.request.now.mode c.args.request.now.output read _ _ _ _ _ c.without_notes.ensures.outcome tt
@@ -26,12 +26,12 @@ returns-in-Err-clause-fault g c = rw c.without_notes-in-Err.ensures.outcome (out
 pub returns-in-Err-clause-noted : goal.returns-in-Err-clause-noted
 returns-in-Err-clause-noted g c = λ origin all. scripts_noted _ _ origin all _ _ _ c.without_notes-in-Err.ensures.outcome c.in-Err.ensures.fault c.without_notes-in-Err.ensures.quiet
 
--- so it does without memory for the copy of the map as it was read
+-- if there is no memory for the copy of the map as it was read, the run ends before it has a history
 pub returns-in_default-opening_if_needed-clause-ends : goal.returns-in_default-opening_if_needed-clause-ends
 returns-in_default-opening_if_needed-clause-ends g c = λ read stands.
     ended_early c.args.request.now.mode c.args.request.now.output read _ _ _ _ _ c.without_notes-in_default-opening_if_needed.ensures.outcome tt
 
--- so it does without memory for the plan
+-- if there is no memory for the plan, the run also ends with nothing written
 pub returns-in_default-plan_if_requested-clause-ends : goal.returns-in_default-plan_if_requested-clause-ends
 returns-in_default-plan_if_requested-clause-ends g c = λ read stands.
     ended_early c.args.request.now.mode c.args.request.now.output read _ _ _ _ _ c.without_notes-in_default-plan_if_requested.ensures.outcome tt

@@ -2,7 +2,7 @@ use Rattle.std.proofs.lemmas.Result.{err_from_is_err_and}
 use Rattle.crush_run.proofs.Written.{less_of_put, put_behind}
 use Rattle.crush_run.proofs.text.write_text.Goals as goal
 
--- less than the whole text was written
+-- if the write of the output fails, then less than the whole text was written
 pub returns-in_err-write_output-clause-writes : goal.returns-in_err-write_output-clause-writes
 returns-in_err-write_output-clause-writes g c = λ o t opening stands.
     let p = err_from_is_err_and c.from_residual.result c.from_residual.ensures.1 in

@@ -2,7 +2,7 @@ use Rattle.std.proofs.Common.{ap, arith}
 use Rattle.crush_editor.specs.Seat.{SeatData}
 use Rattle.crush_run_tests.proofs.editor.opened.Goals as goal
 
--- the seats are those that the editor hands out
+-- the returned seats are the seats that the editor's `open` returns
 pub returns : goal.returns
 returns g c =
     let v = c.in-Ok.opened.1.ok in let n = c.in-Ok.ensures.count in

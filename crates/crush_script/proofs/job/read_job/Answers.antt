@@ -22,18 +22,18 @@ use Rattle.crush_script.specs.declared.fault.JobFault.TheVariants.{BadLine, NoSu
 use Rattle.crush_script.proofs.Few.{calls_few, scripts_few}
 use Rattle.crush_script.proofs.job.read_job.Goals as goal
 
--- what the lines behind the cut say is what the sections of the job say
+-- the result of reading the lines after the map's text is the result of reading the job's sections
 sections_of-cut : (bytes text rest : List ℕ) (feeds : ℕ) (said : Result SectionsData JobFault) → text ≡ map_part bytes → rest ≡ section_part bytes → feeds ≡ line_feeds text
     → with_lines (feeds + 1) no_sections (lines rest) ≡ said → sections_of bytes ≡ said
 sections_of-cut bytes text rest feeds said front back counted says =
     let first : feeds + 1 ≡ section_line bytes = ap (λ (n : ℕ). n + 1) (counted ∙ ap line_feeds front) in
     (λ i. with_lines (sym first i) no_sections (lines (sym back i))) ∙ says
 
--- sections that the definition gives meet no fault of it
+-- if the definition gives sections, it doesn't also give a fault
 ok_is_no_err : (said : SectionsData) (fault : JobFault) (given : Result SectionsData JobFault) → given ≡ Ok said → given ≡ Err fault → ⊥
 ok_is_no_err said fault given ok err = true≢false (sym (ap is_ok ok) ∙ ap is_ok err)
 
--- they are refused out of memory alone
+-- if the definition gives sections, reading them can only fail with OutOfMemory
 memory_alone : (fault : JobFault) (said : SectionsData) (given : Result SectionsData JobFault) → given ≡ Ok said → FailsAs fault given → fault ≡ OutOfMemory
 memory_alone (BadLine number why) said given ok err = absurd (ok_is_no_err said (BadLine number why) given ok err)
 memory_alone (NoSuchCommand number) said given ok err = absurd (ok_is_no_err said (NoSuchCommand number) given ok err)
@@ -45,7 +45,7 @@ memory_alone (Text fault) said given ok err = absurd err
 memory_alone OutOfMemory said given ok err = refl
 memory_alone TooLong said given ok err = absurd err
 
--- other sections behind a map's text have the fault that is told
+-- if reading the lines after a map's text fails, then the fault is one that the job may have
 fault_of_lines : (fault : JobFault) (bytes : List ℕ) (s : SettingData) (t : List Row) (n : ℕ) → length bytes ≤ LONGEST_JOB → IsMapText (map_part bytes) s t n → FailsAs fault (sections_of bytes) → IsJobFault bytes fault
 fault_of_lines (BadLine number why) bytes s t n short map err = record { short = short; setting = s; table = t; adjusted = n; map = map; sections = err }
 fault_of_lines (NoSuchCommand number) bytes s t n short map err = record { short = short; setting = s; table = t; adjusted = n; map = map; sections = err }
@@ -104,7 +104,7 @@ returns-clause-operators c =
     let few = scripts_few (c.line_feeds.result + 1) (lines c.cut_job.result.1.now) (sections_data c.in_ok-sections.sections) c.in_ok-sections.ensures in
     omega (arith, few, length-map c.in_ok-sections.sections.scripts.items script_data)
 
--- a text that isn't read has a flaw, and so is that of no map, or memory was refused in time
+-- if reading the map's text fails, then the text has a flaw and is the text of no map; or memory ran out before a flaw was reached
 text_fault : (text : List ℕ) (fault : TextFault) → IsFlawOrOutOfMemory text fault → IsFoundInTime text fault → ((s : SettingData) (t : List Row) (n : ℕ) → IsMapText text s t n → IsOutOfMemory fault) → IsTextFault text fault
 text_fault text fault (inl want) told only = inr (record { memory = want; told = told })
 text_fault text fault (inr flaw) told only = inl (record { flaw = flaw; none = λ s t n map. no_flaw_of_memory (words 0 text) fault flaw (only s t n map) })
@@ -123,7 +123,7 @@ returns-in_err-map-clause-fault c =
     let is = text_fault _ fault c.in_err-map.ensures.flaw c.in_err-map.ensures.memory c.in_err-map.ensures.only in
     rw (p.1, p.2) (record { short = omega arith; map = subst (λ (x : List ℕ). IsTextFault x fault) c.cut_job.ensures.map is })
 
--- what the lines behind the cut fail as
+-- a fault of the lines after the map's text agrees with the result of reading the job's sections
 cut_fails : (fault : JobFault) (bytes text rest : List ℕ) (feeds : ℕ) → text ≡ map_part bytes → rest ≡ section_part bytes → feeds ≡ line_feeds text
     → FailsAs fault (with_lines (feeds + 1) no_sections (lines rest)) → FailsAs fault (sections_of bytes)
 cut_fails fault bytes text rest feeds front back counted = subst (FailsAs fault) (sym (sections_of-cut bytes text rest feeds (with_lines (feeds + 1) no_sections (lines rest)) front back counted refl))

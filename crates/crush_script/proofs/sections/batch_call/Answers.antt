@@ -1,4 +1,4 @@
--- The number of changes that was named is that of the call.
+-- The call has the number of changes that its `begin` line names.
 use Rattle.std.proofs.Common.{rules}
 use Rattle.crush_script.proofs.sections.batch_call.Goals as goal
 

@@ -10,7 +10,7 @@ use Rattle.crush_units.specs.declared.limits.TheConstants.{MOST_ENTRIES}
 use Rattle.crush_script.specs.Words.{count_of}
 use Rattle.crush_script.proofs.word.count_of.Goals as goal
 
--- more digits make no lesser number
+-- more digits don't make a number smaller
 grown : (n : ℕ) (cs : List ℕ) → n ≤ digits_value_after 10 n cs
 grown n [] = omega arith
 grown n (c ∷ cs) = omega (arith, grown (n * 10 + digit_value c) cs)
@@ -20,7 +20,7 @@ uncounted true true c v many = rw many refl
 uncounted true false c v many = refl
 uncounted false b c v many = refl
 
--- a number that is too large while it is read stays so
+-- if the number is too large after some of its digits, it is also too large after all of them
 too_many : (digits : List ℕ) (place number : ℕ) → place < length digits → digits_value_after 10 number (drop place digits) ≡ digits_value_after 10 0 digits → is_ascii_digit (get_or digits place 0) ≡ true
     → MOST_ENTRIES < number * 10 + (get_or digits place 0 - 48) → None ≡ count_of digits
 too_many digits place number within so_far digit large =

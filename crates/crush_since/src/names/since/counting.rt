@@ -1,4 +1,4 @@
-//! How many items differ, and in which way.
+//! Counts the items that differ, for each kind of difference, if items are matched by their names.
 
 ghost use Rattle.std.specs.Prelude.{◌≡◌, ◌+◌, ◌<◌, ◌^◌};
 ghost use Rattle.std.specs.Option.{option_map};
@@ -14,8 +14,8 @@ use crush_compare::{Comparison, Pair};
 use crush_items::Seen;
 use std::alloc::Allocator;
 
-/// Returns how many pairs differ in which way. No item is renamed, because items are matched by
-/// their names.
+/// Returns, for each kind of difference, the number of pairs that have it. No item counts as
+/// renamed, because the items are matched by their names.
 pub(crate) fn tally_of<A: Allocator, B: Allocator>(
     both: &Comparison<'_, A, B>,
     pairs: &[Pair],
@@ -63,7 +63,7 @@ fn more(count: usize, test: bool) -> usize
     if test { count + 1 } else { count }
 }
 
-/// Whether both maps have the item, in buckets of different names.
+/// Whether both maps have the item, in buckets with different names.
 fn is_moved(before: &Option<Seen<'_>>, after: &Option<Seen<'_>>) -> bool
     ensures { result
         ≡ is_moved_by_name (option_map seen_data before.now) (option_map seen_data after.now) }

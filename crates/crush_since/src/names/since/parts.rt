@@ -1,4 +1,4 @@
-//! The line of an item that is matched by its name.
+//! Builds the line about an item that differs, if items are matched by their names.
 
 ghost use Rattle.std.specs.Prelude.{◌≡◌, ◌++◌, OnOk, codes, flat_map};
 ghost use Rattle.std.specs.Option.{option_map};
@@ -35,7 +35,8 @@ pub(crate) fn push_changed_pair(
     push_line(pair_name(before, after), parts.as_slice(), out)
 }
 
-/// Appends the parts of an item's line, each after a semicolon and a space.
+/// Appends the parts of an item's line: one part for each column that differs. A semicolon and a
+/// space come before each part.
 fn push_parts(
     alloc: Global,
     old: &Setting,

@@ -1,4 +1,5 @@
-//! The parts of an item's line, column by column.
+//! Builds the parts of an item's line: one part for each column in which the map and the wanted map
+//! differ.
 
 ghost use Rattle.std.specs.Prelude.{◌≡◌, ◌++◌, OnOk};
 ghost use Rattle.std.specs.Option.{option_map};
@@ -42,7 +43,7 @@ fn type_of<'a>(setting: &'a Setting, item: &Seen<'_>) -> &'a [u8]
     type_bytes(setting, item.view.id, item.view.kind)
 }
 
-/// Whether two items have types of the same name. Two devices always have the same type.
+/// Whether the types of two items have the same name. For two devices the result is always true.
 fn same_type(id: ItemId, here: &[u8], there: &[u8]) -> bool
     ensures { result ≡ same_type id here.now there.now }
 {
@@ -165,7 +166,8 @@ pub(crate) fn push_weight(
     )
 }
 
-/// Appends the weights of a device that are more than one unit apart.
+/// Appends a part with the weight that a device has and the weight that is wanted, if the two are
+/// more than one unit (1/65536 TiB) apart.
 pub(super) fn push_far_weight(
     alloc: Global,
     here: &Seen<'_>,

@@ -1,4 +1,4 @@
-//! Whether rules differ, by the names of the buckets that they take.
+//! Compares the rules of two maps. The buckets that the rules take are compared by their names.
 
 ghost use Rattle.std.specs.Prelude.{◌≡◌, ◌++◌, List, OnOk};
 ghost use Rattle.crush_model.specs.Stands.{Stands};

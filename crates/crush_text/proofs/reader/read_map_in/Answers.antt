@@ -1,4 +1,4 @@
--- The result of all statements is that of the text.
+-- The result of reading all statements is the result of the text.
 use Rattle.std.proofs.Common.{ℕ, ◌∙◌, sym, subst}
 use Rattle.std.proofs.lemmas.Result.{err_from_is_err_and}
 use Rattle.crush_model.specs.Stands.{Stands}

@@ -1,4 +1,4 @@
-//! Moves the items of a place into other memory, with a guide.
+//! Moves the items of a place from one vector to another, with a guide.
 
 ghost use Rattle.std.specs.Prelude.{◌≡◌, true, vec_capacity};
 ghost use Rattle.crush_model.specs.Forest.{rows_of};
@@ -39,8 +39,8 @@ impl<A: Allocator> Forest<A> {
 }
 
 impl<A: Allocator + Clone> Forest<A> {
-    /// Makes room for one more item at a place so that it can be undone, as [`Forest::grow_buffer`]
-    /// does, with a guide.
+    /// Ensures that a place has room for one more item, in a way that can be undone, as
+    /// [`Forest::grow_buffer`] does, with a guide.
     pub fn grow_buffer_by<G: Guide>(
         &mut self,
         guide: &G,

@@ -3,7 +3,7 @@ use Rattle.crush_editor.specs.Book.{MakesAll}
 use Rattle.crush_two_operators.proofs.Order.{of_ok, of_each_ok, theirs_of_two}
 use Rattle.crush_two_operators.proofs.at_once.edit_at_once.Goals as goal
 
--- the opening is the map that was given
+-- the opening map of the editor is the map that was passed to the function
 pub returns-clause-all : goal.returns-clause-all
 returns-clause-all g c =
     let o = of_ok _ _ _ (sym c.ok.ensures.value ∙ c.in_ok-started.ensures) c.new.ensures.opening in

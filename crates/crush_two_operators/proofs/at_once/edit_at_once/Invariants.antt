@@ -1,6 +1,6 @@
 use Rattle.crush_two_operators.proofs.at_once.edit_at_once.Given as goal
 
--- the editor's name has the gauge, the opening and the ledger of what was started
+-- in this call, the gauge, the opening map and the ledger of the type `N` are those of `started`
 abbrev pub ghosts-work_together-N-Desk : goal.ghosts-work_together-N-Desk
 ghosts-work_together-N-Desk g a = record { gauge = a.started.table; opening = a.started.opening }
 

@@ -4,7 +4,7 @@ use Rattle.crush_two_operators.proofs.Order.{of_ok}
 use Rattle.crush_two_operators.proofs.Following.{followed_by_two}
 use Rattle.crush_two_operators.proofs.plan.follow_at_once.Goals as goal
 
--- the opening is the map that was given
+-- the opening map of the editor is the map that was passed to the function
 pub returns-clause-all : goal.returns-clause-all
 returns-clause-all g c =
     let o = of_ok _ _ _ (sym c.ok.ensures.value ∙ c.in_ok-started.ensures) c.new.ensures.opening in

@@ -1,4 +1,4 @@
--- The count so far, and the run that is left.
+-- The count so far, and the bytes that are left.
 use Rattle.std.proofs.Common.{◌≡◌, ◌+◌, ◌-◌, ◌≤◌, length, drop}
 use Rattle.crush_units.specs.Words.{run_length}
 use Rattle.crush_units.proofs.words.run_length.Given as goal

@@ -1,4 +1,4 @@
--- Each byte that is skipped leaves the words as they are.
+-- When a byte is skipped, the words stay the same.
 use Rattle.std.proofs.Common.{arith, rules}
 use Rattle.crush_units.proofs.Split.{moves_inside, moves_open, moves_blank, skipped}
 use Rattle.crush_units.proofs.words.skip_blanks.Goals as goal

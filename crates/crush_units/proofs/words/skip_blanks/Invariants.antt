@@ -1,4 +1,4 @@
--- The words from here are those from the start.
+-- The words from this place on are the words from the start.
 use Rattle.std.proofs.Common.{◌≡◌, ◌-◌, ◌≤◌, length, drop}
 use Rattle.crush_units.specs.Words.{words, words_in}
 use Rattle.crush_units.proofs.words.skip_blanks.Given as goal

@@ -22,7 +22,7 @@ use Rattle.crush_builder.proofs.Drafts.{own_is_draft, kept_fits, draft_fits}
 use Rattle.crush_builder.proofs.RowSteps.{device_lawful, device_step}
 use Rattle.crush_builder.proofs.builder.MapBuilder.device_unchecked.Goals as goal
 
--- a class that is given has the form of a name
+-- if the device has a class, the class has the form of a name
 class_form : (o : Option (Bor (List ℕ))) → IfSome o (λ c. IsName c.now) → IfSome (option_copied o) IsName
 class_form None h = tt
 class_form (Some c) h = h

@@ -6,6 +6,6 @@ use Rattle.crush_builder.specs.Building.{IsDraft}
 use Rattle.crush_builder.specs.Rules.{kept_step}
 use Rattle.crush_builder.proofs.builder.MapBuilder.kept_steps.Given as goal
 
--- those so far are kept
+-- the steps before the index have been stored
 abbrev pub invariant-loop-step : goal.invariant-loop-step
 invariant-loop-step g l = (d : Draft) → IsDraft l.self d → map step_data l.kept.items ≡ map (kept_step d) (take l.step-index l.steps)

@@ -1,4 +1,4 @@
--- The item as it stands in the forest, by what `ItemTaken` says of it.
+-- The item in the builder's forest, with what `ItemTaken` proves about it.
 use Rattle.std.proofs.Common.{rules, ◌≡◌, ℕ, ◌+◌, ◌++◌, true, List, subst, sym, ap, arith}
 use Rattle.std.specs.Prelude.{Some}
 use Rattle.crush_model.specs.Items.{Items}

@@ -9,7 +9,7 @@ use Rattle.crush_apply.specs.Batched.{IsBatchDone}
 use Rattle.crush_map.specs.MapData.{MapData}
 use Rattle.crush_map.proofs.map.CrushMap.apply_batch.Goals as goal
 
--- a table of the map is one of its forest
+-- if two maps are equal, each table that the forest of one map represents is represented by the forest of the other map
 of_forest : (m n : MapData) (t : List Row) → m ≡ n → Stands n.forest t → Stands m.forest t
 of_forest m n t e st = subst (λ (f : ForestData). Stands f t) (sym (ap (λ (x : MapData). x.forest) e)) st
 

@@ -4,7 +4,7 @@ use Rattle.crush_edits.specs.SettingSeen.{tunable_data}
 use Rattle.crush_print.specs.Lines.{tunable_line}
 use Rattle.crush_print.proofs.printer.tunables.push_all_tunables.Given as goal
 
--- with the lines that still follow, the text is complete
+-- the text so far, together with the lines that still follow, is the complete text
 abbrev pub invariant-loop-name : goal.invariant-loop-name
 invariant-loop-name l =
     l.out.items ++ flat_map tunable_line (map tunable_data l.name-iterator)

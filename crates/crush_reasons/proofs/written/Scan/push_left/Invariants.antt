@@ -4,7 +4,7 @@ use Rattle.crush_reasons.specs.Sums.{IsSummed}
 use Rattle.crush_reasons.specs.Written.{lines_left}
 use Rattle.crush_reasons.proofs.written.Scan.push_left.Given as goal
 
--- the lines so far, and those of the words that are left
+-- the lines that were appended so far, followed by the lines for the words that are left
 abbrev pub invariant-words : goal.invariant-words
 invariant-words l = (t : List Row) → IsSummed l.summed t → l.text.items ++ lines_left t l.self ≡ l.fn.text.items ++ lines_left t l.fn.self
 

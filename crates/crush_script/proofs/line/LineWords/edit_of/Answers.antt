@@ -1,4 +1,4 @@
--- A class and a device's name are told apart by their order.
+-- The class is the first of the two words, and the device's name is the second.
 use Rattle.std.proofs.Common.{rules}
 use Rattle.crush_script.proofs.line.LineWords.edit_of.Goals as goal
 

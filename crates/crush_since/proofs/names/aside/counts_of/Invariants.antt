@@ -6,7 +6,7 @@ use Rattle.crush_compare.specs.Comparison.{pair_items}
 use Rattle.crush_since.specs.Aside.{has_other_class_ids, has_other_id, of_pair}
 use Rattle.crush_since.proofs.names.aside.counts_of.Given as goal
 
--- the counts of the pairs so far
+-- the counts are those of the pairs visited so far
 abbrev pub invariant-loop-pair : goal.invariant-loop-pair
 invariant-loop-pair g l = record {
   ids : l.ids ≡ count_by (λ p. of_pair has_other_id (pair_items l.both p)) (take l.pair-index l.pairs);

@@ -4,6 +4,6 @@ use Rattle.crush_compare.specs.Comparison.{pair_items}
 use Rattle.crush_since.specs.SinceNames.{changed_pair}
 use Rattle.crush_since.proofs.names.since.push_pairs.Given as goal
 
--- the lines of the pairs so far
+-- the lines appended so far are those of the pairs visited so far
 abbrev pub invariant-loop-pair : goal.invariant-loop-pair
 invariant-loop-pair g l = l.out.items ≡ l.fn.out.items ++ flat_map (λ p. changed_pair l.both.old.map.now.setting l.both.new.map.now.setting (pair_items l.both p)) (take l.pair-index l.pairs)

@@ -4,7 +4,7 @@ use Rattle.crush_since.specs.CollectedSeen.{item_data, use_amount, use_data}
 use Rattle.crush_since.specs.Grouped.{grouped}
 use Rattle.crush_since.proofs.since.collected.grouped.Given as goal
 
--- the classes of the last items, of which there are this many
+-- the classes so far are those of the last `back` items, which the loop has visited
 abbrev pub invariant-loop-back : goal.invariant-loop-back
 invariant-loop-back l = record {
   counted : l.count ≡ length l.items;

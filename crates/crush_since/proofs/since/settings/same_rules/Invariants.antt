@@ -4,6 +4,6 @@ use Rattle.crush_since.specs.Settings.{same_rule}
 use Rattle.crush_since.proofs.PairLaws.{same_seen}
 use Rattle.crush_since.proofs.since.settings.same_rules.Given as goal
 
--- all pairs so far are the same
+-- the two lists have the same rules at every index visited so far
 abbrev pub invariant-loop-index : goal.invariant-loop-index
 invariant-loop-index l = same_seen same_rule rule_data rule_data (take l.index l.old) (take l.index l.new) ≡ true

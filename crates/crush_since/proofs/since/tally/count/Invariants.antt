@@ -4,7 +4,7 @@ use Rattle.crush_since.specs.PairLines.{pairs_tally}
 use Rattle.crush_since.proofs.TallyLaws.{AtMost}
 use Rattle.crush_since.proofs.since.tally.count.Given as goal
 
--- the counts of the pairs so far
+-- the counts are those of the pairs visited so far
 abbrev pub invariant-loop-pair : goal.invariant-loop-pair
 invariant-loop-pair g l = record {
   most : AtMost l.pair-index l.tally;

@@ -1,4 +1,4 @@
--- The algorithm's line word by word, with a hash and without.
+-- Reading the algorithm's line, one word after the other, with a hash or without.
 use Rattle.std.proofs.Common.{inl, rules, Bool, sym, ap, ◌∙◌}
 use Rattle.std.specs.Prelude.{if◌then◌else◌}
 use Rattle.crush_units.specs.Words.{past}

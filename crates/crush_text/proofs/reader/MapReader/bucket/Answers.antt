@@ -1,4 +1,4 @@
--- The lines of a bucket, one after the other.
+-- Reading the lines of a bucket, one after the other.
 use Rattle.std.proofs.Common.{rules, refl}
 use Rattle.std.proofs.lemmas.Result.{err_from_is_err_and}
 use Rattle.crush_text.specs.Role.{kind_of_word}

@@ -1,4 +1,4 @@
--- A bucket that has begun, of the type that has the name.
+-- A bucket has begun; its type is the one with the name that was read.
 use Rattle.std.proofs.Common.{◌≡◌, ◌∙◌, Err, rules, refl, ap}
 use Rattle.std.specs.Prelude.{not}
 use Rattle.std.proofs.lemmas.Result.{IfErr-at_err}

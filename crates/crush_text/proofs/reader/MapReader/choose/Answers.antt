@@ -1,4 +1,4 @@
--- How many items of which type a step chooses, word by word.
+-- The words of a step that say how many items it chooses, and of which type.
 use Rattle.std.proofs.Common.{◌∙◌, refl, inl}
 use Rattle.std.proofs.lemmas.Result.{err_from_is_err_and}
 use Rattle.crush_text.proofs.LineByLine.{fails_so}

@@ -1,4 +1,4 @@
--- A class id's line word by word, and what the builder refuses is out of memory.
+-- The words of a class id's line. The builder can only fail with OutOfMemory.
 use Rattle.std.proofs.Common.{◌≡◌, ◌∙◌, Err, rules}
 use Rattle.std.proofs.lemmas.Result.{err_from_is_err_and, IfErr-at_err}
 use Rattle.crush_builder.specs.Built.{with_class_id}

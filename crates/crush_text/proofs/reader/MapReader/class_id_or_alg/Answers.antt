@@ -1,4 +1,4 @@
--- One more class id, or the algorithm.
+-- Reading one more class id, or the algorithm.
 use Rattle.std.proofs.Common.{rules, sym, ◌∙◌, ap, Bool, true, false, Ok}
 use Rattle.std.proofs.lemmas.Result.{err_from_is_err_and}
 use Rattle.crush_text.proofs.LineEnds.{still, still_amid}

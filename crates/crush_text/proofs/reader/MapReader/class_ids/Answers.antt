@@ -1,4 +1,4 @@
--- The class ids one after the other, and the algorithm.
+-- Reading the class ids, one after the other, and then the algorithm.
 use Rattle.std.proofs.Common.{rules, arith, subst, refl, Option}
 use Rattle.std.proofs.lemmas.Result.{err_from_is_err_and}
 use Rattle.crush_text.specs.Form.{numbered, at}

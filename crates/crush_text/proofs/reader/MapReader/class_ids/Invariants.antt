@@ -1,4 +1,4 @@
--- The class ids so far lead to the rest of the text.
+-- The class ids that were read lead to the rest of the text.
 use Rattle.std.proofs.Common.{◌≤◌, length}
 use Rattle.crush_builder.specs.Built.{Draft}
 use Rattle.crush_builder.specs.Building.{IsDraft, is_numbered}

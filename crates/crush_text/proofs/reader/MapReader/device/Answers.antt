@@ -1,4 +1,4 @@
--- A device's line word by word: after it the device has no fault.
+-- The words of a device's line, after which adding the device has no fault.
 use Rattle.std.proofs.Common.{inl, rules, Bool, None, refl, sym, ap, ◌∙◌}
 use Rattle.std.specs.Prelude.{if◌then◌else◌}
 use Rattle.crush_units.specs.Words.{past}

@@ -1,4 +1,4 @@
--- The opening brace and the id word by word.
+-- Reading the opening brace and the bucket's id, one word after the other.
 use Rattle.std.proofs.Common.{rules, ◌∙◌}
 use Rattle.std.proofs.lemmas.Result.{err_from_is_err_and}
 use Rattle.crush_builder.specs.Built.{with_id}

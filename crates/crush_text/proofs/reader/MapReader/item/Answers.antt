@@ -1,4 +1,4 @@
--- An item with a weight, and one without.
+-- Reading an item with a weight, and an item without a weight.
 use Rattle.std.proofs.Common.{rules, Ok, Err, ◌∙◌, Bool, sym, ap}
 use Rattle.std.specs.Prelude.{if◌then◌else◌}
 use Rattle.crush_units.specs.Words.{past}

@@ -1,4 +1,4 @@
--- One more item, or the bucket's end.
+-- Reading one more item, or the closing brace of the bucket.
 use Rattle.std.proofs.Common.{rules, ◌∙◌, ap, Bool, true, Ok}
 use Rattle.std.proofs.lemmas.Result.{err_from_is_err_and}
 use Rattle.crush_builder.specs.Built.{with_end}

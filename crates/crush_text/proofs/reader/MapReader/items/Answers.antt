@@ -1,4 +1,4 @@
--- The lines one after the other, up to the brace.
+-- The lines of a bucket's items, one after the other, up to the closing brace.
 use Rattle.std.proofs.Common.{rules, false, arith, subst, refl, Option}
 use Rattle.std.proofs.lemmas.Result.{err_from_is_err_and}
 use Rattle.crush_text.specs.Form.{filling, at, passing}

@@ -1,4 +1,4 @@
--- The lines so far lead to the rest of the text.
+-- The lines of items that were read lead to the rest of the text.
 use Rattle.std.proofs.Common.{◌≤◌, false, length}
 use Rattle.crush_builder.specs.Built.{Draft}
 use Rattle.crush_builder.specs.Building.{IsDraft, is_filling}

@@ -1,4 +1,4 @@
--- A type's line word by word, and what the builder refuses is out of memory.
+-- The words of a type's line. The builder can only fail with OutOfMemory.
 use Rattle.std.proofs.Common.{◌≡◌, ◌∙◌, Err, rules, refl}
 use Rattle.std.proofs.lemmas.Result.{err_from_is_err_and, IfErr-at_err}
 use Rattle.crush_builder.specs.Built.{with_kind}

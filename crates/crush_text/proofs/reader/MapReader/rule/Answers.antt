@@ -1,4 +1,4 @@
--- The head of a rule, its steps and its end.
+-- Reading the head of a rule, its steps and its closing brace.
 use Rattle.std.proofs.Common.{◌≡◌, ◌∙◌, Err, rules, refl}
 use Rattle.std.proofs.lemmas.Result.{err_from_is_err_and, IfErr-at_err}
 use Rattle.crush_builder.specs.declared.fault.BuildFault.TheVariants.{OutOfMemory}

@@ -1,4 +1,4 @@
--- The head of a rule, and its sizes.
+-- Reading the head of a rule, and its pool sizes.
 use Rattle.std.proofs.Common.{[], rules, ◌∙◌, inr}
 use Rattle.std.proofs.lemmas.Result.{err_from_is_err_and}
 use Rattle.crush_text.specs.Form.{ruled, at, passing, done}

@@ -1,4 +1,4 @@
--- A statement by its first word.
+-- Reading a statement of the kind that its first word begins.
 use Rattle.std.proofs.Common.{◌≡◌, refl, ℕ, List, Option, Ok, Err, false, ap, subst, arith}
 use Rattle.std.proofs.lemmas.Result.{err_from_is_err_and}
 use Rattle.std.specs.Prelude.{unwrap_or}
@@ -33,7 +33,7 @@ one_line mode x or o s old new ends is h = rw is (record {
   shorter = let lt = h.shorter in omega (arith, lt);
 })
 
--- or it has a fault
+-- or a statement of one line was read that has a fault
 no_one_line : {A : _} {X : Type 0} (mode : X → Ending) (o s : StatementKind) (old new : MapReader A) (f : TextFault) → o ≡ s → ReadsLine (λ d. statement d s) mode old new (Err f) → ReadsOn (λ d. arrive d old.text.words (statement d o)) behind old new (Err f)
 no_one_line mode o s old new f is h = rw is (no_lines _ _ _ _ _ (λ d at. fails_line _ d (statement d s) _ (h.reads d at)))
 
@@ -65,11 +65,11 @@ returns-in_err-kind-in-Type g c =
     let p = err_from_is_err_and c.from_residual-in_err-kind-in-Type.result c.from_residual-in_err-kind-in-Type.ensures.1 in
     rw (p.1, p.2) (no_one_line (λ _. (first, Nothing)) _ statement_kinds.Type _ _ _ c.in-Type.is c.in_err-kind-in-Type.ensures)
 
--- a bucket's type by its name
+-- the number of a bucket's type, from the type's name
 by_name : (d : Draft) (w : List ℕ) (k : ℕ) → IsKnown d (statement_kinds.Bucket k) w → kind_of_word d w ≡ k
 by_name d w k known = ap (λ (o : Option ℕ). unwrap_or o 0) known
 
--- and a fault of its first line
+-- a fault of the bucket's first line
 fails_so_named : (f : TextFault) (d : Draft) (n k : ℕ) (t : Text) → n ≡ k → Fails f (arrive d t.words (bucket_line d n)) t → Fails f (arrive d t.words (bucket_line d k)) t
 fails_so_named f d n k t e h = subst (λ (m : ℕ). Fails f (arrive d t.words (bucket_line d m)) t) e h
 

@@ -1,4 +1,4 @@
--- The statements one after the other.
+-- Reading the statements, one after the other.
 use Rattle.std.proofs.Common.{◌∙◌, subst, Option, IfSome, length, ◌<◌}
 use Rattle.std.specs.Prelude.{Ok}
 use Rattle.std.proofs.lemmas.Result.{err_from_is_err_and}

@@ -1,4 +1,4 @@
--- The statements so far lead to the rest of the text.
+-- The statements that were read lead to the rest of the text.
 use Rattle.std.proofs.Common.{length}
 use Rattle.crush_builder.specs.Built.{Draft}
 use Rattle.crush_builder.specs.Building.{IsDraft}

@@ -1,4 +1,4 @@
--- A step by its first word.
+-- Reading a step of the kind that its first word begins.
 use Rattle.std.proofs.Common.{rules, refl, ℕ, List, ◌∙◌, sym, ap, subst, Ok, inl}
 use Rattle.std.proofs.lemmas.Result.{err_from_is_err_and}
 use Rattle.crush_text.specs.Role.{step_word, sets}

@@ -1,4 +1,4 @@
--- One more step of a rule.
+-- Reading one more step of a rule, or the rule's closing brace.
 use Rattle.std.proofs.Common.{rules, refl, ◌∙◌, ◌<◌, sym, ap, subst, length, Bool, false, List, Ok, inl}
 use Rattle.std.proofs.lemmas.Result.{err_from_is_err_and}
 use Rattle.std.proofs.lemmas.List.{length-map}

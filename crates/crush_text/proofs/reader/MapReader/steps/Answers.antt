@@ -1,4 +1,4 @@
--- The steps one after the other, up to the brace.
+-- The steps of a rule, one after the other, up to the closing brace.
 use Rattle.std.proofs.Common.{◌∙◌, rules, arith, refl, subst, ℕ, Option, Ok}
 use Rattle.std.proofs.lemmas.Result.{err_from_is_err_and}
 use Rattle.crush_builder.specs.Rules.{kept_rule}

@@ -1,4 +1,4 @@
--- The bucket that a step takes, and its class, word by word.
+-- Reading the bucket that a step takes, and its class, one word after the other.
 use Rattle.std.proofs.Common.{rules, Bool, None, sym, ap, ◌∙◌, inl}
 use Rattle.std.specs.Prelude.{if◌then◌else◌}
 use Rattle.crush_units.specs.Words.{past}

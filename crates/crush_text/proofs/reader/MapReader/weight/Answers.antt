@@ -1,4 +1,4 @@
--- The weight of an item.
+-- Reading the weight of an item.
 use Rattle.std.proofs.Common.{rules}
 use Rattle.std.proofs.lemmas.Result.{err_from_is_err_and}
 use Rattle.crush_text.proofs.Weighed.{weight_err, weight_fault, weight_reads}

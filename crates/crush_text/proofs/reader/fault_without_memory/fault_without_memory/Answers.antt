@@ -1,4 +1,4 @@
--- The fault of the first word, of the end or of a bad byte is that of the text.
+-- The fault of the first word, of the end, or of a bad byte is the fault of the text.
 use Rattle.crush_text.proofs.Unbegun.{text_unopened, text_bad}
 use Rattle.crush_text.proofs.reader.fault_without_memory.fault_without_memory.Goals as goal
 

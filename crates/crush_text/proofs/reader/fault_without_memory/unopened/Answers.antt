@@ -1,4 +1,4 @@
--- A first word, by the tests of an empty map.
+-- The fault of a first word, found by the tests of an empty map.
 use Rattle.std.proofs.Common.{true, false, refl, sym, ◌∙◌}
 use Rattle.crush_text.specs.declared.fault.TextFaultKind.TheVariants.{Unexpected, UnknownType, LeftOut}
 use Rattle.crush_text.proofs.Unbegun.{first_fails, first_memory}

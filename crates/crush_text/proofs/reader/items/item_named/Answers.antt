@@ -1,4 +1,4 @@
--- The builder's answer, as an option.
+-- The result of the builder's method, as an option.
 use Rattle.std.proofs.Common.{sym, ◌∙◌}
 use Rattle.crush_builder.specs.Building.{item_named}
 use Rattle.crush_text.proofs.MemoryAlone.{closed_so}

@@ -1,4 +1,4 @@
--- Neither key.
+-- A word that is neither `id` nor `ruleset`.
 use Rattle.std.proofs.Common.{rules}
 use Rattle.crush_text.specs.Reads.{word_at}
 use Rattle.crush_text.proofs.reader.rule.read_rule_id_key.Goals as goal

@@ -1,4 +1,4 @@
--- A size after its key.
+-- Reading a pool size after its key.
 use Rattle.std.proofs.Common.{rules, Bool, sym, ap, ◌∙◌}
 use Rattle.std.specs.Prelude.{if◌then◌else◌}
 use Rattle.std.proofs.lemmas.Result.{err_from_is_err_and}

@@ -1,4 +1,4 @@
--- Out of memory is reported at the name or at the word after `type`.
+-- If memory runs out, this is reported at the rule's name or at the word after `type`.
 use Rattle.std.proofs.Common.{ap, inl, inr}
 use Rattle.std.proofs.lemmas.Result.{err_from_is_err_and}
 use Rattle.crush_text.specs.declared.fault.TextFault.{TextFault}

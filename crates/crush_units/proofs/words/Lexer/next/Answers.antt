@@ -1,4 +1,4 @@
--- What the rest begins with is what is answered.
+-- What the rest of the text begins with is what the lexer returns.
 use Rattle.std.proofs.Common.{◌∙◌, sym, subst, ap, inl, inr}
 use Rattle.crush_units.specs.Words.{IsClear}
 use Rattle.crush_units.specs.Lexer.{left}

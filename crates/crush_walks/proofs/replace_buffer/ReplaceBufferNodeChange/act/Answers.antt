@@ -7,7 +7,7 @@ use Rattle.crush_nodes.specs.declared.node.Node.{Node}
 use Rattle.crush_walks.specs.BufferReplaced.{HoldsUpTo, HasBufferReplaced, with_own_capacity}
 use Rattle.crush_walks.proofs.replace_buffer.ReplaceBufferNodeChange.act.Goals as goal
 
--- as many as the items of a bucket
+-- the vector has memory for the items of the bucket
 holds : (m n : ℕ) (d e : BucketData) → d ≡ e → HoldsUpTo m (bucket e.header e.weight e.capacity e.kids none) → count d.kids ≡ n → n ≤ m
 holds m n d e same le counted = omega (arith, le, ap (λ (z : BucketData). count z.kids) same, counted)
 
@@ -21,11 +21,11 @@ replace_buffer_of-requires g c =
       enough = holds (vec_capacity c.args.self.items) _ _ c.in-Bucket.bucket.value (c.bucket.view_is ∙ c.deref_mut-bucket.ensures.value) fits counted;
     }
 
--- what the bucket becomes
+-- the bucket after the change
 became : (m n : ℕ) (kids : Items) (d e : BucketData) → d ≡ e → n ≡ m → kids ≡ d.kids → bucket d.header d.weight n kids none ≡ with_own_capacity m (bucket e.header e.weight e.capacity e.kids none)
 became m n kids d e same memory kept = λ j. bucket ((same j).header) ((same j).weight) (memory j) ((kept ∙ ap (λ (z : BucketData). z.kids) same) j) none
 
--- and what is returned
+-- the vector that is returned
 rehoused : {A Z : Type 0} (m n : ℕ) (kids : Items) (d e : BucketData) (out : Vec (Node A) Z) → d ≡ e → n ≡ m → kids ≡ d.kids → out.items ≡ [] → vec_capacity out ≡ d.capacity → count d.kids ≤ d.capacity
     → HasBufferReplaced m (bucket e.header e.weight e.capacity e.kids none) (bucket d.header d.weight n kids none) out
 rehoused m n kids d e out same memory kept empty held fits = record {

@@ -28,5 +28,6 @@ returns-clause-tables g c = λ t u a b.
       new = subst (λ m. Stands m.forest u) (sym maps.new) b;
       before = c.in_ok-before.ensures t (maps.pairs t u a b).before;
       after = c.in_ok-after.ensures u (maps.pairs t u a b).after;
+      trees = maps.trees t u a b;
       buckets = c.in_ok-buckets.ensures ∙ ap (λ m. m.forest) (sym maps.old);
     }

@@ -1,0 +1,5 @@
+pub mod ForCeph
+pub mod Steps
+pub mod Commands
+pub mod CephText
+pub mod LawCommands

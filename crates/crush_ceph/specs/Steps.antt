@@ -1,0 +1,25 @@
+-- The steps that Ceph is asked to do for a list of edits.
+use Rattle.std.specs.Prelude.{List, [], ◌∷◌, ◌++◌, ◌&&◌, Bool, false, not, if◌then◌else◌}
+use Rattle.crush_model.specs.Table.{Row}
+use Rattle.crush_edits.specs.declared.edit.Edit.{Edit}
+use Rattle.crush_edits.specs.Setting.{SettingData}
+use Rattle.crush_ceph.specs.ForCeph.{edit_for_ceph, leaves_old_name, table_after_edit}
+use Rattle.crush_ceph.specs.declared.steps.CephStep.{CephStep}
+use Rattle.crush_ceph.specs.declared.steps.CephStep.TheVariants.{Does, ReweightAll}
+
+-- `reweight-all` if it is due, and otherwise nothing
+abbrev pub reweight_if : Bool → List CephStep
+reweight_if is_due = if is_due then ReweightAll ∷ [] else []
+
+-- whether there is a first edit, and it leaves an old name
+abbrev pub first_leaves_old_name : SettingData → List Row → List Edit → Bool
+first_leaves_old_name s t [] = false
+first_leaves_old_name s t (e ∷ es) = leaves_old_name s t e
+
+-- STEPS: each edit as Ceph is asked to do it. After an edit that leaves an old name comes `reweight-all`, unless the next edit leaves an
+-- old name, too: so after several such edits in a row, `reweight-all` comes once. This is the table before the first edit. The table before
+-- any other edit is the one that the edits before it have made
+unfoldable pub ceph_steps : SettingData → List Row → List Edit → List CephStep
+ceph_steps s t [] = []
+ceph_steps s t (e ∷ es) =
+    Does (edit_for_ceph t e) ∷ (reweight_if (leaves_old_name s t e && not (first_leaves_old_name s (table_after_edit s t e) es)) ++ ceph_steps s (table_after_edit s t e) es)

@@ -1,0 +1,71 @@
+//! The text of Ceph's commands.
+
+ghost use Rattle.std.specs.Prelude.{◌≡◌, ◌++◌, IfOk, List, OnOk, flat_map, length};
+ghost use Rattle.crush_model.specs.Stands.{Stands};
+ghost use Rattle.crush_model.specs.Table.{Row};
+ghost use Rattle.crush_ceph.specs.CephText.{ceph_text, commands_text};
+ghost use Rattle.crush_ceph.specs.Commands.{command_line, cut};
+
+use crate::commands::{first_command, push_command};
+use crate::steps::{CephStep, ceph_steps};
+use crush_edits::Edit;
+use crush_history::push_ceph_heading;
+use crush_map::CrushMap;
+use std::alloc::{AllocError, Global};
+
+/// Appends a line for each command, and returns the number of commands.
+fn push_commands(steps: &[CephStep], text: &mut Vec<u8>) -> Result<u64, AllocError>
+    ensures lines { OnOk result (text.new.items
+        ≡ text.old.items ++ flat_map command_line (cut steps.now)) }
+    ensures count { IfOk result (λ count. count ≡ length (cut steps.now)) }
+{
+    let mut from: usize = 0;
+    let mut count: u64 = 0;
+    'commands: while from < steps.len() {
+        let rest = steps.split_at(from).1;
+        let len = first_command(rest);
+        push_command(rest.split_at(len).0, text)?;
+        from += len;
+        count += 1;
+    }
+    Ok(count)
+}
+
+fn commands_text(alloc: Global, steps: &[CephStep]) -> Result<Vec<u8>, AllocError>
+    ensures { IfOk result (λ text. text.items ≡ commands_text (cut steps.now)) }
+{
+    let mut lines = Vec::new(alloc);
+    let count = push_commands(steps, &mut lines)?;
+    let mut text = Vec::new(alloc);
+    push_ceph_heading(count, &mut text)?;
+    text.extend_from_slice(lines.as_slice())?;
+    Ok(text)
+}
+
+/// Returns the edits as Ceph's own commands, as lines for a shell. `opening` is the map before the
+/// first edit. Fails if memory runs out.
+///
+/// The first line is `# N commands`. Then come N lines, one for each command. Each of them has
+/// `ceph osd crush `, and the words of the edit as in a history line, but with weights in exact
+/// form.
+///
+/// - An `add-bucket` and the `move` of the same bucket right after it are one command. Several
+///   `rm-device-class` in a row are one command, and so are several `set-device-class` of the same
+///   class.
+/// - If no bucket holds the device of a `set`, then the `set` is printed as an `add`.
+/// - After a `rename-bucket` of a bucket that a rule takes with a class, or after the last of
+///   several such edits in a row, comes the command `reweight-all`.
+/// - A swap ends in ` --yes-i-really-mean-it`, because Ceph requires this option if the two buckets
+///   aren't in the same bucket.
+pub fn ceph_text(
+    alloc: Global,
+    opening: CrushMap<Global>,
+    edits: &[Edit],
+) -> Result<Vec<u8>, AllocError>
+    ensures { IfOk result (λ text. (t : List Row) → Stands opening.forest t
+        → text.items ≡ ceph_text opening.setting t edits.now) }
+{
+    let mut map = opening;
+    let steps = ceph_steps(alloc, &mut map, edits)?;
+    commands_text(alloc, steps.as_slice())
+}

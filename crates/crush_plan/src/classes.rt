@@ -1,0 +1,231 @@
+//! Sets the classes of devices.
+
+ghost use Rattle.std.specs.Prelude.{◌≡◌, IfOk, OnOk};
+ghost use Rattle.crush_plan.specs.Classes.{IsClassByClass, rank};
+ghost use Rattle.crush_plan.specs.Draft.{GoesOn};
+
+use crate::draft::Draft;
+use crate::goal::PlanGoal;
+use crate::item_table::ItemTable;
+use crate::items::SetDevice;
+use crush_print::WalkStep;
+use crush_units::{DeviceId, ItemId};
+use std::alloc::{AllocError, Allocator, Global};
+
+/// A class, and the position of the first device of the wanted map that has the class.
+#[derive(Clone, Copy)]
+struct FirstUse<'a> {
+    class: &'a str,
+    at: usize,
+}
+
+/// An edit of the class of a device that gets a class.
+#[derive(Clone, Copy)]
+struct ClassStep {
+    device: DeviceId,
+    kind: StepKind,
+    /// The position of the first device of the wanted map that has the device's new class.
+    first_use: usize,
+}
+
+/// What an edit does with the class of a device.
+#[derive(Clone, Copy)]
+enum StepKind {
+    /// It removes the old class. A device that has a class can't get another class.
+    Remove,
+    /// It sets the class that the device has in the wanted map.
+    Set,
+}
+
+impl ClassStep {
+    /// Returns a number by which the edits are ordered: class by class, each class first with the
+    /// edits that remove old classes.
+    fn rank(&self) -> u128
+        ensures { result ≡ rank self.now }
+    {
+        let first = 2 * self.first_use as u128;
+        match self.kind {
+            StepKind::Remove => first,
+            StepKind::Set => first + 1,
+        }
+    }
+}
+
+/// Sets the classes of these devices, class by class, in the order in which the wanted map first
+/// has the classes. The devices that get a class lose their old classes right before. The devices
+/// that only lose a class come last. So two devices that get different classes are never without a
+/// class at the same time.
+pub(crate) fn set_classes<A: Allocator + Clone, B: Allocator>(
+    draft: &mut Draft<A>,
+    goal: &PlanGoal<'_, A, B>,
+    devices: &[SetDevice],
+) -> Result<(), AllocError>
+    ensures { OnOk result (GoesOn goal.now draft.old draft.new) }
+{
+    if devices.is_empty() {
+        return Ok(());
+    }
+    let steps = class_steps(draft.alloc, &goal.there, devices)?;
+    make_steps(draft, goal, steps.as_slice())?;
+    remove_classes(draft, goal, devices)
+}
+
+/// Returns the edits of the classes of those devices that get another class, in their order.
+fn class_steps<B: Allocator>(
+    alloc: Global,
+    wanted: &ItemTable<'_, B>,
+    devices: &[SetDevice],
+) -> Result<Vec<ClassStep>, AllocError>
+    ensures { IfOk result (λ steps. IsClassByClass steps.items) }
+{
+    let mut steps = unordered_steps(alloc, wanted, devices)?;
+    steps.sort_by_key(|step| step.rank())?;
+    Ok(steps)
+}
+
+/// Returns the edits of the classes of those devices that get another class, device by device.
+fn unordered_steps<B: Allocator>(
+    alloc: Global,
+    wanted: &ItemTable<'_, B>,
+    devices: &[SetDevice],
+) -> Result<Vec<ClassStep>, AllocError> {
+    let uses = first_uses(alloc, wanted.steps.as_slice())?;
+    let mut steps = Vec::new(alloc);
+    for device in devices {
+        if let Some(first_use) = first_use_of(wanted, uses.as_slice(), device) {
+            push_steps(device, first_use, &mut steps)?;
+        }
+    }
+    Ok(steps)
+}
+
+/// Returns the classes of a map by name, each with the position of the first device that has it.
+fn first_uses<'a, B: Allocator>(
+    alloc: Global,
+    steps: &[WalkStep<'a, B>],
+) -> Result<Vec<FirstUse<'a>>, AllocError> {
+    let mut uses = Vec::new(alloc);
+    for (at, step) in steps.iter().enumerate() {
+        if let Some(class) = step.view().class {
+            uses.push(FirstUse { class, at })?;
+        }
+    }
+    uses.sort_by_key(|first| first.class)?;
+    uses.dedup_by_key(|first| first.class);
+    Ok(uses)
+}
+
+/// Returns the position of the first device that has the class.
+fn first_at(uses: &[FirstUse<'_>], class: &str) -> Option<usize> {
+    match uses.binary_search_by_key(&class, |first| first.class) {
+        Ok(at) => Some(uses[at].at),
+        Err(_) => None,
+    }
+}
+
+/// Returns the position of the first device that has the same class as this device in the wanted
+/// map. Returns `None` if this device gets no other class.
+fn first_use_of<B: Allocator>(
+    wanted: &ItemTable<'_, B>,
+    uses: &[FirstUse<'_>],
+    device: &SetDevice,
+) -> Option<usize> {
+    if !device.differs {
+        return None;
+    }
+    let Some(there) = wanted.view(ItemId::Device(device.id)) else {
+        return None;
+    };
+    match there.class {
+        Some(class) => first_at(uses, class),
+        None => None,
+    }
+}
+
+/// Appends the edits of the class of a device that gets another class.
+fn push_steps(
+    device: &SetDevice,
+    first_use: usize,
+    steps: &mut Vec<ClassStep>,
+) -> Result<(), AllocError> {
+    if device.has_class {
+        steps.push(ClassStep {
+            device: device.id,
+            kind: StepKind::Remove,
+            first_use,
+        })?;
+    }
+    steps.push(ClassStep {
+        device: device.id,
+        kind: StepKind::Set,
+        first_use,
+    })?;
+    Ok(())
+}
+
+fn make_steps<A: Allocator + Clone, B: Allocator>(
+    draft: &mut Draft<A>,
+    goal: &PlanGoal<'_, A, B>,
+    steps: &[ClassStep],
+) -> Result<(), AllocError>
+    ensures { OnOk result (GoesOn goal.now draft.old draft.new) }
+{
+    for step in steps {
+        make_step(draft, goal, step)?;
+    }
+    Ok(())
+}
+
+/// Makes the edit if the map has the device under the name that it has in the wanted map.
+fn make_step<A: Allocator + Clone, B: Allocator>(
+    draft: &mut Draft<A>,
+    goal: &PlanGoal<'_, A, B>,
+    step: &ClassStep,
+) -> Result<(), AllocError>
+    ensures { OnOk result (GoesOn goal.now draft.old draft.new) }
+{
+    let Some(there) = goal.there.view(ItemId::Device(step.device)) else {
+        return Ok(());
+    };
+    if !draft.has_item(ItemId::Device(step.device), there.name) {
+        return Ok(());
+    }
+    match (step.kind, there.class) {
+        (StepKind::Set, Some(class)) => {
+            draft.set_class(goal, there.name.as_bytes(), class.as_bytes())
+        }
+        _ => draft.remove_class(goal, there.name.as_bytes()),
+    }
+}
+
+/// Removes the classes of those devices that have no class in the wanted map.
+fn remove_classes<A: Allocator + Clone, B: Allocator>(
+    draft: &mut Draft<A>,
+    goal: &PlanGoal<'_, A, B>,
+    devices: &[SetDevice],
+) -> Result<(), AllocError>
+    ensures { OnOk result (GoesOn goal.now draft.old draft.new) }
+{
+    for device in devices {
+        remove_class(draft, goal, device)?;
+    }
+    Ok(())
+}
+
+/// Removes the class of the device if the wanted map has the device without a class, and if the map
+/// has the device under the same name.
+fn remove_class<A: Allocator + Clone, B: Allocator>(
+    draft: &mut Draft<A>,
+    goal: &PlanGoal<'_, A, B>,
+    device: &SetDevice,
+) -> Result<(), AllocError>
+    ensures { OnOk result (GoesOn goal.now draft.old draft.new) }
+{
+    let Some(there) = goal.there.view(ItemId::Device(device.id)) else {
+        return Ok(());
+    };
+    if there.class.is_some() || !draft.has_item(ItemId::Device(device.id), there.name) {
+        return Ok(());
+    }
+    draft.remove_class(goal, there.name.as_bytes())
+}

@@ -1,0 +1,75 @@
+//! Writes to standard output. Remembers why a write failed, and makes sure that a file to which
+//! standard output leads is stored.
+
+use std::fs::{self, OpenOptions};
+use std::io::{self, ErrorKind, Write};
+
+/// A path with which the program can open its standard output once more.
+const PATH: &str = "/dev/stdout";
+
+/// A writer, and the error of its last write if that write failed.
+#[derive(Drop)]
+pub(crate) struct Remembering<W> {
+    inner: W,
+    error: Option<io::Error>,
+}
+
+impl<W> Remembering<W> {
+    pub(crate) fn new(inner: W) -> Remembering<W> {
+        Remembering { inner, error: None }
+    }
+
+    /// Returns the error of the last write if that write failed.
+    pub(crate) fn error(&self) -> Option<&io::Error> {
+        self.error.as_ref()
+    }
+
+    /// Whether the last write failed because nobody reads the output any more.
+    pub(crate) fn lacks_reader(&self) -> bool {
+        match &self.error {
+            Some(error) => error.kind() == ErrorKind::BrokenPipe,
+            None => false,
+        }
+    }
+}
+
+impl<W: Write> Write for Remembering<W> {
+    fn write(&mut self, bytes: &[u8]) -> io::Result<usize> {
+        let written = self.inner.write(bytes);
+        self.error = match &written {
+            Ok(_) => None,
+            Err(error) => Some(same_error(error)),
+        };
+        written
+    }
+
+    fn flush(&mut self) -> io::Result<()> {
+        self.inner.flush()
+    }
+}
+
+/// Returns an error with the same reason. This function is needed because an `io::Error` can't be
+/// copied.
+fn same_error(error: &io::Error) -> io::Error {
+    match error.raw_os_error() {
+        Some(code) => io::Error::from_raw_os_error(code),
+        None => error.kind().into(),
+    }
+}
+
+/// Waits until the output is stored. Only a regular file is synced, because a pipe or a terminal
+/// stores nothing. If the file can't be opened once more, it isn't synced, and counts as stored.
+/// Some file systems report a failed write only when the file is synced.
+pub(crate) fn store(rt: &HostRuntime) -> io::Result<()> {
+    match fs::metadata(rt, PATH) {
+        Ok(metadata) if metadata.is_file() => sync(rt),
+        _ => Ok(()),
+    }
+}
+
+fn sync(rt: &HostRuntime) -> io::Result<()> {
+    match OpenOptions::new().write(true).open(rt, PATH) {
+        Ok(file) => file.sync_all(),
+        Err(_) => Ok(()),
+    }
+}
