@@ -1,4 +1,4 @@
--- A place whose memory grows: the forest after it.
+-- The forest after a place got a larger vector.
 use Rattle.std.proofs.Common.{◌≡◌, ℕ, ◌*◌, ◌+◌, ◌<◌, ◌≤◌, Bool, true, false, [], ap, sym, subst, ◌∙◌, refl, arith, eqb-true, Option, Some, None, Result, Ok, Err, Vec, vec_capacity, ⊎_elim, ◌⊎◌, inl, inr}
 use Rattle.crush_model.specs.Forest.{ForestData, rows_of, IsSound}
 use Rattle.crush_model.specs.Items.{Items}

@@ -1,4 +1,4 @@
--- A place whose items are moved into other memory: the forest after it.
+-- The forest after the items of a place were moved to another vector.
 use Rattle.std.proofs.Common.{◌≡◌, ℕ, ◌-◌, ◌≤◌, Bool, true, false, [], ap, sym, subst, ◌∙◌, refl, arith, Vec, vec_capacity, IfSome}
 use Rattle.std.specs.Prelude.{◌==◌, if◌then◌else◌}
 use Rattle.crush_units.specs.declared.id.ItemId.TheVariants.{Bucket}
