@@ -1,4 +1,4 @@
--- What an index answers after rows were added or removed, whatever it answered before.
+-- What an index answers after rows were added or removed. Nothing is assumed about its answers before.
 use Rattle.std.proofs.Common.{◌≡◌, ℕ, Bool, true, false, List, [], ◌∷◌, ◌++◌, ap, sym, ◌∙◌, refl, append-nil}
 use Rattle.std.specs.Prelude.{◌||◌, if◌then◌else◌, Option, Some, None, Result, Ok, Err, OnErr, is_some, bytes_eq}
 use Rattle.std.specs.Option.{option_map}
@@ -13,7 +13,7 @@ use Rattle.crush_nodes.specs.declared.place.Place.{Place}
 use Rattle.crush_index.specs.IndexAnswers.{Answers, with_name, with_row, with_rows, without_rows}
 use Rattle.crush_index.specs.UsedLaw.{uses}
 
--- answers that agree for each name, each item and each id are equal
+-- two records of answers are equal if they agree for each name, each item and each id
 pub tells : (s u : Answers) → ((n : List ℕ) → s.names n ≡ u.names n) → ((i : ItemId) → s.places i ≡ u.places i) → ((k : ℕ) → s.used k ≡ u.used k) → s ≡ u
 tells s u names places used = λ j. record { names = λ n. names n j; places = λ i. places i j; used = λ k. used k j }
 
@@ -102,7 +102,7 @@ forgotten_one r s =
     (λ k. hidden_use (s.used k) (member k (uses r)))
     ∙ sym (without_one r s)
 
--- removing rows also removes all that adding them has added
+-- the answers after rows were added and then removed are the answers after they were only removed
 pub forgotten : (t : List Row) (s : Answers) → without_rows t (with_rows t s) ≡ without_rows t s
 forgotten [] s = refl
 forgotten (r ∷ t) s =
@@ -119,7 +119,7 @@ same_but-left a b s u e = without_rows-append a b u ∙ ap (without_rows b) e �
 pub same_but-right : (a b : List Row) (s u : Answers) → SameBut b s u → SameBut (a ++ b) s u
 same_but-right a b s u e = without_rows-append a b u ∙ turned b a u ∙ ap (without_rows a) e ∙ turned a b s ∙ sym (without_rows-append a b s)
 
--- if answers change as they do for one row, they are the answers after the row was added
+-- if the answers for the name, the item and the ids of one row change as adding the row requires, they are the answers after the row was added
 pub came : (r : Row) (s u : Answers) → ((n : List ℕ) → u.names n ≡ (if bytes_eq r.name n then Some r.id else s.names n)) → ((i : ItemId) → u.places i ≡ (if same_id r.id i then Some (place_under (is_device r) r.parent) else s.places i))
     → ((k : ℕ) → u.used k ≡ (s.used k || member k (uses r))) → u ≡ with_row r s
 came r s u names places used = tells u (with_row r s) names places used
@@ -142,7 +142,7 @@ pub same_but_one : (r : Row) (s u : Answers) → ((n : List ℕ) → (if bytes_e
     → ((k : ℕ) → (if member k (uses r) then false else u.used k) ≡ (if member k (uses r) then false else s.used k)) → SameBut (r ∷ []) s u
 same_but_one r s u names places used = without_one r u ∙ tells (without_row r u) (without_row r s) names places used ∙ sym (without_one r s)
 
--- a changed answer for one key makes no difference if that key is left out
+-- a change of the answer for one key makes no difference if this key is left out
 pub hidden_one : {X : Type 0} (b : Bool) (o v w : Option X) → w ≡ (if b then o else v) → (if b then None else w) ≡ (if b then None else v)
 hidden_one b o v w e = ap (λ z. if b then None else z) e ∙ hidden b None v o
 

@@ -1,4 +1,4 @@
--- What a chain answers for each key after one key got another value, and after one key was removed.
+-- Which value a chain has for each key after one key got another value, and after one key was removed.
 use Rattle.std.proofs.Common.{◌≡◌, Bool, true, false, sym, ◌∙◌, refl, true≢false}
 use Rattle.std.specs.Prelude.{if◌then◌else◌, Option, Some, None}
 use Rattle.std.specs.Cmp.{IsEquivalence}

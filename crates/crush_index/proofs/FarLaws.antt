@@ -1,4 +1,4 @@
--- What a hash map and a chain together answer for each key, after one key was removed, and after one key got another value.
+-- Which value a hash map and its chain together have for each key, after one key was removed, and after one key got another value.
 use Rattle.std.proofs.Common.{◌≡◌, ◌⊎◌, inl, inr, ⊎_elim, ℕ, nat_eq, Bool, true, false, List, ap, sym, subst, ◌∙◌, refl, true≢false}
 use Rattle.std.specs.Prelude.{◌&&◌, ◌||◌, if◌then◌else◌, Option, Some, None, IsSome, is_some, bytes_eq}
 use Rattle.std.specs.Cmp.{IsEquivalence, nat_eq_equiv}

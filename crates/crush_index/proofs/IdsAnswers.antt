@@ -1,4 +1,4 @@
--- The ids of a bucket and its class ids, which become used, or free again, one after the other.
+-- A loop marks the id of a bucket and its class ids as used, or as free again, one after the other.
 use Rattle.std.proofs.Common.{◌≡◌, ℕ, suc, ◌+◌, ◌<◌, ◌≤◌, Bool, true, false, List, [], ◌∷◌, ◌++◌, length, get_or, take, drop, ap, sym, ◌∙◌, refl}
 use Rattle.std.specs.Prelude.{◌==◌, ◌||◌, if◌then◌else◌}
 use Rattle.std.proofs.lemmas.List.{take-append-drop, take_all, take_more}

@@ -1,4 +1,4 @@
--- What a copy of a map or of a set answers: a clone, or an empty one into which all entries were inserted.
+-- A copy of a map or of a set gives the same answers, both if it is a clone, and if it was empty and all entries were inserted into it.
 use Rattle.std.proofs.Common.{◌≡◌, ℕ, nat_eq, refl, List, [], ◌∷◌, ap, sym, subst, ◌∙◌}
 use Rattle.std.specs.Prelude.{◌||◌}
 use Rattle.std.specs.Cmp.{nat_eq_equiv}

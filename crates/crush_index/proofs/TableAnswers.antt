@@ -1,4 +1,4 @@
--- What an index of a table answers after rows were added to the table, and after a part was removed.
+-- What the index of a table answers after rows were added to the table, and after an item with everything below it was removed.
 use Rattle.std.proofs.Common.{◌≡◌, ℕ, zero, suc, ◌+◌, ◌≤◌, Bool, true, false, List, [], ◌∷◌, ◌++◌, ap, sym, subst, ◌∙◌, refl, arith, append-nil, append_assoc, ⊎_elim}
 use Rattle.std.specs.Prelude.{◌==◌, ◌||◌, not, if◌then◌else◌, Option, Some, None, is_some, bytes_eq, nat_lt}
 use Rattle.std.specs.List.{count_by}

@@ -1,4 +1,4 @@
--- What an index of used ids answers for an id that has a bit, and for one in the hash set.
+-- Whether an id is used, for an id that has a bit, and for an id in the hash set.
 use Rattle.std.proofs.Common.{◌≡◌, ◌⊎◌, inl, inr, ⊎_elim, ℕ, ◌+◌, ◌*◌, ◌/◌, ◌%◌, ◌<◌, ◌≤◌, max, true, get_or, ap, ◌∙◌, arith}
 use Rattle.std.specs.Prelude.{◌==◌, ◌||◌, if◌then◌else◌, is_some, nat_eq, nat_lt}
 use Rattle.std.specs.Int.{bit_at}
@@ -13,7 +13,7 @@ use Rattle.crush_index.specs.UsedKept.{near_ids}
 below : (a n : ℕ) → a < n → nat_lt a n ≡ true
 below a n h = grind (arith, nat_tests)
 
--- SEARCHED: all ids from least to before those of the word at place are used
+-- SEARCHED: all ids from `least` up to the first id of the word with the index `place` are used, without this first id
 abbrev pub Searched : UsedIds → ℕ → ℕ → Type 0
 Searched used least place = (k : ℕ) → least ≤ k → k < 64 * place → used_answer used k ≡ true
 
