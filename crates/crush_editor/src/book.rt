@@ -117,7 +117,8 @@ impl<A: Allocator> Book<A, WithoutSnapshot> {
         }
     }
 
-    /// Returns the map of a book whose history is empty. This map is still the opening.
+    /// Returns the map of a book whose history is empty. Because the book has made no call, this is
+    /// still the opening, the map with which the book was created.
     pub(crate) fn into_map(self) -> CrushMap<A>
         requires { self.history ≡ [] }
         ensures { result ≡ self.opening }

@@ -206,11 +206,12 @@ impl<N: Desk, O: KeptOpening> Editor<N, O> {
     /// Makes a call for the seat's operator under the lock, and returns the reply. The method waits
     /// for the lock, perhaps for ever.
     ///
-    /// The copies of the call and room for its slip are allocated before the lock is acquired.
-    /// After a reply the seat has one more slip, and it has seen the history up to and including
-    /// this call. If a guarded batch names the number of changes that the seat had seen before the
-    /// call, then either the reply is `Stale`, or the batch found the map's table as the seat had
-    /// seen it.
+    /// Before the method acquires the lock, it copies the call twice: once for the history, and once
+    /// for the slip, which is the seat's record of the call and its reply. It also reserves room for
+    /// the slip. After a reply the seat has one more slip, and it has seen the history up to and
+    /// including this call. If a guarded batch names the number of changes that the seat had seen
+    /// before the call, then either the reply is `Stale`, or the batch found the map's table as the
+    /// seat had seen it.
     ///
     /// The error is `Full` if and only if the history is full; otherwise it is `OutOfMemory`. After
     /// an error the call was not made and the slips are unchanged. The seat may have seen more of

@@ -38,9 +38,9 @@ impl Desk for Brand {
     ghost opening = { no_map };
 }
 
-/// The object with which one operator uses an editor. It has the operator's number, and a slip for
-/// each of the operator's answered calls, in order. In contracts it also has the history that the
-/// operator has seen.
+/// The object with which one operator uses an editor. It has the operator's number, and the
+/// operator's answered calls in order, each with its reply (a [`Slip`]). In contracts it also has
+/// the history that the operator has seen.
 #[derive(Drop)]
 pub struct Seat<N: Desk> {
     pub(crate) operator: usize,

@@ -35,17 +35,17 @@ pub struct Gauge<O, E, P: Law<O, E>> {
 pub struct Reading {
     /// How many entries are changes, at most [`MOST_CHANGES`](crate::limits::MOST_CHANGES).
     pub changes: u64,
-    /// The weight after the history, below 2^43, in the units of the law `P` of the gauge.
+    /// The weight after the history, as the gauge's law `P` computes it. It is below 2^43.
     pub weight: u64,
 }
 
 impl<O, E, P: Law<O, E>> Gauge<O, E, P> {
     /// Creates a gauge with one seat that publishes and `readers` seats that read.
     ///
-    /// `weight` is the weight at the opening, below 2^43, in the units of the law. The caller's
-    /// proof chooses the opening. After this opening, the empty history must be legal, have no
-    /// changes, and have the weight `weight`. Each new seat has seen the opening and no entry.
-    /// Returns an error if memory runs out.
+    /// `weight` is the weight at the opening, as the gauge's law `P` computes it, and below 2^43.
+    /// The caller's proof chooses the opening. After this opening, the empty history must be legal,
+    /// have no changes, and have the weight `weight`. Each new seat has seen the opening and no
+    /// entry. Returns an error if memory runs out.
     pub fn new(
         alloc: Global,
         weight: u64,
@@ -120,9 +120,9 @@ impl<O, E, P: Law<O, E>> Gauge<O, E, P> {
     /// Publishes one entry by one store, after which all seats of the gauge can read the new pair.
     ///
     /// The caller's proof chooses the entry. The history with this entry appended must be legal.
-    /// This history must have `changes` changes, at most
-    /// [`MOST_CHANGES`](crate::limits::MOST_CHANGES), and the weight `weight`, below 2^43, in the
-    /// units of the law. The book's seat has then seen the entry.
+    /// By the gauge's law `P`, this history must have exactly `changes` changes and the weight
+    /// `weight`. `changes` is at most [`MOST_CHANGES`](crate::limits::MOST_CHANGES), and `weight`
+    /// is below 2^43. After the call, the book's seat has seen the entry.
     pub fn publish(&self, book: &mut BookSeat<O, E>, changes: u64, weight: u64)
         ghost entry: { E }
         requires gauge { book.old.table ≡ self.now.table.shared.table_id }

@@ -34,7 +34,8 @@ pub struct Known<O, E> {
 
 /// What a seat has seen, by the kind of the seat.
 pub enum View<O, E> {
-    /// The first seat of a gauge, before the gauge has an opening.
+    /// The first seat of a new gauge. It has seen nothing yet, not even the opening. `Gauge::new`
+    /// turns it into the seat that publishes.
     Fresh,
     /// A seat that was joined into another one, and can't be used any more.
     Spent,

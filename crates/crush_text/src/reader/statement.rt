@@ -55,8 +55,8 @@ impl<'a, A: Allocator + Clone> MapReader<'a, A> {
         Ok(())
     }
 
-    /// Reads the next statement. Returns a [`Before`] for the statement that follows, or `None` at
-    /// the end of the text.
+    /// Reads the next statement. Returns what the next call needs to know of the text that was read
+    /// so far, which is a [`Before`], or `None` at the end of the text.
     fn next_statement(&mut self, before: Before) -> Result<Option<Before>, TextFault>
         requires { IsIdle self.old.builder }
         ensures { ReadsNext before self.old self.new result }
