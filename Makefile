@@ -76,6 +76,7 @@ trials: $(PROGRAM)
 	python3 tests/plans.py $(PROGRAM) 1000
 	python3 tests/documents.py $(PROGRAM) 1000
 	python3 tests/parts.py $(PROGRAM) 1000
+	python3 tests/conflicts.py $(PROGRAM) 1000
 	python3 tests/at_once.py $(PROGRAM) 200
 	python3 tests/refused_memory.py $(PROGRAM)
 	python3 tests/limits.py $(PROGRAM) --fits 1024

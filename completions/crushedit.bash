@@ -25,7 +25,7 @@ _crushedit() {
     [[ $word == -* && $given != *' -- '* ]] || return
     [[ $COMP_CWORD == 1 ]] || it=${COMP_WORDS[1]}
     case $it in
-    apply) once='--dry-run --make --tree --json --under --down-to --exit-code -o --output -h --help' ;;
+    apply) once='--dry-run --make --last-wins --tree --json --under --down-to --exit-code -o --output -h --help' ;;
     diff) once='--tree --json --by-name --under --down-to --class --exit-code -o --output -h --help' ;;
     plan) once='--as-ceph --strict --json --by-name --under --exit-code -o --output -h --help' ;;
     tree) once='--json --under --down-to --class -o --output -h --help' ;;

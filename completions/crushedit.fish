@@ -21,6 +21,7 @@ complete -c crushedit -n __crushedit_first -a plan -d 'Prints the commands that 
 complete -c crushedit -n __crushedit_first -a tree -d 'Prints the tree of a map'
 complete -c crushedit -n '__crushedit_begins apply' -l dry-run -d 'Print what would change, in place of the new map'
 complete -c crushedit -n '__crushedit_begins apply' -l make -d 'Allow commands to create the buckets of a location'
+complete -c crushedit -n '__crushedit_begins apply' -l last-wins -d 'Allow a script to undo what another has changed'
 complete -c crushedit -n '__crushedit_begins apply' -l tree -d 'With --dry-run: print a tree of what would change'
 complete -c crushedit -n '__crushedit_begins apply' -l json -d 'With --dry-run: print one JSON document, for programs'
 complete -c crushedit -n '__crushedit_begins apply' -l under -x -d 'With --dry-run: print only what is below this item'

@@ -20,6 +20,7 @@ _crushedit() {
         _arguments \
             '--dry-run[Print what would change, in place of the new map]' \
             '--make[Allow commands to create the buckets of a location]' \
+            '--last-wins[Allow a script to undo what another has changed]' \
             '--tree[With --dry-run\: print a tree of what would change]' \
             '--json[With --dry-run\: print one JSON document, for programs]' \
             '--under=[With --dry-run\: print only what is below this item]:NAME: ' \

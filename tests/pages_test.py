@@ -45,6 +45,7 @@ ENDS = [
     (5, "(cat map.txt; echo '%operator a'; echo rm default) | crushedit --strict"),
     (5, "sed 's/total_tries 50/total_tries 51/' map.txt | crushedit --strict --to map.txt"),
     (5, "(cat map.txt; echo '%operator a'; echo move osd.0 host=h9) | crushedit --no-make"),
+    (5, "cp map.txt whole.txt; echo '# end crush map' >> whole.txt; echo reweight osd.0 2 > a; echo reweight osd.0 3 > b; crushedit apply whole.txt a b"),
     (6, "(cat old.txt; echo '%operator a'; echo reweight osd.0 2) | crushedit --exit-code"),
 ]
 UNTRIED = {"4"}

@@ -38,6 +38,7 @@ OFFERED = {
         "count_changes", "is_changed", "is_changed_by_name", "is_part_changed", "same_kinds", "same_rules", "same_tunables", "since_part_text", "stays",
         "write_changes_of_class", "write_since_by_name", "write_since_by_name_part",
     },
+    "crush_conflicts": {"lost_changes", "map_alone"},
     "crush_json": {"write_map_document", "write_plan_document", "write_since_document", "write_tree_document"},
     "crush_reasons": {"explained_text"},
     "crush_plan": {"Plan::count_differences", "find_plan", "plan_text"},

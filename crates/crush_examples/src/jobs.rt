@@ -141,6 +141,7 @@ fn run_record(
             explain: false,
             json: false,
             exact: false,
+            conflicts: false,
         },
         output: Output::Map,
     };

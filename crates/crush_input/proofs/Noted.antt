@@ -67,6 +67,7 @@ noted_of_all explain o p all bytes run.Memory notes input h told = told
 noted_of_all explain o p all bytes run.Thread notes input h told = absurd h
 noted_of_all explain o p all bytes (run.Refused n) notes input h told = absurd h
 noted_of_all explain o p all bytes (run.Made n) notes input h told = absurd h
+noted_of_all explain o p all bytes (run.Conflicts n) notes input h told = absurd h
 noted_of_all explain o p all bytes (run.Differs n) notes input h told = absurd h
 noted_of_all explain o p all bytes run.NoItem notes input h told = absurd h
 noted_of_all explain o p all bytes run.NoType notes input h told = absurd h

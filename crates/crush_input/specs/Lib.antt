@@ -1,6 +1,7 @@
 pub mod Faults
 pub mod Input
 pub mod Joined
+pub mod Lost
 pub mod Made
 pub mod Options
 pub mod Notes

@@ -1,5 +1,5 @@
 -- The notes of a run: what is written to standard error after the first line.
-use Rattle.std.specs.Prelude.{◌≡◌, ℕ, ◌<◌, Bool, true, false, List, [], ◌++◌, Option, None, Some, Result, Ok, Err, IfSome, codes, if◌then◌else◌, map}
+use Rattle.std.specs.Prelude.{◌≡◌, ℕ, ◌<◌, ◌==◌, Bool, true, false, List, [], ◌++◌, Option, None, Some, Result, Ok, Err, IfSome, codes, if◌then◌else◌, map}
 use Rattle.crush_edits.specs.Setting.{SettingData}
 use Rattle.crush_map.specs.MapData.{MapData, MapStands}
 use Rattle.crush_history.specs.History.{EntryData}
@@ -21,8 +21,10 @@ use Rattle.crush_input.specs.declared.fault.RunFault.TheVariants as run
 use Rattle.crush_input.specs.declared.fault.SecondMapFault.{SecondMapFault}
 use Rattle.crush_input.specs.declared.fault.SecondMapFault.TheVariants as unread
 use Rattle.crush_input.specs.declared.aborted.KeptText.{KeptText}
+use Rattle.crush_input.specs.Lost.{LostData, conflict_notes}
 use Rattle.crush_input.specs.Made.{made_text, makings}
 use Rattle.crush_input.specs.Origins.{origin_of, whole_of}
+use Rattle.crush_input.specs.Report.{made_line}
 
 -- there is a stored map, which has this setting and represents this table
 abbrev pub IsKept : Option MapData → SettingData → List Row → Type 0
@@ -63,7 +65,12 @@ text_of explain origin bytes t = record { origin = origin; lines = job_lines byt
 abbrev pub history_notes : Mode → TextData → SettingData → List Row → List (List ℕ) → List EntryData → List ℕ
 history_notes mode text s t names h = refused_notes mode text s t names h ++ text.weights
 
--- NOTES OF A FAULT OF BYTES: with `--explain`, the place of the fault in the file from which its line comes, and the reason; otherwise nothing
+-- NOTES OF CREATED BUCKETS of a run that refused calls ended: with `--no-make`, the line with the number of the calls that created more buckets than they have `add-bucket`
+-- commands, and the history lines of these calls; otherwise, or if there are no such calls, nothing
+abbrev pub created_notes : Bool → List (List ℕ) → List EntryData → List ℕ
+created_notes no_make names h = if no_make then (if makings h == 0 then [] else made_line (makings h) ++ made_text names 1 h) else []
+
+-- NOTES OF A FAULT OF BYTES: with `--explain`, the fault's place in the file that its line comes from, and the reason; otherwise nothing
 abbrev pub place_notes : Bool → (ℕ → OriginData) → List ℕ → JobFault → List ℕ
 place_notes explain origin bytes fault = if explain then fault_text (origin (fault_line bytes fault)) bytes fault else []
 
@@ -95,28 +102,32 @@ abbrev pub AreNotesOfSecondMap : Bool → List ℕ → Option (List ℕ) → Run
 AreNotesOfSecondMap explain name all (run.SecondMap which fault) notes = AreNotesOfSecondMapFault explain name all fault notes
 AreNotesOfSecondMap explain name all fault notes = notes ≡ []
 
--- NOTES OF A HISTORY: the notes of refused calls and of weights, if the run succeeds, or fails because of a failed write, of refused calls or of a name that the map doesn't have.
--- If it fails because of calls that created buckets, the lines of these calls come before these notes. If it fails because of differences that remain after a plan, `rest`, which has the
--- lines of these differences, comes after these notes. The definition says nothing about other faults.
-abbrev pub AreNotesOfHistory : {X : Type 0} → Mode → TextData → SettingData → List Row → List (List ℕ) → List EntryData → List ℕ → Result X RunFault → List ℕ → Type 0
-AreNotesOfHistory mode text s t names h rest (Ok x) notes = notes ≡ history_notes mode text s t names h
-AreNotesOfHistory mode text s t names h rest (Err run.Write) notes = notes ≡ history_notes mode text s t names h
-AreNotesOfHistory mode text s t names h rest (Err (run.Refused n)) notes = notes ≡ history_notes mode text s t names h
-AreNotesOfHistory mode text s t names h rest (Err (run.Made n)) notes = notes ≡ made_text names 1 h ++ history_notes mode text s t names h
-AreNotesOfHistory mode text s t names h rest (Err (run.Differs n)) notes = notes ≡ history_notes mode text s t names h ++ rest
-AreNotesOfHistory mode text s t names h rest (Err run.NoItem) notes = notes ≡ history_notes mode text s t names h
-AreNotesOfHistory mode text s t names h rest (Err run.NoType) notes = notes ≡ history_notes mode text s t names h
-AreNotesOfHistory mode text s t names h rest (Err run.NoClass) notes = notes ≡ history_notes mode text s t names h
-AreNotesOfHistory mode text s t names h rest (Err fault) notes = Unit {0}
+-- NOTES OF A HISTORY: the notes of refused calls and of weights, if the run succeeds, or ends because of a failed write or of a name that the map doesn't have.
+-- If it ends because of refused calls, the notes of created buckets come after these notes, and then the lines of the lost changes `lost`, after a line with their number. If it
+-- ends because of calls that created buckets, the lines of these calls come before these notes, and the lines of the lost changes come after these notes in the same way. If it
+-- ends because of lost changes, their lines come before these notes. If it ends because of differences that remain after a plan, `rest`, the lines of these differences, comes
+-- after these notes. Nothing is said of other faults.
+abbrev pub AreNotesOfHistory : {X : Type 0} → Mode → TextData → SettingData → List Row → List (List ℕ) → List EntryData → List ℕ → LostData → Result X RunFault → List ℕ → Type 0
+AreNotesOfHistory mode text s t names h rest lost (Ok x) notes = notes ≡ history_notes mode text s t names h
+AreNotesOfHistory mode text s t names h rest lost (Err run.Write) notes = notes ≡ history_notes mode text s t names h
+AreNotesOfHistory mode text s t names h rest lost (Err (run.Refused n)) notes = notes ≡ history_notes mode text s t names h ++ (created_notes mode.no_make names h ++ conflict_notes lost)
+AreNotesOfHistory mode text s t names h rest lost (Err (run.Made n)) notes = notes ≡ made_text names 1 h ++ (history_notes mode text s t names h ++ conflict_notes lost)
+AreNotesOfHistory mode text s t names h rest lost (Err (run.Conflicts n)) notes = notes ≡ lost.lines ++ history_notes mode text s t names h
+AreNotesOfHistory mode text s t names h rest lost (Err (run.Differs n)) notes = notes ≡ history_notes mode text s t names h ++ rest
+AreNotesOfHistory mode text s t names h rest lost (Err run.NoItem) notes = notes ≡ history_notes mode text s t names h
+AreNotesOfHistory mode text s t names h rest lost (Err run.NoType) notes = notes ≡ history_notes mode text s t names h
+AreNotesOfHistory mode text s t names h rest lost (Err run.NoClass) notes = notes ≡ history_notes mode text s t names h
+AreNotesOfHistory mode text s t names h rest lost (Err fault) notes = Unit {0}
 
--- NOTES WITHOUT A HISTORY: what is true of the notes of a fault, whatever the history is. For a fault of the bytes, the notes have the fault's place if the bytes are known, and without
--- `--explain` there are none. For a failed write, or a name that the map doesn't have, there are none without `--explain`. The definition says nothing about refused calls, created buckets and
--- remaining differences. For any other fault there are none.
+-- NOTES WITHOUT A HISTORY: what is true of the notes of a fault, whatever the history is. For a fault of the bytes, the notes have its place if the bytes are known, and without
+-- `--explain` there are none. For a failed write, or a name that the map doesn't have, there are none without `--explain`. Nothing is said of refused calls, created buckets, lost
+-- changes and remaining differences. For any other fault there are none.
 abbrev pub AreNotesOfFault : Bool → (ℕ → OriginData) → Option (List ℕ) → RunFault → List ℕ → Type 0
 AreNotesOfFault explain origin all (run.Job fault) notes = (explain ≡ false → notes ≡ []) × IfSome all (λ bytes. notes ≡ place_notes explain origin bytes fault)
 AreNotesOfFault explain origin all run.Write notes = explain ≡ false → notes ≡ []
 AreNotesOfFault explain origin all (run.Refused n) notes = Unit {0}
 AreNotesOfFault explain origin all (run.Made n) notes = Unit {0}
+AreNotesOfFault explain origin all (run.Conflicts n) notes = Unit {0}
 AreNotesOfFault explain origin all (run.Differs n) notes = Unit {0}
 AreNotesOfFault explain origin all run.NoItem notes = explain ≡ false → notes ≡ []
 AreNotesOfFault explain origin all run.NoType notes = explain ≡ false → notes ≡ []
@@ -136,19 +147,21 @@ IsStrict strict h (Ok x) = strict ≡ true → refusals h ≡ 0
 IsStrict strict h (Err run.Write) = strict ≡ true → refusals h ≡ 0
 IsStrict strict h (Err (run.Refused n)) = (strict ≡ true) × (n ≡ refusals h) × (0 < n)
 IsStrict strict h (Err (run.Made n)) = strict ≡ true → refusals h ≡ 0
+IsStrict strict h (Err (run.Conflicts n)) = strict ≡ true → refusals h ≡ 0
 IsStrict strict h (Err (run.Differs n)) = (strict ≡ true) × (refusals h ≡ 0)
 IsStrict strict h (Err run.NoItem) = strict ≡ true → refusals h ≡ 0
 IsStrict strict h (Err run.NoType) = strict ≡ true → refusals h ≡ 0
 IsStrict strict h (Err run.NoClass) = strict ≡ true → refusals h ≡ 0
 IsStrict strict h (Err fault) = Unit {0}
 
--- NO MAKE: with `--no-make`, no entry of the history created more buckets than its call has `add-bucket` commands when the run succeeds, or when it fails because of a failed write,
--- of remaining differences or of a name that the map doesn't have. A run that fails because of such entries has `--no-make`, and its fault has their number, at least 1.
--- The definition says nothing about other faults.
+-- NO MAKE: with `--no-make`, no entry of the history created more buckets than its call has `add-bucket` commands when the run succeeds, or when it ends because of a failed write,
+-- of lost changes, of remaining differences or of a name that the map doesn't have. A run that ends because of such entries has `--no-make`, and its fault has their number, at least 1.
+-- Nothing is said of other faults.
 abbrev pub IsNoMake : {X : Type 0} → Bool → List EntryData → Result X RunFault → Type 0
 IsNoMake no_make h (Ok x) = no_make ≡ true → makings h ≡ 0
 IsNoMake no_make h (Err run.Write) = no_make ≡ true → makings h ≡ 0
 IsNoMake no_make h (Err (run.Made n)) = (no_make ≡ true) × (n ≡ makings h) × (0 < n)
+IsNoMake no_make h (Err (run.Conflicts n)) = no_make ≡ true → makings h ≡ 0
 IsNoMake no_make h (Err (run.Differs n)) = no_make ≡ true → makings h ≡ 0
 IsNoMake no_make h (Err run.NoItem) = no_make ≡ true → makings h ≡ 0
 IsNoMake no_make h (Err run.NoType) = no_make ≡ true → makings h ≡ 0

@@ -51,6 +51,10 @@ refused_line count = codes "crushedit: refused " ++ decimal count ++ codes "\n"
 abbrev pub made_line : ℕ → List ℕ
 made_line count = codes "crushedit: made " ++ decimal count ++ codes "\n"
 
+-- the line with the number of items that have a lost change. The line is printed if lost changes ended a run, and in the notes of a run that refused calls or created buckets ended
+abbrev pub conflicts_line : ℕ → List ℕ
+conflicts_line count = codes "crushedit: conflicts " ++ decimal count ++ codes "\n"
+
 -- the line with the number of differences that remain after a plan, which ended a strict run
 abbrev pub differs_line : ℕ → List ℕ
 differs_line count = codes "crushedit: differs " ++ decimal count ++ codes "\n"
@@ -83,6 +87,7 @@ run_fault w run.Memory = out_of_memory
 run_fault w run.Thread = codes "crushedit: no thread\n"
 run_fault w (run.Refused count) = refused_line count
 run_fault w (run.Made count) = made_line count
+run_fault w (run.Conflicts count) = conflicts_line count
 run_fault w (run.Differs count) = differs_line count
 run_fault w run.NoItem = lacking_line (codes "item ") w.under
 run_fault w run.NoType = lacking_line (codes "type ") w.down_to
@@ -123,6 +128,7 @@ fault_reason run.Memory = memory_reason
 fault_reason run.Thread = codes "  the system started no thread for an operator: --in-turn wants none\n"
 fault_reason (run.Refused count) = []
 fault_reason (run.Made count) = []
+fault_reason (run.Conflicts count) = []
 fault_reason (run.Differs count) = []
 fault_reason run.NoItem = codes "  --under wants the name of an item of the map after the scripts\n"
 fault_reason run.NoType = codes "  --down-to wants the name of a type of the map\n"
@@ -157,6 +163,7 @@ fault_status run.Memory = 4
 fault_status run.Thread = 4
 fault_status (run.Refused count) = 5
 fault_status (run.Made count) = 5
+fault_status (run.Conflicts count) = 5
 fault_status (run.Differs count) = 5
 fault_status run.NoItem = 1
 fault_status run.NoType = 1
@@ -165,7 +172,7 @@ fault_status (run.SecondMap which f) = second_map_status f
 
 -- STATUS: 0 if the run succeeded, or 6 if its summary says that there is something to report. If the run failed: 1 if the bytes aren't a job or the second map isn't a map, or
 -- if the map lacks a name of the command line; 3 if reading or writing failed; 4 if memory ran out or a thread couldn't be started; 5 if calls of a strict
--- run were refused, differences remain after its plan, or buckets were created in spite of `--no-make`
+-- run were refused, differences remain after its plan, buckets were made in spite of `--no-make`, or changes were lost
 abbrev pub status : Result Summary RunFault → ℕ
 status (Ok s) = if s.differs then 6 else 0
 status (Err f) = fault_status f

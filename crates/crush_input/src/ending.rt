@@ -5,7 +5,7 @@ ghost use Rattle.crush_units.specs.Writes.{Writes, AppendsPrefix};
 ghost use Rattle.crush_input.specs.OptionsReport.{IsHelpWhole, IsOptionsStatus, options_error, options_output};
 ghost use Rattle.crush_input.specs.Report.{adjusted_line, fault_reason, line_fault, text_fault, job_fault, made_line, outcome_reason, run_fault, refused_line, report_line, report_lines, report_text, status};
 ghost use Rattle.crush_input.specs.Words.{no_words, words_data};
-ghost use Rattle.crush_input.specs.Report.{differs_line, lacking_line, long_reason, map_word, second_map_fault, second_map_reason, second_map_status, second_map_text_fault, unread_reason};
+ghost use Rattle.crush_input.specs.Report.{conflicts_line, differs_line, lacking_line, long_reason, map_word, second_map_fault, second_map_reason, second_map_status, second_map_text_fault, unread_reason};
 
 use crate::fault::{RunFault, SecondMap, SecondMapFault};
 use crate::shown::put_shown;
@@ -169,6 +169,7 @@ fn write_run_fault<E: Write>(
         RunFault::Thread => put(err, b"crushedit: no thread\n"),
         RunFault::Refused(count) => write_refused(count, err),
         RunFault::Made(count) => write_made(count, err),
+        RunFault::Conflicts(count) => write_conflicts(count, err),
         RunFault::Differs(count) => write_differs(count, err),
         RunFault::NoItem => write_lacking(b"item ", words.under, err),
         RunFault::NoType => write_lacking(b"type ", words.down_to, err),
@@ -189,7 +190,7 @@ fn write_refused<E: Write>(count: u32, err: &mut E) -> Result<(), WriteFault>
     )
 }
 
-fn write_made<E: Write>(count: usize, err: &mut E) -> Result<(), WriteFault>
+pub(crate) fn write_made<E: Write>(count: usize, err: &mut E) -> Result<(), WriteFault>
     ensures { Writes result (E.contents err.old) (E.contents err.new)
         (made_line count) }
 {
@@ -198,6 +199,18 @@ fn write_made<E: Write>(count: usize, err: &mut E) -> Result<(), WriteFault>
     put_all(
         err,
         &[b"crushedit: made ".as_slice(), count, b"\n".as_slice()],
+    )
+}
+
+pub(crate) fn write_conflicts<E: Write>(count: usize, err: &mut E) -> Result<(), WriteFault>
+    ensures { Writes result (E.contents err.old) (E.contents err.new)
+        (conflicts_line count) }
+{
+    let mut buffer = Buffer::new();
+    let count = buffer.format(count).as_bytes();
+    put_all(
+        err,
+        &[b"crushedit: conflicts ".as_slice(), count, b"\n".as_slice()],
     )
 }
 
@@ -295,7 +308,8 @@ fn fault_reason(fault: RunFault) -> &'static [u8]
         RunFault::Memory => MEMORY_REASON,
         RunFault::Thread =>
             b"  the system started no thread for an operator: --in-turn wants none\n",
-        RunFault::Refused(_) | RunFault::Made(_) | RunFault::Differs(_) => b"",
+        RunFault::Refused(_) | RunFault::Made(_) | RunFault::Conflicts(_) | RunFault::Differs(_) =>
+            b"",
         RunFault::NoItem => b"  --under wants the name of an item of the map after the scripts\n",
         RunFault::NoType => b"  --down-to wants the name of a type of the map\n",
         RunFault::NoClass => {
@@ -372,7 +386,8 @@ fn status_of(outcome: &Result<Summary, RunFault>) -> u8
         Ok(summary) if summary.differs => 6,
         Ok(_) => 0,
         Err(RunFault::Memory | RunFault::Thread) => 4,
-        Err(RunFault::Refused(_) | RunFault::Made(_) | RunFault::Differs(_)) => 5,
+        Err(RunFault::Refused(_) | RunFault::Made(_)) => 5,
+        Err(RunFault::Conflicts(_) | RunFault::Differs(_)) => 5,
         Err(RunFault::Job(fault)) if fault.lacks_memory() => 4,
         Err(RunFault::Job(_) | RunFault::NoItem | RunFault::NoType | RunFault::NoClass) => 1,
         Err(RunFault::SecondMap(_, fault)) => second_map_status(*fault),
@@ -402,8 +417,8 @@ pub struct ReportOutcome {
 ///   scripts lacks the item of `--under`, the type of `--down-to` or the class of `--class`.
 /// - 3: Reading or writing failed.
 /// - 4: Memory ran out, or a thread couldn't be started.
-/// - 5: The run failed because of refused calls, of calls that created buckets, or of differences
-///   that remain. The notes list them.
+/// - 5: The run was ended by refused calls, by calls that created buckets, by lost changes, or by
+///   differences that remain. The notes list them.
 ///
 /// If writing to standard error fails, `written` says so, and the status doesn't change.
 pub fn report<E: Write>(

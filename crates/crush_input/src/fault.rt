@@ -53,6 +53,9 @@ pub enum RunFault {
     /// With `--no-make`, this many calls created more buckets than they have `add-bucket` commands.
     #[error("made {0}")]
     Made(usize),
+    /// Scripts run without `--last-wins`, and this many items have a change that is lost.
+    #[error("conflicts {0}")]
+    Conflicts(usize),
     /// The job was read, but the map of `--since` or `--to` couldn't be read.
     #[error("another map: {1}")]
     SecondMap(SecondMap, SecondMapFault),

@@ -7,10 +7,12 @@ ghost use Rattle.crush_history.specs.Entries.{AreOf};
 ghost use Rattle.crush_history.specs.HistoryText.{names_of};
 ghost use Rattle.crush_history.specs.Script.{scripts_data};
 ghost use Rattle.crush_input.specs.Made.{is_add_bucket, add_bucket_count, buckets_made, made_line, made_text, makes_more, makings};
-ghost use Rattle.crush_input.specs.Notes.{IsNoMake};
+ghost use Rattle.crush_input.specs.Notes.{IsNoMake, created_notes};
+ghost use Rattle.crush_input.specs.Report.{made_line as created_line};
 ghost use Rattle.crush_input.specs.Stages.{IsMadeFault};
 ghost use Rattle.crush_units.specs.declared.limits.TheConstants.{MOST_ENTRIES};
 
+use crate::ending::write_made;
 use crate::fault::RunFault;
 use crush_edits::Edit;
 use crush_history::{Call, Entry, Reply, Script, operator_name, write_entry};
@@ -145,4 +147,37 @@ pub fn made_notes(
     let mut lines = made_text(alloc, scripts, entries)?;
     lines.extend_from_slice(notes)?;
     Ok(lines)
+}
+
+/// Appends the line with the number of the calls that created buckets.
+fn push_count(count: usize, text: &mut Vec<u8>) -> Result<(), AllocError>
+    ensures { OnOk result (text.new.items ≡ text.old.items ++ created_line count) }
+{
+    write_made(count, text).map_err(|_| AllocError)
+}
+
+/// Appends, with `no_make`, the line with the number of the calls that [`check_made`] counts, and
+/// the history lines of these calls. Appends nothing if there are no such calls.
+pub(crate) fn push_created(
+    alloc: Global,
+    no_make: bool,
+    scripts: &[Script],
+    entries: &[Entry],
+    text: &mut Vec<u8>,
+) -> Result<(), AllocError>
+    requires few { length entries.now ≤ MOST_ENTRIES }
+    requires operators { AreOf (length scripts.now) entries.now }
+    ensures { OnOk result (text.new.items ≡ text.old.items
+        ++ created_notes no_make (names_of (scripts_data scripts.now)) entries.now) }
+{
+    if !no_make {
+        return Ok(());
+    }
+    let count = count_making(entries);
+    if count == 0 {
+        return Ok(());
+    }
+    let lines = made_text(alloc, scripts, entries)?;
+    push_count(count, text)?;
+    text.extend_from_slice(lines.as_slice())
 }

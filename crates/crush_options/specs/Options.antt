@@ -69,7 +69,7 @@ all_named id rows = unwrap_or (all_of id rows) []
 abbrev pub IsConflict : List Row → Text → Type 0
 IsConflict rows why = AreApart rows why ⊎ ((MOST_SCRIPTS < length (all_named (codes "script") rows)) × (why ≡ codes "error: at most 16 times --script\n"))
 
--- the mode is the one that the parsed words ask for. Each field says whether its flag is given, except that `history` says whether `--no-history` isn't given
+-- the mode is the one that the parsed words ask for. Each field says whether its flag is given, except that `history` says whether `--no-history` isn't given. No flag asks for conflicts
 pub record IsModeOf (rows : List Row) (mode : Mode) : Type 0 where
   pub in_turn : IsFlag (one_of (codes "in-turn") rows) mode.in_turn
   pub history : IsFlag (one_of (codes "no-history") rows) (not mode.history)
@@ -79,6 +79,7 @@ pub record IsModeOf (rows : List Row) (mode : Mode) : Type 0 where
   pub explain : IsFlag (one_of (codes "explain") rows) mode.explain
   pub json : IsFlag (one_of (codes "json") rows) mode.json
   pub exact : IsFlag (one_of (codes "exact") rows) mode.exact
+  pub conflicts : mode.conflicts ≡ false
 
 -- the options are those that the parsed words ask for: how the job is run, what is printed, the names of at most MOST_SCRIPTS files with scripts, the name of the job's file, and the name of the file that the output replaces. The first file is a job.
 pub record AreRead (rows : List Row) (options : Options) : Type 0 where

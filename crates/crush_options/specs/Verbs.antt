@@ -30,13 +30,13 @@ verb_of name = record (new_app name) { top = record (new_app name).top { no_bina
 
 -- `apply` with the flags that no other verb has, and with `--tree`
 abbrev pub apply_flags : App
-apply_flags = with_rule (with_rule (with_rule (verb_of (codes "crushedit apply")) (flag (codes "dry-run"))) (flag (codes "make"))) (flag (codes "tree"))
+apply_flags = with_rule (with_rule (with_rule (with_rule (verb_of (codes "crushedit apply")) (flag (codes "dry-run"))) (flag (codes "make"))) (flag (codes "last-wins"))) (flag (codes "tree"))
 
 -- the same, and the words that say what a dry run prints
 abbrev pub apply_shown : App
 apply_shown = with_rule (with_rule (with_rule (with_rule apply_flags (flag (codes "json"))) (option (codes "under"))) (option (codes "down-to"))) (flag (codes "exit-code"))
 
--- APPLY: `[--dry-run] [--make] [--tree] [--json] [--under NAME] [--down-to TYPE] [--exit-code] [-o FILE] MAP [SCRIPT]..`
+-- APPLY: `[--dry-run] [--make] [--last-wins] [--tree] [--json] [--under NAME] [--down-to TYPE] [--exit-code] [-o FILE] MAP [SCRIPT]..`
 abbrev pub apply : App
 apply = with_rule (with_rule (with_rule apply_shown output) (needed (codes "MAP"))) more_scripts
 
@@ -81,6 +81,7 @@ other_argument verb = codes "WANTED"
 pub record VerbData : Type 0 where
   pub dry_run : Bool
   pub make : Bool
+  pub last_wins : Bool
   pub tree : Bool
   pub json : Bool
   pub by_name : Bool
@@ -99,6 +100,7 @@ pub record VerbData : Type 0 where
 pub record AreVerbWords (verb : Verb) (rows : List Row) (words : VerbData) : Type 0 where
   pub dry_run : IsFlag (one_of (codes "dry-run") rows) words.dry_run
   pub make : IsFlag (one_of (codes "make") rows) words.make
+  pub last_wins : IsFlag (one_of (codes "last-wins") rows) words.last_wins
   pub tree : IsFlag (one_of (codes "tree") rows) words.tree
   pub json : IsFlag (one_of (codes "json") rows) words.json
   pub by_name : IsFlag (one_of (codes "by-name") rows) words.by_name
@@ -118,6 +120,7 @@ abbrev pub verb_data : VerbWords → VerbData
 verb_data w = record {
   dry_run = w.dry_run;
   make = w.make;
+  last_wins = w.last_wins;
   tree = w.tree;
   json = w.json;
   by_name = w.by_name;
@@ -212,10 +215,16 @@ abbrev pub maps_of_verb : Verb → MapForm
 maps_of_verb Tree = form.Map
 maps_of_verb verb = form.WholeMap
 
--- SHORT FOR: the options are those of the plain command line for which the verb is short, except that the verb says what its files must contain
+-- whether conflicts end the run
+abbrev pub has_conflicts : Verb → VerbData → Bool
+has_conflicts Apply w = not w.last_wins
+has_conflicts verb w = false
+
+-- SHORT FOR: the options are those of the plain command line for which the verb is short, except that the verb says what its files must contain, and whether conflicts end the run
 pub record AreShortFor (verb : Verb) (w : VerbData) (options : Options) : Type 0 where
   pub maps : options.maps ≡ maps_of_verb verb
-  pub plain : AreOptionsOf (words_of_verb verb w) (record options { maps = form.Job })
+  pub conflicts : options.mode.conflicts ≡ has_conflicts verb w
+  pub plain : AreOptionsOf (words_of_verb verb w) (record options { maps = form.Job; mode = record options.mode { conflicts = false } })
 
 -- the words after a verb have no error, can be given together, and ask for these options
 pub record AreOptionsOfVerb (verb : Verb) (words : List Text) (options : Options) : Type 0 where

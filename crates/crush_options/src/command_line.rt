@@ -128,15 +128,16 @@ Standard error:
     crushedit: adjusted N    N written weights were replaced by the sums
     crushedit: refused N     with --strict: N calls were refused
     crushedit: made N        with --no-make: N calls created buckets unasked
+    crushedit: conflicts N   apply: another script undid changes of N items
     crushedit: differs N     with --strict and --to: N differences remain
     crushedit: no item NAME  --under: the map has no such item
     crushedit: no type TYPE  --down-to: the map has no such type
     crushedit: no class NAME  --class: no device of the map has this class
 
-Below `refused`, `made` and `differs` come the lines of these calls and
-differences. With `--explain`, or if standard error is a terminal, more lines
-follow. They say where an error in the input is, and what is expected there. For
-each refused call they have its line and the reason.
+Below `refused`, `made`, `conflicts` and `differs` come the lines of these
+calls, items and differences. With `--explain`, or if standard error is a
+terminal, more lines follow. They say where an error in the input is, and what
+is expected there. For each refused call they have its line and the reason.
 
 Exit status:
     0    the job was run; without --strict, commands may have been refused
@@ -144,7 +145,7 @@ Exit status:
     2    the command line is refused
     3    a file can't be opened, or a read or a write failed
     4    out of memory, or a thread couldn't be started; nothing was printed
-    5    --strict or --no-make ended the run; nothing was printed
+    5    --strict, --no-make or lost changes ended the run; nothing was printed
     6    with --exit-code: something changed or differs
 
 Examples:
@@ -577,7 +578,7 @@ fn output_of(alloc: Global, matches: &ArgMatches<'_>) -> Result<Option<String>, 
     copy_of(alloc, matches.get_str("output"))
 }
 
-/// Returns how the job is run.
+/// Returns how the job is run. The plain command line never looks for conflicts.
 fn mode_of(matches: &ArgMatches<'_>, json: bool, exact: bool) -> Mode
     requires json { IsFlag (one_of (codes "json") (rows_of (found_of matches.now))) json }
     requires exact { IsFlag (one_of (codes "exact") (rows_of (found_of matches.now))) exact }
@@ -594,6 +595,7 @@ fn mode_of(matches: &ArgMatches<'_>, json: bool, exact: bool) -> Mode
         explain: is_set(matches, "explain"),
         json,
         exact,
+        conflicts: false,
     }
 }
 

@@ -27,6 +27,9 @@ pub struct Mode {
     /// Whether the text of the map is printed with weights in exact form, with six digits after the
     /// point (`--exact`). The flag can be given only if the text of the map is printed.
     pub exact: bool,
+    /// Whether a run prints nothing if a change that the script of one operator makes alone is lost
+    /// by the script of another. The plain command line never asks for this.
+    pub conflicts: bool,
 }
 
 /// What the files of a run must contain: the file with which the run begins, and the file of

@@ -24,6 +24,7 @@ const WITHOUT_DRY_RUN: &str =
 pub(crate) struct VerbWords<'a> {
     pub(crate) dry_run: bool,
     pub(crate) make: bool,
+    pub(crate) last_wins: bool,
     pub(crate) tree: bool,
     pub(crate) json: bool,
     pub(crate) by_name: bool,
@@ -72,6 +73,7 @@ pub(crate) fn verb_words_of<'a>(verb: Verb, matches: &'a ArgMatches<'_>) -> Verb
     VerbWords {
         dry_run: is_set(matches, "dry-run"),
         make: is_set(matches, "make"),
+        last_wins: is_set(matches, "last-wins"),
         tree: is_set(matches, "tree"),
         json: is_set(matches, "json"),
         by_name: is_set(matches, "by-name"),

@@ -4,7 +4,7 @@
 ghost use Rattle.std.specs.Prelude.{◌≡◌, IfOk, IfErr, None, codes, false, map};
 ghost use Rattle.clap.specs.Words.{app_of, rule_of};
 ghost use Rattle.crush_options.specs.Options.{IsFaultIn};
-ghost use Rattle.crush_options.specs.Verbs.{AreOptionsBy, AreOptionsOfVerb, AreShortFor, IsFaultBy, IsFaultOfVerb, IsShortFault, app_of_verb, apply, apply_flags, apply_shown, diff, diff_shown, maps_of_verb, more_scripts, needed, plan, plan_shown, tree, verb_complaint, verb_data, verb_named, verb_of, verb_of_words, words_of_verb};
+ghost use Rattle.crush_options.specs.Verbs.{AreOptionsBy, AreOptionsOfVerb, AreShortFor, IsFaultBy, IsFaultOfVerb, IsShortFault, app_of_verb, apply, apply_flags, apply_shown, diff, diff_shown, has_conflicts, maps_of_verb, more_scripts, needed, plan, plan_shown, tree, verb_complaint, verb_data, verb_named, verb_of, verb_of_words, words_of_verb};
 
 use crate::command_line::{fault_of, flag, option, output, plain_options, refused};
 use crate::parsed_options::{MapForm, Options, OptionsFault};
@@ -42,7 +42,8 @@ one after the other.
 
 `apply` prints the new map, with exact weights. It prints nothing, and says why,
 if a command is refused, if a command other than `add-bucket` would create a
-bucket, or if MAP doesn't end with `# end crush map`.
+bucket, if MAP doesn't end with `# end crush map`, or if a change of one
+operator would be lost by the script of another.
 
 With `--dry-run`, it prints what the scripts would change, and their history.
 
@@ -134,10 +135,12 @@ fn apply_flags<'a>(alloc: Global) -> Result<Command<'a>, AllocError>
 {
     let dry_run = "Print what would change, in place of the new map";
     let make = "Allow commands to create the buckets of a location";
+    let last_wins = "Allow a script to undo what another has changed";
     let tree = "With --dry-run: print a tree of what would change";
     new_verb(alloc, "crushedit apply", APPLY_ABOUT, APPLY_MORE)
         .arg(flag(alloc, "dry-run", dry_run))?
         .arg(flag(alloc, "make", make))?
+        .arg(flag(alloc, "last-wins", last_wins))?
         .arg(flag(alloc, "tree", tree))
 }
 
@@ -245,8 +248,18 @@ fn maps_of(verb: Verb) -> MapForm
     }
 }
 
+fn has_conflicts(verb: Verb, words: VerbWords<'_>) -> bool
+    ensures { result ≡ has_conflicts verb (verb_data words.entry) }
+{
+    match verb {
+        Verb::Apply => !words.last_wins,
+        Verb::Diff | Verb::Plan | Verb::Tree => false,
+    }
+}
+
 /// Returns the options of the plain command line for which a verb's command line is short. The only
-/// difference is that the verb says what the files must contain.
+/// differences are that the verb says what the files must contain, and whether conflicts end the
+/// run.
 fn short_for(alloc: Global, verb: Verb, words: VerbWords<'_>) -> Result<Options, OptionsFault>
     ensures read { IfOk result (AreShortFor verb (verb_data words.entry)) }
     ensures fault { IfErr result (IsFaultIn (words_of_verb verb (verb_data words.entry))) }
@@ -254,6 +267,7 @@ fn short_for(alloc: Global, verb: Verb, words: VerbWords<'_>) -> Result<Options,
     let plain = plain_words(alloc, verb, words)?;
     let mut options = plain_options(alloc, plain.as_slice())?;
     options.maps = maps_of(verb);
+    options.mode.conflicts = has_conflicts(verb, words);
     Ok(options)
 }
 

@@ -151,7 +151,7 @@ impl Plan {
 }
 
 /// Returns the number of lines of a text: the number of its line feeds.
-pub(crate) fn count_lines(text: &[u8]) -> usize
+pub fn count_lines(text: &[u8]) -> usize
     ensures { result ≡ line_count text.now }
 {
     let mut count: usize = 0;

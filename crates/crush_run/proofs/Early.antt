@@ -7,11 +7,13 @@ use Rattle.crush_options.specs.declared.parsed_options.Mode.{Mode}
 use Rattle.crush_input.specs.declared.output.Output.{Output}
 use Rattle.crush_input.specs.declared.fault.RunFault.{RunFault}
 use Rattle.crush_input.specs.declared.fault.RunFault.TheVariants as run
+use Rattle.crush_input.specs.Lost.{IsLossless, LostData}
 use Rattle.crush_input.specs.Notes.{AreNotesOfHistory, AreNotesOfFault, IsNoMake, AreNotesOfResult, IsStrict, TextData}
 use Rattle.crush_reasons.specs.Place.{OriginData}
 use Rattle.crush_run.specs.Found.{IsFound}
 use Rattle.crush_run.specs.Planned.{IsWhole}
-use Rattle.crush_run.specs.Stages.{IsEarlyFault, IsScriptsFault}
+use Rattle.crush_run.specs.Early.{IsEarlyFault}
+use Rattle.crush_run.specs.Stages.{IsScriptsFault}
 use Rattle.crush_input.specs.Stages.{IsInputFault, IsNoJob, IsReadFault}
 
 -- after such a fault, what IsStrict promises about refused entries holds for any history
@@ -23,6 +25,7 @@ strict_of_early X strict h run.Memory early = tt
 strict_of_early X strict h run.Thread early = tt
 strict_of_early X strict h (run.Refused n) early = absurd early
 strict_of_early X strict h (run.Made n) early = absurd early
+strict_of_early X strict h (run.Conflicts n) early = absurd early
 strict_of_early X strict h (run.Differs n) early = absurd early
 strict_of_early X strict h run.NoItem early = absurd early
 strict_of_early X strict h run.NoType early = absurd early
@@ -41,6 +44,7 @@ make_of_early X no_make h run.Memory early = tt
 make_of_early X no_make h run.Thread early = tt
 make_of_early X no_make h (run.Refused n) early = absurd early
 make_of_early X no_make h (run.Made n) early = absurd early
+make_of_early X no_make h (run.Conflicts n) early = absurd early
 make_of_early X no_make h (run.Differs n) early = absurd early
 make_of_early X no_make h run.NoItem early = absurd early
 make_of_early X no_make h run.NoType early = absurd early
@@ -50,7 +54,26 @@ make_of_early X no_make h (run.SecondMap w s) early = tt
 pub early_make : {X : Type 0} (no_make : Bool) (h : List EntryData) (r : Result X RunFault) (f : RunFault) → r ≡ Err f → IsEarlyFault f → IsNoMake no_make h r
 early_make {X = X} no_make h r f is early = rw is (make_of_early X no_make h f early)
 
--- after such a fault, what IsFound promises about names holds for any map
+-- nor of changes that are lost
+lossless_of_early : (X : Type 0) (conflicts : Bool) (lost : LostData) (f : RunFault) → IsEarlyFault f → IsLossless {X = X} conflicts lost (Err f)
+lossless_of_early X conflicts lost (run.Job j) early = tt
+lossless_of_early X conflicts lost run.Read early = tt
+lossless_of_early X conflicts lost run.Write early = absurd early
+lossless_of_early X conflicts lost run.Memory early = tt
+lossless_of_early X conflicts lost run.Thread early = tt
+lossless_of_early X conflicts lost (run.Refused n) early = absurd early
+lossless_of_early X conflicts lost (run.Made n) early = absurd early
+lossless_of_early X conflicts lost (run.Conflicts n) early = absurd early
+lossless_of_early X conflicts lost (run.Differs n) early = absurd early
+lossless_of_early X conflicts lost run.NoItem early = absurd early
+lossless_of_early X conflicts lost run.NoType early = absurd early
+lossless_of_early X conflicts lost run.NoClass early = absurd early
+lossless_of_early X conflicts lost (run.SecondMap w s) early = tt
+
+pub early_lossless : {X : Type 0} (conflicts : Bool) (lost : LostData) (r : Result X RunFault) (f : RunFault) → r ≡ Err f → IsEarlyFault f → IsLossless conflicts lost r
+early_lossless {X = X} conflicts lost r f is early = rw is (lossless_of_early X conflicts lost f early)
+
+-- nor of names that the map doesn't have
 found_of_early : (X : Type 0) (what : Output) (s : SettingData) (t : List Row) (f : RunFault) → IsEarlyFault f → IsFound {X = X} what s t (Err f)
 found_of_early X what s t (run.Job j) early = tt
 found_of_early X what s t run.Read early = tt
@@ -59,6 +82,7 @@ found_of_early X what s t run.Memory early = tt
 found_of_early X what s t run.Thread early = tt
 found_of_early X what s t (run.Refused n) early = absurd early
 found_of_early X what s t (run.Made n) early = absurd early
+found_of_early X what s t (run.Conflicts n) early = absurd early
 found_of_early X what s t (run.Differs n) early = absurd early
 found_of_early X what s t run.NoItem early = absurd early
 found_of_early X what s t run.NoType early = absurd early
@@ -77,6 +101,7 @@ whole_of_early X strict rest run.Memory early = tt
 whole_of_early X strict rest run.Thread early = tt
 whole_of_early X strict rest (run.Refused n) early = absurd early
 whole_of_early X strict rest (run.Made n) early = absurd early
+whole_of_early X strict rest (run.Conflicts n) early = absurd early
 whole_of_early X strict rest (run.Differs n) early = absurd early
 whole_of_early X strict rest run.NoItem early = absurd early
 whole_of_early X strict rest run.NoType early = absurd early
@@ -86,23 +111,24 @@ whole_of_early X strict rest (run.SecondMap w s) early = tt
 pub early_whole : {X : Type 0} (strict : Bool) (rest : List ℕ) (r : Result X RunFault) (f : RunFault) → r ≡ Err f → IsEarlyFault f → IsWhole strict rest r
 early_whole {X = X} strict rest r f is early = rw is (whole_of_early X strict rest f early)
 
--- after such a fault, what AreNotesOfHistory promises about notes holds for any history
-told_of_early : (X : Type 0) (mode : Mode) (text : TextData) (s : SettingData) (t : List Row) (names : List (List ℕ)) (h : List EntryData) (rest : List ℕ) (f : RunFault) (notes : List ℕ) → IsEarlyFault f → AreNotesOfHistory {X = X} mode text s t names h rest (Err f) notes
-told_of_early X mode text s t names h rest (run.Job j) notes early = tt
-told_of_early X mode text s t names h rest run.Read notes early = tt
-told_of_early X mode text s t names h rest run.Write notes early = absurd early
-told_of_early X mode text s t names h rest run.Memory notes early = tt
-told_of_early X mode text s t names h rest run.Thread notes early = tt
-told_of_early X mode text s t names h rest (run.Refused n) notes early = absurd early
-told_of_early X mode text s t names h rest (run.Made n) notes early = absurd early
-told_of_early X mode text s t names h rest (run.Differs n) notes early = absurd early
-told_of_early X mode text s t names h rest run.NoItem notes early = absurd early
-told_of_early X mode text s t names h rest run.NoType notes early = absurd early
-told_of_early X mode text s t names h rest run.NoClass notes early = absurd early
-told_of_early X mode text s t names h rest (run.SecondMap w o) notes early = tt
+-- nor of the notes of a history
+told_of_early : (X : Type 0) (mode : Mode) (text : TextData) (s : SettingData) (t : List Row) (names : List (List ℕ)) (h : List EntryData) (rest : List ℕ) (lost : LostData) (f : RunFault) (notes : List ℕ) → IsEarlyFault f → AreNotesOfHistory {X = X} mode text s t names h rest lost (Err f) notes
+told_of_early X mode text s t names h rest lost (run.Job j) notes early = tt
+told_of_early X mode text s t names h rest lost run.Read notes early = tt
+told_of_early X mode text s t names h rest lost run.Write notes early = absurd early
+told_of_early X mode text s t names h rest lost run.Memory notes early = tt
+told_of_early X mode text s t names h rest lost run.Thread notes early = tt
+told_of_early X mode text s t names h rest lost (run.Refused n) notes early = absurd early
+told_of_early X mode text s t names h rest lost (run.Made n) notes early = absurd early
+told_of_early X mode text s t names h rest lost (run.Conflicts n) notes early = absurd early
+told_of_early X mode text s t names h rest lost (run.Differs n) notes early = absurd early
+told_of_early X mode text s t names h rest lost run.NoItem notes early = absurd early
+told_of_early X mode text s t names h rest lost run.NoType notes early = absurd early
+told_of_early X mode text s t names h rest lost run.NoClass notes early = absurd early
+told_of_early X mode text s t names h rest lost (run.SecondMap w o) notes early = tt
 
-pub early_told : {X : Type 0} (mode : Mode) (text : TextData) (s : SettingData) (t : List Row) (names : List (List ℕ)) (h : List EntryData) (rest : List ℕ) (r : Result X RunFault) (f : RunFault) (notes : List ℕ) → r ≡ Err f → IsEarlyFault f → AreNotesOfHistory mode text s t names h rest r notes
-early_told {X = X} mode text s t names h rest r f notes is early = rw is (told_of_early X mode text s t names h rest f notes early)
+pub early_told : {X : Type 0} (mode : Mode) (text : TextData) (s : SettingData) (t : List Row) (names : List (List ℕ)) (h : List EntryData) (rest : List ℕ) (lost : LostData) (r : Result X RunFault) (f : RunFault) (notes : List ℕ) → r ≡ Err f → IsEarlyFault f → AreNotesOfHistory mode text s t names h rest lost r notes
+early_told {X = X} mode text s t names h rest lost r f notes is early = rw is (told_of_early X mode text s t names h rest lost f notes early)
 
 -- a fault of reading the bytes has no notes, and neither has a fault of running the scripts
 noted_of_input : (explain : Bool) (origin : ℕ → OriginData) (all : Option (List ℕ)) (f : RunFault) (notes : List ℕ) → IsInputFault f → notes ≡ [] → AreNotesOfFault explain origin all f notes
@@ -113,6 +139,7 @@ noted_of_input explain origin all run.Memory notes h none = none
 noted_of_input explain origin all run.Thread notes h none = absurd h
 noted_of_input explain origin all (run.Refused n) notes h none = absurd h
 noted_of_input explain origin all (run.Made n) notes h none = absurd h
+noted_of_input explain origin all (run.Conflicts n) notes h none = absurd h
 noted_of_input explain origin all (run.Differs n) notes h none = absurd h
 noted_of_input explain origin all run.NoItem notes h none = absurd h
 noted_of_input explain origin all run.NoType notes h none = absurd h
@@ -130,6 +157,7 @@ noted_of_scripts explain in_turn origin all run.Memory notes h none = none
 noted_of_scripts explain in_turn origin all run.Thread notes h none = none
 noted_of_scripts explain in_turn origin all (run.Refused n) notes h none = absurd h
 noted_of_scripts explain in_turn origin all (run.Made n) notes h none = absurd h
+noted_of_scripts explain in_turn origin all (run.Conflicts n) notes h none = absurd h
 noted_of_scripts explain in_turn origin all (run.Differs n) notes h none = absurd h
 noted_of_scripts explain in_turn origin all run.NoItem notes h none = absurd h
 noted_of_scripts explain in_turn origin all run.NoType notes h none = absurd h
@@ -148,6 +176,7 @@ early_of_input run.Memory h = tt
 early_of_input run.Thread h = absurd h
 early_of_input (run.Refused n) h = absurd h
 early_of_input (run.Made n) h = absurd h
+early_of_input (run.Conflicts n) h = absurd h
 early_of_input (run.Differs n) h = absurd h
 early_of_input run.NoItem h = absurd h
 early_of_input run.NoType h = absurd h
@@ -162,6 +191,7 @@ early_of_scripts in_turn run.Memory h = tt
 early_of_scripts in_turn run.Thread h = tt
 early_of_scripts in_turn (run.Refused n) h = absurd h
 early_of_scripts in_turn (run.Made n) h = absurd h
+early_of_scripts in_turn (run.Conflicts n) h = absurd h
 early_of_scripts in_turn (run.Differs n) h = absurd h
 early_of_scripts in_turn run.NoItem h = absurd h
 early_of_scripts in_turn run.NoType h = absurd h
@@ -176,6 +206,7 @@ early_of_no_job all run.Memory h = tt
 early_of_no_job all run.Thread h = absurd h
 early_of_no_job all (run.Refused n) h = absurd h
 early_of_no_job all (run.Made n) h = absurd h
+early_of_no_job all (run.Conflicts n) h = absurd h
 early_of_no_job all (run.Differs n) h = absurd h
 early_of_no_job all run.NoItem h = absurd h
 early_of_no_job all run.NoType h = absurd h
@@ -190,6 +221,7 @@ early_of_read all run.Memory h = tt
 early_of_read all run.Thread h = absurd h
 early_of_read all (run.Refused n) h = absurd h
 early_of_read all (run.Made n) h = absurd h
+early_of_read all (run.Conflicts n) h = absurd h
 early_of_read all (run.Differs n) h = absurd h
 early_of_read all run.NoItem h = absurd h
 early_of_read all run.NoType h = absurd h

@@ -1,6 +1,6 @@
 -- Scripts without their calls.
-use Rattle.std.proofs.Common.{◌≡◌, ℕ, ◌+◌, ◌<◌, List, [], ◌∷◌, ◌++◌, length, take, get_or, sym, ap, ◌∙◌}
-use Rattle.std.proofs.lemmas.List.{map_push, take_more}
+use Rattle.std.proofs.Common.{◌≡◌, ℕ, ◌+◌, ◌<◌, Bool, true, false, ◌&&◌, List, [], ◌∷◌, ◌++◌, length, take, get_or, sym, ap, refl, ◌∙◌}
+use Rattle.std.proofs.lemmas.List.{length-map, map_push, take_more}
 use Rattle.crush_history.specs.HistoryText.{names_of}
 use Rattle.crush_history.specs.Script.{ScriptData, script_data, scripts_data}
 use Rattle.crush_history.specs.declared.script.Script.{Script}
@@ -16,3 +16,12 @@ headings_push left xs i s x below is named so_far =
     ∙ (λ j. so_far j ++ (named ∙ ap (λ (y : Script). y.name) is) j ∷ [])
     ∙ sym (names-push (take i xs) (get_or xs i x))
     ∙ ap (λ ys. names_of (scripts_data ys)) (sym (take_more xs i x below))
+
+-- there are as many names as scripts
+pub names_counted : (scripts : List Script) → length (names_of (scripts_data scripts)) ≡ length scripts
+names_counted scripts = length-map (scripts_data scripts) (λ (x : ScriptData). x.name) ∙ length-map scripts script_data
+
+-- if both are so, then the first is
+pub both_first : (a b : Bool) → (a && b) ≡ true → a ≡ true
+both_first true b is = refl
+both_first false b is = is

@@ -18,7 +18,8 @@ use Rattle.crush_input.specs.Notes.{AreNotesOfSecondMap, AreNotesOfResult, TextD
 use Rattle.crush_reasons.specs.Place.{OriginData}
 use Rattle.crush_input.specs.Origins.{job_origin}
 use Rattle.crush_run.specs.Run.{Ends}
-use Rattle.crush_run.specs.Stages.{IsEarlyFault, IsOutcomeFault}
+use Rattle.crush_run.specs.Early.{IsEarlyFault}
+use Rattle.crush_run.specs.Stages.{IsOutcomeFault}
 use Rattle.crush_input.specs.Stages.{IsReadFault}
 
 -- a fault of another map is possible before there is a history
@@ -30,6 +31,7 @@ early_of_map why all run.Memory h = tt
 early_of_map why all run.Thread h = absurd h
 early_of_map why all (run.Refused n) h = absurd h
 early_of_map why all (run.Made n) h = absurd h
+early_of_map why all (run.Conflicts n) h = absurd h
 early_of_map why all (run.Differs n) h = absurd h
 early_of_map why all run.NoItem h = absurd h
 early_of_map why all run.NoType h = absurd h
@@ -53,6 +55,7 @@ ended_before content options origin bytes job run.Memory old new notes early = t
 ended_before content options origin bytes job run.Thread old new notes early = tt
 ended_before content options origin bytes job (run.Refused n) old new notes early = absurd early
 ended_before content options origin bytes job (run.Made n) old new notes early = absurd early
+ended_before content options origin bytes job (run.Conflicts n) old new notes early = absurd early
 ended_before content options origin bytes job (run.Differs n) old new notes early = absurd early
 ended_before content options origin bytes job run.NoItem old new notes early = absurd early
 ended_before content options origin bytes job run.NoType old new notes early = absurd early
@@ -74,6 +77,7 @@ ended content options what origin bytes job (Err run.Memory) old new notes is en
 ended content options what origin bytes job (Err run.Thread) old new notes is ends = tt
 ended content options what origin bytes job (Err (run.Refused n)) old new notes is ends = record { what = what; output = is; ends = ends }
 ended content options what origin bytes job (Err (run.Made n)) old new notes is ends = record { what = what; output = is; ends = ends }
+ended content options what origin bytes job (Err (run.Conflicts n)) old new notes is ends = record { what = what; output = is; ends = ends }
 ended content options what origin bytes job (Err (run.Differs n)) old new notes is ends = record { what = what; output = is; ends = ends }
 ended content options what origin bytes job (Err run.NoItem) old new notes is ends = record { what = what; output = is; ends = ends }
 ended content options what origin bytes job (Err run.NoType) old new notes is ends = record { what = what; output = is; ends = ends }
@@ -94,6 +98,7 @@ options_fault_of_read content options all run.Memory h = tt
 options_fault_of_read content options all run.Thread h = absurd h
 options_fault_of_read content options all (run.Refused n) h = absurd h
 options_fault_of_read content options all (run.Made n) h = absurd h
+options_fault_of_read content options all (run.Conflicts n) h = absurd h
 options_fault_of_read content options all (run.Differs n) h = absurd h
 options_fault_of_read content options all run.NoItem h = absurd h
 options_fault_of_read content options all run.NoType h = absurd h
@@ -108,6 +113,7 @@ fault_of_map content options why all own run.Memory has output h = tt
 fault_of_map content options why all own run.Thread has output h = absurd h
 fault_of_map content options why all own (run.Refused n) has output h = absurd h
 fault_of_map content options why all own (run.Made n) has output h = absurd h
+fault_of_map content options why all own (run.Conflicts n) has output h = absurd h
 fault_of_map content options why all own (run.Differs n) has output h = absurd h
 fault_of_map content options why all own run.NoItem has output h = absurd h
 fault_of_map content options why all own run.NoType has output h = absurd h
@@ -138,6 +144,7 @@ options_fault_of_outcome content options all (Err run.Memory) has h = tt
 options_fault_of_outcome content options all (Err run.Thread) has h = (h, has)
 options_fault_of_outcome content options all (Err (run.Refused n)) has h = (h, has)
 options_fault_of_outcome content options all (Err (run.Made n)) has h = (h, has)
+options_fault_of_outcome content options all (Err (run.Conflicts n)) has h = (h, has)
 options_fault_of_outcome content options all (Err (run.Differs n)) has h = (h, has)
 options_fault_of_outcome content options all (Err run.NoItem) has h = has
 options_fault_of_outcome content options all (Err run.NoType) has h = has
@@ -160,6 +167,7 @@ ending_as_wanted content options input (Err run.Memory) notes h told = told
 ending_as_wanted content options input (Err run.Thread) notes h told = told
 ending_as_wanted content options input (Err (run.Refused n)) notes h told = told
 ending_as_wanted content options input (Err (run.Made n)) notes h told = told
+ending_as_wanted content options input (Err (run.Conflicts n)) notes h told = told
 ending_as_wanted content options input (Err (run.Differs n)) notes h told = told
 ending_as_wanted content options input (Err run.NoItem) notes h told = told
 ending_as_wanted content options input (Err run.NoType) notes h told = told
@@ -176,6 +184,7 @@ noted_of_map content options why input own name run.Memory notes may told output
 noted_of_map content options why input own name run.Thread notes may told output = absurd may
 noted_of_map content options why input own name (run.Refused n) notes may told output = absurd may
 noted_of_map content options why input own name (run.Made n) notes may told output = absurd may
+noted_of_map content options why input own name (run.Conflicts n) notes may told output = absurd may
 noted_of_map content options why input own name (run.Differs n) notes may told output = absurd may
 noted_of_map content options why input own name run.NoItem notes may told output = absurd may
 noted_of_map content options why input own name run.NoType notes may told output = absurd may

@@ -23,13 +23,17 @@ use Rattle.crush_input.specs.declared.summary.Summary.{Summary}
 use Rattle.crush_script.specs.Job.{JobData}
 use Rattle.crush_plan.specs.Plan.{PlanData}
 use Rattle.crush_run.specs.Found.{IsFound}
+use Rattle.crush_run.specs.Lost.{AreLost}
 use Rattle.crush_run.specs.Output.{IsWritten, written_text}
 use Rattle.crush_run.specs.Planned.{IsPlanned}
 use Rattle.crush_run.specs.Run.{Ends, IsRunOf, differs_of, output_of, summed}
-use Rattle.crush_input.specs.Notes.{AreNotesOfHistory, TextData, text_of}
+use Rattle.crush_input.specs.Lost.{LostData}
+use Rattle.crush_input.specs.Notes.{AreNotesOfHistory, IsKept, TextData, text_of}
 use Rattle.crush_reasons.specs.Place.{OriginData}
-use Rattle.crush_run.specs.Stages.{CompletedRunEnds, HaveRun, IsEarlyFault, IsOpening, RunsScripts, needs_opening}
-use Rattle.crush_run.proofs.Early.{early_found, early_make, early_strict, early_told, early_whole}
+use Rattle.crush_run.specs.Early.{IsEarlyFault}
+use Rattle.crush_run.specs.Stages.{CompletedRunEnds, HaveRun, IsOpening, RunsScripts, needs_opening}
+use Rattle.crush_run.proofs.Early.{early_found, early_lossless, early_make, early_strict, early_told, early_whole}
+use Rattle.crush_run.proofs.Noted.{lost_needs}
 use Rattle.crush_run.proofs.Plans.{some_plan, some_plan_is}
 use Rattle.crush_run.proofs.Written.{nothing_written}
 
@@ -108,7 +112,10 @@ entries_below n (e ∷ h) none =
 pub entries_of_scripts : (scripts : List Script) (h : List EntryData) → ((k : ℕ) → calls_of (of_operator k h) ≡ calls_at (scripts_data scripts) k) → AreOf (length scripts) h
 entries_of_scripts scripts h calls = entries_below (length scripts) h (λ k past. calls k ∙ no_calls (scripts_data scripts) k (omega (arith, past, length-map scripts script_data)))
 
--- if a run ended before there was a history and has written nothing, then it ends as Ends says. Its history is the one in which the scripts run one after the other
+abbrev no_losses : LostData
+no_losses = record { count = 0; lines = [] }
+
+-- a run that ended early, and has written nothing, ends as Ends says, with the history of its scripts in turn
 pub ended_early : (mode : Mode) (output : Output) (job : JobData) (text : TextData) (r : Result Summary RunFault) (f : RunFault) (old : Option (List ℕ)) (notes : List ℕ) → r ≡ Err f → IsEarlyFault f
     → Ends mode output job text r old old notes
 ended_early mode output job text r f old notes is early =
@@ -119,37 +126,47 @@ ended_early mode output job text r f old notes is early =
       run = turns_run mode.in_turn job;
       plan = plan;
       planned = some_plan_is output job.setting (table_after job.setting job.table h);
+      lost = no_losses;
+      losses = rw is (λ late. absurd (late early));
       writes = nothing_written r f old (output_of mode output plan job h) is early;
       summary = rw is tt;
       strict = early_strict mode.strict h r f is early;
       no_make = early_make mode.no_make h r f is early;
+      lossless = early_lossless mode.conflicts no_losses r f is early;
       found = early_found output job.setting (table_after job.setting job.table h) r f is early;
       whole = early_whole mode.strict plan.rest r f is early;
-      noted = early_told mode text job.setting job.table (names_of job.scripts) h plan.rest r f notes is early;
+      noted = early_told mode text job.setting job.table (names_of job.scripts) h plan.rest no_losses r f notes is early;
     }
 
 -- a run that has a map, a history and a plan ends as Ends says
-pub left_ends : (mode : Mode) (what : Output) (plan : PlanData) (job : JobData) (adjusted : ℕ) (kept : Option MapData) (m : MapData) (text : TextData) (names : List (List ℕ)) (h es : List EntryData) (r : Result Summary RunFault) (old new : Option (List ℕ)) (notes : List ℕ)
-    → CompletedRunEnds mode what plan adjusted kept m text names es r old new notes → ((t : List Row) → Stands m.forest t → IsPlanned what m.setting t plan) → IsOpening mode what kept job.setting job.table → HaveRun mode.in_turn job m h → names ≡ names_of job.scripts → es ≡ h → adjusted ≡ job.adjusted → Ends mode what job text r old new notes
-left_ends mode what plan job adjusted kept m text names h es r old new notes left planned opening ran same entries replaced =
-    let own = subst (λ (e : List EntryData). CompletedRunEnds mode what plan adjusted kept m text names e r old new notes) entries left in
-    let named = subst (λ (n : List (List ℕ)). CompletedRunEnds mode what plan adjusted kept m text n h r old new notes) same own in
-    let ends = subst (λ (a : ℕ). CompletedRunEnds mode what plan a kept m text (names_of job.scripts) h r old new notes) replaced named in
+pub left_ends : (mode : Mode) (what : Output) (plan : PlanData) (job : JobData) (adjusted : ℕ) (kept : Option MapData) (m : MapData) (lost : LostData) (text : TextData) (names : List (List ℕ)) (h es : List EntryData) (r : Result Summary RunFault) (old new : Option (List ℕ)) (notes : List ℕ)
+    → CompletedRunEnds mode what plan adjusted kept m lost text names es r old new notes → ((t : List Row) → Stands m.forest t → IsPlanned what m.setting t plan) → ((o z : List Row) → (mode.conflicts ≡ true → IsKept kept job.setting o) → Stands m.forest z → AreLost mode.conflicts job.setting o names es z lost)
+    → IsOpening mode what kept job.setting job.table → HaveRun mode.in_turn job m h → names ≡ names_of job.scripts → es ≡ h → adjusted ≡ job.adjusted → Ends mode what job text r old new notes
+left_ends mode what plan job adjusted kept m lost text names h es r old new notes left planned losses opening ran same entries replaced =
+    let own = subst (λ (e : List EntryData). CompletedRunEnds mode what plan adjusted kept m lost text names e r old new notes) entries left in
+    let named = subst (λ (n : List (List ℕ)). CompletedRunEnds mode what plan adjusted kept m lost text n h r old new notes) same own in
+    let ends = subst (λ (a : ℕ). CompletedRunEnds mode what plan a kept m lost text (names_of job.scripts) h r old new notes) replaced named in
     let before = subst (λ (s : SettingData). IsOpening mode what kept s job.table) (sym ran.stands.setting) opening in
     record {
       history = h;
       run = ran.run;
       plan = plan;
       planned = subst (λ (s : SettingData). IsPlanned what s (table_after job.setting job.table h) plan) ran.stands.setting (planned _ ran.stands.forest);
+      lost = lost;
+      losses = λ _.
+          subst (λ (e : List EntryData). AreLost mode.conflicts job.setting job.table (names_of job.scripts) e (table_after job.setting job.table h) lost) entries
+          (subst (λ (n : List (List ℕ)). AreLost mode.conflicts job.setting job.table n es (table_after job.setting job.table h) lost) same
+          (losses job.table _ (λ on. opening (lost_needs mode what on)) ran.stands.forest));
       writes = subst (λ (s : SettingData). IsWritten r old new (written_text mode what plan s job.table (table_after job.setting job.table h) (names_of job.scripts) h)) ran.stands.setting (ends.writes _ _ before ran.stands.forest);
       summary = subst
           (λ (s : SettingData). IfOk r (λ (x : Summary). x ≡ summed job.adjusted (mode.exit_code && differs_of what plan s (table_after job.setting job.table h) h) h))
           ran.stands.setting (IfOk-weaker r _ _ (λ x is. is _ ran.stands.forest) ends.summary);
       strict = ends.strict;
       no_make = ends.no_make;
+      lossless = ends.lossless;
       found = subst (λ (s : SettingData). IsFound what s (table_after job.setting job.table h) r) ran.stands.setting (ends.found _ ran.stands.forest);
       whole = ends.whole;
-      noted = subst (λ (s : SettingData). AreNotesOfHistory mode text s job.table (names_of job.scripts) h plan.rest r notes) ran.stands.setting (ends.told _ before);
+      noted = subst (λ (s : SettingData). AreNotesOfHistory mode text s job.table (names_of job.scripts) h plan.rest lost r notes) ran.stands.setting (ends.told _ before);
     }
 
 -- if a copy of the map as it was read is kept whenever a run needs it, then IsOpening holds

@@ -11,7 +11,8 @@ use Rattle.crush_options.specs.declared.parsed_options.Mode.{Mode}
 use Rattle.crush_input.specs.declared.fault.RunFault.{RunFault}
 use Rattle.crush_input.specs.declared.fault.RunFault.TheVariants as run
 use Rattle.crush_run.specs.Output.{IsPut, IsWritten}
-use Rattle.crush_run.specs.Stages.{IsCheckFault, IsEarlyFault}
+use Rattle.crush_run.specs.Early.{IsEarlyFault}
+use Rattle.crush_run.specs.Stages.{IsCheckFault}
 
 -- if nothing is written, then the writer has what it had before
 pub keeps_same : (old : Option (List ℕ)) → Keeps old old
@@ -59,6 +60,7 @@ unwritten_where_checked X mode run.Memory old text h = absurd h
 unwritten_where_checked X mode run.Thread old text h = absurd h
 unwritten_where_checked X mode (run.Refused n) old text h = keeps_same old
 unwritten_where_checked X mode (run.Made n) old text h = keeps_same old
+unwritten_where_checked X mode (run.Conflicts n) old text h = keeps_same old
 unwritten_where_checked X mode (run.Differs n) old text h = keeps_same old
 unwritten_where_checked X mode run.NoItem old text h = keeps_same old
 unwritten_where_checked X mode run.NoType old text h = keeps_same old
@@ -77,6 +79,7 @@ unwritten_early X run.Memory old text early = keeps_same old
 unwritten_early X run.Thread old text early = keeps_same old
 unwritten_early X (run.Refused n) old text early = absurd early
 unwritten_early X (run.Made n) old text early = absurd early
+unwritten_early X (run.Conflicts n) old text early = absurd early
 unwritten_early X (run.Differs n) old text early = absurd early
 unwritten_early X run.NoItem old text early = absurd early
 unwritten_early X run.NoType old text early = absurd early

@@ -1,4 +1,6 @@
+pub mod Early
 pub mod Found
+pub mod Lost
 pub mod Options
 pub mod Output
 pub mod Planned

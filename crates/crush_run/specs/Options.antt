@@ -22,13 +22,14 @@ pub record EndsWithOutput (content : List ℕ → Option (List ℕ)) (options : 
   pub output : IsOutputOf content options.output_spec what
   pub ends : Ends options.mode what job (text_of options.mode.explain origin bytes job.table) result old new notes
 
--- ENDS AS SELECTED: the run ends as EndsWithOutput says if it succeeds, if it fails to write, or if it ends because of refused calls, of differences that remain,
--- of buckets that were created in spite of `--no-make`, or of a name that the map doesn't have. If the run ends in any other way, nothing is said.
+-- ENDS AS SELECTED: the run ends as EndsWithOutput says, if it succeeds, fails to write, or ends because of refused calls, of differences that remain, of buckets that
+-- were created in spite of `--no-make`, of lost changes, or of a name that the map doesn't have. Nothing is said of any other end.
 abbrev pub EndsAsOptionsSay : (List ℕ → Option (List ℕ)) → Options → (ℕ → OriginData) → List ℕ → JobData → Result Summary RunFault → Option (List ℕ) → Option (List ℕ) → List ℕ → Type 0
 EndsAsOptionsSay content options origin bytes job (Ok s) old new notes = EndsWithOutput content options origin bytes job (Ok s) old new notes
 EndsAsOptionsSay content options origin bytes job (Err run.Write) old new notes = EndsWithOutput content options origin bytes job (Err run.Write) old new notes
 EndsAsOptionsSay content options origin bytes job (Err (run.Refused n)) old new notes = EndsWithOutput content options origin bytes job (Err (run.Refused n)) old new notes
 EndsAsOptionsSay content options origin bytes job (Err (run.Made n)) old new notes = EndsWithOutput content options origin bytes job (Err (run.Made n)) old new notes
+EndsAsOptionsSay content options origin bytes job (Err (run.Conflicts n)) old new notes = EndsWithOutput content options origin bytes job (Err (run.Conflicts n)) old new notes
 EndsAsOptionsSay content options origin bytes job (Err (run.Differs n)) old new notes = EndsWithOutput content options origin bytes job (Err (run.Differs n)) old new notes
 EndsAsOptionsSay content options origin bytes job (Err run.NoItem) old new notes = EndsWithOutput content options origin bytes job (Err run.NoItem) old new notes
 EndsAsOptionsSay content options origin bytes job (Err run.NoType) old new notes = EndsWithOutput content options origin bytes job (Err run.NoType) old new notes

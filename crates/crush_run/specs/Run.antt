@@ -1,5 +1,5 @@
 -- The run of a job: what its contract promises, on one page.
-use Rattle.std.specs.Prelude.{◌≡◌, ◌==◌, ℕ, Option, Result, IfOk, IfSome, List, Bool, true, false, ◌&&◌, ◌||◌, not, length, nat_lt, None, Some}
+use Rattle.std.specs.Prelude.{◌≡◌, ◌==◌, ℕ, Option, Result, IfErr, IfOk, IfSome, List, Bool, true, false, ◌&&◌, ◌||◌, not, length, nat_lt, None, Some}
 use Rattle.crush_units.specs.declared.id.ItemId.{ItemId}
 use Rattle.crush_model.specs.Forest.{rows_of}
 use Rattle.crush_model.specs.Table.{Row}
@@ -21,7 +21,10 @@ use Rattle.crush_input.specs.declared.summary.Summary.{Summary}
 use Rattle.crush_input.specs.Notes.{AreNotesOfHistory, IsNoMake, IsStrict, TextData}
 use Rattle.crush_input.specs.Faults.{IsRefusal}
 use Rattle.crush_input.specs.Options.{name_text}
+use Rattle.crush_input.specs.Lost.{IsLossless, LostData}
+use Rattle.crush_run.specs.Early.{IsEarlyFault}
 use Rattle.crush_run.specs.Found.{IsFound, named_item}
+use Rattle.crush_run.specs.Lost.{AreLost}
 use Rattle.crush_run.specs.Output.{IsWritten, written_text}
 use Rattle.crush_run.specs.Planned.{IsPlanned, IsWhole}
 
@@ -69,28 +72,32 @@ summary_of mode what plan job h =
     summed job.adjusted (mode.exit_code && differs_of what plan job.setting (table_after job.setting job.table h) h) h
 
 -- ENDS: how a run of the job ends. There is a history of such a run, and a plan if one is selected, such that:
--- `writes`: after success, the whole output is written. After a failed write, a proper prefix of the output is written. Otherwise nothing is written;
--- `summary`: after success, the summary is that of the history;
--- `strict`, `no_make`, `found`, `whole`: the result agrees with the refused entries, with the entries that created more buckets than they
--- have `add-bucket` commands, with the names that the map has, and with the differences that remain after the plan;
--- `noted`: the notes are those of the history and of this result, and refer to this text.
+-- `writes`: after success the whole output is written, after a failed write a proper prefix of it, otherwise nothing;
+-- `summary`: after success the summary is that of the history;
+-- `losses`: unless the run ended before its scripts had run, `lost` has the changes that are lost;
+-- `strict`, `no_make`, `lossless`, `found`, `whole`: the result agrees with the refused entries, the entries that made more buckets than they
+-- ask for, the lost changes, the names that the map has, and the differences that remain after the plan;
+-- `noted`: the notes are those of the history and this result, and refer to this text.
 pub record Ends (mode : Mode) (what : Output) (job : JobData) (text : TextData) (result : Result Summary RunFault) (old new : Option (List ℕ)) (notes : List ℕ) : Type 0 where
   pub history : List EntryData
   pub run : IsRunOf mode.in_turn job history
   pub plan : PlanData
   pub planned : IsPlanned what job.setting (table_after job.setting job.table history) plan
+  pub lost : LostData
+  pub losses : IfErr result (λ fault. IsEarlyFault fault → ⊥) → AreLost mode.conflicts job.setting job.table (names_of job.scripts) history (table_after job.setting job.table history) lost
   pub writes : IsWritten result old new (output_of mode what plan job history)
   pub summary : IfOk result (λ (s : Summary). s ≡ summary_of mode what plan job history)
   pub strict : IsStrict mode.strict history result
   pub no_make : IsNoMake mode.no_make history result
+  pub lossless : IsLossless mode.conflicts lost result
   pub found : IsFound what job.setting (table_after job.setting job.table history) result
   pub whole : IsWhole mode.strict plan.rest result
-  pub noted : AreNotesOfHistory mode text job.setting job.table (names_of job.scripts) history plan.rest result notes
+  pub noted : AreNotesOfHistory mode text job.setting job.table (names_of job.scripts) history plan.rest lost result notes
 
--- in which cases a run may end with this fault; `all` has the bytes of the job, if they are known. Job: the bytes have this fault, and the fault
--- isn't out of memory. Write, Thread, Refused, Made, Differs, NoItem, NoType, NoClass: the bytes are a job. Thread: also, the run isn't in turn.
--- Refused and Differs: also, the run is strict. Made: also, the run has `--no-make`. Read and Memory: always possible. A fault of another map:
--- never possible, because a run of a job reads no other map.
+-- when a run may end with this fault; `all` has the bytes, if they are known. Job: the bytes have this fault, which isn't out of memory. Write,
+-- Thread, Refused, Made, Conflicts, Differs, NoItem, NoType, NoClass: the bytes are a job. Thread: the run isn't in turn. Refused and Differs:
+-- the run is strict. Made: the run is to make no buckets. Conflicts: the run looks for lost changes. Read and Memory: always possible. A fault of another map: never, because a run of a job
+-- reads no other map.
 abbrev pub IsRunFault : Mode → Option (List ℕ) → RunFault → Type 0
 IsRunFault mode all (run.Job fault) = IsRefusal all fault
 IsRunFault mode all run.Write = IfSome all HasJob
@@ -99,6 +106,7 @@ IsRunFault mode all run.Memory = Unit {0}
 IsRunFault mode all run.Thread = (mode.in_turn ≡ false) × IfSome all HasJob
 IsRunFault mode all (run.Refused n) = (mode.strict ≡ true) × IfSome all HasJob
 IsRunFault mode all (run.Made n) = (mode.no_make ≡ true) × IfSome all HasJob
+IsRunFault mode all (run.Conflicts n) = (mode.conflicts ≡ true) × IfSome all HasJob
 IsRunFault mode all (run.Differs n) = (mode.strict ≡ true) × IfSome all HasJob
 IsRunFault mode all run.NoItem = IfSome all HasJob
 IsRunFault mode all run.NoType = IfSome all HasJob

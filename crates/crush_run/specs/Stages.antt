@@ -1,5 +1,5 @@
 -- The stages of a run of a job: the result of each stage, and the faults with which it may fail.
-use Rattle.std.specs.Prelude.{◌≡◌, ◌≢◌, ℕ, List, [], ◌++◌, Bool, false, true, ◌&&◌, Option, Result, Ok, Err, IfOk, IfErr}
+use Rattle.std.specs.Prelude.{◌≡◌, ◌≢◌, ℕ, List, [], ◌++◌, Bool, false, true, ◌&&◌, ◌||◌, Option, Result, Ok, Err, IfOk, IfErr}
 use Rattle.std.specs.Io.KnownBytes.{Keeps}
 use Rattle.crush_model.specs.Stands.{Stands}
 use Rattle.crush_model.specs.Table.{Row}
@@ -16,8 +16,9 @@ use Rattle.crush_input.specs.declared.output.Output.{Output}
 use Rattle.crush_input.specs.declared.output.Output.TheVariants as output
 use Rattle.crush_input.specs.declared.summary.Summary.{Summary}
 use Rattle.crush_reasons.specs.Place.{OriginData}
+use Rattle.crush_input.specs.Lost.{IsLossless, LostData, conflict_notes}
 use Rattle.crush_input.specs.Made.{made_text}
-use Rattle.crush_input.specs.Notes.{AreNotesOfHistory, IsKept, IsNoMake, AreNotesOfResult, IsStrict, TextData, history_notes}
+use Rattle.crush_input.specs.Notes.{AreNotesOfHistory, IsKept, IsNoMake, AreNotesOfResult, IsStrict, TextData, created_notes, history_notes}
 use Rattle.crush_run.specs.declared.outcome.EndNotes.{EndNotes}
 use Rattle.crush_run.specs.Found.{IsFound}
 use Rattle.crush_run.specs.Output.{IsWritten, written_text}
@@ -43,27 +44,18 @@ IsOutcomeFault mode run.Memory = Unit {0}
 IsOutcomeFault mode run.Thread = mode.in_turn ≡ false
 IsOutcomeFault mode (run.Refused n) = mode.strict ≡ true
 IsOutcomeFault mode (run.Made n) = mode.no_make ≡ true
+IsOutcomeFault mode (run.Conflicts n) = mode.conflicts ≡ true
 IsOutcomeFault mode (run.Differs n) = mode.strict ≡ true
 IsOutcomeFault mode run.NoItem = Unit {0}
 IsOutcomeFault mode run.NoType = Unit {0}
 IsOutcomeFault mode run.NoClass = Unit {0}
 IsOutcomeFault mode fault = ⊥
 
--- the faults that are possible before there is a history: all except the faults of the checks and of the write
-abbrev pub IsEarlyFault : RunFault → Type 0
-IsEarlyFault run.Write = ⊥
-IsEarlyFault (run.Refused n) = ⊥
-IsEarlyFault (run.Made n) = ⊥
-IsEarlyFault (run.Differs n) = ⊥
-IsEarlyFault run.NoItem = ⊥
-IsEarlyFault run.NoType = ⊥
-IsEarlyFault run.NoClass = ⊥
-IsEarlyFault fault = Unit {0}
-
--- the faults of the checks, which are made when there is a history, but before anything is written
+-- the faults of the checks, which come after the history and before anything is written
 abbrev pub IsCheckFault : Mode → RunFault → Type 0
 IsCheckFault mode (run.Refused n) = mode.strict ≡ true
 IsCheckFault mode (run.Made n) = mode.no_make ≡ true
+IsCheckFault mode (run.Conflicts n) = mode.conflicts ≡ true
 IsCheckFault mode (run.Differs n) = mode.strict ≡ true
 IsCheckFault mode run.NoItem = Unit {0}
 IsCheckFault mode run.NoType = Unit {0}
@@ -76,6 +68,7 @@ IsWritingFault mode run.Write = Unit {0}
 IsWritingFault mode run.Memory = Unit {0}
 IsWritingFault mode (run.Refused n) = mode.strict ≡ true
 IsWritingFault mode (run.Made n) = mode.no_make ≡ true
+IsWritingFault mode (run.Conflicts n) = mode.conflicts ≡ true
 IsWritingFault mode (run.Differs n) = mode.strict ≡ true
 IsWritingFault mode run.NoItem = Unit {0}
 IsWritingFault mode run.NoType = Unit {0}
@@ -91,29 +84,32 @@ pub record HaveRun (in_turn : Bool) (job : JobData) (after : MapData) (h : List 
 abbrev pub RunsScripts : Bool → MapData → List ScriptData → MapData → List EntryData → Type 0
 RunsScripts in_turn map scripts after h = (job : JobData) → MapStands map job.setting job.table → scripts ≡ job.scripts → HaveRun in_turn job after h
 
--- whether a run still needs the map as it was read after its scripts have run: to explain refusals, or to print the commands that changed the map
+-- whether a run needs the map as it was read after its scripts have run: to explain refusals, to look for lost changes, or to print the commands that changed it
 abbrev pub needs_opening : Mode → Output → Bool
 needs_opening mode output.AsCeph = true
-needs_opening mode what = mode.explain
+needs_opening mode what = mode.explain || mode.conflicts
 
 -- OPENING: if a run needs the map as it was read, then that map is kept, has this setting, and represents this table
 abbrev pub IsOpening : Mode → Output → Option MapData → SettingData → List Row → Type 0
 IsOpening mode what kept s t = needs_opening mode what ≡ true → IsKept kept s t
 
--- the notes that are prepared for the possible ends of a run, whose map had this setting and this table before the first call. `calls` are
--- the notes of the run's history. If the run has `--no-make`, then `made` are the lines of the calls that created more buckets than they have
--- `add-bucket` commands, followed by `calls`. If the run is strict, then `whole` are `calls`, followed by the lines of the differences that
--- remain after the plan
-pub record AreEndNotes (mode : Mode) (text : TextData) (s : SettingData) (t : List Row) (names : List (List ℕ)) (h : List EntryData) (rest : List ℕ) (end_notes : EndNotes) : Type 0 where
+-- the notes that are prepared for the possible ends of a run, whose map had this setting and this table before the first call: `calls` are
+-- the notes of its history; `refused` are these, followed by the notes of created buckets and by those of the changes `lost`; `made`, if the run has `--no-make`, are the lines
+-- of the calls that created more buckets than they ask for, followed by the notes of its history and by those of the changes `lost`; `conflicts` are the lines of the lost
+-- changes, followed by the notes of its history; `whole`, if the run is strict, are the notes of its history, followed by the lines of the differences that remain after its plan
+pub record AreEndNotes (mode : Mode) (text : TextData) (s : SettingData) (t : List Row) (names : List (List ℕ)) (h : List EntryData) (rest : List ℕ) (lost : LostData) (end_notes : EndNotes) : Type 0 where
   pub calls : end_notes.calls.items ≡ history_notes mode text s t names h
-  pub made : mode.no_make ≡ true → end_notes.made.items ≡ made_text names 1 h ++ history_notes mode text s t names h
+  pub refused : end_notes.refused.items ≡ history_notes mode text s t names h ++ (created_notes mode.no_make names h ++ conflict_notes lost)
+  pub made : mode.no_make ≡ true → end_notes.made.items ≡ made_text names 1 h ++ (history_notes mode text s t names h ++ conflict_notes lost)
+  pub conflicts : end_notes.conflicts.items ≡ lost.lines ++ history_notes mode text s t names h
   pub whole : mode.strict ≡ true → end_notes.whole.items ≡ history_notes mode text s t names h ++ rest
 
 -- which of the prepared notes are printed after this fault; none after a fault that isn't listed
 abbrev pub notes_after_fault : RunFault → EndNotes → List ℕ
 notes_after_fault run.Write end_notes = end_notes.calls.items
-notes_after_fault (run.Refused n) end_notes = end_notes.calls.items
+notes_after_fault (run.Refused n) end_notes = end_notes.refused.items
 notes_after_fault (run.Made n) end_notes = end_notes.made.items
+notes_after_fault (run.Conflicts n) end_notes = end_notes.conflicts.items
 notes_after_fault (run.Differs n) end_notes = end_notes.whole.items
 notes_after_fault run.NoItem end_notes = end_notes.calls.items
 notes_after_fault run.NoType end_notes = end_notes.calls.items
@@ -125,20 +121,20 @@ abbrev pub notes_after : Result Summary RunFault → EndNotes → List ℕ
 notes_after (Ok s) end_notes = end_notes.calls.items
 notes_after (Err fault) end_notes = notes_after_fault fault end_notes
 
--- how a run ends after its scripts have resulted in a map m, a history h and a plan. `writes`: the output is written, or a part of it, as
--- IsWritten says. `summary`: after success, the summary is that of the history. `nothing`: nothing is written unless the run succeeds or fails
--- to write. `fault`: which faults are possible. `strict`, `no_make`, `found`, `whole`: the result agrees with the refused entries, with the
--- entries that created more buckets than they have `add-bucket` commands, with the names that the map has, and with the differences that
--- remain. `told`: the notes are those of this history and this result. `noted`: the notes are allowed for this result, from whichever files
--- the lines come.
-pub record CompletedRunEnds (mode : Mode) (what : Output) (plan : PlanData) (adjusted : ℕ) (kept : Option MapData) (m : MapData) (text : TextData) (names : List (List ℕ)) (h : List EntryData) (result : Result Summary RunFault) (old new : Option (List ℕ)) (notes : List ℕ) : Type 0 where
+-- how a run ends that has a map m, a history h and a plan. `writes`: the output is written, or a part of it, as IsWritten says. `summary`:
+-- after success the summary is that of the history. `nothing`: nothing is written unless the run succeeds or fails to write. `fault`: which
+-- faults are possible. `strict`, `no_make`, `lossless`, `found`, `whole`: the result agrees with the refused entries, the entries that made more
+-- buckets than they ask for, the changes that are lost, the names that the map has, and the differences that remain. `told`: the notes are those of this history and result.
+-- `noted`: the notes are allowed for this result, wherever the lines come from.
+pub record CompletedRunEnds (mode : Mode) (what : Output) (plan : PlanData) (adjusted : ℕ) (kept : Option MapData) (m : MapData) (lost : LostData) (text : TextData) (names : List (List ℕ)) (h : List EntryData) (result : Result Summary RunFault) (old new : Option (List ℕ)) (notes : List ℕ) : Type 0 where
   pub writes : (o t : List Row) → IsOpening mode what kept m.setting o → Stands m.forest t → IsWritten result old new (written_text mode what plan m.setting o t names h)
   pub summary : IfOk result (λ (s : Summary). (t : List Row) → Stands m.forest t → s ≡ summed adjusted (mode.exit_code && differs_of what plan m.setting t h) h)
   pub nothing : IfErr result (λ fault. fault ≢ run.Write → Keeps old new)
   pub fault : IfErr result (IsWritingFault mode)
   pub strict : IsStrict mode.strict h result
   pub no_make : IsNoMake mode.no_make h result
+  pub lossless : IsLossless mode.conflicts lost result
   pub found : (t : List Row) → Stands m.forest t → IsFound what m.setting t result
   pub whole : IsWhole mode.strict plan.rest result
-  pub told : (o : List Row) → IsOpening mode what kept m.setting o → AreNotesOfHistory mode text m.setting o names h plan.rest result notes
+  pub told : (o : List Row) → IsOpening mode what kept m.setting o → AreNotesOfHistory mode text m.setting o names h plan.rest lost result notes
   pub noted : (origin : ℕ → OriginData) (all : Option (List ℕ)) → AreNotesOfResult mode.explain origin all result notes

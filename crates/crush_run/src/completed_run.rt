@@ -1,7 +1,7 @@
 //! The results of a job's scripts, after all of them have run.
 
 use crush_history::{Entry, Script};
-use crush_input::KeptText;
+use crush_input::{KeptText, LostChanges};
 use crush_map::CrushMap;
 use crush_plan::Plan;
 use std::alloc::Global;
@@ -17,6 +17,8 @@ pub(crate) struct CompletedRun<'a> {
     pub(crate) opening: &'a Option<CrushMap<Global>>,
     /// The map after the scripts.
     pub(crate) map: &'a CrushMap<Global>,
+    /// The changes of operators that the run has lost, if it looks for them.
+    pub(crate) lost: &'a LostChanges,
     /// The plan that leads to the wanted map. If no map is wanted, the plan is empty.
     pub(crate) plan: &'a Plan,
     /// The scripts with their names, but without their calls, which are in `entries`.

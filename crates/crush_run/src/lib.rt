@@ -15,6 +15,7 @@ mod ending;
 mod finding;
 mod gate;
 mod in_turn;
+mod lost;
 mod options;
 mod outcome;
 mod planned;

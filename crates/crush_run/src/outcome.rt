@@ -8,6 +8,7 @@ ghost use Rattle.crush_history.specs.Entries.{AreOf};
 ghost use Rattle.crush_history.specs.HistoryText.{names_of};
 ghost use Rattle.crush_history.specs.Script.{scripts_data};
 ghost use Rattle.crush_edits.specs.Setting.{SettingData};
+ghost use Rattle.crush_input.specs.Lost.{IsLossless, lost_data};
 ghost use Rattle.crush_input.specs.Notes.{IsKept, IsNoMake, IsStrict, text_data};
 ghost use Rattle.crush_plan.specs.Plan.{plan_data};
 ghost use Rattle.crush_run.specs.Found.{IsFound};
@@ -26,7 +27,8 @@ use crate::planned::{check_whole, whole_notes};
 use crate::text::write_text;
 use crush_history::count_changes;
 use crush_input::{
-    History, Request, RunFault, Summary, check_made, check_strict, history_notes, made_notes,
+    History, Request, RunFault, Summary, check_lost, check_made, check_strict, history_notes,
+    lost_notes, made_notes, notes_with_lost, notes_with_made_and_lost,
 };
 use crush_options::Mode;
 use crush_units::WriteFault;
@@ -36,12 +38,17 @@ use std::io::Write;
 /// The notes of a run. There are several texts because the notes depend on how the run ends.
 #[derive(Drop)]
 pub(crate) struct EndNotes {
-    /// The notes about the refused calls, and about bucket weights in the map's text that aren't
-    /// sums. These are the notes of each end that isn't one of the next two.
+    /// The notes of any other end than the next four: about the refused calls, and about bucket
+    /// weights in the map's text that aren't sums.
     pub(crate) calls: Vec<u8>,
+    /// The notes of an end with [`RunFault::Refused`]: `calls`, followed by the calls that created
+    /// buckets, and by the lost changes.
+    pub(crate) refused: Vec<u8>,
     /// The notes of an end with [`RunFault::Made`]: the calls that created more buckets than they
-    /// have `add-bucket` commands, followed by `calls`.
+    /// have `add-bucket` commands, followed by `calls` and by the lost changes.
     pub(crate) made: Vec<u8>,
+    /// The notes of an end with [`RunFault::Conflicts`]: the lost changes, followed by `calls`.
+    pub(crate) conflicts: Vec<u8>,
     /// The notes of an end with [`RunFault::Differs`]: `calls`, followed by the differences that
     /// remain after the plan.
     pub(crate) whole: Vec<u8>,
@@ -59,14 +66,15 @@ fn summary_of(completed: &CompletedRun<'_>, differs: bool) -> Summary
     }
 }
 
-/// Checks the conditions of the request, in this order: no call was refused, no call created more
-/// buckets than it has `add-bucket` commands, the map has all names, and no difference remains
-/// after the plan. A condition that the request doesn't ask for is not checked.
+/// Checks the conditions of the request, in this order: no call was refused, no call created
+/// buckets without `add-bucket`, no change of an operator was lost, the map has all names, and no
+/// difference remains after the plan. A condition that the request doesn't have is not checked.
 fn check_conditions(request: &Request, completed: &CompletedRun<'_>) -> Result<(), RunFault>
     requires { length completed.now.entries.now ≤ MOST_ENTRIES }
     ensures fault { IfErr result (IsCheckFault request.now.mode) }
     ensures strict { IsStrict request.now.mode.strict completed.now.entries.now result }
     ensures no_make { IsNoMake request.now.mode.no_make completed.now.entries.now result }
+    ensures lossless { IsLossless request.now.mode.conflicts (lost_data completed.now.lost.now) result }
     ensures found { (t : List Row) → Stands completed.now.map.now.forest t
         → IsFound request.now.output completed.now.map.now.setting t result }
     ensures whole { IsWhole request.now.mode.strict completed.now.plan.now.rest.items result }
@@ -74,6 +82,7 @@ fn check_conditions(request: &Request, completed: &CompletedRun<'_>) -> Result<(
     let mode = request.mode;
     check_strict(mode.strict, completed.entries)?;
     check_made(mode.no_make, completed.entries)?;
+    check_lost(mode.conflicts, completed.lost)?;
     check_found(&request.output, completed.map)?;
     check_whole(mode.strict, completed.plan)
 }
@@ -129,6 +138,7 @@ fn write_outcome<W: Write>(
     ensures fault { IfErr result (IsWritingFault request.now.mode) }
     ensures strict { IsStrict request.now.mode.strict completed.now.entries.now result }
     ensures no_make { IsNoMake request.now.mode.no_make completed.now.entries.now result }
+    ensures lossless { IsLossless request.now.mode.conflicts (lost_data completed.now.lost.now) result }
     ensures found { (t : List Row) → Stands completed.now.map.now.forest t
         → IsFound request.now.output completed.now.map.now.setting t result }
     ensures whole { IsWhole request.now.mode.strict completed.now.plan.now.rest.items result }
@@ -151,7 +161,7 @@ fn end_notes_of(
     ensures { IfOk result (λ end_notes. (s : SettingData) (o : List Row)
         → (mode.explain ≡ true → IsKept completed.now.opening.now s o)
         → AreEndNotes mode (text_data completed.now.text.now) s o (names_of (scripts_data completed.now.scripts.now))
-        completed.now.entries.now completed.now.plan.now.rest.items end_notes) }
+        completed.now.entries.now completed.now.plan.now.rest.items (lost_data completed.now.lost.now) end_notes) }
 {
     let history = History {
         opening: completed.opening,
@@ -159,34 +169,60 @@ fn end_notes_of(
         entries: completed.entries,
     };
     let calls = history_notes(alloc, mode, history, completed.text)?;
-    let made = made_notes(
+    let refused = notes_with_made_and_lost(
         alloc,
         mode.no_make,
         completed.scripts,
         completed.entries,
         calls.as_slice(),
+        completed.lost,
     )?;
+    let with_lost = notes_with_lost(alloc, calls.as_slice(), completed.lost)?;
+    let made = made_notes(
+        alloc,
+        mode.no_make,
+        completed.scripts,
+        completed.entries,
+        with_lost.as_slice(),
+    )?;
+    let conflicts = lost_notes(alloc, completed.lost, calls.as_slice())?;
     let whole = whole_notes(alloc, mode.strict, calls.as_slice(), completed.plan)?;
-    Ok(EndNotes { calls, made, whole })
+    Ok(EndNotes {
+        calls,
+        refused,
+        made,
+        conflicts,
+        whole,
+    })
 }
 
 fn end_by(alloc: Global, fault: RunFault, end_notes: EndNotes) -> Ending
     ensures outcome { result.outcome ≡ Err fault }
     ensures notes { result.notes.items ≡ notes_after_fault fault end_notes }
 {
-    let EndNotes { calls, made, whole } = end_notes;
+    let EndNotes {
+        calls,
+        refused,
+        made,
+        conflicts,
+        whole,
+    } = end_notes;
     match fault {
-        RunFault::Write
-        | RunFault::Refused(_)
-        | RunFault::NoItem
-        | RunFault::NoType
-        | RunFault::NoClass => Ending {
+        RunFault::Write | RunFault::NoItem | RunFault::NoType | RunFault::NoClass => Ending {
             outcome: Err(fault),
             notes: calls,
+        },
+        RunFault::Refused(_) => Ending {
+            outcome: Err(fault),
+            notes: refused,
         },
         RunFault::Made(_) => Ending {
             outcome: Err(fault),
             notes: made,
+        },
+        RunFault::Conflicts(_) => Ending {
+            outcome: Err(fault),
+            notes: conflicts,
         },
         RunFault::Differs(_) => Ending {
             outcome: Err(fault),
@@ -204,7 +240,9 @@ fn end_with(alloc: Global, outcome: Result<Summary, RunFault>, end_notes: EndNot
         Ok(summary) => {
             let EndNotes {
                 calls,
+                refused: _,
                 made: _,
+                conflicts: _,
                 whole: _,
             } = end_notes;
             Ending {
@@ -232,7 +270,8 @@ pub(crate) fn end_run<W: Write>(
     requires kept { needs_opening request.now.mode request.now.output ≡ true
         → is_some completed.now.opening.now ≡ true }
     ensures { CompletedRunEnds request.now.mode request.now.output (plan_data completed.now.plan.now)
-        completed.now.adjusted completed.now.opening.now completed.now.map.now (text_data completed.now.text.now)
+        completed.now.adjusted completed.now.opening.now completed.now.map.now (lost_data completed.now.lost.now)
+        (text_data completed.now.text.now)
         (names_of (scripts_data completed.now.scripts.now)) completed.now.entries.now result.outcome
         (W.contents writer.old) (W.contents writer.new) result.notes.items }
 {

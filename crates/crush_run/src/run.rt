@@ -23,6 +23,7 @@ use crate::completed_run::CompletedRun;
 use crate::ending::Ending;
 use crate::gate::Gate;
 use crate::in_turn::run_in_turn;
+use crate::lost::lost_if_requested;
 use crate::outcome::end_run;
 use crate::planned::plan_if_requested;
 use crush_editor::{Closed, WithoutSnapshot};
@@ -61,8 +62,8 @@ fn copy_of(map: &CrushMap<Global>) -> Result<CrushMap<Global>, AllocError>
     map.try_copy()
 }
 
-/// Returns a copy of the map before its scripts run, if the run needs this copy after the scripts.
-/// A run needs the copy to explain refusals and to print Ceph's own commands.
+/// Returns a copy of the map before its scripts run, if the run needs the copy after them. It needs
+/// it to explain refusals, to look for lost changes, and to print Ceph's own commands.
 fn opening_if_needed(
     request: &Request,
     map: &CrushMap<Global>,
@@ -72,7 +73,8 @@ fn opening_if_needed(
     ensures stands { IfOk result (λ opening. IfSome opening (λ copy. (s : SettingData)
         (t : List Row) → MapStands map.now s t → MapStands copy s t)) }
 {
-    if request.mode.explain || matches!(request.output, Output::AsCeph) {
+    let mode = request.mode;
+    if mode.explain || mode.conflicts || matches!(request.output, Output::AsCeph) {
         return Ok(Some(copy_of(map)?));
     }
     Ok(None)
@@ -149,12 +151,18 @@ pub(crate) fn run_parsed_job<H: AllocGlobal + Threads + Wait + Sync, G: Gate + S
         return Ending::without_notes(alloc, RunFault::Memory);
     };
     let entries = history.as_slice();
+    let names = named.as_slice();
+    let conflicts = request.mode.conflicts;
+    let Ok(lost) = lost_if_requested(alloc, conflicts, &opening, &map, names, entries) else {
+        return Ending::without_notes(alloc, RunFault::Memory);
+    };
     let completed = CompletedRun {
         adjusted,
         opening: &opening,
         map: &map,
+        lost: &lost,
         plan: &plan,
-        scripts: named.as_slice(),
+        scripts: names,
         entries,
         text: &text,
     };
@@ -201,6 +209,8 @@ where
 /// - [`RunFault::Refused`]: the request has `strict`, and a call was refused.
 /// - [`RunFault::Made`]: the request has `no_make`, and a call created more buckets than it has
 ///   `add-bucket` commands.
+/// - [`RunFault::Conflicts`]: the run looks for lost changes, and a change that an operator's script
+///   makes alone is lost.
 /// - [`RunFault::NoItem`], [`RunFault::NoType`], [`RunFault::NoClass`]: the map after the scripts
 ///   doesn't have the item, the type or the class that the request names.
 /// - [`RunFault::Differs`]: the request has `strict`, and differences remain after the plan.

@@ -34,6 +34,7 @@ const MODE: Mode = Mode {
     explain: false,
     json: false,
     exact: false,
+    conflicts: false,
 };
 
 const AT_ONCE: Mode = Mode {
@@ -45,6 +46,7 @@ const AT_ONCE: Mode = Mode {
     explain: false,
     json: false,
     exact: false,
+    conflicts: false,
 };
 
 fn joined(rt: &(impl Abort + AllocGlobal), first: &[u8], second: &[u8]) -> Vec<u8> {

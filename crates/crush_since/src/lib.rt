@@ -18,12 +18,12 @@ pub use changes::{
 };
 pub use names::{
     Counts, count_aside, is_changed_by_name, nothing_changes_by_names_since_itself,
-    nothing_stays_where_maps_are_alike, push_aside, stays, stays_part, write_since_by_name,
-    write_since_by_name_part,
+    nothing_stays_where_maps_are_alike, place_in, push_aside, stays, stays_part,
+    write_since_by_name, write_since_by_name_part,
 };
 pub use since::{
-    ClassChange, RuleChange, Seen, Tally, all_below, class_changes, count_changes, is_among,
-    is_changed, is_part_changed, no_item_is_told_where_rows_are_equal,
+    ClassChange, RuleChange, Seen, Tally, all_below, class_bytes, class_changes, count_changes,
+    is_among, is_changed, is_part_changed, no_item_is_told_where_rows_are_equal,
     nothing_changes_since_itself, rule_changes, same_algs, same_class, same_class_ids, same_kinds,
-    same_rules, same_tunables, since_part_text, write_since,
+    same_rules, same_tunables, since_part_text, type_bytes, write_since,
 };

@@ -9,4 +9,4 @@ mod staying;
 pub use aside::{Counts, count_aside, push_aside};
 pub use law::{nothing_changes_by_names_since_itself, nothing_stays_where_maps_are_alike};
 pub use since::{is_changed_by_name, write_since_by_name, write_since_by_name_part};
-pub use staying::{stays, stays_part};
+pub use staying::{place_in, stays, stays_part};

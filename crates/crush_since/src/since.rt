@@ -53,9 +53,8 @@ use std::alloc::{AllocError, Allocator, Global};
 use std::io::Write;
 pub use tally::Tally;
 pub(crate) use tally::{is_made, is_reclassed, is_reweighed};
-pub(crate) use words::{
-    alg_bytes, class_bytes, push_counts, push_totals, push_with_class, type_bytes, weight_of,
-};
+pub(crate) use words::{alg_bytes, push_counts, push_totals, push_with_class, weight_of};
+pub use words::{class_bytes, type_bytes};
 
 /// Writes what has changed from the old map to the new map. First comes a line for each item that
 /// differs: the buckets by id from -1 downward, and then the devices by ascending id. Then there

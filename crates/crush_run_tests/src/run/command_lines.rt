@@ -71,6 +71,7 @@ fn applies(rt: &impl AllocGlobal, words: &[&str], is_dry: bool, scripts: usize) 
                 && prints
                 && mode.exact != is_dry
                 && mode.history == is_dry
+                && mode.conflicts
                 && options.maps == MapForm::WholeMap
                 && options.scripts.len() == scripts
                 && is_name(&options.file, Some("m"))

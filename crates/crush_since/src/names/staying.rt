@@ -14,6 +14,7 @@ pub(crate) mod columns;
 mod rules;
 
 use crate::since::{push_kinds, push_part, push_tunables};
+pub use columns::place_in;
 use columns::{push_alg, push_class, push_far_weight, push_lacking, push_place, push_type};
 use crush_compare::{Comparison, Devices, Pair};
 use crush_items::Seen;

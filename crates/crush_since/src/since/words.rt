@@ -60,7 +60,7 @@ pub(crate) fn weight_of(alloc: Global, weight: Weight) -> Result<Vec<u8>, AllocE
 }
 
 /// Returns the name of an item's type. For a device it is `osd` if the map's setting has no type 0.
-pub(crate) fn type_bytes(setting: &Setting, id: ItemId, kind: TypeId) -> &[u8]
+pub fn type_bytes(setting: &Setting, id: ItemId, kind: TypeId) -> &[u8]
     ensures { result.now ≡ type_word setting.now id kind }
 {
     match setting.kind_name(kind) {
@@ -73,7 +73,7 @@ pub(crate) fn type_bytes(setting: &Setting, id: ItemId, kind: TypeId) -> &[u8]
 }
 
 /// Returns the name of the class, or the text `(none)` if there is no class.
-pub(crate) fn class_bytes<'a>(class: Option<&'a str>) -> &'a [u8]
+pub fn class_bytes<'a>(class: Option<&'a str>) -> &'a [u8]
     ensures { result.now ≡ class_or_none (option_map (λ c. c.now) class.entry) }
 {
     match class {

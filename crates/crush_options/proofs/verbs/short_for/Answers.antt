@@ -1,4 +1,4 @@
-use Rattle.std.proofs.Common.{◌≡◌, ◌∙◌, ap, subst}
+use Rattle.std.proofs.Common.{◌≡◌, ◌∙◌, false, ap, ap₂, subst}
 use Rattle.std.proofs.lemmas.Result.{err_from_is_err_and}
 use Rattle.crush_options.specs.declared.parsed_options.MapForm.TheVariants.{Job}
 use Rattle.crush_options.specs.declared.parsed_options.Options.{Options}
@@ -6,9 +6,9 @@ use Rattle.crush_options.specs.Options.{AreOptionsOf, IsFaultIn, names_text}
 use Rattle.crush_options.specs.Verbs.{verb_data, words_of_verb}
 use Rattle.crush_options.proofs.verbs.short_for.Goals as goal
 
--- without the form of the files that the verb says, the options are those of the plain command line
-as_plain : (o : Options) → o.maps ≡ Job → o ≡ record o { maps = Job }
-as_plain o job = ap (λ m. record o { maps = m }) job
+-- without the form of the files and the conflicts that the verb says, the options are those of the plain command line
+as_plain : (o : Options) → o.maps ≡ Job → o.mode.conflicts ≡ false → o ≡ record o { maps = Job; mode = record o.mode { conflicts = false } }
+as_plain o job none = ap₂ (λ m k. record o { maps = m; mode = record o.mode { conflicts = k } }) job none
 
 pub returns-clause-read : goal.returns-clause-read
 returns-clause-read c =
@@ -17,7 +17,8 @@ returns-clause-read c =
     let parsed : AreOptionsOf words o = subst (λ w. AreOptionsOf w o) (ap names_text c.as_slice.ensures.value ∙ c.in_ok-plain.ensures) c.in_ok-options.ensures.parsed in
     record {
       maps = c.maps_of-options.ensures;
-      plain = subst (AreOptionsOf words) (as_plain o parsed.read.maps) parsed;
+      conflicts = c.has_conflicts-options.ensures;
+      plain = subst (AreOptionsOf words) (as_plain o parsed.read.maps parsed.read.mode.conflicts) parsed;
     }
 
 pub returns-in_err-options-clause-fault : goal.returns-in_err-options-clause-fault

@@ -15,7 +15,9 @@ use crush_map::Setting;
 use crush_units::{BucketId, ItemId, put_all};
 use std::alloc::{AllocError, Global};
 
-fn place_in<'a>(id: ItemId, parent: Option<BucketId>, holder: Option<&'a str>) -> &'a [u8]
+/// Returns the name of the bucket that holds an item; or `(root)` if no bucket holds it, and
+/// `(unplaced)` if it is a device that no bucket holds.
+pub fn place_in<'a>(id: ItemId, parent: Option<BucketId>, holder: Option<&'a str>) -> &'a [u8]
     ensures { result.now ≡ place_in id parent (option_map (λ n. n.now) holder.entry) }
 {
     match parent {

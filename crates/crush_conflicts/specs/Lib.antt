@@ -1,0 +1,12 @@
+pub mod Aspects
+pub mod Alone
+pub mod Differences
+pub mod KnownItems
+pub mod Cases
+pub mod CasesSeen
+pub mod Lines
+pub mod NewItems
+pub mod Conflicts
+pub mod Pairwise
+pub mod MapsSeen
+pub mod Laws

@@ -1,0 +1,109 @@
+//! The changes of operators that a run has lost: whether they end the run, and what is told of them.
+
+ghost use Rattle.std.specs.Prelude.{◌≡◌, ◌++◌, ◌≤◌, IfErr, IfOk, OnOk, length};
+ghost use Rattle.crush_history.specs.Entries.{AreOf};
+ghost use Rattle.crush_history.specs.HistoryText.{names_of};
+ghost use Rattle.crush_history.specs.Script.{scripts_data};
+ghost use Rattle.crush_input.specs.Lost.{IsConflictsFault, IsLossless, conflict_notes, lost_data};
+ghost use Rattle.crush_input.specs.Notes.{created_notes};
+ghost use Rattle.crush_input.specs.Report.{conflicts_line};
+ghost use Rattle.crush_units.specs.declared.limits.TheConstants.{MOST_ENTRIES};
+
+use crate::ending::write_conflicts;
+use crate::fault::RunFault;
+use crate::made::push_created;
+use crush_history::{Entry, Script};
+use std::alloc::{AllocError, Global};
+
+/// The lost changes of a run: changes that an operator's script makes if it runs alone, and that
+/// the map after the run doesn't have.
+#[derive(Debug, Drop)]
+pub struct LostChanges {
+    /// How many items have a lost change.
+    pub count: usize,
+    /// A line for each of these items.
+    pub lines: Vec<u8>,
+}
+
+/// Checks, if `conflicts` is set, that no change is lost.
+///
+/// Fails with [`RunFault::Conflicts`], which has the number of items with a lost change, if there
+/// are any. Without `conflicts` it always succeeds.
+pub fn check_lost(conflicts: bool, lost: &LostChanges) -> Result<(), RunFault>
+    ensures lossless { IsLossless conflicts (lost_data lost.now) result }
+    ensures fault { IfErr result (IsConflictsFault conflicts) }
+{
+    if !conflicts || lost.count == 0 {
+        return Ok(());
+    }
+    Err(RunFault::Conflicts(lost.count))
+}
+
+/// Appends the line with the number of the lost changes.
+fn push_conflicts_line(count: usize, text: &mut Vec<u8>) -> Result<(), AllocError>
+    ensures { OnOk result (text.new.items ≡ text.old.items ++ conflicts_line count) }
+{
+    write_conflicts(count, text).map_err(|_| AllocError)
+}
+
+/// Appends the line with the number of the lost changes, and their lines, if there are any.
+fn push_conflicts(lost: &LostChanges, text: &mut Vec<u8>) -> Result<(), AllocError>
+    ensures { OnOk result (text.new.items ≡ text.old.items
+        ++ conflict_notes (lost_data lost.now)) }
+{
+    if lost.count == 0 {
+        return Ok(());
+    }
+    push_conflicts_line(lost.count, text)?;
+    text.extend_from_slice(lost.lines.as_slice())
+}
+
+/// Returns `notes`, followed by the line with the number of the lost changes and by their lines, if
+/// there are any. Fails if memory runs out.
+pub fn notes_with_lost(
+    alloc: Global,
+    notes: &[u8],
+    lost: &LostChanges,
+) -> Result<Vec<u8>, AllocError>
+    ensures { IfOk result (λ text. text.items ≡ notes.now ++ conflict_notes (lost_data lost.now)) }
+{
+    let mut text = Vec::new(alloc);
+    text.extend_from_slice(notes)?;
+    push_conflicts(lost, &mut text)?;
+    Ok(text)
+}
+
+/// Returns the notes of a run that refused calls ended.
+///
+/// These are `notes`, followed by the notes of two other things that end a run: with `no_make`, the
+/// calls that created buckets, and then the lost changes. Fails if memory runs out.
+pub fn notes_with_made_and_lost(
+    alloc: Global,
+    no_make: bool,
+    scripts: &[Script],
+    entries: &[Entry],
+    notes: &[u8],
+    lost: &LostChanges,
+) -> Result<Vec<u8>, AllocError>
+    requires few { length entries.now ≤ MOST_ENTRIES }
+    requires operators { AreOf (length scripts.now) entries.now }
+    ensures { IfOk result (λ text. text.items ≡ notes.now
+        ++ (created_notes no_make (names_of (scripts_data scripts.now)) entries.now
+        ++ conflict_notes (lost_data lost.now))) }
+{
+    let mut text = Vec::new(alloc);
+    text.extend_from_slice(notes)?;
+    push_created(alloc, no_make, scripts, entries, &mut text)?;
+    push_conflicts(lost, &mut text)?;
+    Ok(text)
+}
+
+/// Returns the lines of the lost changes, followed by `notes`. Fails if memory runs out.
+pub fn lost_notes(alloc: Global, lost: &LostChanges, notes: &[u8]) -> Result<Vec<u8>, AllocError>
+    ensures { IfOk result (λ text. text.items ≡ (lost_data lost.now).lines ++ notes.now) }
+{
+    let mut text = Vec::new(alloc);
+    text.extend_from_slice(lost.lines.as_slice())?;
+    text.extend_from_slice(notes)?;
+    Ok(text)
+}

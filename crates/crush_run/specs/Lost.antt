@@ -1,0 +1,19 @@
+-- The lost changes of a run with several scripts.
+use Rattle.std.specs.Prelude.{◌≡◌, ℕ, Bool, true, false, ◌&&◌, List, [], length, nat_lt}
+use Rattle.crush_model.specs.Table.{Row}
+use Rattle.crush_edits.specs.Setting.{SettingData}
+use Rattle.crush_history.specs.History.{EntryData}
+use Rattle.crush_conflicts.specs.Conflicts.{AreConflicts, operators_from}
+use Rattle.crush_plan.specs.Plan.{line_count}
+use Rattle.crush_input.specs.Lost.{LostData}
+
+-- whether a run looks for lost changes: if it is to, and if it has at least two scripts
+abbrev pub looks_for_conflicts : Bool → List (List ℕ) → Bool
+looks_for_conflicts conflicts names = conflicts && nat_lt 1 (length names)
+
+-- LOST: if the run looks for lost changes, then these are the changes that are in the table which the calls of an operator in the history h make alone from the table t,
+-- and that aren't in the table z after the run. Otherwise there are none. Each has a line.
+pub record AreLost (conflicts : Bool) (s : SettingData) (t : List Row) (names : List (List ℕ)) (h : List EntryData) (z : List Row) (lost : LostData) : Type 0 where
+  pub lines : looks_for_conflicts conflicts names ≡ true → AreConflicts s t (operators_from s t h 0 names) z lost.lines
+  pub none : looks_for_conflicts conflicts names ≡ false → lost.lines ≡ []
+  pub count : lost.count ≡ line_count lost.lines
