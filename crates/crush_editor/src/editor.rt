@@ -209,9 +209,9 @@ impl<N: Desk, O: KeptOpening> Editor<N, O> {
     /// Before the method acquires the lock, it copies the call twice: once for the history, and once
     /// for the slip, which is the seat's record of the call and its reply. It also reserves room for
     /// the slip. After a reply the seat has one more slip, and it has seen the history up to and
-    /// including this call. If a guarded batch names the number of changes that the seat had seen
-    /// before the call, then either the reply is `Stale`, or the batch found the map's table as the
-    /// seat had seen it.
+    /// including this call. A guarded batch names a number of changes. If this is the number of
+    /// changes that the seat had seen before the call, and the reply isn't `Stale`, then right
+    /// before the batch the map had the table that it has after the history that the seat had seen.
     ///
     /// The error is `Full` if and only if the history is full; otherwise it is `OutOfMemory`. After
     /// an error the call was not made and the slips are unchanged. The seat may have seen more of

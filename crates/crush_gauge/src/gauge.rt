@@ -29,8 +29,8 @@ pub struct Gauge<O, E, P: Law<O, E>> {
     pub ghost one_word: { (table.shared.table_id.words ≡ 1) × (table.shared.table_id.slots ≡ 0) },
 }
 
-/// The pair of one history, returned by [`Gauge::read`]: how many of its entries are changes, and
-/// the weight after it.
+/// What [`Gauge::read`] returns about one history: how many of its entries are changes, and the
+/// weight after it.
 #[derive(Clone, Copy, Debug, PartialEq, Eq)]
 pub struct Reading {
     /// How many entries are changes, at most [`MOST_CHANGES`](crate::limits::MOST_CHANGES).
@@ -117,7 +117,8 @@ impl<O, E, P: Law<O, E>> Gauge<O, E, P> {
         }
     }
 
-    /// Publishes one entry by one store, after which all seats of the gauge can read the new pair.
+    /// Publishes one entry: stores `changes` and `weight` in the shared word, by one atomic store.
+    /// From then on, all seats of the gauge can read these two numbers.
     ///
     /// The caller's proof chooses the entry. The history with this entry appended must be legal.
     /// By the gauge's law `P`, this history must have exactly `changes` changes and the weight
@@ -145,8 +146,9 @@ impl<O, E, P: Law<O, E>> Gauge<O, E, P> {
             .store::<Publish<M>>(&mut book.seat, 0, word)
     }
 
-    /// Returns the pair of the history at the moment of the call. The call reads the word by one
-    /// load, never waits for another thread, and allocates nothing.
+    /// Returns how many entries of the history at the moment of the call are changes, and the weight
+    /// after this history. The call reads the word by one load, never waits for another thread, and
+    /// allocates nothing.
     ///
     /// The seat has then seen this history, which begins with what the seat had seen before.
     pub fn read(&self, seat: &mut ReadSeat<O, E>) -> Reading

@@ -34,8 +34,8 @@ pub enum Call {
     /// A batch. Each edit is applied to the result of the edits before it in the batch. Either all
     /// edits of the batch are applied, or none is.
     Batch(Edits),
-    /// A guarded batch. It is applied only if, when the call is made, exactly `seen` calls of the
-    /// history have changed the map. Otherwise the reply is [`Reply::Stale`].
+    /// A guarded batch. It is applied only if exactly `seen` calls have changed the map before this
+    /// call. Otherwise the reply is [`Reply::Stale`].
     Guarded { seen: u32, edits: Edits },
 }
 

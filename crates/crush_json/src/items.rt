@@ -1,4 +1,5 @@
-//! Lists the devices and the buckets of a map in the order in which documents have them.
+//! Lists the devices and the buckets of a map in the order of its JSON document: the devices by
+//! ascending id, and the buckets from the one whose id is nearest to -1 downward.
 
 ghost use Rattle.std.specs.Prelude.{◌≡◌, [], ◌∷◌, ◌++◌, List, IfOk, OnOk, map as each};
 ghost use Rattle.crush_nodes.specs.Seen.{items_of, leaf_data, node_id};

@@ -33,7 +33,7 @@ struct ClassStep {
 enum StepKind {
     /// It removes the old class. A device that has a class can't get another class.
     Remove,
-    /// It sets the class that the device has in the wanted map.
+    /// It gives the device the class that the device has in the wanted map.
     Set,
 }
 
@@ -198,7 +198,7 @@ fn make_step<A: Allocator + Clone, B: Allocator>(
     }
 }
 
-/// Removes the classes of those devices that have no class in the wanted map.
+/// Removes the class of each device that has no class in the wanted map.
 fn remove_classes<A: Allocator + Clone, B: Allocator>(
     draft: &mut Draft<A>,
     goal: &PlanGoal<'_, A, B>,

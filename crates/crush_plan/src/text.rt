@@ -19,8 +19,8 @@ use std::alloc::{AllocError, Global};
 
 /// Returns the text of a plan as a script: the line `# N commands`, and a line for each edit. If
 /// differences remain, the line `# N differences stay` follows, and then a comment line for each
-/// difference. Last come comment lines that say how many buckets have different ids. The call fails
-/// only if memory runs out.
+/// difference. The last lines are comment lines that say how many buckets have different ids. The
+/// call fails only if memory runs out.
 pub fn plan_text(alloc: Global, plan: &Plan) -> Result<Vec<u8>, AllocError>
     ensures { IfOk result (λ text. text.items ≡ plan_text (plan_data plan.now)) }
 {

@@ -244,7 +244,7 @@ fn push_returns(bytes: &[u8], text: &mut Vec<u8>) -> Result<(), AllocError>
 /// The line is `NAME: W was written, the sum is SUM`. There is a line for each `item NAME weight W`
 /// between braces in which NAME is a bucket of the map, and W is a weight that isn't the bucket's
 /// sum. The lines are in the order of the text. W is printed as in the text, and SUM has five
-/// decimals. If the text has carriage returns and no line feed, a line that says so comes first.
+/// decimals. If the text has carriage returns and no line feed, the first line says so.
 ///
 /// `map` is the map that was read from `bytes`. Fails if memory runs out.
 pub fn written_text(

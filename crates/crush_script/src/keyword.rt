@@ -14,7 +14,7 @@ pub enum Placement {
     CreateOrMove,
 }
 
-/// A command for one edit.
+/// The first word of a command that makes one edit, such as `add` or `move`.
 #[derive(Clone, Copy, Debug, PartialEq, Eq)]
 pub enum Keyword {
     /// `add`, `set` or `create-or-move`.

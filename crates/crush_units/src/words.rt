@@ -13,7 +13,8 @@ use std::marker::Model;
 /// text, from 0.
 #[derive(Clone, Copy)]
 pub enum Token<'a> {
-    /// The next word begins at `place`, and `text` has its bytes. The word is a brace or a name.
+    /// The next word begins at `place`, and `text` has its bytes. The word is a brace, or a run of
+    /// bytes that names may have: a name, a keyword or a number.
     Word { place: usize, text: &'a [u8] },
     /// The text has no further word. `place` is the text's length.
     End { place: usize },

@@ -50,8 +50,8 @@ impl<A: Allocator> MapBuilder<A> {
         matches!(self.pending, Pending::Numbered(..))
     }
 
-    /// Whether a bucket has its algorithm but isn't complete, so that items or its end may come
-    /// next.
+    /// Whether a bucket has its algorithm and isn't complete yet. The next word is then an item of
+    /// the bucket, or the end of the bucket.
     pub fn is_filling(&self) -> bool
         ensures { result ≡ is_filling self.now.pending }
     {

@@ -1,9 +1,12 @@
 //! Laws of the edits that have no location.
+//!
+//! A setting (the types, tunables and rules of a map) *fits* a table if it has the types of all
+//! buckets of the table, and the table has all buckets that the rules take.
 
 ghost use Rattle.crush_edits.specs.LawOthers.{WeightsChange, WeightChanges, WeightsFit, NameChanges, NameFits, ClassChanges, ClassFits, SwapChanges, SwapFits, RemoveChanges, RemoveKeepsLawful, RemoveFits, AddedIsRow, AddedChanges, AddedKeepsLawful, AddedCounts, AddedFits, FullHasNoRoom};
 
-/// A change of weights changes the table, unless each row already has its new weight. The map's
-/// setting (its types, tunables and rules) still fits the table.
+/// A change of weights changes the table, unless each row already has its new weight. If the
+/// map's setting fits the table before, it fits the table afterwards.
 pub fn weights_are_set()
     ensures many { WeightsChange }
     ensures one { WeightChanges }
@@ -11,7 +14,7 @@ pub fn weights_are_set()
 {}
 
 /// Giving an item an unused name changes the table. Swapping two buckets also changes the table.
-/// The map's setting still fits the table.
+/// If the map's setting fits the table before, it fits the table afterwards.
 pub fn names_are_set()
     ensures changes { NameChanges }
     ensures fits { NameFits }

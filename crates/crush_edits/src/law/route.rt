@@ -10,7 +10,8 @@ pub fn stops_are_pairs_in_order()
     ensures pairs { StopsArePairs }
 {}
 
-/// A location that passes its tests has a route, which leads to a bucket.
+/// If a location passes the tests of an edit and doesn't lead to a device, its stops are a route.
+/// Each route leads to the bucket that the item is put into.
 pub fn locations_are_routes()
     ensures route { LocationIsRoute }
     ensures other { OtherIsNoStop }

@@ -23,8 +23,8 @@ use std::io::Write;
 /// How many bytes a typical command adds to the document.
 const USUAL_COMMAND: usize = 96;
 
-/// Writes `{"aside":A,"history":H,"plan":[..],"stays":[..]}` and a line feed. If there is no
-/// history, the member `history` is left out. `plan` has a command for each edit, with the keys of
+/// Writes `{"aside":A,"history":H,"plan":[..],"stays":[..]}` and a line feed. Without a history, it
+/// leaves out the member `history`. `plan` has a command for each edit, with the keys of
 /// Ceph's own table of commands. A weight is a decimal number with six digits after the point,
 /// because `ceph` itself takes weights in this form. `stays` has a text for each line of `rest`,
 /// which lists the differences that remain. A has two members: `ids` is the number of buckets whose

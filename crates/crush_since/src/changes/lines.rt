@@ -1,4 +1,4 @@
-//! The lines of the tree of what has changed.
+//! Appends the text of the tree that shows what has changed: the heading, and a line for each row.
 
 ghost use Rattle.std.specs.Prelude.{◌≡◌, ◌++◌, IfOk, OnOk, flat_map, map as each};
 ghost use Rattle.std.specs.Option.{option_map};

@@ -55,8 +55,8 @@ pub(crate) fn memory_at(place: usize) -> TextFault
     }
 }
 
-/// Returns the fault of a call of the builder that failed at this place. The word was checked
-/// before the call, so the builder can only have run out of memory.
+/// Turns a fault of the builder into the fault of the text at this place. The word was checked
+/// before the call of the builder, so the builder can only have run out of memory.
 pub(crate) fn out_of_memory_at(place: usize, fault: BuildFault) -> TextFault
     requires { fault ≡ BuildFault.OutOfMemory }
     ensures { result ≡ record { kind = OutOfMemory; place = place; expected = Memory } }
