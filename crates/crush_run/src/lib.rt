@@ -1,7 +1,7 @@
 //! Runs a job, from the bytes that are read to the bytes that are written.
 //!
 //! [`run_options`] runs the job that a command line selects, and [`run_job`] runs a job that it
-//! reads from a reader. `crush_script` parses a job, `crush_editor` runs its scripts, and
+//! reads from a reader. [`run_at_once`] only runs scripts on a map, and writes nothing. `crush_script` parses a job, `crush_editor` runs its scripts, and
 //! `crush_print`, `crush_since`, `crush_reasons`, `crush_plan` or `crush_json` writes the output.
 //! `crush_input` reports how the run ended. `specs/Output.antt` defines what is written, and
 //! `specs/Run.antt` defines how a run ends.
@@ -24,6 +24,7 @@ mod text;
 mod worker;
 mod workers;
 
+pub use at_once::run_at_once;
 pub use crush_input::{
     OldMap, Opens, Output, Request, RunFault, SecondMap, SecondMapFault, Summary, SystemFiles,
     TargetMap,

@@ -3,7 +3,10 @@
 
 use super::{AT_ONCE, joined, run_map, summary};
 use crate::maps::PLAIN;
-use crush_run::Gate;
+use crush_history::is_change;
+use crush_map::Hashing;
+use crush_run::{Gate, NoGate, run_at_once};
+use crush_script::{Job, read_job};
 use std::sync::Wait;
 use std::sync::atomic::{AtomicU64, Ordering};
 use std::thread;
@@ -100,6 +103,23 @@ fn two_operators_are_at_work_at_the_same_time(rt: HostRuntime) {
             && outcome == Ok(summary(0, 2, 1))
             && (out.ends_with(FIRST_HAS_IT) || out.ends_with(SECOND_HAS_IT))
     );
+}
+
+/// Both scripts insert the device `osd.7`, so exactly one of the two calls changes the map.
+#[test]
+fn scripts_run_at_once_on_a_map(rt: HostRuntime) {
+    let bytes = joined(&rt, PLAIN, ONE_DEVICE);
+    let job = read_job(rt.alloc(), Hashing::plain(), bytes.as_slice()).expect(&rt, "no job");
+    let Job { map, scripts, .. } = job;
+    let before = map.total();
+    let closed = run_at_once(&rt, rt.alloc(), &NoGate, map, scripts).expect(&rt, "no threads");
+    let mut changes = 0;
+    for entry in &closed.history {
+        if is_change(entry.reply) {
+            changes += 1;
+        }
+    }
+    assert!(&rt; closed.history.len() == 2 && changes == 1 && closed.map.total() == before + 65536);
 }
 
 const TWO_WEIGHTS: &[u8] =
