@@ -40,7 +40,8 @@ pub(crate) struct MapAlone<'a, A: Allocator> {
 /// items of `before` come first, in the order of its tree. Then come the lines of new items, by
 /// their names. An `Err` says that memory ran out.
 ///
-/// Each item of each map is looked up once in each other map, in logarithmic time.
+/// Each item of `before` is looked up once in each other map by its id, in logarithmic time. New
+/// items are looked up by their names.
 pub fn lost_changes<'a, A: Allocator + Clone>(
     alloc: Global,
     before: &'a CrushMap<A>,

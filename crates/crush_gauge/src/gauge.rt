@@ -103,8 +103,8 @@ impl<O, E, P: Law<O, E>> Gauge<O, E, P> {
         Ok(seats)
     }
 
-    /// Returns a note of what a seat of either kind has seen. The call doesn't change what the seat
-    /// has seen.
+    /// Returns a note of what the seat has seen. The seat is the book's seat or a seat that reads.
+    /// The call doesn't change what the seat has seen.
     pub(crate) fn note_of(&self, seat: &mut Seat<(), View<O, E>>) -> Note<O, E>
         requires gauge { seat.old.table_id ≡ self.now.table.shared.table_id }
         requires either { IsEither seat.old.me.0 }
@@ -164,8 +164,8 @@ impl<O, E, P: Law<O, E>> Gauge<O, E, P> {
         }
     }
 
-    /// Returns a note of what a seat of either kind has seen, for another seat of the same gauge.
-    /// The call doesn't change what the seat has seen.
+    /// Returns a note of what the seat has seen, for another seat of the same gauge. The seat is the
+    /// book's seat or a seat that reads. The call doesn't change what the seat has seen.
     pub fn note<S: Watcher<O, E>>(&self, seat: &mut S) -> Note<O, E>
         requires { (S.knows seat.old).table ≡ self.now.table.shared.table_id }
         ensures seat { S.knows seat.new ≡ S.knows seat.old }
@@ -174,7 +174,8 @@ impl<O, E, P: Law<O, E>> Gauge<O, E, P> {
         seat.note_of(self)
     }
 
-    /// Joins a note into a seat of either kind, so that the seat has also seen the note's history.
+    /// Joins a note into the book's seat or a seat that reads. The seat has then also seen the
+    /// note's history.
     ///
     /// The seat and the note must be of this gauge. A seat that reads has then seen the longer of
     /// the two histories, and the shorter is a prefix of it. The book's seat has already seen the

@@ -1,7 +1,7 @@
-//! The invariant of the shared word, and what each kind of step adds to what a seat has seen. A
-//! *step* is a load or a store of the word, or a split or a join of seats. The types here have no
-//! data. The code that takes a step names one of these types, and the type gives the step its
-//! contract.
+//! The invariant of the shared word, and the contracts of the *steps*. A step is a load or a store
+//! of the word, or a split or a join of seats. The contract of a step says what its seats have seen
+//! after the step. The types here have no data. The code that takes a step names one of these
+//! types, and the type gives the step its contract.
 
 use crate::view::{Law, View};
 use atomic_table::{Join, Play, Split, TableRule};

@@ -1,5 +1,6 @@
-//! The calls that seats of both kinds have: one returns a note of what the seat has seen, and the
-//! other lets the seat learn from another seat's note.
+//! The two functions that a gauge's seats of both kinds ([`BookSeat`] and [`ReadSeat`]) have. One
+//! returns a *note*, a record of what the seat has seen. The other lets a seat learn from such a
+//! note of another seat.
 
 ghost use Rattle.std.specs.Prelude.{◌≡◌};
 ghost use Rattle.crush_gauge.specs.Rule.{Learns};

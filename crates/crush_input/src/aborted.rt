@@ -16,8 +16,8 @@ pub struct KeptText<'a> {
     pub lines: Vec<Vec<u32>>,
     /// The files that the lines of the job come from.
     pub origins: Origins<'a>,
-    /// The notes on the map's text: about carriage returns in it, and about bucket weights in it
-    /// that aren't sums. Without `explain` they are empty.
+    /// The notes on the map's text: about carriage returns in it, and about each bucket whose weight
+    /// in it isn't the sum of the devices below the bucket. Without `explain` they are empty.
     pub weights: Vec<u8>,
 }
 

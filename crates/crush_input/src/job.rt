@@ -33,8 +33,8 @@ pub(crate) fn drawn_hashing<H: RandomSource>(rt: &H) -> Hashing {
 
 /// Parses the bytes of a job, whose lines come from the files in `origins`.
 ///
-/// With `explain`, the bytes are stored, and a note is written about each bucket weight in the
-/// map's text that isn't a sum. Fails with [`RunFault::Job`] if the bytes aren't a job; with
+/// With `explain`, the bytes are stored, and there is a note about each bucket whose weight in the
+/// map's text isn't the sum of the devices below it. Fails with [`RunFault::Job`] if the bytes aren't a job; with
 /// `explain`, notes say where and why. Fails with [`RunFault::Memory`], without notes, if memory
 /// runs out.
 pub fn job_of<'a, H: AllocGlobal + RandomSource>(

@@ -58,8 +58,9 @@ pub struct History<'a> {
     pub entries: &'a [Entry],
 }
 
-/// Returns the notes on a run's history: the lines of its refused calls, followed by the notes on
-/// bucket weights in the map's text that aren't sums.
+/// Returns the notes on a run's history. First come the lines of the refused calls. Then come the
+/// notes on the map's text: a line for each bucket whose weight in the text isn't the sum of the
+/// weights of the devices below it.
 ///
 /// With `explain`, the lines of refused calls have reasons. In a strict run without `explain`, they
 /// have no reasons. In any other run, there are no lines of refused calls. Fails only if memory
@@ -134,9 +135,9 @@ fn reasons_of(
     explained_job(alloc, lines, opening, history.scripts, history.entries)
 }
 
-/// Returns the notes on bucket weights in a job's text that aren't sums. If the map's text has
-/// carriage returns and no line feed, a warning line comes first. Without `explain`, returns
-/// nothing.
+/// Returns a line for each bucket whose weight in the map's text isn't the sum of the devices below
+/// it. If the text has carriage returns and no line feed, the first line is a warning. Without
+/// `explain`, returns nothing.
 fn weight_notes(
     alloc: Global,
     explain: bool,

@@ -19,7 +19,8 @@ struct FirstUse<'a> {
     at: usize,
 }
 
-/// An edit of the class of a device that gets a class.
+/// One edit of a device that has another class in the wanted map. It removes the old class, or sets
+/// the new class.
 #[derive(Clone, Copy)]
 struct ClassStep {
     device: DeviceId,

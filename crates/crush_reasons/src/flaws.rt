@@ -122,8 +122,8 @@ fn step_words(or: Optional) -> &'static str
 }
 
 /// Returns a phrase that names the words or the kind of word that may be at the place of the fault.
-/// Returns an empty phrase if memory ran out, and if only one keyword may be there. `push_expected`
-/// prints this keyword itself.
+/// Returns an empty phrase in two cases: if memory ran out, or if only one keyword may be there.
+/// `push_expected` prints this keyword itself.
 fn expected_words(expected: Expected) -> &'static str
     ensures { result.now ≡ expected_words expected }
 {

@@ -11,9 +11,9 @@ pub struct Ending {
     /// What the run did, or why it failed.
     pub outcome: Result<Summary, RunFault>,
     /// The lines that are printed on standard error after the first line. If the run has `explain`,
-    /// the lines explain a fault and each refused call, and list the bucket weights in the map's
-    /// text that aren't sums. If `strict` or `no_make` ended the run, the lines list the reasons
-    /// for this end. In all other cases there are no lines.
+    /// the lines explain a fault and each refused call, and list each bucket whose weight in the
+    /// map's text isn't the sum of the devices below it. If refused calls, created buckets or lost
+    /// changes ended the run, the lines list them. In all other cases there are no lines.
     pub notes: Vec<u8>,
 }
 

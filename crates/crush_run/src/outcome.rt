@@ -38,8 +38,8 @@ use std::io::Write;
 /// The notes of a run. There are several texts because the notes depend on how the run ends.
 #[derive(Drop)]
 pub(crate) struct EndNotes {
-    /// The notes of any other end than the next four: about the refused calls, and about bucket
-    /// weights in the map's text that aren't sums.
+    /// The notes of any other end than those of the fields below: about the refused calls, and about
+    /// buckets whose weight in the map's text isn't the sum of the devices below them.
     pub(crate) calls: Vec<u8>,
     /// The notes of an end with [`RunFault::Refused`]: `calls`, followed by the calls that created
     /// buckets, and by the lost changes.
