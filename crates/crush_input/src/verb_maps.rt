@@ -25,6 +25,7 @@ use itoa::Buffer;
 use std::alloc::{AllocError, Global};
 use std::io::Write;
 use std::random::RandomSource;
+use thiserror::Error;
 
 const END_LINE: &[u8] = b"# end crush map";
 
@@ -49,17 +50,22 @@ pub enum VerbMap {
 }
 
 /// Why a file doesn't contain a map that the verb can use.
-#[derive(Clone, Copy, Debug, PartialEq, Eq)]
+#[derive(Clone, Copy, Debug, PartialEq, Eq, Error)]
 pub enum VerbMapFault {
     /// The text has this fault. The fault is never that memory ran out.
+    #[error("{0}")]
     Text(TextFault),
     /// The text seems to be cut: it doesn't end in the line `# end crush map`, and if it has
     /// another fault, that fault is in its last line.
+    #[error("cut")]
     Cut,
     /// The file has more than 16,777,216 bytes.
+    #[error("TooLong")]
     TooLong,
     /// The file couldn't be opened or read.
+    #[error("read fault")]
     Read,
+    #[error("out of memory")]
     Memory,
 }
 
