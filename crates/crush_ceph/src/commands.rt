@@ -2,14 +2,13 @@
 
 ghost use Rattle.std.specs.Prelude.{◌≡◌, ◌≤◌, ◌<◌, ◌+◌, ◌∷◌, ◌++◌, OnOk, codes, drop, flat_map, length, take, true};
 ghost use Rattle.std.specs.List.{list_any};
-ghost use Rattle.crush_history.specs.Ceph.{has_dash, has_dashed_type, is_dashed};
 ghost use Rattle.crush_history.specs.HistoryText.{edit_text, pairs_text};
 ghost use Rattle.crush_ceph.specs.Commands.{command_line, cut, edits_join, first_words, gives_class, has_option, joined_head, joined_line, joins, joins_edit, more_words, moves, second_joins, step_line, takes_class_away, words_added};
 
 use crate::steps::CephStep;
-use crush_edits::{Edit, Pair};
-use crush_history::{push_ceph_line, write_edit};
-use crush_units::{Name, put_all};
+use crush_edits::Edit;
+use crush_history::{has_dash, push_ceph_line, push_pairs, write_edit};
+use crush_units::Name;
 use std::alloc::{AllocError, Global};
 
 fn moves(name: &Name<Global>, edit: &Edit) -> bool
@@ -94,37 +93,6 @@ pub(crate) fn first_command(steps: &[CephStep]) -> usize
     last + 1
 }
 
-fn is_dashed(word: &Name<Global>) -> bool
-    ensures { result ≡ is_dashed word.now }
-{
-    matches!(word.as_bytes(), [b'-', ..])
-}
-
-fn has_dashed_type(pairs: &[Pair]) -> bool
-    ensures { result ≡ has_dashed_type pairs.now }
-{
-    pairs.iter().any(|pair| is_dashed(&pair.kind))
-}
-
-fn has_dash(edit: &Edit) -> bool
-    ensures { result ≡ has_dash edit.now }
-{
-    match edit {
-        Edit::Insert { name, at, .. }
-        | Edit::CreateOrMove { name, at, .. }
-        | Edit::Update { name, at, .. }
-        | Edit::Move { name, at } => is_dashed(name) || has_dashed_type(at.pairs()),
-        Edit::Swap { a, b } => is_dashed(a) || is_dashed(b),
-        Edit::Rename { from, to } => is_dashed(from) || is_dashed(to),
-        Edit::AddBucket { name, kind } => is_dashed(name) || is_dashed(kind),
-        Edit::SetClass { name, class } => is_dashed(class) || is_dashed(name),
-        Edit::Reweight { name, .. }
-        | Edit::ReweightSubtree { name, .. }
-        | Edit::Remove { name }
-        | Edit::RemoveClass { name } => is_dashed(name),
-    }
-}
-
 /// Whether the step has a word that Ceph would read as an option.
 fn has_option(step: &CephStep) -> bool
     ensures { result ≡ has_option step.now }
@@ -165,31 +133,6 @@ fn push_word(word: &Name<Global>, text: &mut Vec<u8>) -> Result<(), AllocError>
 {
     text.extend_from_slice(b" ")?;
     text.extend_from_slice(word.as_bytes())
-}
-
-fn push_pair(pair: &Pair, text: &mut Vec<u8>) -> Result<(), AllocError>
-    ensures { OnOk result (text.new.items
-        ≡ text.old.items ++ (codes " " ++ pair.now.kind ++ codes "=" ++ pair.now.name)) }
-{
-    put_all(
-        text,
-        &[
-            b" ".as_slice(),
-            pair.kind.as_bytes(),
-            b"=".as_slice(),
-            pair.name.as_bytes(),
-        ],
-    )
-    .map_err(|_| AllocError)
-}
-
-fn push_pairs(pairs: &[Pair], text: &mut Vec<u8>) -> Result<(), AllocError>
-    ensures { OnOk result (text.new.items ≡ text.old.items ++ pairs_text pairs.now) }
-{
-    for pair in pairs {
-        push_pair(pair, text)?;
-    }
-    Ok(())
 }
 
 fn push_added(edit: &Edit, text: &mut Vec<u8>) -> Result<(), AllocError>

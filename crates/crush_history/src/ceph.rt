@@ -35,7 +35,7 @@ fn has_dashed_type(pairs: &[Pair]) -> bool
 
 /// Whether the edit's command has, after its first word, a word that begins with `-`. Ceph would
 /// read such a word as an option.
-fn has_dash(edit: &Edit) -> bool
+pub fn has_dash(edit: &Edit) -> bool
     ensures { result ≡ has_dash edit.now }
 {
     match edit {
@@ -152,7 +152,8 @@ fn push_weighing(
     )
 }
 
-fn push_pairs(pairs: &[Pair], text: &mut Vec<u8>) -> Result<(), AllocError>
+/// Appends the pairs of a location, each after a space: ` TYPE=NAME`.
+pub fn push_pairs(pairs: &[Pair], text: &mut Vec<u8>) -> Result<(), AllocError>
     ensures { OnOk result (text.new.items ≡ text.old.items ++ pairs_text pairs.now) }
 {
     write_pairs(pairs, text).map_err(|_| AllocError)

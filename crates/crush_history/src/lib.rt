@@ -18,7 +18,7 @@ mod refused;
 mod script;
 
 pub use call::{Call, Edits, Reply};
-pub use ceph::{push_ceph_heading, push_ceph_line};
+pub use ceph::{has_dash, push_ceph_heading, push_ceph_line, push_pairs};
 pub use device::device_named;
 pub use entry::{Entry, Slip, count_changes, is_change};
 pub use history::{history_text, operator_name, write_entry};
