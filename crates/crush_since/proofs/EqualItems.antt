@@ -138,7 +138,7 @@ part_is_none : (same : Bool) (text : List ℕ) → part same text ≡ [] → sam
 part_is_none true text h = refl
 part_is_none false text h = absurd (let long : length (text ∷ []) ≡ 0 = ap length h in omega (arith, long))
 
-number_equal : (a b : ℕ) → (a == b) ≡ true → a ≡ b
+pub number_equal : (a b : ℕ) → (a == b) ≡ true → a ≡ b
 number_equal a b h = ⊎_elim (λ q. q.1) (λ q. absurd (let no_way : true ≡ false = sym h ∙ q.0 in cc)) (eqb_tells a b)
 
 option_equal : (a b : Option ℕ) → same_option a b ≡ true → a ≡ b
@@ -147,7 +147,7 @@ option_equal None (Some y) h = absurd cc
 option_equal (Some x) None h = absurd cc
 option_equal (Some x) (Some y) h = ap Some (number_equal x y h)
 
-text_equal : (a b : Option (List ℕ)) → same_text a b ≡ true → a ≡ b
+pub text_equal : (a b : Option (List ℕ)) → same_text a b ≡ true → a ≡ b
 text_equal None None h = refl
 text_equal None (Some y) h = absurd cc
 text_equal (Some x) None h = absurd cc
@@ -159,11 +159,11 @@ algs_equal None (Some y) h = absurd cc
 algs_equal (Some x) None h = absurd cc
 algs_equal (Some x) (Some y) h = ap Some (same_alg_equal x y h)
 
-first_of : (a b : Bool) → (a && b) ≡ true → a ≡ true
+pub first_of : (a b : Bool) → (a && b) ≡ true → a ≡ true
 first_of true b h = refl
 first_of false b h = h
 
-second_of : (a b : Bool) → (a && b) ≡ true → b ≡ true
+pub second_of : (a b : Bool) → (a && b) ≡ true → b ≡ true
 second_of true b h = h
 second_of false b h = absurd cc
 

@@ -33,6 +33,7 @@ pub mod SinceItself
 pub mod SortedItems
 pub mod StandsLaws
 pub mod StoodLaws
+pub mod TakenLaws
 pub mod TallyLaws
 pub mod ToldLaws
 pub mod TreeLaws

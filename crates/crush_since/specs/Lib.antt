@@ -33,6 +33,7 @@ pub mod SinceNames
 pub mod SinceNamesLaws
 pub mod SincePart
 pub mod Stays
+pub mod TakenSeen
 pub mod Tallies
 pub use Rattle.crush_compare.specs.Equal
 pub use Rattle.crush_compare.specs.SameItem

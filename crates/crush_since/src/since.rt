@@ -28,6 +28,7 @@ mod rules;
 mod rules_by_name;
 pub(crate) mod seen;
 mod settings;
+mod taken;
 mod tally;
 mod words;
 

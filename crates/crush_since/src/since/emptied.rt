@@ -1,6 +1,6 @@
 //! Finds the steps of rules that take a bucket which has lost all its weight.
 
-ghost use Rattle.std.specs.Prelude.{◌≡◌, ◌++◌, List, OnOk, flat_map, option_and_then, unwrap_or, map as each};
+ghost use Rattle.std.specs.Prelude.{◌≡◌, ◌++◌, List, IfOk, OnOk, flat_map, option_and_then, unwrap_or, map as each};
 ghost use Rattle.std.specs.Option.{option_map};
 ghost use Rattle.crush_edits.specs.SettingSeen.{rule_data, step_data};
 ghost use Rattle.crush_print.specs.RuleLines.{bucket_name};
@@ -8,19 +8,22 @@ ghost use Rattle.crush_model.specs.Stands.{Stands};
 ghost use Rattle.crush_model.specs.Table.{Row, id_named};
 ghost use Rattle.crush_since.specs.Emptied.{bucket_named, emptied_by, emptied_of, emptied_rules, if_emptied, is_emptied, old_bucket, taken_weight, weight_as, weight_before};
 ghost use Rattle.crush_since.specs.RulesSeen.{rule_change_data};
+ghost use Rattle.crush_since.specs.TakenSeen.{AreRight};
 
 use crate::since::classes::class_named;
 use crate::since::rules::RuleChange;
+use crate::since::taken::{Taken, cached_result, store};
 use crush_compare::Identity;
 use crush_map::{CrushMap, KeptRule, KeptStep};
 use crush_units::{BucketId, ItemId, Weight};
-use std::alloc::{AllocError, Allocator};
+use std::alloc::{AllocError, Allocator, Global};
 
 /// Appends a difference for each step of the new map's rules that takes a bucket which weighed
 /// something in the old map and weighs nothing in the new map. If the step takes a class, only the
 /// bucket's devices of this class count for both weights. `identity` says whether the bucket of the
 /// old map is the one with the same id or the one with the same name.
 pub(crate) fn push_emptied<'a, A: Allocator, B: Allocator>(
+    alloc: Global,
     identity: Identity,
     old: &CrushMap<A>,
     new: &'a CrushMap<B>,
@@ -31,8 +34,9 @@ pub(crate) fn push_emptied<'a, A: Allocator, B: Allocator>(
         ≡ each rule_change_data changes.old.items
         ++ emptied_rules identity t u new.now.setting.rules) }
 {
+    let mut cache = Vec::new(alloc);
     let rules = new.setting().rules();
-    push_rules(identity, old, new, rules, changes)
+    push_rules(identity, old, new, rules, &mut cache, changes)
 }
 
 fn push_rules<'a, A: Allocator, B: Allocator>(
@@ -40,15 +44,20 @@ fn push_rules<'a, A: Allocator, B: Allocator>(
     old: &CrushMap<A>,
     new: &'a CrushMap<B>,
     rules: &'a [KeptRule],
+    cache: &mut Vec<Taken<'a>>,
     changes: &mut Vec<RuleChange<'a>>,
 ) -> Result<(), AllocError>
-    ensures { (t u : List Row) → Stands old.now.forest t → Stands new.now.forest u
+    ensures changes { (t u : List Row) → Stands old.now.forest t → Stands new.now.forest u
+        → AreRight identity t u cache.old.items
         → OnOk result (each rule_change_data changes.new.items
         ≡ each rule_change_data changes.old.items
         ++ emptied_rules identity t u (each rule_data rules.now)) }
+    ensures cache { (t u : List Row) → Stands old.now.forest t → Stands new.now.forest u
+        → AreRight identity t u cache.old.items
+        → OnOk result (AreRight identity t u cache.new.items) }
 {
     for rule in rules {
-        push_rule(identity, old, new, rule, changes)?;
+        push_rule(identity, old, new, rule, cache, changes)?;
     }
     Ok(())
 }
@@ -58,12 +67,17 @@ fn push_rule<'a, A: Allocator, B: Allocator>(
     old: &CrushMap<A>,
     new: &'a CrushMap<B>,
     rule: &'a KeptRule,
+    cache: &mut Vec<Taken<'a>>,
     changes: &mut Vec<RuleChange<'a>>,
 ) -> Result<(), AllocError>
-    ensures { (t u : List Row) → Stands old.now.forest t → Stands new.now.forest u
+    ensures changes { (t u : List Row) → Stands old.now.forest t → Stands new.now.forest u
+        → AreRight identity t u cache.old.items
         → OnOk result (each rule_change_data changes.new.items
         ≡ each rule_change_data changes.old.items
         ++ emptied_of identity t u (rule_data rule.now)) }
+    ensures cache { (t u : List Row) → Stands old.now.forest t → Stands new.now.forest u
+        → AreRight identity t u cache.old.items
+        → OnOk result (AreRight identity t u cache.new.items) }
 {
     push_steps(
         identity,
@@ -71,6 +85,7 @@ fn push_rule<'a, A: Allocator, B: Allocator>(
         new,
         rule.name.as_str(),
         rule.steps.as_slice(),
+        cache,
         changes,
     )
 }
@@ -81,15 +96,20 @@ fn push_steps<'a, A: Allocator, B: Allocator>(
     new: &'a CrushMap<B>,
     rule: &'a str,
     steps: &'a [KeptStep],
+    cache: &mut Vec<Taken<'a>>,
     changes: &mut Vec<RuleChange<'a>>,
 ) -> Result<(), AllocError>
-    ensures { (t u : List Row) → Stands old.now.forest t → Stands new.now.forest u
+    ensures changes { (t u : List Row) → Stands old.now.forest t → Stands new.now.forest u
+        → AreRight identity t u cache.old.items
         → OnOk result (each rule_change_data changes.new.items
         ≡ each rule_change_data changes.old.items
         ++ flat_map (emptied_by identity t u rule.now) (each step_data steps.now)) }
+    ensures cache { (t u : List Row) → Stands old.now.forest t → Stands new.now.forest u
+        → AreRight identity t u cache.old.items
+        → OnOk result (AreRight identity t u cache.new.items) }
 {
     for step in steps {
-        push_step(identity, old, new, rule, step, changes)?;
+        push_step(identity, old, new, rule, step, cache, changes)?;
     }
     Ok(())
 }
@@ -100,17 +120,22 @@ fn push_step<'a, A: Allocator, B: Allocator>(
     new: &'a CrushMap<B>,
     rule: &'a str,
     step: &'a KeptStep,
+    cache: &mut Vec<Taken<'a>>,
     changes: &mut Vec<RuleChange<'a>>,
 ) -> Result<(), AllocError>
-    ensures { (t u : List Row) → Stands old.now.forest t → Stands new.now.forest u
+    ensures changes { (t u : List Row) → Stands old.now.forest t → Stands new.now.forest u
+        → AreRight identity t u cache.old.items
         → OnOk result (each rule_change_data changes.new.items
         ≡ each rule_change_data changes.old.items
         ++ emptied_by identity t u rule.now (step_data step.now)) }
+    ensures cache { (t u : List Row) → Stands old.now.forest t → Stands new.now.forest u
+        → AreRight identity t u cache.old.items
+        → OnOk result (AreRight identity t u cache.new.items) }
 {
     match step {
         KeptStep::Take(bucket, class) => {
             let class = class_named(class);
-            let is = is_emptied(identity, old, new, *bucket, class);
+            let is = is_emptied_cached(identity, old, new, *bucket, class, cache)?;
             let bucket = bucket_word(new, *bucket);
             push_if(is, rule, bucket, class, changes)
         }
@@ -138,6 +163,34 @@ fn push_if<'a>(
         })?;
     }
     Ok(())
+}
+
+/// Whether the bucket has lost all its weight. If the cache has no result for this bucket and
+/// class, computes the result and stores it in the cache. The cache saves time, because the sum of
+/// the weights of a class visits each item below the bucket.
+fn is_emptied_cached<'a, A: Allocator, B: Allocator>(
+    identity: Identity,
+    old: &CrushMap<A>,
+    new: &CrushMap<B>,
+    bucket: BucketId,
+    class: Option<&'a str>,
+    cache: &mut Vec<Taken<'a>>,
+) -> Result<bool, AllocError>
+    ensures is { (t u : List Row) → Stands old.now.forest t → Stands new.now.forest u
+        → AreRight identity t u cache.old.items → IfOk result (λ is. is
+        ≡ is_emptied identity t u bucket (option_map (λ c. c.now) class.entry)) }
+    ensures cache { (t u : List Row) → Stands old.now.forest t → Stands new.now.forest u
+        → AreRight identity t u cache.old.items
+        → OnOk result (AreRight identity t u cache.new.items) }
+{
+    match cached_result(cache.as_slice(), bucket, class) {
+        Some(is) => Ok(is),
+        None => {
+            let is = is_emptied(identity, old, new, bucket, class);
+            store(bucket, class, is, cache)?;
+            Ok(is)
+        }
+    }
 }
 
 fn is_emptied<A: Allocator, B: Allocator>(

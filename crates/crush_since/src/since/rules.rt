@@ -61,7 +61,7 @@ pub fn rule_changes<'a, A: Allocator, B: Allocator>(
         ≡ rule_changes identity (plain_map old.now.setting t) (plain_map new.now.setting u)) }
 {
     let mut changes = rule_differences(alloc, identity, old, new)?;
-    push_emptied(identity, old, new, &mut changes)?;
+    push_emptied(alloc, identity, old, new, &mut changes)?;
     Ok(changes)
 }
 

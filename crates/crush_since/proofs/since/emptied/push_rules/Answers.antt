@@ -5,6 +5,12 @@ use Rattle.crush_since.proofs.RuleLaws.{seen_more}
 use Rattle.crush_since.proofs.since.emptied.push_rules.Goals as goal
 
 pub loop-rule-preserved : goal.loop-rule-preserved
-loop-rule-preserved g c = λ t u a b.
-    one_more _ _ _ _ _ _ (c.loop-rule.invariant t u a b) (c.in_ok-push_rule.ensures t u a b)
-    (seen_more (emptied_of c.args.identity t u) rule_data c.args.rules.now c.loop-rule.rule-index c.rule-item.result c.loop-rule-test.true c.rule-item.is)
+loop-rule-preserved g c = λ t u a b right.
+    let before = c.loop-rule.invariant t u a b right in (
+      c.in_ok-push_rule.ensures.cache t u a b before.0,
+      one_more _ _ _ _ _ _ before.1 (c.in_ok-push_rule.ensures.changes t u a b before.0)
+          (seen_more (emptied_of c.args.identity t u) rule_data c.args.rules.now c.loop-rule.rule-index c.rule-item.result c.loop-rule-test.true c.rule-item.is),
+    )
+
+pub returns-clause-cache : goal.returns-clause-cache
+returns-clause-cache g c = λ t u a b right. (c.loop-rule.invariant t u a b right).0

@@ -5,6 +5,12 @@ use Rattle.crush_since.proofs.RuleLaws.{seen_more}
 use Rattle.crush_since.proofs.since.emptied.push_steps.Goals as goal
 
 pub loop-step-preserved : goal.loop-step-preserved
-loop-step-preserved g c = λ t u a b.
-    one_more _ _ _ _ _ _ (c.loop-step.invariant t u a b) (c.in_ok-push_step.ensures t u a b)
-    (seen_more (emptied_by c.args.identity t u c.args.rule.now) step_data c.args.steps.now c.loop-step.step-index c.step-item.result c.loop-step-test.true c.step-item.is)
+loop-step-preserved g c = λ t u a b right.
+    let before = c.loop-step.invariant t u a b right in (
+      c.in_ok-push_step.ensures.cache t u a b before.0,
+      one_more _ _ _ _ _ _ before.1 (c.in_ok-push_step.ensures.changes t u a b before.0)
+          (seen_more (emptied_by c.args.identity t u c.args.rule.now) step_data c.args.steps.now c.loop-step.step-index c.step-item.result c.loop-step-test.true c.step-item.is),
+    )
+
+pub returns-clause-cache : goal.returns-clause-cache
+returns-clause-cache g c = λ t u a b right. (c.loop-step.invariant t u a b right).0
