@@ -13,7 +13,7 @@ use Rattle.crush_compare.specs.AllIds.{all_ids, all_buckets, all_devices, once}
 use Rattle.crush_items.specs.ById.{IsShort, id_key}
 use Rattle.crush_items.specs.Order.{ascending, device_number}
 use Rattle.crush_compare.specs.Pairs.{RiseFrom, Rise}
-use Rattle.crush_compare.proofs.KeyLaws.{has, has-append, has-ascending, has-once, no, rise-once, up-ascending}
+use Rattle.crush_compare.proofs.KeyLaws.{has, has-append, has-ascending, has-once, no, or_swap, rise-once, up-ascending}
 
 -- the key of the device with the number d
 abbrev pub beyond : ℕ → ℕ
@@ -28,16 +28,10 @@ buckets_of t = flat_map (λ (r : Row). bucket_ids r.id) t
 devices_of : List Row → List ℕ
 devices_of t = flat_map (λ (r : Row). device_number r.id) t
 
-or_middle : (a p q : Bool) → (a || (p || q)) ≡ (p || (a || q))
-or_middle true true q = refl
-or_middle true false q = refl
-or_middle false true q = refl
-or_middle false false q = refl
-
 -- a number is the key of a row if and only if it is the number of a row's bucket, or it is `beyond` d for the number d of a row's device
 key_more : (k : ℕ) (i : ItemId) (bs ds : List ℕ) (p : Bool) → p ≡ (has k bs || has k (map beyond ds)) → ((k == id_key i) || p) ≡ (has k (bucket_ids i ++ bs) || has k (map beyond (device_number i ++ ds)))
 key_more k (Bucket b) bs ds p is = ap (λ q. (k == b) || q) is ∙ sym (or_assoc (k == b) (has k bs) (has k (map beyond ds)))
-key_more k (Device d) bs ds p is = ap (λ q. (k == beyond d) || q) is ∙ or_middle (k == beyond d) (has k bs) (has k (map beyond ds))
+key_more k (Device d) bs ds p is = ap (λ q. (k == beyond d) || q) is ∙ or_swap (k == beyond d) (has k bs) (has k (map beyond ds))
 
 has-rows : (k : ℕ) (t : List Row) → has k (row_keys t) ≡ (has k (flat_map (λ (r : Row). bucket_ids r.id) t) || has k (map beyond (flat_map (λ (r : Row). device_number r.id) t)))
 has-rows k [] = refl

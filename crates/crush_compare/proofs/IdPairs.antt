@@ -33,7 +33,7 @@ use Rattle.crush_items.specs.declared.by_id.Place.{Place}
 use Rattle.crush_items.proofs.EntryLaws.{entry_item, entry_class_ids}
 use Rattle.crush_compare.proofs.FoundLaws.{found_pairs, keys_of_pairs}
 use Rattle.crush_compare.proofs.IdKeys.{has-all_ids, rise-all_ids, row_keys, short_ids}
-use Rattle.crush_compare.proofs.KeyLaws.{UpFrom, has}
+use Rattle.crush_compare.proofs.KeyLaws.{UpFrom, has, more_than}
 
 same_key : (i j : ItemId) → IsShort i → IsShort j → id_key i ≡ id_key j → i ≡ j
 same_key (Device d) (Device e) x y h = ap Device (omega (arith, h))
@@ -119,13 +119,10 @@ up_keys low [] up least = tt
 up_keys low (p ∷ ps) up least =
     (least p (omega arith), up_keys p.key ps (λ i j d le lt. up (suc i) (suc j) d (omega (arith, le)) (omega (arith, lt))) (λ d some. up 0 1 d (omega arith) (omega (arith, some))))
 
-more : (k m : ℕ) → k ≤ m → (k ≡ m → ⊥) → k + 1 ≤ m
-more k m least other = omega (arith, least, other)
-
 raised_by : (k : ℕ) (i : ItemId) (e : EntryData) (es : List EntryData) → id_key i ≡ k → IsShort i → IsShort (entry_id e) → times_in i (e ∷ es) ≡ 0 → k ≤ entry_key e
     → ((same_id (entry_id e) i ≡ true) × (entry_id e ≡ i)) ⊎ ((same_id (entry_id e) i ≡ false) × (entry_id e ≢ i)) → k + 1 ≤ entry_key e
 raised_by k i e es is short own none least (inl p) = absurd (let one : one_if (same_id (entry_id e) i) ≡ 1 = ap one_if p.0 in omega (arith, one, none, sum_by-cons (λ x. one_if (same_id (entry_id x) i)) e es))
-raised_by k i e es is short own none least (inr p) = more k (entry_key e) least (λ h. p.1 (same_key (entry_id e) i own short (sym h ∙ sym is)))
+raised_by k i e es is short own none least (inr p) = more_than k (entry_key e) least (λ h. p.1 (same_key (entry_id e) i own short (sym h ∙ sym is)))
 
 raised : (k : ℕ) (i : ItemId) (es : List EntryData) → id_key i ≡ k → IsShort i → All (λ e. IsShort (entry_id e)) es → times_in i es ≡ 0 → UpFrom k (map entry_key es) → UpFrom (k + 1) (map entry_key es)
 raised k i [] is short all none up = tt

@@ -15,7 +15,7 @@ abbrev pub has : ℕ → List ℕ → Bool
 has n [] = false
 has n (x ∷ xs) = (n == x) || has n xs
 
-or_swap : (a b c : Bool) → (a || (b || c)) ≡ (b || (a || c))
+pub or_swap : (a b c : Bool) → (a || (b || c)) ≡ (b || (a || c))
 or_swap true true c = refl
 or_swap true false c = refl
 or_swap false true c = refl
@@ -81,7 +81,7 @@ pub has-once : (n : ℕ) (xs : List ℕ) → has n (once xs) ≡ has n xs
 has-once n [] = refl
 has-once n (x ∷ xs) = has-behind n x xs
 
-more_than : (l x : ℕ) → l ≤ x → (l ≡ x → ⊥) → l + 1 ≤ x
+pub more_than : (l x : ℕ) → l ≤ x → (l ≡ x → ⊥) → l + 1 ≤ x
 more_than l x least other = omega (arith, least, other)
 
 rise_by : (l x : ℕ) (xs : List ℕ) (b : Bool) → (l == x) ≡ b → l ≤ x → RiseFrom (x + 1) (once_behind (Some x) xs)

@@ -92,7 +92,7 @@ row_there : (t : List Row) (e : EntryData) (o : Option Row) → option_map (row_
 row_there t e None is = absurd cc
 row_there t e (Some r) is = refl
 
-told_there : (t : List Row) (es : List EntryData) (k : ℕ) (e : EntryData) → All (λ x. entry_of t (entry_id x) ≡ Some x) es → slice_get es k ≡ Some e → is_there t (entry_id e) ≡ true
+pub told_there : (t : List Row) (es : List EntryData) (k : ℕ) (e : EntryData) → All (λ x. entry_of t (entry_id x) ≡ Some x) es → slice_get es k ≡ Some e → is_there t (entry_id e) ≡ true
 told_there t [] k e told at = absurd cc
 told_there t (x ∷ es) zero e told at = let same : x ≡ e = cc in row_there t e (row_of t (entry_id e)) (subst (λ y. entry_of t (entry_id y) ≡ Some y) same (All-head (λ y. entry_of t (entry_id y) ≡ Some y) x es told))
 told_there t (x ∷ es) (suc k) e told at = told_there t es k e (All-tail (λ y. entry_of t (entry_id y) ≡ Some y) x es told) at

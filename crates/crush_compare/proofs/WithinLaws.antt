@@ -42,7 +42,7 @@ use Rattle.crush_compare.proofs.IdKeys.{has-kept, short_ids}
 use Rattle.crush_compare.proofs.IdPairs.{at_position, by_id_rises, has-sum, keys_of_all_ids, looked_up}
 use Rattle.crush_compare.proofs.KeyLaws.{has, has-append, rise-once, unique, up-ascending}
 use Rattle.crush_compare.proofs.PartLaws.{steps_are_part}
-use Rattle.crush_compare.proofs.PositionLaws.{run_is_part}
+use Rattle.crush_compare.proofs.PositionLaws.{run_is_part, told_there}
 
 -- the elements that meet a test, among the first i + 1 elements of a list
 pub more_met : {X : Type 0} (f : X → Bool) (xs : List X) (i : ℕ) (x : X) → i < length xs → x ≡ get_or xs i x → filter f (take (i + 1) xs) ≡ filter f (take i xs) ++ filter f (x ∷ [])
@@ -275,14 +275,6 @@ run_here t es i p run lawful has tree found from part at e is = by (entry_of t i
       let here : slice_get es p.at ≡ Some top = cc in
       run_is_part t es run.from run.to at top e lawful has tree (ap (slice_get es) from ∙ here) is (part ∙ ap (λ n. first_with_below t (drop n (tree_rows t))) (sym from)) ∙ ap (λ j. is_at t j (entry_id e)) (entry_own t i top own)
 
--- the empty run is the run of an item that the table doesn't have
-told_id : (t : List Row) (es : List EntryData) (k : ℕ) (e : EntryData) → All (λ x. entry_of t (entry_id x) ≡ Some x) es → slice_get es k ≡ Some e → is_there t (entry_id e) ≡ true
-told_id t [] k e told at = absurd cc
-told_id t (x ∷ es) zero e told at =
-    let same : x ≡ e = cc in
-    entry_there t (entry_id e) (Some e) (subst (λ y. entry_of t (entry_id y) ≡ Some y) same (All-head (λ y. entry_of t (entry_id y) ≡ Some y) x es told))
-told_id t (x ∷ es) (suc k) e told at = told_id t es k e (All-tail (λ y. entry_of t (entry_id y) ≡ Some y) x es told) at
-
 nothing_below : (t : List Row) (i j : ItemId) → Lawful t → is_there t i ≡ false → is_there t j ≡ true → is_at t i j ≡ false
 nothing_below t i j lawful gone there = by i gone (same_id_tells i j) where
   by : (k : ItemId) → is_there t k ≡ false → ((same_id k j ≡ true) × (k ≡ j)) ⊎ ((same_id k j ≡ false) × (k ≢ j)) → is_at t k j ≡ false
@@ -290,9 +282,10 @@ nothing_below t i j lawful gone there = by i gone (same_id_tells i j) where
   by (Device d) none (inr p) = p.0
   by (Bucket b) none (inr p) = ap (λ c. c || is_below t b j) p.0 ∙ is_below-absent t lawful.parents b none j
 
+-- the empty run is the run of an item that the table doesn't have
 pub run_nowhere : (t : List Row) (es : List EntryData) (i : ItemId) → Lawful t → HasEntries t es → None ≡ option_map Some (entry_of t i) → IsRunOf t es i (record { from = 0; to = 0 })
 run_nowhere t es i lawful has none at e is =
-    (let no : is_within (record { from = 0; to = 0 }) (Some at) ≡ false = grind (arith, nat_tests) in no) ∙ sym (nothing_below t i (entry_id e) lawful (by (row_of t i) none) (told_id t es at e has.told is)) where
+    (let no : is_within (record { from = 0; to = 0 }) (Some at) ≡ false = grind (arith, nat_tests) in no) ∙ sym (nothing_below t i (entry_id e) lawful (by (row_of t i) none) (told_there t es at e has.told is)) where
       by : (o : Option Row) → None ≡ option_map Some (option_map (row_entry t i) o) → is_some o ≡ false
       by None h = refl
       by (Some r) h = absurd cc
