@@ -9,7 +9,6 @@ pub mod Numbers
 pub mod PlanLaws
 pub mod ReplyLaws
 pub mod SinceLaws
-pub mod StaysLaws
 pub mod TreeLaws
 pub mod WeightNumber
 pub mod WholeNumber

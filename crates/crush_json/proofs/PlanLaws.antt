@@ -32,7 +32,7 @@ history_before None ms = refl
 history_before (Some h) ms = refl
 
 -- the tokens of the whole document
-pub plan_told : (h : Option Data) (edits : List Edit) (rest : List ℕ) (ids class_ids : ℕ)
+pub plan_told : (h : Option Data) (edits : List Edit) (rest : List (List ℕ)) (ids class_ids : ℕ)
     → begin_object ∷ (member_tokens (codes "aside") (aside_document ids class_ids) ++ (history_tokens_if h ++ (key (codes "plan") ∷ (json_tokens (json.array (all_of (map command edits)))
     ++ (key (codes "stays") ∷ (tokens_of (stays_document rest) ++ end_object ∷ []))))))
     ≡ json_tokens (plan_document h edits rest ids class_ids)

@@ -1,5 +1,5 @@
 -- A plan as a JSON value: its edits as the commands that a monitor takes. The members of each object are sorted by name.
-use Rattle.std.specs.Prelude.{ℕ, ◌==◌, true, List, [], ◌∷◌, ◌++◌, Option, Some, None, if◌then◌else◌, codes, map}
+use Rattle.std.specs.Prelude.{ℕ, true, List, [], ◌∷◌, ◌++◌, Option, Some, None, codes, map}
 use Rattle.std.specs.Str.Lossy.{utf8_lossy}
 use Rattle.crush_units.specs.ExactWeight.{exact_text}
 use Rattle.crush_edits.specs.declared.location.Pair.{Pair}
@@ -88,24 +88,12 @@ abbrev pub all_of : List json.Json → json.Items
 all_of [] = json.no_items
 all_of (j ∷ js) = json.item j (all_of js)
 
--- LINES of a text, without their line feeds. If the text has bytes after its last line feed, these bytes are the last line
-abbrev pub last_line : List ℕ → List (List ℕ)
-last_line [] = []
-last_line (b ∷ line) = (b ∷ line) ∷ []
-
-unfoldable pub lines_behind : List ℕ → List ℕ → List (List ℕ)
-lines_behind line [] = last_line line
-lines_behind line (b ∷ bs) = if b == 10 then line ∷ lines_behind [] bs else lines_behind (line ++ b ∷ []) bs
-
-unfoldable pub lines : List ℕ → List (List ℕ)
-lines bytes = lines_behind [] bytes
-
 -- a line as text, in which U+FFFD replaces the bytes that aren't UTF-8
 abbrev pub line_value : List ℕ → Data
 line_value line = string (utf8_lossy line)
 
-unfoldable pub stays_document : List ℕ → Data
-stays_document rest = list (map line_value (lines rest))
+unfoldable pub stays_document : List (List ℕ) → Data
+stays_document rest = list (map line_value rest)
 
 -- if there is a history, these members with the history before them; otherwise only these members
 abbrev pub behind_history : Option Data → json.Members → json.Members
@@ -117,7 +105,7 @@ unfoldable pub aside_document : ℕ → ℕ → Data
 aside_document ids class_ids = object (member (codes "class_ids") (natural class_ids) (member (codes "ids") (natural ids) no_members))
 
 -- PLAN DOCUMENT: the numbers of buckets whose ids or class ids differ, the history if there is one, the commands of the edits, and the differences that remain
-unfoldable pub plan_document : Option Data → List Edit → List ℕ → ℕ → ℕ → json.Json
+unfoldable pub plan_document : Option Data → List Edit → List (List ℕ) → ℕ → ℕ → json.Json
 plan_document history edits rest ids class_ids =
     json.object (told (codes "aside") (aside_document ids class_ids) (behind_history history (json.member (codes "plan") (json.array (all_of (map command edits)))
     (told (codes "stays") (stays_document rest) json.no_members))))

@@ -29,9 +29,10 @@ use Rattle.crush_script.proofs.PrintedLaws.{name_word, printed_is_read}
 use Rattle.crush_script.proofs.PrintedWords.{IsWord, line_words-joined}
 use Rattle.crush_history.specs.Ceph.{ceph_heading}
 use Rattle.crush_since.specs.Aside.{aside_text}
+use Rattle.crush_since.specs.Stays.{text_of_lines}
 use Rattle.crush_plan.specs.Leads.{Leads}
 use Rattle.crush_plan.specs.Part.{IsAllowed}
-use Rattle.crush_plan.specs.Plan.{PlanData, line_count}
+use Rattle.crush_plan.specs.Plan.{PlanData}
 use Rattle.crush_plan.specs.PlanText.{commented, plan_text, script_line, stay_heading, stay_text}
 use Rattle.crush_laws.specs.Planned.{PlansAreRun, PlansAreScripts}
 use Rattle.crush_laws.proofs.HistoryComments.{IsInLine, both_in_line, edit_in_line, name_in_line, number_in_line}
@@ -108,17 +109,17 @@ within (b ∷ part) rest h =
     ap (λ (t : Bool). begin_comments t (part ++ rest)) k.0 ∙ within part rest k.1
 
 -- everything that follows the edits in the plan's text has this property
-stay_is : (rest more : List ℕ) → ((begun : Bool) → begin_comments begun more ≡ true) → begin_comments false (stay_text rest ++ more) ≡ true
+stay_is : (rest : List (List ℕ)) (more : List ℕ) → ((begun : Bool) → begin_comments begun more ≡ true) → begin_comments false (stay_text rest ++ more) ≡ true
 unfolding stay_heading
 stay_is [] more h = h false
-stay_is (b ∷ rest) more h =
-    let count : List ℕ = decimal (line_count (b ∷ rest)) in
-    let told : List ℕ = commented true (b ∷ rest) in
+stay_is (line ∷ rest) more h =
+    let count : List ℕ = decimal (length (line ∷ rest)) in
+    let told : List ℕ = commented true (text_of_lines (line ∷ rest)) in
     ap (begin_comments false) (append_assoc (codes "# " ++ count ++ codes " differences stay\n") told more ∙ append_assoc (codes "# " ++ count) (codes " differences stay\n") (told ++ more))
-    ∙ within (codes " " ++ count) (codes " differences stay\n" ++ (told ++ more)) (both_in_line (codes " ") count refl (number_in_line (line_count (b ∷ rest))))
-    ∙ told_is false (b ∷ rest) more h
+    ∙ within (codes " " ++ count) (codes " differences stay\n" ++ (told ++ more)) (both_in_line (codes " ") count refl (number_in_line (length (line ∷ rest))))
+    ∙ told_is false (text_of_lines (line ∷ rest)) more h
 
-tail_is : (rest aside : List ℕ) → begin_comments false (stay_text rest ++ commented true aside) ≡ true
+tail_is : (rest : List (List ℕ)) (aside : List ℕ) → begin_comments false (stay_text rest ++ commented true aside) ≡ true
 tail_is rest aside = stay_is rest (commented true aside) (λ begun. ap (begin_comments begun) (sym (append-nil (commented true aside))) ∙ told_is begun aside [] (λ b. refl))
 
 -- A READER finds no words in comment lines

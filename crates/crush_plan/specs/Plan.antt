@@ -1,6 +1,5 @@
 -- What a plan promises, independent of the search that has found it.
-use Rattle.std.specs.Prelude.{◌≡◌, ◌⊎◌, ◌<◌, ℕ, ◌==◌, List, [], Option}
-use Rattle.std.specs.List.{count_by}
+use Rattle.std.specs.Prelude.{◌≡◌, ◌⊎◌, ◌<◌, ℕ, List, [], Option, length}
 use Rattle.crush_model.specs.Table.{Row}
 use Rattle.crush_edits.specs.declared.edit.Edit.{Edit}
 use Rattle.crush_since.specs.Since.{PlainMap, plain_map}
@@ -9,16 +8,16 @@ use Rattle.crush_plan.specs.declared.plan.Plan.{Plan}
 use Rattle.crush_since.specs.Aside.{CountsAsideOf}
 use Rattle.crush_plan.specs.Leads.{Leads}
 use Rattle.crush_plan.specs.Part.{IsAllowed}
-use Rattle.crush_since.specs.Stays.{stays_part}
+use Rattle.crush_since.specs.Stays.{line_texts, stays_part}
 
 -- a plan as plain data: the edits, the lines of the differences that remain after them, and the counts of ids that differ
 pub record PlanData : Type 0 where
   pub edits : List Edit
-  pub rest : List ℕ
+  pub rest : List (List ℕ)
   pub aside : Counts
 
 abbrev pub plan_data : Plan → PlanData
-plan_data p = record { edits = p.edits.items; rest = p.rest.items; aside = p.aside }
+plan_data p = record { edits = p.edits.items; rest = line_texts p.rest.items; aside = p.aside }
 
 -- the plan's differences and counts are those between the map `old` and the wanted map `new`, in the selected part
 pub record TellsRest (under : Option (List ℕ)) (old new : PlainMap) (plan : PlanData) : Type 0 where
@@ -31,16 +30,12 @@ pub record GoesTo (under : Option (List ℕ)) (old new : PlainMap) (plan : PlanD
   pub leads : Leads (IsAllowed old.table new.table under) old.setting old.table plan.edits table
   pub tells : TellsRest under (plain_map old.setting table) new plan
 
--- the number of lines of a text, which is the number of its line feeds
-abbrev pub line_count : List ℕ → ℕ
-line_count text = count_by (λ b. b == 10) text
-
 -- BETTER: fewer differences remain after the plan's edits than there are without any edit. Different ids don't count as differences
 pub record IsBetterThanNone (under : Option (List ℕ)) (old new : PlainMap) (plan : PlanData) : Type 0 where
   pub none : PlanData
   pub edits : none.edits ≡ []
   pub tells : TellsRest under old new none
-  pub fewer : line_count plan.rest < line_count none.rest
+  pub fewer : length plan.rest < length none.rest
 
 -- PLAN: the edits are allowed and lead from the old map to a table, and the plan's differences are exactly those that remain after the edits. Either the plan
 -- has no edits, or fewer differences remain than without them

@@ -7,7 +7,8 @@ use Rattle.crush_history.specs.HistoryText.{edit_text}
 use Rattle.crush_history.specs.Ceph.{ceph_heading}
 use Rattle.crush_ceph.specs.CephText.{ceph_text}
 use Rattle.crush_since.specs.Aside.{aside_text}
-use Rattle.crush_plan.specs.Plan.{PlanData, line_count}
+use Rattle.crush_since.specs.Stays.{text_of_lines}
+use Rattle.crush_plan.specs.Plan.{PlanData}
 
 -- an edit as a line of a script
 abbrev pub script_line : Edit → List ℕ
@@ -25,9 +26,9 @@ commented at_head (b ∷ bs) = mark at_head ++ b ∷ commented (b == 10) bs
 unfoldable pub stay_heading : ℕ → List ℕ
 stay_heading count = codes "# " ++ decimal count ++ codes " differences stay\n"
 
-abbrev pub stay_text : List ℕ → List ℕ
+abbrev pub stay_text : List (List ℕ) → List ℕ
 stay_text [] = []
-stay_text (b ∷ bs) = stay_heading (line_count (b ∷ bs)) ++ commented true (b ∷ bs)
+stay_text (line ∷ lines) = stay_heading (length (line ∷ lines)) ++ commented true (text_of_lines (line ∷ lines))
 
 -- what follows the edits: the differences that remain, and the numbers of buckets whose ids differ
 abbrev pub tail_text : PlanData → List ℕ

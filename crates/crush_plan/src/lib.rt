@@ -27,5 +27,5 @@ mod way;
 mod weights;
 
 pub use identity::Identity;
-pub use plan::{Plan, count_lines, find_plan};
+pub use plan::{Plan, find_plan};
 pub use text::{ceph_plan_text, plan_text};

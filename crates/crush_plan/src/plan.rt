@@ -1,13 +1,13 @@
 //! Finds the plan that leads from one map to another.
 
-ghost use Rattle.std.specs.Prelude.{◌≡◌, ◌<◌, IfOk, List, true};
+ghost use Rattle.std.specs.Prelude.{◌≡◌, ◌<◌, IfOk, List, length, true};
 ghost use Rattle.std.specs.Option.{option_map};
 ghost use Rattle.crush_model.specs.Stands.{Stands};
 ghost use Rattle.crush_model.specs.Table.{Row};
 ghost use Rattle.crush_since.specs.Since.{plain_map};
-ghost use Rattle.crush_since.specs.Stays.{stays_part};
+ghost use Rattle.crush_since.specs.Stays.{line_texts, stays_part};
 ghost use Rattle.crush_plan.specs.Draft.{IsDraftOf};
-ghost use Rattle.crush_plan.specs.Plan.{GoesTo, IsPlan, line_count, plan_data};
+ghost use Rattle.crush_plan.specs.Plan.{GoesTo, IsPlan, plan_data};
 
 use crate::draft::Draft;
 use crate::goal::PlanGoal;
@@ -24,9 +24,9 @@ pub struct Plan {
     /// The edits, in the order in which they have to be applied. No edit is refused, and each edit
     /// changes the map to which the edits before it have led.
     pub edits: Vec<Edit>,
-    /// A line of text for each difference that remains after the edits. To find these differences,
-    /// the items of the two maps are matched by their names.
-    pub rest: Vec<u8>,
+    /// A line of text for each difference that remains after the edits, without its line feed. To
+    /// find these differences, the items of the two maps are matched by their names.
+    pub rest: Vec<Vec<u8>>,
     /// The numbers of buckets that have different ids, or different class ids, in the two maps
     /// after the edits. The buckets are matched by their names. No edit can set an id, so these
     /// differences aren't in `rest`.
@@ -59,7 +59,7 @@ pub fn find_plan<A: Allocator + Clone, B: Allocator>(
     if rest.is_empty() {
         return without_edits(alloc, under, map, wanted, rest);
     }
-    let differences = count_lines(rest.as_slice());
+    let differences = rest.len();
     let found = with_edits(alloc, identity, under, map, wanted, differences)?;
     if is_better(&found, differences) {
         return Ok(found);
@@ -73,11 +73,11 @@ fn without_edits<A: Allocator, B: Allocator>(
     under: Option<&str>,
     map: &CrushMap<A>,
     wanted: &CrushMap<B>,
-    rest: Vec<u8>,
+    rest: Vec<Vec<u8>>,
 ) -> Result<Plan, AllocError>
     requires remaining { (t u : List Row)
         → Stands map.now.forest t → Stands wanted.now.forest u
-        → rest.items ≡ stays_part (option_map (λ name. name.now) under)
+        → line_texts rest.items ≡ stays_part (option_map (λ name. name.now) under)
         (plain_map map.now.setting t) (plain_map wanted.now.setting u) }
     ensures { IfOk result (λ plan. (t u : List Row)
         → Stands map.now.forest t → Stands wanted.now.forest u
@@ -136,31 +136,9 @@ fn to_goal<A: Allocator + Clone, B: Allocator>(
 
 /// Whether fewer than `differences` differences remain after the edits of the plan.
 fn is_better(plan: &Plan, differences: usize) -> bool
-    ensures { result ≡ true → line_count plan.now.rest.items < differences }
+    ensures { result ≡ true → length plan.now.rest.items < differences }
 {
-    plan.count_differences() < differences
-}
-
-impl Plan {
-    /// Returns how many differences remain after the edits.
-    pub fn count_differences(&self) -> usize
-        ensures { result ≡ line_count self.now.rest.items }
-    {
-        count_lines(self.rest.as_slice())
-    }
-}
-
-/// Returns the number of lines of a text: the number of its line feeds.
-pub fn count_lines(text: &[u8]) -> usize
-    ensures { result ≡ line_count text.now }
-{
-    let mut count: usize = 0;
-    for byte in text {
-        if *byte == b'\n' {
-            count += 1;
-        }
-    }
-    count
+    plan.rest.len() < differences
 }
 
 /// Searches for edits, starting from the map itself, and returns the draft that the search has

@@ -9,7 +9,6 @@ use crate::draft::Draft;
 use crate::goal::PlanGoal;
 use crate::identity::Identity;
 use crate::moves::move_all;
-use crate::plan::count_lines;
 use crate::removals::remove_all;
 use crate::renames::rename_all;
 use crate::swaps::swap_all;
@@ -78,7 +77,7 @@ fn count_differences<A: Allocator + Clone, B: Allocator>(
     goal: &PlanGoal<'_, A, B>,
 ) -> Result<usize, AllocError> {
     let rest = stays_part(draft.alloc, goal.under, &draft.map, goal.wanted)?;
-    Ok(count_lines(rest.as_slice()))
+    Ok(rest.len())
 }
 
 /// Returns the better of two candidates: one that matches buckets as the goal says, and one that

@@ -4,15 +4,16 @@ ghost use Rattle.std.specs.Prelude.{◌≡◌, ◌∷◌, [], ◌++◌, IfOk, Li
 ghost use Rattle.crush_model.specs.Stands.{Stands};
 ghost use Rattle.crush_model.specs.Table.{Row};
 ghost use Rattle.crush_since.specs.Aside.{aside_text};
+ghost use Rattle.crush_since.specs.Stays.{line_texts};
 ghost use Rattle.crush_plan.specs.Plan.{plan_data};
 ghost use Rattle.crush_plan.specs.PlanText.{ceph_plan_text, commented, mark, plan_text, script_line, stay_heading, stay_text, tail_text};
 
-use crate::plan::{Plan, count_lines};
+use crate::plan::Plan;
 use crush_ceph::ceph_text;
 use crush_edits::Edit;
 use crush_history::{push_ceph_heading, write_edit};
 use crush_map::CrushMap;
-use crush_since::{Counts, push_aside};
+use crush_since::{Counts, push_aside, push_stays};
 use crush_units::put_all;
 use itoa::Buffer;
 use std::alloc::{AllocError, Global};
@@ -52,7 +53,7 @@ pub fn ceph_plan_text(
 fn push_tail(alloc: Global, plan: &Plan, text: &mut Vec<u8>) -> Result<(), AllocError>
     ensures { OnOk result (text.new.items ≡ text.old.items ++ tail_text (plan_data plan.now)) }
 {
-    push_rest(plan.rest.as_slice(), text)?;
+    push_rest(alloc, plan.rest.as_slice(), text)?;
     push_ids(alloc, plan.aside, text)
 }
 
@@ -85,14 +86,16 @@ fn push_line(edit: &Edit, text: &mut Vec<u8>) -> Result<(), AllocError>
 
 /// Appends comment lines with the differences that remain. If no differences remain, appends
 /// nothing.
-fn push_rest(rest: &[u8], text: &mut Vec<u8>) -> Result<(), AllocError>
-    ensures { OnOk result (text.new.items ≡ text.old.items ++ stay_text rest.now) }
+fn push_rest(alloc: Global, rest: &[Vec<u8>], text: &mut Vec<u8>) -> Result<(), AllocError>
+    ensures { OnOk result (text.new.items ≡ text.old.items ++ stay_text (line_texts rest.now)) }
 {
     if rest.is_empty() {
         return Ok(());
     }
-    push_heading(count_lines(rest), text)?;
-    push_comments(rest, text)
+    push_heading(rest.len(), text)?;
+    let mut lines = Vec::new(alloc);
+    push_stays(rest, &mut lines)?;
+    push_comments(lines.as_slice(), text)
 }
 
 /// Appends the line that says how many differences remain.

@@ -93,7 +93,7 @@ pub early_found : {X : Type 0} (what : Output) (s : SettingData) (t : List Row) 
 early_found {X = X} what s t r f is early = rw is (found_of_early X what s t f early)
 
 -- after such a fault, what IsWhole promises about remaining differences holds for any plan
-whole_of_early : (X : Type 0) (strict : Bool) (rest : List ℕ) (f : RunFault) → IsEarlyFault f → IsWhole {X = X} strict rest (Err f)
+whole_of_early : (X : Type 0) (strict : Bool) (rest : List (List ℕ)) (f : RunFault) → IsEarlyFault f → IsWhole {X = X} strict rest (Err f)
 whole_of_early X strict rest (run.Job j) early = tt
 whole_of_early X strict rest run.Read early = tt
 whole_of_early X strict rest run.Write early = absurd early
@@ -108,7 +108,7 @@ whole_of_early X strict rest run.NoType early = absurd early
 whole_of_early X strict rest run.NoClass early = absurd early
 whole_of_early X strict rest (run.SecondMap w s) early = tt
 
-pub early_whole : {X : Type 0} (strict : Bool) (rest : List ℕ) (r : Result X RunFault) (f : RunFault) → r ≡ Err f → IsEarlyFault f → IsWhole strict rest r
+pub early_whole : {X : Type 0} (strict : Bool) (rest : List (List ℕ)) (r : Result X RunFault) (f : RunFault) → r ≡ Err f → IsEarlyFault f → IsWhole strict rest r
 early_whole {X = X} strict rest r f is early = rw is (whole_of_early X strict rest f early)
 
 -- nor of the notes of a history

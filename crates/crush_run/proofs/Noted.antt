@@ -20,6 +20,7 @@ use Rattle.crush_input.specs.Lost.{LostData}
 use Rattle.crush_input.specs.Notes.{AreNotesOfHistory, IsNoMake, AreNotesOfResult, TextData, history_notes, refused_notes, IsStrict}
 use Rattle.crush_run.specs.declared.outcome.EndNotes.{EndNotes}
 use Rattle.crush_run.specs.Run.{IsRunFault}
+use Rattle.crush_since.specs.Stays.{text_of_lines}
 use Rattle.crush_plan.specs.Plan.{PlanData}
 use Rattle.crush_run.specs.Planned.{IsWhole}
 use Rattle.crush_run.specs.Stages.{AreEndNotes, CompletedRunEnds, IsWritingFault, needs_opening, notes_after}
@@ -112,8 +113,8 @@ lost_needs mode output.AsCeph on = refl
 lost_needs mode (output.To w) on = in_second mode.explain mode.conflicts on
 
 -- the notes that are chosen for a result are those of the history and this result
-pub told_of_end : (mode : Mode) (text : TextData) (s : SettingData) (t : List Row) (names : List (List ℕ)) (h : List EntryData) (rest : List ℕ) (lost : LostData) (r : Result Summary RunFault) (noted : EndNotes) (notes : List ℕ) → AreEndNotes mode text s t names h rest lost noted
-    → IsNoMake mode.no_make h r → IsWhole mode.strict rest r → notes ≡ notes_after r noted → AreNotesOfHistory mode text s t names h rest lost r notes
+pub told_of_end : (mode : Mode) (text : TextData) (s : SettingData) (t : List Row) (names : List (List ℕ)) (h : List EntryData) (rest : List (List ℕ)) (lost : LostData) (r : Result Summary RunFault) (noted : EndNotes) (notes : List ℕ) → AreEndNotes mode text s t names h rest lost noted
+    → IsNoMake mode.no_make h r → IsWhole mode.strict rest r → notes ≡ notes_after r noted → AreNotesOfHistory mode text s t names h (text_of_lines rest) lost r notes
 told_of_end mode text s t names h rest lost (Ok x) noted notes are made whole is = is ∙ are.calls
 told_of_end mode text s t names h rest lost (Err (run.Job j)) noted notes are made whole is = tt
 told_of_end mode text s t names h rest lost (Err run.Read) noted notes are made whole is = tt
@@ -130,7 +131,7 @@ told_of_end mode text s t names h rest lost (Err run.NoClass) noted notes are ma
 told_of_end mode text s t names h rest lost (Err (run.SecondMap w o)) noted notes are made whole is = tt
 
 -- and without `explain` there are none, except those of what ended the run
-pub noted_of_end : (mode : Mode) (text : TextData) (s : SettingData) (t : List Row) (names : List (List ℕ)) (h : List EntryData) (rest : List ℕ) (lost : LostData) (r : Result Summary RunFault) (noted : EndNotes) (notes : List ℕ) (origin : ℕ → OriginData) (all : Option (List ℕ))
+pub noted_of_end : (mode : Mode) (text : TextData) (s : SettingData) (t : List Row) (names : List (List ℕ)) (h : List EntryData) (rest : List (List ℕ)) (lost : LostData) (r : Result Summary RunFault) (noted : EndNotes) (notes : List ℕ) (origin : ℕ → OriginData) (all : Option (List ℕ))
     → (mode.explain ≡ false → AreEndNotes mode text s t names h rest lost noted) → IfErr r (IsWritingFault mode) → IsStrict mode.strict h r → (mode.explain ≡ false → text.weights ≡ []) → notes ≡ notes_after r noted → AreNotesOfResult mode.explain origin all r notes
 noted_of_end mode text s t names h rest lost (Ok x) noted notes origin all are may strict plain is = quiet_notes mode text s t names h notes plain strict (λ quiet. is ∙ (are quiet).calls)
 noted_of_end mode text s t names h rest lost (Err (run.Job j)) noted notes origin all are may strict plain is = absurd may

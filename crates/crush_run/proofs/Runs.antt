@@ -21,6 +21,7 @@ use Rattle.crush_input.specs.declared.output.Output.{Output}
 use Rattle.crush_input.specs.declared.fault.RunFault.{RunFault}
 use Rattle.crush_input.specs.declared.summary.Summary.{Summary}
 use Rattle.crush_script.specs.Job.{JobData}
+use Rattle.crush_since.specs.Stays.{text_of_lines}
 use Rattle.crush_plan.specs.Plan.{PlanData}
 use Rattle.crush_run.specs.Found.{IsFound}
 use Rattle.crush_run.specs.Lost.{AreLost}
@@ -135,7 +136,7 @@ ended_early mode output job text r f old notes is early =
       lossless = early_lossless mode.conflicts no_losses r f is early;
       found = early_found output job.setting (table_after job.setting job.table h) r f is early;
       whole = early_whole mode.strict plan.rest r f is early;
-      noted = early_told mode text job.setting job.table (names_of job.scripts) h plan.rest no_losses r f notes is early;
+      noted = early_told mode text job.setting job.table (names_of job.scripts) h (text_of_lines plan.rest) no_losses r f notes is early;
     }
 
 -- a run that has a map, a history and a plan ends as Ends says
@@ -166,7 +167,7 @@ left_ends mode what plan job adjusted kept m lost text names h es r old new note
       lossless = ends.lossless;
       found = subst (λ (s : SettingData). IsFound what s (table_after job.setting job.table h) r) ran.stands.setting (ends.found _ ran.stands.forest);
       whole = ends.whole;
-      noted = subst (λ (s : SettingData). AreNotesOfHistory mode text s job.table (names_of job.scripts) h plan.rest lost r notes) ran.stands.setting (ends.told _ before);
+      noted = subst (λ (s : SettingData). AreNotesOfHistory mode text s job.table (names_of job.scripts) h (text_of_lines plan.rest) lost r notes) ran.stands.setting (ends.told _ before);
     }
 
 -- if a copy of the map as it was read is kept whenever a run needs it, then IsOpening holds

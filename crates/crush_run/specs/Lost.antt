@@ -1,15 +1,19 @@
 -- The lost changes of a run with several scripts.
-use Rattle.std.specs.Prelude.{◌≡◌, ℕ, Bool, true, false, ◌&&◌, List, [], length, nat_lt}
+use Rattle.std.specs.Prelude.{◌≡◌, ℕ, ◌==◌, Bool, true, false, ◌&&◌, List, [], length, nat_lt}
+use Rattle.std.specs.List.{count_by}
 use Rattle.crush_model.specs.Table.{Row}
 use Rattle.crush_edits.specs.Setting.{SettingData}
 use Rattle.crush_history.specs.History.{EntryData}
 use Rattle.crush_conflicts.specs.Conflicts.{AreConflicts, operators_from}
-use Rattle.crush_plan.specs.Plan.{line_count}
 use Rattle.crush_input.specs.Lost.{LostData}
 
 -- whether a run looks for lost changes: if it is to, and if it has at least two scripts
 abbrev pub looks_for_conflicts : Bool → List (List ℕ) → Bool
 looks_for_conflicts conflicts names = conflicts && nat_lt 1 (length names)
+
+-- the number of lines of a text, which is the number of its line feeds
+abbrev pub line_count : List ℕ → ℕ
+line_count text = count_by (λ b. b == 10) text
 
 -- LOST: if the run looks for lost changes, then these are the changes that are in the table which the calls of an operator in the history h make alone from the table t,
 -- and that aren't in the table z after the run. Otherwise there are none. Each has a line.

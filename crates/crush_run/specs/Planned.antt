@@ -1,10 +1,10 @@
 -- The plan of a run: which plan it is, in which form it is printed, and in which case the run ends because differences remain after the plan.
-use Rattle.std.specs.Prelude.{◌≡◌, ◌≢◌, ℕ, List, [], Bool, true, Result, Ok, Err, if◌then◌else◌}
+use Rattle.std.specs.Prelude.{◌≡◌, ◌≢◌, ℕ, List, [], Bool, true, Result, Ok, Err, if◌then◌else◌, length}
 use Rattle.crush_model.specs.Forest.{rows_of}
 use Rattle.crush_model.specs.Table.{Row}
 use Rattle.crush_edits.specs.Setting.{SettingData}
 use Rattle.crush_since.specs.Since.{plain_map}
-use Rattle.crush_plan.specs.Plan.{IsPlan, PlanData, line_count}
+use Rattle.crush_plan.specs.Plan.{IsPlan, PlanData}
 use Rattle.crush_plan.specs.PlanText.{ceph_plan_text, plan_text}
 use Rattle.crush_input.specs.declared.output.Output.{Output}
 use Rattle.crush_input.specs.declared.output.Output.TheVariants as output
@@ -23,10 +23,10 @@ IsPlanned (output.To target) s t plan = IsPlan (name_text target.under) (plain_m
 IsPlanned what s t plan = plan.rest ≡ []
 
 -- WHOLE: the result of a run agrees with `rest`, the lines of the differences that remain after the run's plan. If a strict run succeeds or fails to write, then no differences remain. If a run ends with Differs n, then it is strict, differences remain, and n is their number. If the run ends in any other way, nothing is said.
-abbrev pub IsWhole : {X : Type 0} → Bool → List ℕ → Result X RunFault → Type 0
+abbrev pub IsWhole : {X : Type 0} → Bool → List (List ℕ) → Result X RunFault → Type 0
 IsWhole strict rest (Ok x) = strict ≡ true → rest ≡ []
 IsWhole strict rest (Err run.Write) = strict ≡ true → rest ≡ []
-IsWhole strict rest (Err (run.Differs n)) = (strict ≡ true) × (n ≡ line_count rest) × (rest ≢ [])
+IsWhole strict rest (Err (run.Differs n)) = (strict ≡ true) × (n ≡ length rest) × (rest ≢ [])
 IsWhole strict rest (Err fault) = Unit {0}
 
 -- the fault of the check for remaining differences. It is Differs, and only a strict run has it

@@ -7,6 +7,7 @@ use Rattle.crush_edits.specs.Setting.{SettingData}
 use Rattle.crush_since.specs.Since.{PlainMap, plain_map}
 use Rattle.crush_since.specs.SincePart.{is_changed, is_part_changed}
 use Rattle.crush_since.specs.SinceNames.{is_changed_by_name}
+use Rattle.crush_since.specs.Stays.{text_of_lines}
 use Rattle.crush_plan.specs.Plan.{PlanData}
 use Rattle.crush_history.specs.History.{EntryData, IsLegal, of_operator, table_after, changes, turns}
 use Rattle.crush_history.specs.Turns.{calls_at, calls_of}
@@ -92,7 +93,7 @@ pub record Ends (mode : Mode) (what : Output) (job : JobData) (text : TextData) 
   pub lossless : IsLossless mode.conflicts lost result
   pub found : IsFound what job.setting (table_after job.setting job.table history) result
   pub whole : IsWhole mode.strict plan.rest result
-  pub noted : AreNotesOfHistory mode text job.setting job.table (names_of job.scripts) history plan.rest lost result notes
+  pub noted : AreNotesOfHistory mode text job.setting job.table (names_of job.scripts) history (text_of_lines plan.rest) lost result notes
 
 -- when a run may end with this fault; `all` has the bytes, if they are known. Job: the bytes have this fault, which isn't out of memory. Write,
 -- Thread, Refused, Made, Conflicts, Differs, NoItem, NoType, NoClass: the bytes are a job. Thread: the run isn't in turn. Refused and Differs:

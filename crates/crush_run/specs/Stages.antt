@@ -7,6 +7,7 @@ use Rattle.crush_edits.specs.Setting.{SettingData}
 use Rattle.crush_map.specs.MapData.{MapData, MapStands}
 use Rattle.crush_history.specs.History.{EntryData, table_after}
 use Rattle.crush_history.specs.Script.{ScriptData}
+use Rattle.crush_since.specs.Stays.{text_of_lines}
 use Rattle.crush_plan.specs.Plan.{PlanData}
 use Rattle.crush_script.specs.Job.{JobData}
 use Rattle.crush_options.specs.declared.parsed_options.Mode.{Mode}
@@ -97,12 +98,12 @@ IsOpening mode what kept s t = needs_opening mode what ≡ true → IsKept kept 
 -- the notes of its history; `refused` are these, followed by the notes of created buckets and by those of the changes `lost`; `made`, if the run has `--no-make`, are the lines
 -- of the calls that created more buckets than they ask for, followed by the notes of its history and by those of the changes `lost`; `conflicts` are the lines of the lost
 -- changes, followed by the notes of its history; `whole`, if the run is strict, are the notes of its history, followed by the lines of the differences that remain after its plan
-pub record AreEndNotes (mode : Mode) (text : TextData) (s : SettingData) (t : List Row) (names : List (List ℕ)) (h : List EntryData) (rest : List ℕ) (lost : LostData) (end_notes : EndNotes) : Type 0 where
+pub record AreEndNotes (mode : Mode) (text : TextData) (s : SettingData) (t : List Row) (names : List (List ℕ)) (h : List EntryData) (rest : List (List ℕ)) (lost : LostData) (end_notes : EndNotes) : Type 0 where
   pub calls : end_notes.calls.items ≡ history_notes mode text s t names h
   pub refused : end_notes.refused.items ≡ history_notes mode text s t names h ++ (created_notes mode.no_make names h ++ conflict_notes lost)
   pub made : mode.no_make ≡ true → end_notes.made.items ≡ made_text names 1 h ++ (history_notes mode text s t names h ++ conflict_notes lost)
   pub conflicts : end_notes.conflicts.items ≡ lost.lines ++ history_notes mode text s t names h
-  pub whole : mode.strict ≡ true → end_notes.whole.items ≡ history_notes mode text s t names h ++ rest
+  pub whole : mode.strict ≡ true → end_notes.whole.items ≡ history_notes mode text s t names h ++ text_of_lines rest
 
 -- which of the prepared notes are printed after this fault; none after a fault that isn't listed
 abbrev pub notes_after_fault : RunFault → EndNotes → List ℕ
@@ -136,5 +137,5 @@ pub record CompletedRunEnds (mode : Mode) (what : Output) (plan : PlanData) (adj
   pub lossless : IsLossless mode.conflicts lost result
   pub found : (t : List Row) → Stands m.forest t → IsFound what m.setting t result
   pub whole : IsWhole mode.strict plan.rest result
-  pub told : (o : List Row) → IsOpening mode what kept m.setting o → AreNotesOfHistory mode text m.setting o names h plan.rest lost result notes
+  pub told : (o : List Row) → IsOpening mode what kept m.setting o → AreNotesOfHistory mode text m.setting o names h (text_of_lines plan.rest) lost result notes
   pub noted : (origin : ℕ → OriginData) (all : Option (List ℕ)) → AreNotesOfResult mode.explain origin all result notes

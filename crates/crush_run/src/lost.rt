@@ -8,13 +8,12 @@ ghost use Rattle.crush_history.specs.HistoryText.{names_of};
 ghost use Rattle.crush_history.specs.Script.{scripts_data};
 ghost use Rattle.crush_input.specs.Lost.{lost_data};
 ghost use Rattle.crush_input.specs.Notes.{IsKept};
-ghost use Rattle.crush_run.specs.Lost.{AreLost, looks_for_conflicts};
+ghost use Rattle.crush_run.specs.Lost.{AreLost, line_count, looks_for_conflicts};
 
 use crush_conflicts::lost_changes;
 use crush_history::{Entry, Script};
 use crush_input::LostChanges;
 use crush_map::CrushMap;
-use crush_plan::count_lines;
 use std::alloc::{AllocError, Global};
 
 fn are_both(first: bool, second: bool) -> bool
@@ -28,6 +27,19 @@ fn looks_for_conflicts(conflicts: bool, scripts: &[Script]) -> bool
     ensures { result ≡ looks_for_conflicts conflicts (names_of (scripts_data scripts.now)) }
 {
     are_both(conflicts, scripts.len() > 1)
+}
+
+/// Returns the number of lines of a text: the number of its line feeds.
+fn count_lines(text: &[u8]) -> usize
+    ensures { result ≡ line_count text.now }
+{
+    let mut count: usize = 0;
+    for byte in text {
+        if *byte == b'\n' {
+            count += 1;
+        }
+    }
+    count
 }
 
 /// Returns the lost changes of a run, or none if the run doesn't look for them.

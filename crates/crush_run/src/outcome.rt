@@ -10,6 +10,7 @@ ghost use Rattle.crush_history.specs.Script.{scripts_data};
 ghost use Rattle.crush_edits.specs.Setting.{SettingData};
 ghost use Rattle.crush_input.specs.Lost.{IsLossless, lost_data};
 ghost use Rattle.crush_input.specs.Notes.{IsKept, IsNoMake, IsStrict, text_data};
+ghost use Rattle.crush_since.specs.Stays.{line_texts};
 ghost use Rattle.crush_plan.specs.Plan.{plan_data};
 ghost use Rattle.crush_run.specs.Found.{IsFound};
 ghost use Rattle.crush_run.specs.Output.{IsPut, IsWritten, written_text};
@@ -77,7 +78,7 @@ fn check_conditions(request: &Request, completed: &CompletedRun<'_>) -> Result<(
     ensures lossless { IsLossless request.now.mode.conflicts (lost_data completed.now.lost.now) result }
     ensures found { (t : List Row) → Stands completed.now.map.now.forest t
         → IsFound request.now.output completed.now.map.now.setting t result }
-    ensures whole { IsWhole request.now.mode.strict completed.now.plan.now.rest.items result }
+    ensures whole { IsWhole request.now.mode.strict (line_texts completed.now.plan.now.rest.items) result }
 {
     let mode = request.mode;
     check_strict(mode.strict, completed.entries)?;
@@ -141,7 +142,7 @@ fn write_outcome<W: Write>(
     ensures lossless { IsLossless request.now.mode.conflicts (lost_data completed.now.lost.now) result }
     ensures found { (t : List Row) → Stands completed.now.map.now.forest t
         → IsFound request.now.output completed.now.map.now.setting t result }
-    ensures whole { IsWhole request.now.mode.strict completed.now.plan.now.rest.items result }
+    ensures whole { IsWhole request.now.mode.strict (line_texts completed.now.plan.now.rest.items) result }
 {
     check_conditions(request, completed)?;
     let differs = differs_if_requested(alloc, request, completed)?;
@@ -161,7 +162,7 @@ fn end_notes_of(
     ensures { IfOk result (λ end_notes. (s : SettingData) (o : List Row)
         → (mode.explain ≡ true → IsKept completed.now.opening.now s o)
         → AreEndNotes mode (text_data completed.now.text.now) s o (names_of (scripts_data completed.now.scripts.now))
-        completed.now.entries.now completed.now.plan.now.rest.items (lost_data completed.now.lost.now) end_notes) }
+        completed.now.entries.now (line_texts completed.now.plan.now.rest.items) (lost_data completed.now.lost.now) end_notes) }
 {
     let history = History {
         opening: completed.opening,

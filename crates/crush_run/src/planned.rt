@@ -4,6 +4,7 @@ ghost use Rattle.std.specs.Prelude.{◌≡◌, ◌++◌, [], Err, IfErr, IfOk, L
 ghost use Rattle.std.specs.Io.KnownBytes.{Keeps};
 ghost use Rattle.crush_model.specs.Stands.{Stands};
 ghost use Rattle.crush_model.specs.Table.{Row};
+ghost use Rattle.crush_since.specs.Stays.{line_texts, text_of_lines};
 ghost use Rattle.crush_plan.specs.Plan.{plan_data};
 ghost use Rattle.crush_run.specs.Output.{IsPut};
 ghost use Rattle.crush_run.specs.Planned.{IsDiffersFault, IsPlanned, IsWhole, text_of_plan};
@@ -12,7 +13,7 @@ use crate::finding::name_of;
 use crush_input::{Output, RunFault, TargetMap};
 use crush_map::CrushMap;
 use crush_plan::{Identity, Plan, ceph_plan_text, find_plan, plan_text};
-use crush_since::Counts;
+use crush_since::{Counts, push_stays};
 use crush_units::{WriteFault, put};
 use std::alloc::{AllocError, Global};
 use std::io::Write;
@@ -60,13 +61,13 @@ pub(crate) fn plan_if_requested(
 
 /// Fails if the run is strict and differences remain after the plan.
 pub(crate) fn check_whole(strict: bool, plan: &Plan) -> Result<(), RunFault>
-    ensures whole { IsWhole strict plan.now.rest.items result }
+    ensures whole { IsWhole strict (line_texts plan.now.rest.items) result }
     ensures fault { IfErr result (IsDiffersFault strict) }
 {
     if !strict || plan.rest.is_empty() {
         return Ok(());
     }
-    Err(RunFault::Differs(plan.count_differences()))
+    Err(RunFault::Differs(plan.rest.len()))
 }
 
 /// Returns the notes of a strict run: `notes`, followed by a line for each difference that remains
@@ -78,12 +79,12 @@ pub(crate) fn whole_notes(
     plan: &Plan,
 ) -> Result<Vec<u8>, AllocError>
     ensures { IfOk result (λ lines. strict ≡ true
-        → lines.items ≡ notes.now ++ plan.now.rest.items) }
+        → lines.items ≡ notes.now ++ text_of_lines (line_texts plan.now.rest.items)) }
 {
     let mut lines = Vec::new(alloc);
     if strict {
         lines.extend_from_slice(notes)?;
-        lines.extend_from_slice(plan.rest.as_slice())?;
+        push_stays(plan.rest.as_slice(), &mut lines)?;
     }
     Ok(lines)
 }

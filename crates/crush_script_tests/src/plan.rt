@@ -337,15 +337,34 @@ fn commands_are_told_as_those_of_ceph(rt: HostRuntime) {
     drop(map);
 }
 
+fn are_lines(lines: &[Vec<u8>], expected: &[&[u8]]) -> bool {
+    if lines.len() != expected.len() {
+        return false;
+    }
+    for index in 0..lines.len() {
+        if lines[index].as_slice() != expected[index] {
+            return false;
+        }
+    }
+    true
+}
+
+/// What differs between `EXAMPLE` and `OTHERWISE`.
+const WHAT_DIFFERS: &[&[u8]] = &[
+    b"h1: type host, wanted rack; alg straw2, wanted list",
+    b"osd.1: weight 1.00000, wanted 2.00000; class (none), wanted hdd",
+    b"osd.0: in h1, wanted in h2",
+    b"h3: wanted as host in (root)",
+    b"osd.3: wanted as osd in (unplaced)",
+    b"osd.2: not wanted",
+];
+
 #[test]
 fn each_column_that_differs_is_told(rt: HostRuntime) {
     let map = map_of_parts(&rt, EXAMPLE);
     let wanted = map_of_parts(&rt, OTHERWISE);
     let lines = stays(rt.alloc(), &map, &wanted).expect(&rt, "no memory");
-    assert!(rt;
-        lines.as_slice()
-            == b"h1: type host, wanted rack; alg straw2, wanted list\nosd.1: weight 1.00000, wanted 2.00000; class (none), wanted hdd\nosd.0: in h1, wanted in h2\nh3: wanted as host in (root)\nosd.3: wanted as osd in (unplaced)\nosd.2: not wanted\n".as_slice()
-    );
+    assert!(rt; are_lines(lines.as_slice(), WHAT_DIFFERS));
     drop(wanted);
     drop(map);
 }

@@ -27,7 +27,7 @@ use Rattle.crush_compare.specs.SameItem.{same_algs}
 use Rattle.crush_compare.specs.Weights.{are_near, same_weight}
 use Rattle.crush_since.specs.ItemParts.{part}
 use Rattle.crush_since.specs.ItemWords.{type_word}
-use Rattle.crush_since.specs.Settings.{same_tunable, agree_on, same_kinds, kind_numbers, listed_if_not, tunables_line, kinds_line}
+use Rattle.crush_since.specs.Settings.{same_tunable, agree_on, same_kinds, kind_numbers}
 use Rattle.crush_since.specs.Since.{PlainMap}
 use Rattle.crush_since.proofs.SinceItself.{pairs_itself}
 use Rattle.crush_since.specs.Alike.{AreOne, place_of, AreAlike, HaveAlike, SettingsAgree, AreAlikeByNames, NothingStaysWhereAlike}
@@ -189,13 +189,13 @@ words_of_place i j None (Some q) a b one ha hb is = absurd (let no_way : None �
 words_of_place i j (Some p) None a b one ha hb is = absurd (let no_way : None ≡ Some ha.0 = sym hb ∙ sym is ∙ ha.1 in cc)
 words_of_place i j (Some p) (Some q) a b one ha hb is = ap (λ h. unwrap_or h []) is
 
--- LINES: a text of several parts is empty if and only if each part is empty
+-- LINES: a list of several parts is empty if and only if each part is empty
 not_none : {X : Type 0} (x : X) (xs : List X) → x ∷ xs ≡ [] → ⊥
 not_none x xs h = let long : length (x ∷ xs) ≡ 0 = ap length h in omega (arith, long)
 
 line_is_none : (name : List ℕ) (ps : List (List ℕ)) → stay_line name ps ≡ [] → ps ≡ []
 line_is_none name [] h = refl
-line_is_none name (p ∷ ps) h = absurd (let newline : List ℕ = 10 ∷ [] in let last : newline ≡ [] = nil_right _ newline h in not_none 10 [] last)
+line_is_none name (p ∷ ps) h = absurd (not_none _ [] h)
 
 part_is_none : (same : Bool) (text : List ℕ) → part same text ≡ [] → same ≡ true
 part_is_none true text h = refl
@@ -206,13 +206,6 @@ part_none same text e = ap (λ b. part b text) e
 
 pub none_of_five : {X : Type 0} (a b c d e : List X) → a ≡ [] → b ≡ [] → c ≡ [] → d ≡ [] → e ≡ [] → a ++ b ++ c ++ d ++ e ≡ []
 none_of_five a b c d e ha hb hc hd he = λ k. ha k ++ hb k ++ hc k ++ hd k ++ he k
-
-told_is_none : (same : Bool) (c : ℕ) (cs : List ℕ) → listed_if_not same (c ∷ cs) ≡ [] → same ≡ true
-told_is_none true c cs h = refl
-told_is_none false c cs h = absurd (not_none c cs h)
-
-told_none : (same : Bool) (text : List ℕ) → same ≡ true → listed_if_not same text ≡ []
-told_none same text e = ap (λ b. listed_if_not b text) e
 
 first_of : (a b : Bool) → (a && b) ≡ true → a ≡ true
 first_of true b h = refl
@@ -269,19 +262,21 @@ kinds_same s p agree = λ k. all_true (agree_on s p) each (kind_numbers s) k && 
   each n = ap (same_text (kind_name s n)) (sym (agree n)) ∙ text_itself (kind_name s n)
 
 pub settings_none : (old new : PlainMap) → SettingsAgree old new → named_setting_lines old new ≡ []
-unfolding named_setting_lines tunables_line kinds_line named_rules_line
+unfolding named_setting_lines named_rules_line
 settings_none old new agree =
     let tunables : pointwise same_tunable old.setting.tunables new.setting.tunables ≡ true = ap (pointwise same_tunable old.setting.tunables) (sym agree.tunables) ∙ pairs_itself same_tunable tunable_itself old.setting.tunables in
-    λ k. told_none _ (codes "tunables differ\n") tunables k ++ told_none _ (codes "types differ\n") (kinds_same old.setting new.setting agree.kinds) k ++ told_none _ (codes "rules differ\n") agree.rules k
+    λ k. part_none _ (codes "tunables differ") tunables k ++ part_none _ (codes "types differ") (kinds_same old.setting new.setting agree.kinds) k ++ part_none _ (codes "rules differ") agree.rules k
 
 settings_agree : (old new : PlainMap) → named_setting_lines old new ≡ [] → SettingsAgree old new
-unfolding named_setting_lines tunables_line kinds_line named_rules_line
+unfolding named_setting_lines named_rules_line
 settings_agree old new none =
-    let front = nil_left _ (named_rules_line old new) none in
+    let tunables = part (pointwise same_tunable old.setting.tunables new.setting.tunables) (codes "tunables differ") in
+    let kinds = part (same_kinds old.setting new.setting) (codes "types differ") in
+    let front = nil_left (tunables ++ kinds) (named_rules_line old new) none in
     record {
-      tunables = tunables_equal old.setting.tunables new.setting.tunables (told_is_none _ _ _ (nil_left _ (kinds_line old.setting new.setting) front));
-      kinds = kinds_agree old.setting new.setting (told_is_none _ _ _ (nil_right (tunables_line old.setting new.setting) _ front));
-      rules = told_is_none _ _ _ (nil_right (tunables_line old.setting new.setting ++ kinds_line old.setting new.setting) _ none);
+      tunables = tunables_equal old.setting.tunables new.setting.tunables (part_is_none _ _ (nil_left tunables kinds front));
+      kinds = kinds_agree old.setting new.setting (part_is_none _ _ (nil_right tunables kinds front));
+      rules = part_is_none _ _ (nil_right (tunables ++ kinds) (named_rules_line old new) none);
     }
 
 -- ITEMS that both maps have: they have no line if and only if their rows are alike

@@ -80,16 +80,16 @@ told_unwanted is_wanted = if is_wanted then [] else codes "not wanted" ∷ []
 abbrev pub unwanted_parts : Option ItemData → List (List ℕ)
 unwanted_parts o = told_unwanted (is_some o)
 
-unfoldable pub wanted_line : PlainMap → PlainMap → ItemData → List ℕ
+unfoldable pub wanted_line : PlainMap → PlainMap → ItemData → List (List ℕ)
 wanted_line old new y = stay_line y.view.name (wanted_parts old.setting new.setting (counterpart ById old.table y) y)
 
-unfoldable pub unwanted_line : PlainMap → ItemData → List ℕ
+unfoldable pub unwanted_line : PlainMap → ItemData → List (List ℕ)
 unwanted_line new x = stay_line x.view.name (unwanted_parts (counterpart ById new.table x))
 
-unfoldable pub wanted_lines : PlainMap → PlainMap → List ℕ
+unfoldable pub wanted_lines : PlainMap → PlainMap → List (List ℕ)
 wanted_lines old new = flat_map (λ step. wanted_line old new (step_item new.table step)) (tree_rows new.table)
 
-unfoldable pub unwanted_lines : PlainMap → PlainMap → List ℕ
+unfoldable pub unwanted_lines : PlainMap → PlainMap → List (List ℕ)
 unwanted_lines old new = flat_map (λ step. unwanted_line new (step_item old.table step)) (tree_rows old.table)
 
 stay_lines_are : (old new : PlainMap) → stay_lines None old new ≡ wanted_lines old new ++ unwanted_lines old new

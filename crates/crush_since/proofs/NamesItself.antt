@@ -29,7 +29,7 @@ use Rattle.crush_compare.specs.Named.{are_one, counterpart}
 use Rattle.crush_compare.specs.NamedPairs.{PairData, pairs}
 use Rattle.crush_since.specs.SinceNamesLaws.{NothingByNamesSinceItself}
 use Rattle.crush_since.specs.SinceNames.{changed, changed_pair, changed_lines, other_weights, since_names_part, since_names_text}
-use Rattle.crush_since.specs.Stays.{both_types, both_places, both_classes, both_algs, item_type, place_word, same_place, stay_line}
+use Rattle.crush_since.specs.Stays.{both_types, both_places, both_classes, both_algs, item_type, place_word, same_place, stay_line, text_of_lines}
 use Rattle.crush_since.proofs.AlikeLaws.{row_named_own, counterpart_named, test_of_type, text_itself, algs_itself, part_none, none_of_five}
 use Rattle.crush_since.proofs.NamedPairs.{whole_pairs}
 use Rattle.crush_since.proofs.TreeLaws.{tree_none}
@@ -79,7 +79,7 @@ no_part s x =
 
 no_lines : (s : SettingData) (t : List Row) → Lawful t → changed_lines None (plain_map s t) (plain_map s t) ≡ []
 unfolding changed_lines changed_pair
-no_lines s t l = none_of_pairs (changed_pair s s) (λ x. ap (stay_line x.view.name) (no_part s x)) ByName t l
+no_lines s t l = none_of_pairs (changed_pair s s) (λ x. ap (λ ps. text_of_lines (stay_line x.view.name ps)) (no_part s x)) ByName t l
 
 -- NO COUNT is greater than 0
 mark : Bool → List ℕ

@@ -74,8 +74,8 @@ of_kid g t b i r found own e = ap g (sym (row_id i t r found)) ∙ here (is_pare
   here true q h = h
   here false q h = absurd cc
 
--- if the text of each row is empty, the texts of the steps are empty
-module _ (t : List Row) (f : ViewData → List ℕ) (none : (i : ItemId) (r : Row) → row_of t i ≡ Some r → f (row_view t r) ≡ []) where
+-- if the list of each row is empty, the lists of the steps are empty
+module _ {Z : Type 0} (t : List Row) (f : ViewData → List Z) (none : (i : ItemId) (r : Row) → row_of t i ≡ Some r → f (row_view t r) ≡ []) where
   at_none : (depth : ℕ) (i : ItemId) → flat_map (λ (s : WalkStepData). f s.item) (step_at t depth i) ≡ []
   unfolding step_at
   at_none depth i = by_row (row_of t i) refl where
@@ -98,8 +98,8 @@ module _ (t : List Row) (f : ViewData → List ℕ) (none : (i : ItemId) (r : Ro
       ∙ (λ k. (flat_twice (λ (s : WalkStepData). f s.item) (λ b. steps_at t (length t) 0 (Bucket b)) (root_numbers t) ∙ nothing_of (λ b. flat_map (λ (s : WalkStepData). f s.item) (steps_at t (length t) 0 (Bucket b))) (λ b. steps_none (length t) 0 (Bucket b)) (root_numbers t)) k
       ++ (flat_twice (λ (s : WalkStepData). f s.item) (λ d. step_at t 0 (Device d)) (unplaced_numbers t) ∙ nothing_of (λ d. flat_map (λ (s : WalkStepData). f s.item) (step_at t 0 (Device d))) (λ d. at_none 0 (Device d)) (unplaced_numbers t)) k)
 
--- if the texts of the steps are empty, the text of each row is empty
-module _ (t : List Row) (l : Lawful t) (f : ViewData → List ℕ) (none : flat_map (λ (s : WalkStepData). f s.item) (tree_rows t) ≡ []) where
+-- if the lists of the steps are empty, the list of each row is empty
+module _ {Z : Type 0} (t : List Row) (l : Lawful t) (f : ViewData → List Z) (none : flat_map (λ (s : WalkStepData). f s.item) (tree_rows t) ≡ []) where
   -- the steps of an item, at most so many levels deep, have empty texts
   abbrev NoStep : ℕ → ItemId → Type 0
   NoStep n i = (depth : ℕ) × (flat_map (λ (s : WalkStepData). f s.item) (steps_at t n depth i) ≡ [])
@@ -111,7 +111,7 @@ module _ (t : List Row) (l : Lawful t) (f : ViewData → List ℕ) (none : flat_
   of_root : (b : ℕ) (r : Row) → row_of t (Bucket b) ≡ Some r → r.parent ≡ None → flat_map (λ (s : WalkStepData). f s.item) (steps_at t (length t) 0 (Bucket b)) ≡ []
   unfolding root_numbers
   of_root b r found root =
-      let g : ℕ → List ℕ = λ c. flat_map (λ (s : WalkStepData). f s.item) (steps_at t (length t) 0 (Bucket c)) in
+      let g : ℕ → List Z = λ c. flat_map (λ (s : WalkStepData). f s.item) (steps_at t (length t) 0 (Bucket c)) in
       let all = unsorted g (flat_map root_number t) (sym (flat_twice (λ (s : WalkStepData). f s.item) (λ c. steps_at t (length t) 0 (Bucket c)) (root_numbers t)) ∙ nil_left _ _ both) in
       let own : root_number r ≡ b ∷ [] = (λ k. if is_some (root k) then [] else bucket_ids (row_id (Bucket b) t r found k)) in
       nil_left (g b) [] (sym (ap (flat_map g) own) ∙ of_row (λ (x : Row). flat_map g (root_number x)) t (Bucket b) r found (sym (flat_twice g root_number t) ∙ all))
@@ -119,7 +119,7 @@ module _ (t : List Row) (l : Lawful t) (f : ViewData → List ℕ) (none : flat_
   of_unplaced : (d : ℕ) (r : Row) → row_of t (Device d) ≡ Some r → r.parent ≡ None → flat_map (λ (s : WalkStepData). f s.item) (step_at t 0 (Device d)) ≡ []
   unfolding unplaced_numbers
   of_unplaced d r found root =
-      let g : ℕ → List ℕ = λ c. flat_map (λ (s : WalkStepData). f s.item) (step_at t 0 (Device c)) in
+      let g : ℕ → List Z = λ c. flat_map (λ (s : WalkStepData). f s.item) (step_at t 0 (Device c)) in
       let all = unsorted g (flat_map unplaced_number t) (sym (flat_twice (λ (s : WalkStepData). f s.item) (λ c. step_at t 0 (Device c)) (unplaced_numbers t)) ∙ nil_right _ _ both) in
       let own : unplaced_number r ≡ d ∷ [] = (λ k. if is_some (root k) then [] else device_number (row_id (Device d) t r found k)) in
       nil_left (g d) [] (sym (ap (flat_map g) own) ∙ of_row (λ (x : Row). flat_map g (unplaced_number x)) t (Device d) r found (sym (flat_twice g unplaced_number t) ∙ all))

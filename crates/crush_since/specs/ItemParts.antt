@@ -10,7 +10,7 @@ pub use Rattle.crush_compare.specs.SameItem.{same_algs, same_class_id}
 use Rattle.crush_items.specs.ItemData.{ItemData}
 use Rattle.crush_since.specs.ItemWords.{item_word, place_word, type_word, class_or_none, alg_word, whole_word}
 
--- PARTS: one part of a line, as a list. The list is empty if the column is the same in both maps
+-- PARTS: a text that tells a difference, as a list: one part of a line, or a whole line. The list is empty if the maps are the same in this respect
 abbrev pub part : Bool → List ℕ → List (List ℕ)
 part same text = if same then [] else text ∷ []
 

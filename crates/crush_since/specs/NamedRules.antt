@@ -1,10 +1,10 @@
 -- The line that says that the rules of two maps differ. The buckets that rules take are compared by their names.
 use Rattle.std.specs.Prelude.{ℕ, List, codes}
 use Rattle.std.specs.Cmp.Lexicographic.{pointwise}
+use Rattle.crush_since.specs.ItemParts.{part}
 use Rattle.crush_since.specs.RulesByName.{named_rule}
-use Rattle.crush_since.specs.Settings.{listed_if_not}
 use Rattle.crush_since.specs.Since.{PlainMap}
 
 -- the line that says that the rules differ, if they do
-unfoldable pub named_rules_line : PlainMap → PlainMap → List ℕ
-named_rules_line old new = listed_if_not (pointwise (named_rule old.table new.table) old.setting.rules new.setting.rules) (codes "rules differ\n")
+unfoldable pub named_rules_line : PlainMap → PlainMap → List (List ℕ)
+named_rules_line old new = part (pointwise (named_rule old.table new.table) old.setting.rules new.setting.rules) (codes "rules differ")

@@ -17,7 +17,7 @@ use Rattle.crush_since.specs.Tallies.{counts_line}
 use Rattle.crush_compare.specs.declared.identity.Devices.TheVariants.{ByName}
 use Rattle.crush_since.specs.CountedByName.{tally_by_name}
 use Rattle.crush_compare.specs.NamedPairs.{PairData, pairs}
-use Rattle.crush_since.specs.Stays.{both_types, both_places, both_weights, both_classes, both_algs, pair_name, stay_line, wanted_word}
+use Rattle.crush_since.specs.Stays.{both_types, both_places, both_weights, both_classes, both_algs, pair_name, stay_line, text_of_lines, wanted_word}
 
 -- the words for an item that only one of the maps has
 unfoldable pub whole_word : SettingData → ItemData → List ℕ
@@ -38,9 +38,9 @@ changed_parts s p (Some x) (Some y) = changed s p x y
 changed_parts s p (Some x) None = (codes "removed, was " ++ whole_word s x) ∷ []
 changed_parts s p None None = []
 
--- LINES: a name with its parts, with `; ` between the parts; nothing if there are no parts
+-- LINES: the line of an item, which is its name with its parts, with `; ` between the parts; nothing if there are no parts
 unfoldable pub changed_pair : SettingData → SettingData → PairData → List ℕ
-changed_pair s p pair = stay_line (pair_name pair.before pair.after) (changed_parts s p pair.before pair.after)
+changed_pair s p pair = text_of_lines (stay_line (pair_name pair.before pair.after) (changed_parts s p pair.before pair.after))
 
 -- first the lines of the new map's items in the order of the new map's tree, and then the lines of the items that only the old map has, in the order of the old map's tree
 unfoldable pub changed_lines : Option (List ℕ) → PlainMap → PlainMap → List ℕ

@@ -1,5 +1,6 @@
--- The text that says what differs between a map and a wanted map if items are matched by their names. docs/dev/names.md describes it in words.
-use Rattle.std.specs.Prelude.{ℕ, Bool, List, [], ◌∷◌, ◌++◌, Option, None, Some, flat_map, codes, bytes_eq, unwrap_or}
+-- The lines that say what differs between a map and a wanted map if items are matched by their names. docs/dev/names.md describes them in words.
+use Rattle.std.specs.Prelude.{ℕ, Bool, List, [], ◌∷◌, ◌++◌, Option, None, Some, Vec, map, flat_map, codes, bytes_eq, unwrap_or}
+use Rattle.std.specs.Cmp.Lexicographic.{pointwise}
 use Rattle.crush_units.specs.declared.id.ItemId.{ItemId}
 use Rattle.crush_units.specs.declared.id.ItemId.TheVariants.{Device, Bucket}
 use Rattle.crush_units.specs.Weight.{weight_text}
@@ -11,7 +12,7 @@ use Rattle.crush_compare.specs.SameItem.{same_algs}
 use Rattle.crush_compare.specs.Weights.{same_weight}
 use Rattle.crush_since.specs.ItemParts.{part, behind}
 use Rattle.crush_since.specs.ItemWords.{type_word, class_or_none, alg_word}
-use Rattle.crush_since.specs.Settings.{tunables_line, kinds_line}
+use Rattle.crush_since.specs.Settings.{same_kinds, same_tunable}
 use Rattle.crush_since.specs.Since.{PlainMap}
 use Rattle.crush_compare.specs.declared.identity.Devices.TheVariants.{ById}
 use Rattle.crush_since.specs.NamedRules.{named_rules_line}
@@ -96,35 +97,45 @@ pair_name before (Some y) = y.view.name
 pair_name (Some x) None = x.view.name
 pair_name None None = []
 
--- LINES: a name with its parts, with `; ` between the parts; nothing if there are no parts
-abbrev pub stay_line : List ℕ → List (List ℕ) → List ℕ
+-- LINES without their line feeds: the line of an item is its name with its parts, with `; ` between the parts. There is no line if there are no parts
+abbrev pub stay_line : List ℕ → List (List ℕ) → List (List ℕ)
 stay_line name [] = []
-stay_line name (p ∷ rest) = name ++ codes ": " ++ (p ++ behind rest) ++ codes "\n"
+stay_line name (p ∷ rest) = (name ++ codes ": " ++ (p ++ behind rest)) ∷ []
 
 -- the same line, given the parts as one text in which `; ` comes before each part
-abbrev pub stay_text_line : List ℕ → List ℕ → List ℕ
+abbrev pub stay_text_line : List ℕ → List ℕ → List (List ℕ)
 stay_text_line name [] = []
 stay_text_line name (b ∷ []) = []
-stay_text_line name (b ∷ c ∷ text) = name ++ codes ": " ++ text ++ codes "\n"
+stay_text_line name (b ∷ c ∷ text) = (name ++ codes ": " ++ text) ∷ []
 
-unfoldable pub stay_pair : SettingData → SettingData → PairData → List ℕ
+-- the text of some lines: each line is followed by a line feed
+abbrev pub text_of_lines : List (List ℕ) → List ℕ
+text_of_lines lines = flat_map (λ line. line ++ codes "\n") lines
+
+-- the lines of vectors of bytes
+abbrev pub line_texts : {Z : Type 0} → List (Vec ℕ Z) → List (List ℕ)
+line_texts lines = map (λ line. line.items) lines
+
+unfoldable pub stay_pair : SettingData → SettingData → PairData → List (List ℕ)
 stay_pair s p pair = stay_line (pair_name pair.before pair.after) (stay_parts s p pair.before pair.after)
 
 -- first the lines of the wanted map's items in the order of the wanted map's tree, and then the lines of the items that only the map has, in the order of the map's tree
-unfoldable pub stay_lines : Option (List ℕ) → PlainMap → PlainMap → List ℕ
+unfoldable pub stay_lines : Option (List ℕ) → PlainMap → PlainMap → List (List ℕ)
 stay_lines under old new = flat_map (stay_pair old.setting new.setting) (pairs ById under old.table new.table)
 
-unfoldable pub named_setting_lines : PlainMap → PlainMap → List ℕ
-named_setting_lines old new = tunables_line old.setting new.setting ++ kinds_line old.setting new.setting ++ named_rules_line old new
+unfoldable pub named_setting_lines : PlainMap → PlainMap → List (List ℕ)
+named_setting_lines old new =
+    part (pointwise same_tunable old.setting.tunables new.setting.tunables) (codes "tunables differ") ++ part (same_kinds old.setting new.setting) (codes "types differ")
+    ++ named_rules_line old new
 
 -- the lines about settings; none if only a part of the maps is compared
-abbrev pub settings_beside : Option (List ℕ) → PlainMap → PlainMap → List ℕ
+abbrev pub settings_beside : Option (List ℕ) → PlainMap → PlainMap → List (List ℕ)
 settings_beside None old new = named_setting_lines old new
 settings_beside (Some n) old new = []
 
 -- STAYS: a line for each item of the part that differs. If no part is given, lines about tunables, types and rules that differ follow
-unfoldable pub stays_part : Option (List ℕ) → PlainMap → PlainMap → List ℕ
+unfoldable pub stays_part : Option (List ℕ) → PlainMap → PlainMap → List (List ℕ)
 stays_part under old new = stay_lines under old new ++ settings_beside under old new
 
-abbrev pub stays : PlainMap → PlainMap → List ℕ
+abbrev pub stays : PlainMap → PlainMap → List (List ℕ)
 stays old new = stays_part None old new

@@ -18,7 +18,7 @@ pub use changes::{
 };
 pub use names::{
     Counts, count_aside, is_changed_by_name, nothing_changes_by_names_since_itself,
-    nothing_stays_where_maps_are_alike, place_in, push_aside, stays, stays_part,
+    nothing_stays_where_maps_are_alike, place_in, push_aside, push_stays, stays, stays_part,
     write_since_by_name, write_since_by_name_part,
 };
 pub use since::{

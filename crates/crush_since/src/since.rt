@@ -48,7 +48,7 @@ pub(crate) use parts::push_part;
 pub use rules::{RuleChange, rule_changes};
 pub(crate) use rules_by_name::same_named_rules;
 pub use seen::Seen;
-pub(crate) use settings::{push_kinds, push_tunables, same_step, tell_unless};
+pub(crate) use settings::same_step;
 pub use settings::{same_kinds, same_rules, same_tunables};
 use std::alloc::{AllocError, Allocator, Global};
 use std::io::Write;

@@ -6,6 +6,7 @@ ghost use Rattle.std.specs.Option.{option_map};
 ghost use Rattle.crush_units.specs.Writes.{Writes};
 ghost use Rattle.json.specs.Json.{array};
 ghost use Rattle.json.specs.Tree.{json_tokens};
+ghost use Rattle.crush_since.specs.Stays.{line_texts};
 ghost use Rattle.crush_json.specs.PlanDocument.{all_of, aside_document, command, plan_document, plan_document_text};
 ghost use Rattle.crush_json.specs.Seen.{IsHistory, history_data};
 ghost use Rattle.crush_json.specs.Tokens.{member_tokens};
@@ -32,7 +33,7 @@ const USUAL_COMMAND: usize = 96;
 pub fn write_plan_document<W: Write>(
     alloc: Global,
     edits: &[Edit],
-    rest: &[u8],
+    rest: &[Vec<u8>],
     ids: usize,
     class_ids: usize,
     history: Option<History<'_>>,
@@ -40,7 +41,7 @@ pub fn write_plan_document<W: Write>(
 ) -> Result<(), WriteFault>
     requires { IfSome history IsHistory }
     ensures writes { Writes result (W.contents out.old) (W.contents out.new) (plan_document_text
-        (plan_document (option_map history_data history.entry) edits.now rest.now ids class_ids)) }
+        (plan_document (option_map history_data history.entry) edits.now (line_texts rest.now) ids class_ids)) }
     ensures none { result ≡ Err WriteFault.OutOfMemory
         → Keeps (W.contents out.old) (W.contents out.new) }
 {
@@ -53,14 +54,14 @@ pub fn write_plan_document<W: Write>(
 fn plan_text(
     alloc: Global,
     edits: &[Edit],
-    rest: &[u8],
+    rest: &[Vec<u8>],
     ids: usize,
     class_ids: usize,
     history: Option<History<'_>>,
 ) -> Result<Vec<u8>, AllocError>
     requires { IfSome history IsHistory }
     ensures { IfOk result (λ text. text.items ≡ plan_document_text
-        (plan_document (option_map history_data history.entry) edits.now rest.now ids class_ids)) }
+        (plan_document (option_map history_data history.entry) edits.now (line_texts rest.now) ids class_ids)) }
 {
     let mut document = Document::new(alloc, bounded(edits.len()) * USUAL_COMMAND)?;
     push_document(alloc, edits, rest, ids, class_ids, history, &mut document)?;
@@ -70,7 +71,7 @@ fn plan_text(
 fn push_document(
     alloc: Global,
     edits: &[Edit],
-    rest: &[u8],
+    rest: &[Vec<u8>],
     ids: usize,
     class_ids: usize,
     history: Option<History<'_>>,
@@ -78,7 +79,7 @@ fn push_document(
 ) -> Result<(), AllocError>
     requires { IfSome history IsHistory }
     ensures { OnOk result (out.new ≡ out.old ++ json_tokens
-        (plan_document (option_map history_data history.entry) edits.now rest.now ids class_ids)) }
+        (plan_document (option_map history_data history.entry) edits.now (line_texts rest.now) ids class_ids)) }
 {
     out.begin_object()?;
     push_aside(ids, class_ids, out)?;

@@ -25,7 +25,7 @@ const COMMANDS: &[u8] = b"\
     set-device-class ssd osd.0\n\
     rm-device-class osd.0\n";
 
-const REST: &[u8] = b"osd.1: class hdd, wanted (none)\ntunables differ\n";
+const REST: &[&[u8]] = &[b"osd.1: class hdd, wanted (none)", b"tunables differ"];
 
 /// The expected document. The keys of its commands are the keys in Ceph's own table of commands.
 const PLAN: &[u8] = b"\
@@ -59,13 +59,34 @@ fn edits_of(rt: &(impl Abort + AllocGlobal), calls: &[Call]) -> Vec<Edit> {
     edits
 }
 
-fn is_plan(rt: &(impl Abort + AllocGlobal), edits: &[Edit], rest: &[u8], document: &[u8]) -> bool {
+fn lines_of(rt: &(impl Abort + AllocGlobal), texts: &[&[u8]]) -> Vec<Vec<u8>> {
+    let mut lines = Vec::new(rt.alloc());
+    for text in texts {
+        let mut line = Vec::new(rt.alloc());
+        line.extend_from_slice(*text).expect(rt, "no memory");
+        let Ok(()) = lines.push(line) else {
+            panic!(rt; "no memory")
+        };
+    }
+    lines
+}
+
+fn is_plan(
+    rt: &(impl Abort + AllocGlobal),
+    edits: &[Edit],
+    rest: &[&[u8]],
+    document: &[u8],
+) -> bool {
     let mut told = Vec::new(rt.alloc());
-    write_plan_document(rt.alloc(), edits, rest, 2, 1, None, &mut told).expect(rt, "not written");
+    let rest = lines_of(rt, rest);
+    write_plan_document(rt.alloc(), edits, rest.as_slice(), 2, 1, None, &mut told).expect(
+        rt,
+        "not written",
+    );
     told.as_slice() == document
 }
 
-fn is_plan_of(rt: &(impl Abort + AllocGlobal), job: &Job, rest: &[u8], document: &[u8]) -> bool {
+fn is_plan_of(rt: &(impl Abort + AllocGlobal), job: &Job, rest: &[&[u8]], document: &[u8]) -> bool {
     let scripts = job.scripts.as_slice();
     if scripts.len() != 1 {
         return false;
@@ -85,5 +106,5 @@ fn each_command_has_the_keys_of_ceph(rt: HostRuntime) {
 
 #[test]
 fn nothing_to_do_is_an_empty_plan(rt: HostRuntime) {
-    assert!(rt; is_plan(&rt, &[], b"", NO_PLAN));
+    assert!(rt; is_plan(&rt, &[], &[], NO_PLAN));
 }

@@ -2,7 +2,7 @@
 //! hand from the table in docs/dev/names.md.
 
 use crate::plan::maps::*;
-use crush_since::{count_aside, stays_part};
+use crush_since::{count_aside, push_stays, stays_part};
 use std::process::Abort;
 
 fn stays_under(rt: &(impl Abort + AllocGlobal), under: &str, texts: [&[&[u8]]; 2]) -> Vec<u8> {
@@ -11,7 +11,11 @@ fn stays_under(rt: &(impl Abort + AllocGlobal), under: &str, texts: [&[&[u8]]; 2
     let lines = stays_part(rt.alloc(), Some(under), &map, &wanted).expect(rt, "no memory");
     drop(wanted);
     drop(map);
-    lines
+    let mut text = Vec::new(rt.alloc());
+    let Ok(()) = push_stays(lines.as_slice(), &mut text) else {
+        panic!(rt; "no memory")
+    };
+    text
 }
 
 #[test]

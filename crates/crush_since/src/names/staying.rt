@@ -8,23 +8,23 @@ ghost use Rattle.crush_items.specs.SeenItem.{seen_data};
 ghost use Rattle.crush_compare.specs.Comparison.{pair_items};
 ghost use Rattle.crush_since.specs.ItemParts.{behind};
 ghost use Rattle.crush_since.specs.Since.{plain_map};
-ghost use Rattle.crush_since.specs.Stays.{differing, named_setting_lines, pair_name, settings_beside, stay_lines, stay_pair, stay_parts, stay_text_line, stays, stays_part, wanted_parts};
+ghost use Rattle.crush_since.specs.Stays.{differing, line_texts, named_setting_lines, pair_name, settings_beside, stay_lines, stay_pair, stay_parts, stays, stays_part, wanted_parts};
 
 pub(crate) mod columns;
 mod rules;
 
-use crate::since::{push_kinds, push_part, push_tunables};
+use crate::names::lines::{push_item_line, push_unless};
+use crate::since::{push_part, same_kinds, same_tunables};
 pub use columns::place_in;
 use columns::{push_alg, push_class, push_far_weight, push_lacking, push_place, push_type};
 use crush_compare::{Comparison, Devices, Pair};
 use crush_items::Seen;
 use crush_map::{CrushMap, Setting};
-use crush_units::put_all;
 use rules::push_rules;
 use std::alloc::{AllocError, Allocator, Global};
 
-/// Returns what differs between a map and the wanted map, as lines of text. The items of the two
-/// maps are matched by their names. First comes a line for each item of the wanted map that the map
+/// Returns what differs between a map and the wanted map: a line of text for each difference,
+/// without its line feed. The items of the two maps are matched by their names. First comes a line for each item of the wanted map that the map
 /// doesn't have or that differs in the map, in the order of the wanted map's tree. Then comes a
 /// line for each item that only the map has, in the order of the map's tree. Then there may be a
 /// line that says that the tunables differ, a line that says that the types differ, and a line that
@@ -35,10 +35,10 @@ pub fn stays<A: Allocator, B: Allocator>(
     alloc: Global,
     map: &CrushMap<A>,
     wanted: &CrushMap<B>,
-) -> Result<Vec<u8>, AllocError>
+) -> Result<Vec<Vec<u8>>, AllocError>
     ensures { IfOk result (λ lines. (t u : List Row)
         → Stands map.now.forest t → Stands wanted.now.forest u
-        → lines.items ≡ stays (plain_map map.now.setting t) (plain_map wanted.now.setting u)) }
+        → line_texts lines.items ≡ stays (plain_map map.now.setting t) (plain_map wanted.now.setting u)) }
 {
     stays_part(alloc, None, map, wanted)
 }
@@ -52,15 +52,15 @@ pub fn stays_part<A: Allocator, B: Allocator>(
     under: Option<&str>,
     map: &CrushMap<A>,
     wanted: &CrushMap<B>,
-) -> Result<Vec<u8>, AllocError>
+) -> Result<Vec<Vec<u8>>, AllocError>
     ensures { IfOk result (λ lines. (t u : List Row)
         → Stands map.now.forest t → Stands wanted.now.forest u
-        → lines.items ≡ stays_part (option_map (λ n. n.now) under.entry) (plain_map map.now.setting t)
+        → line_texts lines.items ≡ stays_part (option_map (λ n. n.now) under.entry) (plain_map map.now.setting t)
         (plain_map wanted.now.setting u)) }
 {
     let mut lines = Vec::new(alloc);
     push_lines(alloc, under, map, wanted, &mut lines)?;
-    push_beside(under, map, wanted, &mut lines)?;
+    push_beside(alloc, under, map, wanted, &mut lines)?;
     Ok(lines)
 }
 
@@ -69,11 +69,11 @@ fn push_lines<A: Allocator, B: Allocator>(
     under: Option<&str>,
     map: &CrushMap<A>,
     wanted: &CrushMap<B>,
-    lines: &mut Vec<u8>,
+    lines: &mut Vec<Vec<u8>>,
 ) -> Result<(), AllocError>
     ensures { (t u : List Row) → Stands map.now.forest t → Stands wanted.now.forest u
-        → OnOk result (lines.new.items ≡ lines.old.items
-        ++ stay_lines (option_map (λ n. n.now) under.entry) (plain_map map.now.setting t)
+        → OnOk result (line_texts lines.new.items
+        ≡ line_texts lines.old.items ++ stay_lines (option_map (λ n. n.now) under.entry) (plain_map map.now.setting t)
         (plain_map wanted.now.setting u)) }
 {
     let both = Comparison::by_names_part(alloc, Devices::ById, under, map, wanted)?;
@@ -84,9 +84,9 @@ fn push_pairs<A: Allocator, B: Allocator>(
     alloc: Global,
     both: &Comparison<'_, A, B>,
     pairs: &[Pair],
-    lines: &mut Vec<u8>,
+    lines: &mut Vec<Vec<u8>>,
 ) -> Result<(), AllocError>
-    ensures { OnOk result (lines.new.items ≡ lines.old.items ++ flat_map
+    ensures { OnOk result (line_texts lines.new.items ≡ line_texts lines.old.items ++ flat_map
         (λ p. stay_pair both.now.old.map.now.setting both.now.new.map.now.setting
         (pair_items both.now p)) pairs.now) }
 {
@@ -100,10 +100,10 @@ fn push_pair<A: Allocator, B: Allocator>(
     alloc: Global,
     both: &Comparison<'_, A, B>,
     pair: &Pair,
-    lines: &mut Vec<u8>,
+    lines: &mut Vec<Vec<u8>>,
 ) -> Result<(), AllocError>
-    ensures { OnOk result (lines.new.items ≡ lines.old.items
-        ++ stay_pair both.now.old.map.now.setting both.now.new.map.now.setting
+    ensures { OnOk result (line_texts lines.new.items
+        ≡ line_texts lines.old.items ++ stay_pair both.now.old.map.now.setting both.now.new.map.now.setting
         (pair_items both.now pair.now)) }
 {
     let map = both.old.map.setting();
@@ -124,9 +124,9 @@ fn push_stay_pair(
     wanted: &Setting,
     here: &Option<Seen<'_>>,
     there: &Option<Seen<'_>>,
-    lines: &mut Vec<u8>,
+    lines: &mut Vec<Vec<u8>>,
 ) -> Result<(), AllocError>
-    ensures { OnOk result (lines.new.items ≡ lines.old.items ++ stay_pair map.now wanted.now
+    ensures { OnOk result (line_texts lines.new.items ≡ line_texts lines.old.items ++ stay_pair map.now wanted.now
         (record {
           before = option_map seen_data here.now;
           after = option_map seen_data there.now;
@@ -134,7 +134,7 @@ fn push_stay_pair(
 {
     let mut parts = Vec::new(alloc);
     push_parts(alloc, map, wanted, here, there, &mut parts)?;
-    push_line(pair_name(here, there), parts.as_slice(), lines)
+    push_item_line(alloc, pair_name(here, there), parts.as_slice(), lines)
 }
 
 fn push_parts(
@@ -208,48 +208,37 @@ pub(crate) fn pair_name<'a>(before: &Option<Seen<'a>>, after: &Option<Seen<'a>>)
     }
 }
 
-/// Appends the line of an item, or nothing if `parts` is empty. In `parts`, a semicolon and a space
-/// come before each part.
-pub(crate) fn push_line(name: &[u8], parts: &[u8], lines: &mut Vec<u8>) -> Result<(), AllocError>
-    ensures { OnOk result (lines.new.items ≡ lines.old.items ++ stay_text_line name.now parts.now) }
-{
-    match parts {
-        [_, _, text @ ..] => put_all(
-            lines,
-            &[name, b": ".as_slice(), text, b"\n".as_slice()],
-        ).map_err(|_| AllocError),
-        _ => Ok(()),
-    }
-}
-
 #[tactic(auto, unfolding(crate::specs::Stays::named_setting_lines))]
 fn push_settings<A: Allocator, B: Allocator>(
+    alloc: Global,
     map: &CrushMap<A>,
     wanted: &CrushMap<B>,
-    lines: &mut Vec<u8>,
+    lines: &mut Vec<Vec<u8>>,
 ) -> Result<(), AllocError>
     ensures { (t u : List Row) → Stands map.now.forest t → Stands wanted.now.forest u
-        → OnOk result (lines.new.items ≡ lines.old.items
-        ++ named_setting_lines (plain_map map.now.setting t) (plain_map wanted.now.setting u)) }
+        → OnOk result (line_texts lines.new.items
+        ≡ line_texts lines.old.items ++ named_setting_lines (plain_map map.now.setting t) (plain_map wanted.now.setting u)) }
 {
-    push_tunables(map.setting(), wanted.setting(), lines)?;
-    push_kinds(map.setting(), wanted.setting(), lines)?;
-    push_rules(map, wanted, lines)
+    let (here, there) = (map.setting(), wanted.setting());
+    push_unless(alloc, same_tunables(here, there), b"tunables differ", lines)?;
+    push_unless(alloc, same_kinds(here, there), b"types differ", lines)?;
+    push_rules(alloc, map, wanted, lines)
 }
 
 fn push_beside<A: Allocator, B: Allocator>(
+    alloc: Global,
     under: Option<&str>,
     map: &CrushMap<A>,
     wanted: &CrushMap<B>,
-    lines: &mut Vec<u8>,
+    lines: &mut Vec<Vec<u8>>,
 ) -> Result<(), AllocError>
     ensures { (t u : List Row) → Stands map.now.forest t → Stands wanted.now.forest u
-        → OnOk result (lines.new.items ≡ lines.old.items
-        ++ settings_beside (option_map (λ n. n.now) under.entry) (plain_map map.now.setting t)
+        → OnOk result (line_texts lines.new.items
+        ≡ line_texts lines.old.items ++ settings_beside (option_map (λ n. n.now) under.entry) (plain_map map.now.setting t)
         (plain_map wanted.now.setting u)) }
 {
     match under {
         Some(_) => Ok(()),
-        None => push_settings(map, wanted, lines),
+        None => push_settings(alloc, map, wanted, lines),
     }
 }

@@ -30,7 +30,7 @@ pub(crate) fn push_kinds(old: &Setting, new: &Setting, out: &mut Vec<u8>) -> Res
 }
 
 /// Appends the line `text`, or nothing if `same` is true.
-pub(crate) fn tell_unless(same: bool, text: &[u8], out: &mut Vec<u8>) -> Result<(), AllocError>
+fn tell_unless(same: bool, text: &[u8], out: &mut Vec<u8>) -> Result<(), AllocError>
     ensures { OnOk result (out.new.items ≡ out.old.items ++ listed_if_not same text.now) }
 {
     if same {

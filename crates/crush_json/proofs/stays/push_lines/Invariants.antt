@@ -1,7 +1,8 @@
-use Rattle.crush_json.specs.PlanDocument.{line_value, lines, lines_behind}
+use Rattle.crush_json.specs.PlanDocument.{line_value}
 use Rattle.crush_json.specs.Tokens.{tokens_of_all}
-use Rattle.std.proofs.Common.{drop, map, ◌++◌, ◌≡◌}
+use Rattle.crush_since.specs.Stays.{line_texts}
+use Rattle.std.proofs.Common.{map, take, ◌++◌, ◌≡◌}
 use Rattle.crush_json.proofs.stays.push_lines.Given as goal
 
-abbrev pub invariant-loop-byte : goal.invariant-loop-byte
-invariant-loop-byte l = l.out ++ tokens_of_all (map line_value (lines_behind l.line.items (drop l.byte-index l.rest))) ≡ l.fn.out ++ tokens_of_all (map line_value (lines l.rest))
+abbrev pub invariant-loop-line : goal.invariant-loop-line
+invariant-loop-line l = l.out ≡ l.fn.out ++ tokens_of_all (map line_value (line_texts (take l.line-index l.rest)))

@@ -1,5 +1,6 @@
-use Rattle.std.proofs.Common.{◌<◌, [], ◌∙◌, ap, refl, subst, inr}
-use Rattle.crush_plan.specs.Plan.{line_count}
+use Rattle.std.proofs.Common.{[], arith, refl, inr}
+use Rattle.std.proofs.lemmas.List.{length-map}
+use Rattle.crush_since.specs.Stays.{line_texts}
 use Rattle.crush_plan.proofs.plan.find_plan.Goals as goal
 
 pub without_edits-requires : goal.without_edits-requires
@@ -12,9 +13,9 @@ pub returns-then-is_better : goal.returns-then-is_better
 returns-then-is_better g c = λ t u a b. record {
   goes = c.in_ok-found.ensures t u a b;
   better = inr (record {
-    none = record { edits = []; rest = c.in_ok-rest.rest.items; aside = record { ids = _; class_ids = _ } };
+    none = record { edits = []; rest = line_texts c.in_ok-rest.rest.items; aside = record { ids = _; class_ids = _ } };
     edits = refl;
     tells = record { rest = c.in_ok-rest.ensures t u a b; aside = record { ids = refl; class_ids = refl } };
-    fewer = subst (λ n. line_count c.in_ok-found.found.rest.items < n) (c.count_lines-differences.ensures ∙ ap line_count c.as_slice.ensures.value) (c.is_better.ensures c.if-is_better.true);
+    fewer = omega (arith, length-map c.in_ok-found.found.rest.items (λ line. line.items), length-map c.in_ok-rest.rest.items (λ line. line.items), c.len-differences.ensures, c.is_better.ensures c.if-is_better.true);
   });
 }

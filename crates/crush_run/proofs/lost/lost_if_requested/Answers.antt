@@ -1,7 +1,7 @@
 use Rattle.std.proofs.Common.{◌&&◌, nat_lt, length, ap, sym, subst, ◌∙◌}
 use Rattle.crush_history.specs.HistoryText.{names_of}
 use Rattle.crush_history.specs.Script.{scripts_data}
-use Rattle.crush_plan.specs.Plan.{line_count}
+use Rattle.crush_run.specs.Lost.{line_count}
 use Rattle.crush_run.proofs.Headings.{both_first}
 use Rattle.crush_run.proofs.lost.lost_if_requested.Goals as goal
 

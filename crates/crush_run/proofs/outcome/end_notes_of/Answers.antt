@@ -1,6 +1,7 @@
 use Rattle.std.proofs.Common.{◌++◌, ap, ◌∙◌}
 use Rattle.crush_history.specs.HistoryText.{names_of}
 use Rattle.crush_history.specs.Script.{scripts_data}
+use Rattle.crush_since.specs.Stays.{line_texts, text_of_lines}
 use Rattle.crush_input.specs.Lost.{conflict_notes, lost_data}
 use Rattle.crush_input.specs.Made.{made_text}
 use Rattle.crush_input.specs.Notes.{created_notes}
@@ -18,5 +19,5 @@ returns c = λ s o opening.
       refused = c.in_ok-refused.ensures ∙ ap (λ l. l ++ told) (c.as_slice.ensures.value ∙ calls);
       made = λ on. c.in_ok-made.ensures on ∙ ap (λ l. made_text names 1 c.args.completed.now.entries.now ++ l) (c.as_slice-3.ensures.value ∙ with_lost);
       conflicts = c.in_ok-conflicts.ensures ∙ ap (λ l. lost.lines ++ l) (c.as_slice-4.ensures.value ∙ calls);
-      whole = λ on. c.in_ok-whole.ensures on ∙ ap (λ l. l ++ c.args.completed.now.plan.now.rest.items) (c.as_slice-5.ensures.value ∙ calls);
+      whole = λ on. c.in_ok-whole.ensures on ∙ ap (λ l. l ++ text_of_lines (line_texts c.args.completed.now.plan.now.rest.items)) (c.as_slice-5.ensures.value ∙ calls);
     }

@@ -5,11 +5,12 @@ ghost use Rattle.std.specs.Option.{option_map};
 ghost use Rattle.crush_since.specs.ItemParts.{behind};
 ghost use Rattle.crush_items.specs.SeenItem.{seen_data};
 ghost use Rattle.crush_since.specs.SinceNames.{changed, changed_pair, changed_parts, other_weights, whole_word};
+ghost use Rattle.crush_since.specs.Stays.{stay_text_line, text_of_lines};
 
 use crate::names::staying::columns::{
     push_alg, push_class, push_place, push_type, push_wanted_word, push_weight,
 };
-use crate::names::staying::{pair_name, push_line};
+use crate::names::staying::pair_name;
 use crate::since::{push_with_class, weight_of};
 use crush_items::Seen;
 use crush_map::Setting;
@@ -33,6 +34,21 @@ pub(crate) fn push_changed_pair(
     let mut parts = Vec::new(alloc);
     push_parts(alloc, old, new, before, after, &mut parts)?;
     push_line(pair_name(before, after), parts.as_slice(), out)
+}
+
+/// Appends the line of an item, with a line feed, or nothing if `parts` is empty. In `parts`, a
+/// semicolon and a space come before each part.
+fn push_line(name: &[u8], parts: &[u8], out: &mut Vec<u8>) -> Result<(), AllocError>
+    ensures { OnOk result (out.new.items ≡ out.old.items
+        ++ text_of_lines (stay_text_line name.now parts.now)) }
+{
+    match parts {
+        [_, _, text @ ..] => put_all(
+            out,
+            &[name, b": ".as_slice(), text, b"\n".as_slice()],
+        ).map_err(|_| AllocError),
+        _ => Ok(()),
+    }
 }
 
 /// Appends the parts of an item's line: one part for each column that differs. A semicolon and a

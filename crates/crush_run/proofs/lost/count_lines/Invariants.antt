@@ -1,6 +1,6 @@
 use Rattle.std.proofs.Common.{◌≡◌, ◌≤◌, take}
-use Rattle.crush_plan.specs.Plan.{line_count}
-use Rattle.crush_plan.proofs.plan.count_lines.Given as goal
+use Rattle.crush_run.specs.Lost.{line_count}
+use Rattle.crush_run.proofs.lost.count_lines.Given as goal
 
 abbrev pub invariant-loop-byte : goal.invariant-loop-byte
 invariant-loop-byte l = record {
