@@ -5,7 +5,7 @@ use Rattle.std.proofs.lemmas.List.Elements.{All-cons, All-nil}
 use Rattle.crush_model.specs.Table.{Row}
 use Rattle.crush_edits.specs.Setting.{SettingData}
 use Rattle.crush_items.specs.Tree.{tree_rows}
-use Rattle.crush_since.proofs.EqualItems.{nil_left, nil_right}
+use Rattle.crush_since.proofs.TreeLaws.{nil_left, nil_right}
 use Rattle.crush_conflicts.specs.declared.aspects.Aspects.{Aspects}
 use Rattle.crush_conflicts.specs.Aspects.{is_some_aspect, of_either}
 use Rattle.crush_conflicts.specs.Cases.{CaseData, FoundData, lost_among, lost_aspects, lost_of}

@@ -1,16 +1,14 @@
 -- Proves that no difference remains between two maps if and only if they are alike by names.
-use Rattle.std.proofs.Common.{◌≡◌, ℕ, ◌+◌, ◌≤◌, Bool, true, false, List, [], ◌∷◌, ◌++◌, length, map, refl, sym, ap, subst, ◌∙◌, arith, eq-eqb, ⊎_elim}
+use Rattle.std.proofs.Common.{◌≡◌, ℕ, ◌+◌, ◌≤◌, Bool, true, false, List, [], ◌∷◌, ◌++◌, map, refl, sym, ap, subst, ◌∙◌, arith, eq-eqb, ⊎_elim}
 use Rattle.std.specs.Prelude.{find, IfSome, Option, None, Some, is_some, ◌&&◌, ◌==◌, if◌then◌else◌, bytes_eq, codes, option_and_then, unwrap_or}
 use Rattle.std.specs.Cmp.Lexicographic.{pointwise}
 use Rattle.std.specs.List.{list_all}
 use Rattle.std.specs.Option.{option_map}
 use Rattle.std.proofs.lemmas.Bool.Decides.{eqb_tells, nat_tests}
-use Rattle.crush_units.specs.declared.alg.Alg.{Alg}
 use Rattle.crush_units.specs.declared.id.ItemId.{ItemId}
 use Rattle.crush_units.specs.declared.id.ItemId.TheVariants.{Device, Bucket}
 use Rattle.crush_units.specs.Id.{same_id}
 use Rattle.crush_units.specs.Name.{IsName, are_name_bytes}
-use Rattle.crush_units.proofs.Algs.{same_alg_equal, equal_same_alg}
 use Rattle.crush_units.proofs.Ids.{same_id_refl}
 use Rattle.crush_model.specs.Count.{one_if}
 use Rattle.crush_model.specs.Lawful.{HasParent, IsRow, IsRowOf, Lawful}
@@ -29,7 +27,7 @@ use Rattle.crush_since.specs.ItemParts.{part}
 use Rattle.crush_since.specs.ItemWords.{type_word}
 use Rattle.crush_since.specs.Settings.{same_tunable, agree_on, same_kinds, kind_numbers}
 use Rattle.crush_since.specs.Since.{PlainMap}
-use Rattle.crush_since.proofs.SinceItself.{pairs_itself}
+use Rattle.crush_since.proofs.SinceItself.{algs_itself, all_agree, pairs_itself, text_itself, tunable_itself}
 use Rattle.crush_since.specs.Alike.{AreOne, place_of, AreAlike, HaveAlike, SettingsAgree, AreAlikeByNames, NothingStaysWhereAlike}
 use Rattle.crush_compare.specs.declared.identity.Devices.{Devices}
 use Rattle.crush_compare.specs.declared.identity.Devices.TheVariants.{ById}
@@ -37,10 +35,9 @@ use Rattle.crush_compare.specs.Named.{are_one, if_one, counterpart}
 use Rattle.crush_since.specs.NamedRules.{named_rules_line}
 use Rattle.crush_since.specs.Stays.{place_in, place_word, same_place, type_part, place_part, weight_part, class_part, alg_part, differing, wanted_parts, stay_line, named_setting_lines, stays}
 use Rattle.crush_since.proofs.NamedPairs.{unwanted_parts, wanted_line, unwanted_line, wanted_lines, unwanted_lines, stays_are}
-use Rattle.crush_since.proofs.TreeLaws.{nil_left, nil_right, tree_none, rows_none}
-
-some_is : {X : Type 0} (a b : X) → Some a ≡ Some b → a ≡ b
-some_is a b same = cc
+use Rattle.crush_since.proofs.TreeLaws.{nil_left, nil_right, tree_none, rows_none, some_is, not_none}
+use Rattle.crush_since.proofs.EqualItems.{algs_equal, part_is_none, text_equal}
+use Rattle.crush_nodes.proofs.StoredLaws.{first_of, second_of}
 
 -- NAMES: the row that is found by a name is the row that is found by the row's id
 row_of_named : (t : List Row) (n : List ℕ) (r : Row) → Distinct t → row_named t n ≡ Some r → (r.name ≡ n) × (row_of t r.id ≡ Some r)
@@ -94,27 +91,6 @@ one_turned (Device d) (Device e) h = sym h
 one_turned (Device d) (Bucket b) h = absurd h
 one_turned (Bucket b) (Device d) h = absurd h
 one_turned (Bucket b) (Bucket c) h = tt
-
--- TESTS of single columns: a test is true if and only if the two values are equal
-text_equal : (a b : Option (List ℕ)) → same_text a b ≡ true → a ≡ b
-text_equal None None h = refl
-text_equal None (Some y) h = absurd cc
-text_equal (Some x) None h = absurd cc
-text_equal (Some x) (Some y) h = ap Some (bytes_equal x y h)
-
-pub text_itself : (a : Option (List ℕ)) → same_text a a ≡ true
-text_itself None = refl
-text_itself (Some n) = bytes_itself n
-
-algs_equal : (a b : Option Alg) → same_algs a b ≡ true → a ≡ b
-algs_equal None None h = refl
-algs_equal None (Some y) h = absurd cc
-algs_equal (Some x) None h = absurd cc
-algs_equal (Some x) (Some y) h = ap Some (same_alg_equal x y h)
-
-pub algs_itself : (a : Option Alg) → same_algs a a ≡ true
-algs_itself None = refl
-algs_itself (Some x) = equal_same_alg x x refl
 
 -- types: a device has the type 0 in both maps
 type_of_test : (s p : SettingData) → ((n : ℕ) → kind_name s n ≡ kind_name p n) → (i j : ItemId) (x y : Row) → IsRowOf i x → IsRowOf j y → AreOne i j
@@ -189,17 +165,9 @@ words_of_place i j None (Some q) a b one ha hb is = absurd (let no_way : None �
 words_of_place i j (Some p) None a b one ha hb is = absurd (let no_way : None ≡ Some ha.0 = sym hb ∙ sym is ∙ ha.1 in cc)
 words_of_place i j (Some p) (Some q) a b one ha hb is = ap (λ h. unwrap_or h []) is
 
--- LINES: a list of several parts is empty if and only if each part is empty
-not_none : {X : Type 0} (x : X) (xs : List X) → x ∷ xs ≡ [] → ⊥
-not_none x xs h = let long : length (x ∷ xs) ≡ 0 = ap length h in omega (arith, long)
-
 line_is_none : (name : List ℕ) (ps : List (List ℕ)) → stay_line name ps ≡ [] → ps ≡ []
 line_is_none name [] h = refl
 line_is_none name (p ∷ ps) h = absurd (not_none _ [] h)
-
-part_is_none : (same : Bool) (text : List ℕ) → part same text ≡ [] → same ≡ true
-part_is_none true text h = refl
-part_is_none false text h = absurd (not_none text [] h)
 
 pub part_none : (same : Bool) (text : List ℕ) → same ≡ true → part same text ≡ []
 part_none same text e = ap (λ b. part b text) e
@@ -207,22 +175,12 @@ part_none same text e = ap (λ b. part b text) e
 pub none_of_five : {X : Type 0} (a b c d e : List X) → a ≡ [] → b ≡ [] → c ≡ [] → d ≡ [] → e ≡ [] → a ++ b ++ c ++ d ++ e ≡ []
 none_of_five a b c d e ha hb hc hd he = λ k. ha k ++ hb k ++ hc k ++ hd k ++ he k
 
-first_of : (a b : Bool) → (a && b) ≡ true → a ≡ true
-first_of true b h = refl
-first_of false b h = h
-
-second_of : (a b : Bool) → (a && b) ≡ true → b ≡ true
-second_of true b h = h
-second_of false b h = absurd cc
 
 -- SETTINGS: the tests of tunables, types and rules are true if and only if the settings agree
 tunable_equal : (x y : TunableData) → same_tunable x y ≡ true → x ≡ y
 tunable_equal x y h =
     let value : x.value ≡ y.value = ⊎_elim (λ q. q.1) (λ q. absurd (let no_way : true ≡ false = sym (second_of (bytes_eq x.name y.name) (x.value == y.value) h) ∙ q.0 in cc)) (eqb_tells x.value y.value) in
     λ k. record { name = bytes_equal x.name y.name (first_of (bytes_eq x.name y.name) (x.value == y.value) h) k; value = value k }
-
-tunable_itself : (x : TunableData) → same_tunable x x ≡ true
-tunable_itself x = λ k. bytes_itself x.name k && eq-eqb x.value x.value refl k
 
 tunables_equal : (xs ys : List TunableData) → pointwise same_tunable xs ys ≡ true → xs ≡ ys
 tunables_equal [] [] h = refl
@@ -252,12 +210,8 @@ kinds_agree s p h n = by_name (kind_name s n) (kind_name p n) refl refl where
   by_name None (Some m) ea eb = text_equal (kind_name s n) (kind_name p n) (of_number (agree_on s p) p.kinds n m there eb)
   by_name None None ea eb = ea ∙ sym eb
 
-all_true : (test : ℕ → Bool) → ((n : ℕ) → test n ≡ true) → (ns : List ℕ) → list_all test ns ≡ true
-all_true test each [] = refl
-all_true test each (n ∷ ns) = λ k. each n k && all_true test each ns k
-
 kinds_same : (s p : SettingData) → ((n : ℕ) → kind_name s n ≡ kind_name p n) → same_kinds s p ≡ true
-kinds_same s p agree = λ k. all_true (agree_on s p) each (kind_numbers s) k && all_true (agree_on s p) each (kind_numbers p) k where
+kinds_same s p agree = λ k. all_agree (agree_on s p) each (kind_numbers s) k && all_agree (agree_on s p) each (kind_numbers p) k where
   each : (n : ℕ) → agree_on s p n ≡ true
   each n = ap (same_text (kind_name s n)) (sym (agree n)) ∙ text_itself (kind_name s n)
 

@@ -20,6 +20,7 @@ use Rattle.crush_units.specs.declared.id.ItemId.TheVariants.{Bucket as BucketIte
 use Rattle.crush_tree.proofs.ReadLemmas.Items.{kids_in-present}
 use Rattle.crush_print.specs.ItemsText.{buckets_among}
 use Rattle.crush_since.specs.ChangeItems.{AreBuckets}
+use Rattle.crush_items.proofs.WalkLaws.{All-unmap}
 
 -- THE ROOTS and the items below them have all buckets of the forest
 pub buckets_of_roots : (u r : Items) → OnlyDevices u → buckets_among r ≡ buckets_among (join u r)
@@ -93,14 +94,10 @@ at_place P [] at d all lt = absurd (omega (arith, lt))
 at_place P (x ∷ xs) zero d all lt = All-head P x xs all
 at_place P (x ∷ xs) (suc at) d all lt = at_place P xs at d (All-tail P x xs all) (omega (arith, lt))
 
-unmapped : {X Y : Type 0} (P : Y → Type 0) (see : X → Y) (xs : List X) → All P (map see xs) → All (λ x. P (see x)) xs
-unmapped P see [] all = All-nil (λ x. P (see x))
-unmapped P see (x ∷ xs) all = All-cons (λ x. P (see x)) x xs (All-head P (see x) (map see xs) all) (unmapped P see xs (All-tail P (see x) (map see xs) all))
-
 pub bucket_found : {X : Type 0} (see : X → BucketData) (f : ForestData) (xs : List X) (k at : ℕ) (x : X) (items : Items) → IsSound f → AreBuckets see f xs → at < length xs → x ≡ get_or xs at x → ((d : X) → nat_cmp (see (get_or xs at d)).header.id k ≡ Equal) → items ≡ (see x).kids
     → Some items ≡ kids_in k (all_items f)
 bucket_found see f xs k at x items sound are lt is equal kids =
-    let found = at_place (λ y. IsFoundIn (all_items f) (see y)) xs at x (unmapped (IsFoundIn (all_items f)) see xs (All-permutation (IsFoundIn (all_items f)) (buckets_among (all_items f)) (map see xs) are.same (all_found (all_items f) (once_each f sound)))) lt in
+    let found = at_place (λ y. IsFoundIn (all_items f) (see y)) xs at x (All-unmap (IsFoundIn (all_items f)) see xs (All-permutation (IsFoundIn (all_items f)) (buckets_among (all_items f)) (map see xs) are.same (all_found (all_items f) (once_each f sound)))) lt in
     let same : (see (get_or xs at x)).header.id ≡ k = ranked _ k _ (sym (equal x)) in
     ap Some (kids ∙ ap (λ y. (see y).kids) is) ∙ sym found ∙ ap (λ b. kids_in b (all_items f)) same
 

@@ -1,9 +1,9 @@
 -- Examples: the texts of the tree that shows what has changed between two maps, computed from the definition.
 use Rattle.std.proofs.Common.{◌≡◌, refl}
-use Rattle.std.specs.Prelude.{ℕ, List, [], ◌∷◌, Some, None, codes}
+use Rattle.std.specs.Prelude.{List, [], ◌∷◌, Some, None, codes}
 use Rattle.std.specs.Fmt.{digits}
 use Rattle.crush_edits.specs.Setting.{SettingData, take, emit}
-use Rattle.crush_model.specs.Items.{Items, LeafData, none, device, bucket}
+use Rattle.crush_model.specs.Items.{none, device, bucket}
 use Rattle.crush_model.specs.Forest.{rows_of}
 use Rattle.crush_model.specs.Table.{Row}
 use Rattle.crush_print.specs.MapText.{root_numbers, kind_text}
@@ -14,46 +14,22 @@ use Rattle.crush_since.specs.Classes.{class_lines, classes, class_line, untaken_
 use Rattle.crush_since.specs.Rules.{other_order, rule_takes, weighs_nothing}
 use Rattle.crush_since.specs.Emptied.{emptied_lines}
 use Rattle.crush_since.specs.Settings.{tunables_line, kinds_line, rules_line, setting_lines}
-use Rattle.crush_since.specs.Since.{PlainMap, plain_map, id_line, all_ids, all_buckets, all_devices, totals_line, last_lines}
+use Rattle.crush_since.specs.Since.{plain_map, id_line, all_ids, all_buckets, all_devices, totals_line, last_lines}
 use Rattle.crush_since.specs.Tallies.{first_counts, last_counts, counts_line}
 use Rattle.crush_print.specs.Tree.{unplaced_numbers}
 use Rattle.crush_print.specs.TreeText.{at_left, at_right}
-use Rattle.crush_print.proofs.Examples.{leaf, header, type, setting, example}
-
-abbrev of_roots : Items → List Row
-of_roots roots = rows_of (record { roots = roots; unplaced = none; root_capacity = 1; unplaced_capacity = 0 })
-
-abbrev of : List Row → PlainMap
-of t = plain_map setting t
-
--- osd.0 has moved from h1 to h2
-abbrev moved : List Row
-moved = of_roots (bucket (header 1 11 (codes "default")) 163840 2
-    (bucket (header 2 1 (codes "h1")) 65536 2 (device (leaf 1 (codes "osd.1") 65536) none)
-    (bucket (header 3 1 (codes "h2")) 98304 2 (device (leaf 2 (codes "osd.2") 32768) (device (leaf 0 (codes "osd.0") 65536) none)) none)) none)
+use Rattle.crush_print.proofs.Examples.{leaf, header, type, example}
+use Rattle.crush_since.proofs.SinceExamples.{grown, moved, of, of_class, of_roots, swapped}
 
 changes_moved : changes_text (of example) (of moved)
     ≡ codes "ID  CLASS  WAS      WEIGHT   TYPE NAME\n-1         2.50000  2.50000  root default\n-2         2.00000  1.00000      host h1\n 0         1.00000        -          osd.0\n-3         0.50000  1.50000      host h2\n 0               -  1.00000          osd.0 (from h1)\ntotal 2.50000 to 2.50000\n0 made, 0 removed, 0 renamed, 1 moved, 2 of other weight, 0 of other class\n"
 unfolding changes_text rows_text change_rows root_rows unplaced_rows stands_at stood_at left_from is_listed id_line heading change_line weights_column name_column at_left at_right root_numbers unplaced_numbers kind_text last_lines setting_lines tunables_line kinds_line rules_line emptied_lines class_lines classes class_line untaken_text other_order rule_takes weighs_nothing bucket_name totals_line counts_line first_counts last_counts all_ids all_buckets all_devices digits
 changes_moved = refl
 
--- a device, its host and the host's rack are new
-abbrev grown : List Row
-grown = of_roots (bucket (header 1 11 (codes "default")) 229376 3
-    (bucket (header 2 1 (codes "h1")) 131072 2 (device (leaf 0 (codes "osd.0") 65536) (device (leaf 1 (codes "osd.1") 65536) none))
-    (bucket (header 3 1 (codes "h2")) 32768 1 (device (leaf 2 (codes "osd.2") 32768) none)
-    (bucket (header 5 3 (codes "r1")) 65536 1 (bucket (header 4 1 (codes "h3")) 65536 1 (device (leaf 3 (codes "osd.3") 65536) none) none) none))) none)
-
 changes_grown : changes_text (of example) (of grown)
     ≡ codes "ID  CLASS  WAS      WEIGHT   TYPE NAME\n-1         2.50000  3.50000  root default\n-5               -  1.00000      rack r1 (made)\n-4               -  1.00000          host h3 (made)\n 3               -  1.00000              osd.3 (made)\ntotal 2.50000 to 3.50000\n3 made, 0 removed, 0 renamed, 0 moved, 1 of other weight, 0 of other class\n"
 unfolding changes_text rows_text change_rows root_rows unplaced_rows stands_at stood_at left_from is_listed id_line heading change_line weights_column name_column at_left at_right root_numbers unplaced_numbers kind_text last_lines setting_lines tunables_line kinds_line rules_line emptied_lines class_lines classes class_line untaken_text other_order rule_takes weighs_nothing bucket_name totals_line counts_line first_counts last_counts all_ids all_buckets all_devices digits
 changes_grown = refl
-
--- h1 and h2 have exchanged their names and items
-abbrev swapped : List Row
-swapped = of_roots (bucket (header 1 11 (codes "default")) 163840 2
-    (bucket (header 2 1 (codes "h2")) 32768 2 (device (leaf 2 (codes "osd.2") 32768) none)
-    (bucket (header 3 1 (codes "h1")) 131072 2 (device (leaf 0 (codes "osd.0") 65536) (device (leaf 1 (codes "osd.1") 65536) none)) none)) none)
 
 changes_swapped : changes_text (of example) (of swapped)
     ≡ codes "ID  CLASS  WAS      WEIGHT   TYPE NAME\n-1         2.50000  2.50000  root default\n-2         2.00000  0.50000      host h2 (was h1)\n 2               -  0.50000          osd.2 (from h2)\n 0         1.00000        -          osd.0\n 1         1.00000        -          osd.1\n-3         0.50000  2.00000      host h1 (was h2)\n 0               -  1.00000          osd.0 (from h1)\n 1               -  1.00000          osd.1 (from h1)\n 2         0.50000        -          osd.2\ntotal 2.50000 to 2.50000\n0 made, 0 removed, 2 renamed, 3 moved, 2 of other weight, 0 of other class\n"
@@ -85,10 +61,6 @@ changes_again : changes_text (plain_map with_row row_before) (plain_map with_row
     ≡ codes "ID  CLASS  WAS      WEIGHT   TYPE NAME\n-1         1.00000  2.00000  root default\n-2         1.00000  2.00000      row row00\n-3         1.00000  2.00000          rack rack000\n-4               -  1.00000              host h9 (was rack001; type rack to host; from row00)\n 1               -  1.00000                  osd.1 (made)\n-4         0.00000        -          rack rack001\ntotal 1.00000 to 2.00000\n1 made, 0 removed, 1 renamed, 1 moved, 4 of other weight, 0 of other class\n"
 unfolding changes_text rows_text change_rows root_rows unplaced_rows stands_at stood_at left_from is_listed id_line heading change_line weights_column name_column at_left at_right root_numbers unplaced_numbers kind_text last_lines setting_lines tunables_line kinds_line rules_line emptied_lines class_lines classes class_line untaken_text other_order rule_takes weighs_nothing bucket_name totals_line counts_line first_counts last_counts all_ids all_buckets all_devices digits
 changes_again = refl
-
--- a root has moved into the other root, one device has become unplaced, another device is no longer unplaced, and a rule finds no device of its class
-abbrev of_class : List ℕ → LeafData
-of_class c = record { id = 0; name = codes "osd.0"; weight = 65536; class = Some c }
 
 abbrev ruled : SettingData
 ruled = record {

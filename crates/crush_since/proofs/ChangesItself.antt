@@ -20,8 +20,8 @@ use Rattle.crush_since.specs.Since.{plain_map}
 use Rattle.crush_since.specs.SinceLaws.{NoRowSinceItself}
 use Rattle.crush_print.specs.Tree.{unplaced_number, unplaced_numbers}
 use Rattle.crush_print.specs.TreeText.{at_left}
-use Rattle.crush_since.proofs.EqualItems.{nil_left, nil_right}
 use Rattle.crush_since.proofs.SinceItself.{nothing_of, no_line_of, last_since_itself}
+use Rattle.crush_since.proofs.TreeLaws.{nil_left, nil_right}
 
 -- NOTHING: if a function gives nothing for each number of a list, it gives nothing for the sorted list
 put_nothing : {Z : Type 0} (g : ℕ → List Z) (n : ℕ) (xs : List ℕ) → g n ≡ [] → flat_map g xs ≡ [] → flat_map g (put_in n xs) ≡ []

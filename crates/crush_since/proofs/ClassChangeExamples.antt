@@ -1,9 +1,8 @@
 -- The tree of what has changed between two maps, computed for one device class.
 use Rattle.std.proofs.Common.{◌≡◌, refl}
-use Rattle.std.specs.Prelude.{ℕ, List, Some, None, codes}
+use Rattle.std.specs.Prelude.{List, None, codes}
 use Rattle.std.specs.Fmt.{digits}
-use Rattle.crush_model.specs.Items.{Items, LeafData, none, device, bucket}
-use Rattle.crush_model.specs.Forest.{rows_of}
+use Rattle.crush_model.specs.Items.{none, device, bucket}
 use Rattle.crush_model.specs.Table.{Row}
 use Rattle.crush_print.specs.MapText.{root_numbers, kind_text}
 use Rattle.crush_print.specs.RuleLines.{bucket_name}
@@ -21,12 +20,7 @@ use Rattle.crush_since.specs.Settings.{tunables_line, kinds_line, rules_line, se
 use Rattle.crush_since.specs.Since.{plain_map, id_line, all_ids, all_buckets, all_devices, totals_line, last_lines}
 use Rattle.crush_since.specs.Tallies.{first_counts, last_counts, counts_line}
 use Rattle.crush_print.proofs.Examples.{header, setting}
-
-abbrev of_roots : Items → List Row
-of_roots roots = rows_of (record { roots = roots; unplaced = none; root_capacity = 1; unplaced_capacity = 0 })
-
-abbrev of_class : List ℕ → LeafData
-of_class c = record { id = 0; name = codes "osd.0"; weight = 65536; class = Some c }
+use Rattle.crush_since.proofs.SinceExamples.{of_class, of_roots}
 
 -- the host h1 has a device of the class ssd, and is below the rack r1
 abbrev below_r1 : List Row

@@ -11,7 +11,7 @@ use Rattle.std.proofs.lemmas.List.Sums.{sum_by-cons}
 use Rattle.crush_since.specs.Grouped.{with_first, grouped}
 use Rattle.crush_since.specs.Collected.{Amount, old_weight, new_weight, old_devices, new_devices, takes, ClassData, together, put_at, put_class, collected}
 
-abbrev order : List ℕ → List ℕ → Ordering
+abbrev pub order : List ℕ → List ℕ → Ordering
 order x y = slice_cmp nat_cmp x y
 
 -- what a class adds to the amounts of a name

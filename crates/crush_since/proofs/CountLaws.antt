@@ -1,5 +1,5 @@
 -- Lemmas about the counts of pairs: how they grow by one pair, and that they are counts of the steps of both trees.
-use Rattle.std.proofs.Common.{◌≡◌, ℕ, ◌+◌, ◌<◌, ◌≤◌, Bool, true, false, List, length, get_or, map, take, ap, sym, ◌∙◌, arith, cond, refl}
+use Rattle.std.proofs.Common.{◌≡◌, ℕ, ◌+◌, ◌<◌, Bool, true, false, List, length, get_or, map, take, ap, sym, ◌∙◌, arith, cond, refl}
 use Rattle.std.specs.Prelude.{Option, None, Some, ◌&&◌}
 use Rattle.std.specs.List.{count_by}
 use Rattle.std.proofs.lemmas.List.{get_or_default}
@@ -16,7 +16,7 @@ use Rattle.crush_since.specs.Tallies.{is_made, is_removed, is_reweighed, is_recl
 use Rattle.crush_since.specs.declared.since.tally.Tally.{Tally}
 use Rattle.crush_since.specs.CountedByName.{both_meet, is_gone_by_name, is_moved_by_name, pair_meets, pairs_tally, tally_by_name, tally_plus}
 use Rattle.crush_since.proofs.NamedPairs.{count_pairs, of_new_step, of_old_step}
-use Rattle.crush_since.proofs.TallyLaws.{AtMost, count_more}
+use Rattle.crush_since.proofs.TallyLaws.{AtMost, count_more, one_at_most}
 
 -- counting the elements that meet a test is the same for a list and for the list of what its elements are seen as
 pub counted_seen : {X Y : Type 0} (p : Y → Bool) (see : X → Y) (xs : List X) (ys : List Y) → map see xs ≡ ys → count_by (λ x. p (see x)) xs ≡ count_by p ys
@@ -40,10 +40,6 @@ tally_at see ps i d n m lt so_far with_it = tally_more see ps i (get_or ps i d) 
 
 pub count_at : {X : Type 0} (p : X → Bool) (xs : List X) (i : ℕ) (d : X) (n m : ℕ) → i < length xs → n ≡ count_by p (take i xs) → m ≡ n + one_if (p (get_or xs i d)) → m ≡ count_by p (take (i + 1) xs)
 count_at p xs i d n m lt so_far is = is ∙ ap (λ k. k + one_if (p (get_or xs i d))) so_far ∙ sym (count_more p xs i (get_or xs i d) lt (get_or_default xs i d (get_or xs i d) lt))
-
-one_at_most : (b : Bool) → one_if b ≤ 1
-one_at_most true = omega arith
-one_at_most false = omega arith
 
 pub at_most_plus : (k : ℕ) (n m : Tally) (before after : Option ItemData) → AtMost k n → m ≡ tally_plus n before after → AtMost (k + 1) m
 at_most_plus k n m before after most is = record {

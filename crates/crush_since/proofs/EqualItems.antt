@@ -1,6 +1,6 @@
 -- Proves that no item has a line if and only if both tables have equal rows.
 use Rattle.std.proofs.Common.{◌≡◌, ℕ, Bool, true, false, List, [], ◌∷◌, ◌++◌, length, map, ap, sym, subst, ◌∙◌, refl, arith, ⊎_elim}
-use Rattle.std.specs.Prelude.{flat_map, All, IfSome, Option, None, Some, ◌==◌, ◌&&◌, nat_le, if◌then◌else◌, bytes_eq, codes, option_and_then}
+use Rattle.std.specs.Prelude.{flat_map, All, IfSome, Option, None, Some, ◌==◌, if◌then◌else◌, bytes_eq, codes, option_and_then}
 use Rattle.std.specs.Cmp.Lexicographic.{pointwise}
 use Rattle.std.specs.Option.{option_map, option_map_or}
 use Rattle.std.proofs.lemmas.Bool.Decides.{eqb_tells}
@@ -19,7 +19,7 @@ use Rattle.crush_model.proofs.Moved.{row_id}
 use Rattle.crush_model.proofs.Same.{item_weight-same}
 use Rattle.crush_model.proofs.Tested.{bytes_equal}
 use Rattle.crush_edits.specs.Setting.{SettingData}
-use Rattle.crush_print.specs.MapText.{put_in, ascending, device_number}
+use Rattle.crush_print.specs.MapText.{ascending, device_number}
 use Rattle.crush_compare.specs.Equal.{same_option, same_text}
 use Rattle.crush_items.specs.ItemData.{ItemData, row_item, item_of, own_class_ids}
 use Rattle.crush_since.specs.ItemParts.{same_algs, same_class_id, part, name_part, type_part, place_part, weight_part, class_part, alg_part, class_ids_part, changes, parts, behind, line, item_line}
@@ -28,6 +28,8 @@ use Rattle.crush_since.specs.Since.{plain_map, same_class_ids, id_line, once_beh
 use Rattle.crush_since.specs.SinceLaws.{NoItemWhereRowsAreEqual}
 use Rattle.crush_since.proofs.EqualRows.{equal_rows_reordered}
 use Rattle.crush_since.proofs.SinceItself.{no_line, nothing_of, pairs_itself, class_id_itself}
+use Rattle.crush_since.proofs.TreeLaws.{nil_left, nil_right, not_none, some_is, unsorted}
+use Rattle.crush_nodes.proofs.StoredLaws.{first_of, second_of}
 
 -- if both tables have EQUAL ROWS, there are no lines
 rows_tell_nothing : (s p : SettingData) (t u : List Row) → Lawful t → Lawful u → ((i : ItemId) → row_of t i ≡ row_of u i) → item_lines (plain_map s t) (plain_map p u) ≡ []
@@ -49,15 +51,6 @@ rows_tell_nothing s p t u lt lu same = nothing_of (λ i. item_line s p i (item_o
   each : (i : ItemId) → item_line s p i (item_of t i) (item_of u i) (same_class_ids t u i) ≡ []
   each i = (λ k. item_line s p i (item-same i k) (item_of u i) (pointwise same_class_id (ids-same i k) (own_class_ids u i))) ∙ no_line s p i (item_of u i) (pointwise same_class_id (own_class_ids u i) (own_class_ids u i)) (pairs_itself same_class_id class_id_itself (own_class_ids u i))
 
--- NO LINES: if two joined lists are empty, each of them is empty
-pub nil_left : {X : Type 0} (xs ys : List X) → xs ++ ys ≡ [] → xs ≡ []
-nil_left [] ys h = refl
-nil_left (x ∷ xs) ys h = absurd (let long : length (x ∷ (xs ++ ys)) ≡ 0 = ap length h in omega (arith, long))
-
-pub nil_right : {X : Type 0} (xs ys : List X) → xs ++ ys ≡ [] → ys ≡ []
-nil_right [] ys h = h
-nil_right (x ∷ xs) ys h = absurd (let long : length (x ∷ (xs ++ ys)) ≡ 0 = ap length h in omega (arith, long))
-
 -- what holds for each number of a list without its repetitions holds for each number of the list
 option_is : (o : Option ℕ) (x : ℕ) (g : ℕ → List ℕ) → IfSome o (λ n. g n ≡ []) → same_option o (Some x) ≡ true → g x ≡ []
 option_is None x g h e = absurd cc
@@ -69,21 +62,6 @@ unrepeated g last (x ∷ xs) h e = at (same_option last (Some x)) refl (λ here 
   at : (b : Bool) → same_option last (Some x) ≡ b → (g x ≡ [] → flat_map g (once_behind (Some x) xs) ≡ [] → flat_map g xs ≡ []) → flat_map g (if b then once_behind (Some x) xs else x ∷ once_behind (Some x) xs) ≡ [] → g x ++ flat_map g xs ≡ []
   at true q f e = let here = option_is last x g h q in (λ k. here k ++ f here e k)
   at false q f e = let here = nil_left (g x) (flat_map g (once_behind (Some x) xs)) e in (λ k. here k ++ f here (nil_right (g x) (flat_map g (once_behind (Some x) xs)) e) k)
-
-put_among : (g : ℕ → List ℕ) (n : ℕ) (xs : List ℕ) → flat_map g (put_in n xs) ≡ [] → g n ++ flat_map g xs ≡ []
-put_among g n [] e = e
-put_among g n (x ∷ xs) e = at (nat_le n x) (put_among g n xs) e where
-  at : (b : Bool) → (flat_map g (put_in n xs) ≡ [] → g n ++ flat_map g xs ≡ []) → flat_map g (if b then n ∷ (x ∷ xs) else x ∷ put_in n xs) ≡ [] → g n ++ (g x ++ flat_map g xs) ≡ []
-  at true f e = e
-  at false f e =
-      let rest = f (nil_right (g x) (flat_map g (put_in n xs)) e) in
-      (λ k. nil_left (g n) (flat_map g xs) rest k ++ (nil_left (g x) (flat_map g (put_in n xs)) e k ++ nil_right (g n) (flat_map g xs) rest k))
-
-unsorted : (g : ℕ → List ℕ) (xs : List ℕ) → flat_map g (ascending xs) ≡ [] → flat_map g xs ≡ []
-unsorted g [] e = refl
-unsorted g (x ∷ xs) e =
-    let both = put_among g x (ascending xs) e in
-    (λ k. nil_left (g x) (flat_map g (ascending xs)) both k ++ unsorted g xs (nil_right (g x) (flat_map g (ascending xs)) both) k)
 
 -- what holds for the numbers of all rows holds for the number of each row
 at_id : (numbers : ItemId → List ℕ) (g : ℕ → List ℕ) (t : List Row) (i : ItemId) (r : Row) → row_of t i ≡ Some r → flat_map g (flat_map (λ (x : Row). numbers x.id) t) ≡ [] → flat_map g (numbers i) ≡ []
@@ -124,17 +102,11 @@ module _ (f : ItemId → List ℕ) (t u : List Row) (e : flat_map f (all_ids t u
   told_of_second (Device d) r found = nil_left (f (Device d)) [] (at_id device_number (λ x. f (Device x)) u (Device d) r found (nil_right _ _ device_numbers_of_both))
 
 -- COLUMNS: if the test of a column finds no difference, the values are equal
-not_nil : (x : ℕ) (xs : List ℕ) → x ∷ xs ≡ [] → ⊥
-not_nil x xs h = let long : length (x ∷ xs) ≡ 0 = ap length h in omega (arith, long)
-
 line_is_none : (name : List ℕ) (i : ItemId) (ps : List (List ℕ)) → line name i ps ≡ [] → ps ≡ []
 line_is_none name i [] h = refl
-line_is_none name i (p ∷ ps) h = absurd (let newline : List ℕ = 10 ∷ [] in let last : newline ≡ [] = nil_right (item_word name i ++ codes ": " ++ (p ++ behind ps)) newline h in not_nil 10 [] last)
+line_is_none name i (p ∷ ps) h = absurd (let newline : List ℕ = 10 ∷ [] in let last : newline ≡ [] = nil_right (item_word name i ++ codes ": " ++ (p ++ behind ps)) newline h in not_none 10 [] last)
 
-not_none : (p : List ℕ) (ps : List (List ℕ)) → p ∷ ps ≡ [] → ⊥
-not_none p ps h = let long : length (p ∷ ps) ≡ 0 = ap length h in omega (arith, long)
-
-part_is_none : (same : Bool) (text : List ℕ) → part same text ≡ [] → same ≡ true
+pub part_is_none : (same : Bool) (text : List ℕ) → part same text ≡ [] → same ≡ true
 part_is_none true text h = refl
 part_is_none false text h = absurd (let long : length (text ∷ []) ≡ 0 = ap length h in omega (arith, long))
 
@@ -153,19 +125,11 @@ text_equal None (Some y) h = absurd cc
 text_equal (Some x) None h = absurd cc
 text_equal (Some x) (Some y) h = ap Some (bytes_equal x y h)
 
-algs_equal : (a b : Option Alg) → same_algs a b ≡ true → a ≡ b
+pub algs_equal : (a b : Option Alg) → same_algs a b ≡ true → a ≡ b
 algs_equal None None h = refl
 algs_equal None (Some y) h = absurd cc
 algs_equal (Some x) None h = absurd cc
 algs_equal (Some x) (Some y) h = ap Some (same_alg_equal x y h)
-
-pub first_of : (a b : Bool) → (a && b) ≡ true → a ≡ true
-first_of true b h = refl
-first_of false b h = h
-
-pub second_of : (a b : Bool) → (a && b) ≡ true → b ≡ true
-second_of true b h = h
-second_of false b h = absurd cc
 
 class_ids_equal : (xs ys : List ShadowData) → pointwise same_class_id xs ys ≡ true → xs ≡ ys
 class_ids_equal [] [] h = refl
@@ -182,9 +146,7 @@ row_form [] i r all found = absurd cc
 row_form (x ∷ t) i r all found = ⊎_elim
     (λ q. let is : x ≡ r = some_is x r (sym (ap (λ b. if b then Some x else row_of t i) q.0) ∙ found) in subst (λ y. IsRowOf i y) is (subst (λ j. IsRowOf j x) q.1 (All-head IsRow x t all).form))
     (λ q. row_form t i r (All-tail IsRow x t all) (sym (ap (λ b. if b then Some x else row_of t i) q.0) ∙ found))
-    (same_id_tells x.id i) where
-      some_is : (a b : Row) → Some a ≡ Some b → a ≡ b
-      some_is a b same = cc
+    (same_id_tells x.id i)
 
 -- ROWS about which there is no line are equal
 module _ (s p : SettingData) (t u : List Row) (lt : Lawful t) (lu : Lawful u) where

@@ -24,7 +24,6 @@ pub mod LineLaws
 pub mod NamedLines
 pub mod NamedPairs
 pub mod NamesItself
-pub mod PairLaws
 pub mod PartLaws
 pub mod PartRowLaws
 pub mod RuleLaws

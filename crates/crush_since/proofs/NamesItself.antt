@@ -16,8 +16,7 @@ use Rattle.crush_compare.specs.Equal.{same_option}
 use Rattle.crush_items.specs.ItemData.{ItemData, with_holder, row_item}
 use Rattle.crush_since.specs.Settings.{same_bool}
 use Rattle.crush_since.specs.Since.{plain_map, totals_line}
-use Rattle.crush_since.specs.SinceLaws.{nothing_counted}
-use Rattle.crush_since.specs.Tallies.{counts_line, is_made, is_reweighed, is_reclassed}
+use Rattle.crush_since.specs.Tallies.{counts_line, is_made, is_reweighed, is_reclassed, no_tally}
 use Rattle.crush_compare.specs.declared.identity.Identity.TheVariants.{Names}
 use Rattle.crush_since.specs.RuleChanges.{lines_beside_part}
 use Rattle.crush_since.proofs.BesideItself.{no_lines_beside}
@@ -30,9 +29,10 @@ use Rattle.crush_compare.specs.NamedPairs.{PairData, pairs}
 use Rattle.crush_since.specs.SinceNamesLaws.{NothingByNamesSinceItself}
 use Rattle.crush_since.specs.SinceNames.{changed, changed_pair, changed_lines, other_weights, since_names_part, since_names_text}
 use Rattle.crush_since.specs.Stays.{both_types, both_places, both_classes, both_algs, item_type, place_word, same_place, stay_line, text_of_lines}
-use Rattle.crush_since.proofs.AlikeLaws.{row_named_own, counterpart_named, test_of_type, text_itself, algs_itself, part_none, none_of_five}
+use Rattle.crush_since.proofs.AlikeLaws.{row_named_own, counterpart_named, test_of_type, part_none, none_of_five}
 use Rattle.crush_since.proofs.NamedPairs.{whole_pairs}
 use Rattle.crush_since.proofs.TreeLaws.{tree_none}
+use Rattle.crush_since.proofs.SinceItself.{algs_itself, text_itself}
 
 -- NO LINE about settings, rules and classes
 no_settings : (s : SettingData) (t : List Row) → Lawful t → lines_beside_part (Names ByName) None (plain_map s t) (plain_map s t) ≡ []
@@ -112,7 +112,7 @@ module _ (t : List Row) (l : Lawful t) where
       unmarked (is_gone_by_name t t) (tree_rows t)
       (tree_none t gone (λ i r found. ap (λ (o : Option ItemData). mark (not (is_some o))) (found_itself ByName t l i r found)))
 
-  no_counts : tally_by_name t t ≡ nothing_counted
+  no_counts : tally_by_name t t ≡ no_tally
   unfolding same_place
   no_counts = λ k. record {
     made = none_meet is_made (λ x. refl) k;

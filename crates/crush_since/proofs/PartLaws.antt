@@ -58,7 +58,7 @@ pub none_there : (n : ℕ) (b : Bool) → b ≡ (n == 0) → b ≡ true → n �
 none_there n b is yes_way = ⊎_elim (λ q. q.1) (λ q. absurd (let both : true ≡ false = sym yes_way ∙ is ∙ q.0 in cc)) (eqb_tells n 0)
 
 -- no text about changes is empty, because it has the line of totals
-totals_are_some : (a b : ℕ) → 0 < length (totals_line a b)
+pub totals_are_some : (a b : ℕ) → 0 < length (totals_line a b)
 unfolding totals_line
 totals_are_some a b = let last = length-append (codes "total " ++ weight_text a ++ codes " to " ++ weight_text b) (10 ∷ []) in omega (arith, last)
 

@@ -17,14 +17,14 @@ use Rattle.crush_since.specs.Since.{PlainMap, plain_map, id_line, all_ids, all_b
 use Rattle.crush_since.specs.Tallies.{first_counts, last_counts, counts_line}
 use Rattle.crush_print.proofs.Examples.{leaf, header, setting, example}
 
-abbrev of_roots : Items → List Row
+abbrev pub of_roots : Items → List Row
 of_roots roots = rows_of (record { roots = roots; unplaced = none; root_capacity = 1; unplaced_capacity = 0 })
 
-abbrev of : List Row → PlainMap
+abbrev pub of : List Row → PlainMap
 of t = plain_map setting t
 
 -- osd.0 has moved from h1 to h2
-abbrev moved : List Row
+abbrev pub moved : List Row
 moved = of_roots (bucket (header 1 11 (codes "default")) 163840 2
     (bucket (header 2 1 (codes "h1")) 65536 2 (device (leaf 1 (codes "osd.1") 65536) none)
     (bucket (header 3 1 (codes "h2")) 98304 2 (device (leaf 2 (codes "osd.2") 32768) (device (leaf 0 (codes "osd.0") 65536) none)) none)) none)
@@ -35,7 +35,7 @@ unfolding since_text last_lines emptied_lines class_lines classes class_line unt
 since_moved = refl
 
 -- a device, its host and the host's rack are new
-abbrev grown : List Row
+abbrev pub grown : List Row
 grown = of_roots (bucket (header 1 11 (codes "default")) 229376 3
     (bucket (header 2 1 (codes "h1")) 131072 2 (device (leaf 0 (codes "osd.0") 65536) (device (leaf 1 (codes "osd.1") 65536) none))
     (bucket (header 3 1 (codes "h2")) 32768 1 (device (leaf 2 (codes "osd.2") 32768) none)
@@ -53,7 +53,7 @@ unfolding since_text last_lines emptied_lines class_lines classes class_line unt
 since_shrunk = refl
 
 -- h1 and h2 have exchanged their names and items
-abbrev swapped : List Row
+abbrev pub swapped : List Row
 swapped = of_roots (bucket (header 1 11 (codes "default")) 163840 2
     (bucket (header 2 1 (codes "h2")) 32768 2 (device (leaf 2 (codes "osd.2") 32768) none)
     (bucket (header 3 1 (codes "h1")) 131072 2 (device (leaf 0 (codes "osd.0") 65536) (device (leaf 1 (codes "osd.1") 65536) none)) none)) none)
@@ -117,7 +117,7 @@ taking = record {
   rules = record { name = codes "data"; id = 0; kind = codes "replicated"; min_size = None; max_size = None; steps = take 1 (Some (codes "hdd")) ∷ (take 2 None ∷ (take 1 (Some (codes "nvme")) ∷ (emit ∷ []))) } ∷ [];
 }
 
-abbrev of_class : List ℕ → LeafData
+abbrev pub of_class : List ℕ → LeafData
 of_class c = record { id = 0; name = codes "osd.0"; weight = 65536; class = Some c }
 
 since_emptied : since_text

@@ -25,8 +25,8 @@ use Rattle.crush_since.specs.Rules.{or_order, changed_rules, rule_change_lines}
 use Rattle.crush_since.proofs.ClassLaws.{no_classes}
 use Rattle.crush_since.specs.Settings.{same_tunable, kind_numbers, agree_on, same_kinds, same_bool, same_step, same_rule, listed_if_not, tunables_line, kinds_line, rules_line, setting_lines}
 use Rattle.crush_since.specs.Since.{plain_map, same_class_ids, id_line, all_ids, item_lines, totals_line, last_lines, since_text}
-use Rattle.crush_since.specs.SinceLaws.{NothingSinceItself, nothing_counted}
-use Rattle.crush_since.specs.Tallies.{in_both, is_made, is_removed, is_renamed, is_moved, is_reweighed, is_reclassed, tally_of, counts_line}
+use Rattle.crush_since.specs.SinceLaws.{NothingSinceItself}
+use Rattle.crush_since.specs.Tallies.{in_both, is_made, is_removed, is_renamed, is_moved, is_reweighed, is_reclassed, tally_of, counts_line, no_tally}
 
 -- TESTS: each value is the same as itself
 pub option_itself : (o : Option ℕ) → same_option o o ≡ true
@@ -41,7 +41,7 @@ pub pairs_itself : {X : Type 0} (same : X → X → Bool) → ((x : X) → same 
 pairs_itself same each [] = refl
 pairs_itself same each (x ∷ xs) = λ i. each x i && pairs_itself same each xs i
 
-algs_itself : (o : Option Alg) → same_algs o o ≡ true
+pub algs_itself : (o : Option Alg) → same_algs o o ≡ true
 algs_itself None = refl
 algs_itself (Some Straw) = refl
 algs_itself (Some Straw2) = refl
@@ -81,7 +81,7 @@ no_items s t = nothing_of (id_line (plain_map s t) (plain_map s t)) (no_line_of 
 pub tunable_itself : (x : TunableData) → same_tunable x x ≡ true
 tunable_itself x = λ i. bytes_itself x.name i && eq-eqb x.value x.value refl i
 
-all_agree : (p : ℕ → Bool) → ((n : ℕ) → p n ≡ true) → (ns : List ℕ) → list_all p ns ≡ true
+pub all_agree : (p : ℕ → Bool) → ((n : ℕ) → p n ≡ true) → (ns : List ℕ) → list_all p ns ≡ true
 all_agree p each [] = refl
 all_agree p each (n ∷ ns) = ap (λ b. b && list_all p ns) (each n) ∙ all_agree p each ns
 
@@ -121,7 +121,7 @@ not_other : (test : ItemData → ItemData → Bool) → ((a : ItemData) → test
 not_other test each None = refl
 not_other test each (Some a) = each a
 
-no_counts : (t : List Row) (ids : List ItemId) → tally_of t t ids ≡ nothing_counted
+no_counts : (t : List Row) (ids : List ItemId) → tally_of t t ids ≡ no_tally
 no_counts t ids = λ k. record {
   made = none_meets (λ i. is_made (item_of t i) (item_of t i)) (λ i. not_made (item_of t i)) ids k;
   removed = none_meets (λ i. is_removed (item_of t i) (item_of t i)) (λ i. not_made (item_of t i)) ids k;
@@ -148,7 +148,7 @@ no_rules : (s : SettingData) (t : List Row) → emptied_lines t t s ≡ []
 unfolding emptied_lines
 no_rules s t = ap rule_change_lines (nothing_of (emptied_of Ids t t) (λ r. nothing_of (emptied_by Ids t t r.name) (no_step t r.name) r.steps) s.rules)
 
-pub last_since_itself : (s : SettingData) (t : List Row) → last_lines (plain_map s t) (plain_map s t) (tally_of t t (all_ids t t)) ≡ totals_line (total t) (total t) ++ counts_line nothing_counted
+pub last_since_itself : (s : SettingData) (t : List Row) → last_lines (plain_map s t) (plain_map s t) (tally_of t t (all_ids t t)) ≡ totals_line (total t) (total t) ++ counts_line no_tally
 unfolding last_lines
 last_since_itself s t = λ i. no_settings s i ++ no_rules s t i ++ no_classes s t i ++ totals_line (total t) (total t) ++ counts_line (no_counts t (all_ids t t) i)
 

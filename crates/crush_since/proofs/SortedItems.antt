@@ -18,10 +18,7 @@ use Rattle.crush_since.specs.declared.since.collected.ClassItem.{ClassItem}
 use Rattle.crush_since.specs.declared.since.collected.ClassUse.{ClassUse}
 use Rattle.crush_since.specs.declared.since.collected.Source.{Source}
 use Rattle.crush_since.specs.declared.since.collected.Source.TheVariants.{Old, New, Rule}
-use Rattle.crush_since.proofs.CollectedLaws.{NotBelow, Sorted, Counted, amounts, amount_at, grouped_is, collected_same}
-
-abbrev order : List ℕ → List ℕ → Ordering
-order x y = slice_cmp nat_cmp x y
+use Rattle.crush_since.proofs.CollectedLaws.{NotBelow, Sorted, Counted, amounts, amount_at, grouped_is, collected_same, order}
 
 turned_gt : (o : Ordering) → is_gt (ordering_reverse o) ≡ is_lt o
 turned_gt Less = refl

@@ -8,7 +8,8 @@ use Rattle.crush_compare.specs.declared.identity.Identity.{Identity}
 use Rattle.crush_since.specs.Emptied.{is_emptied}
 use Rattle.crush_since.specs.TakenSeen.{IsRight}
 use Rattle.crush_since.specs.declared.since.taken.Taken.{Taken}
-use Rattle.crush_since.proofs.EqualItems.{first_of, number_equal, second_of, text_equal}
+use Rattle.crush_since.proofs.EqualItems.{number_equal, text_equal}
+use Rattle.crush_nodes.proofs.StoredLaws.{first_of, second_of}
 
 -- the result for a bucket and a class is right for the same bucket and the same class
 pub right_for_same : (identity : Identity) (t u : List Row) (k : Taken) (b : ℕ) (c : Option (List ℕ)) → IsRight identity t u k

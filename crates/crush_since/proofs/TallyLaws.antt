@@ -26,7 +26,7 @@ pub record AtMost (k : ℕ) (n : Tally) : Type 0 where
   pub reweighed : n.reweighed ≤ k
   pub reclassed : n.reclassed ≤ k
 
-one_at_most : (b : Bool) → one_if b ≤ 1
+pub one_at_most : (b : Bool) → one_if b ≤ 1
 one_at_most true = omega arith
 one_at_most false = omega arith
 

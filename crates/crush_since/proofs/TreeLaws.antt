@@ -14,6 +14,7 @@ use Rattle.crush_model.proofs.Renamed.{All-row}
 use Rattle.crush_nodes.specs.Views.{ViewData, row_view}
 use Rattle.crush_print.specs.MapText.{put_in, ascending, device_number, root_number, root_numbers}
 use Rattle.crush_items.specs.Tree.{WalkStepData, step_at, steps_at, unplaced_number, unplaced_numbers, tree_rows}
+use Rattle.crush_since.proofs.SinceItself.{nothing_of}
 
 -- LISTS: if two joined lists are empty, each of them is empty
 pub nil_left : {X : Type 0} (xs ys : List X) → xs ++ ys ≡ [] → xs ≡ []
@@ -24,13 +25,12 @@ pub nil_right : {X : Type 0} (xs ys : List X) → xs ++ ys ≡ [] → ys ≡ []
 nil_right [] ys h = h
 nil_right (x ∷ xs) ys h = absurd (let long : length (x ∷ (xs ++ ys)) ≡ 0 = ap length h in omega (arith, long))
 
+pub not_none : {X : Type 0} (x : X) (xs : List X) → x ∷ xs ≡ [] → ⊥
+not_none x xs h = let long : length (x ∷ xs) ≡ 0 = ap length h in omega (arith, long)
+
 pub flat_twice : {X Y Z : Type 0} (g : Y → List Z) (h : X → List Y) (xs : List X) → flat_map g (flat_map h xs) ≡ flat_map (λ x. flat_map g (h x)) xs
 flat_twice g h [] = refl
 flat_twice g h (x ∷ xs) = flat_map-append g (h x) (flat_map h xs) ∙ ap (λ l. flat_map g (h x) ++ l) (flat_twice g h xs)
-
-nothing_of : {X Z : Type 0} (g : X → List Z) → ((x : X) → g x ≡ []) → (xs : List X) → flat_map g xs ≡ []
-nothing_of g each [] = refl
-nothing_of g each (x ∷ xs) = λ k. each x k ++ nothing_of g each xs k
 
 -- if the texts of a sorted list of numbers are empty, the texts of the list are empty
 put_among : {Z : Type 0} (g : ℕ → List Z) (n : ℕ) (xs : List ℕ) → flat_map g (put_in n xs) ≡ [] → g n ++ flat_map g xs ≡ []
@@ -42,13 +42,13 @@ put_among g n (x ∷ xs) e = at (nat_le n x) (put_among g n xs) e where
       let rest = f (nil_right (g x) (flat_map g (put_in n xs)) e) in
       (λ k. nil_left (g n) (flat_map g xs) rest k ++ (nil_left (g x) (flat_map g (put_in n xs)) e k ++ nil_right (g n) (flat_map g xs) rest k))
 
-unsorted : {Z : Type 0} (g : ℕ → List Z) (xs : List ℕ) → flat_map g (ascending xs) ≡ [] → flat_map g xs ≡ []
+pub unsorted : {Z : Type 0} (g : ℕ → List Z) (xs : List ℕ) → flat_map g (ascending xs) ≡ [] → flat_map g xs ≡ []
 unsorted g [] e = refl
 unsorted g (x ∷ xs) e =
     let both = put_among g x (ascending xs) e in
     (λ k. nil_left (g x) (flat_map g (ascending xs)) both k ++ unsorted g xs (nil_right (g x) (flat_map g (ascending xs)) both) k)
 
-some_is : {X : Type 0} (a b : X) → Some a ≡ Some b → a ≡ b
+pub some_is : {X : Type 0} (a b : X) → Some a ≡ Some b → a ≡ b
 some_is a b same = cc
 
 -- what holds for all rows holds for the row of each id

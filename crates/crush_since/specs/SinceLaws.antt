@@ -6,15 +6,11 @@ use Rattle.crush_model.specs.Lawful.{Lawful}
 use Rattle.crush_model.specs.Table.{Row, row_of, total}
 use Rattle.crush_since.specs.ChangeText.{changes_text}
 use Rattle.crush_since.specs.Since.{plain_map, item_lines, since_text, totals_line}
-use Rattle.crush_since.specs.Tallies.{counts_line}
-use Rattle.crush_since.specs.declared.since.tally.Tally.{Tally}
+use Rattle.crush_since.specs.Tallies.{counts_line, no_tally}
 
 -- if a map is compared with itself, the text has only its last two lines, and all counts are 0
-abbrev pub nothing_counted : Tally
-nothing_counted = record { made = 0; removed = 0; renamed = 0; moved = 0; reweighed = 0; reclassed = 0 }
-
 abbrev pub NothingSinceItself : Type 0
-NothingSinceItself = (s : SettingData) (t : List Row) → since_text (plain_map s t) (plain_map s t) ≡ totals_line (total t) (total t) ++ counts_line nothing_counted
+NothingSinceItself = (s : SettingData) (t : List Row) → since_text (plain_map s t) (plain_map s t) ≡ totals_line (total t) (total t) ++ counts_line no_tally
 
 -- no item has a line if and only if both tables have equal rows. The order of the rows doesn't matter
 abbrev pub NoItemWhereRowsAreEqual : Type 0
@@ -23,4 +19,4 @@ NoItemWhereRowsAreEqual = (s p : SettingData) (t u : List Row) → Lawful t → 
 -- if a map is compared with itself, the tree has no row: the text has only the headings and the last two lines
 abbrev pub NoRowSinceItself : Type 0
 NoRowSinceItself = (s : SettingData) (t : List Row) → Lawful t
-    → changes_text (plain_map s t) (plain_map s t) ≡ codes "ID  CLASS  WAS  WEIGHT  TYPE NAME\n" ++ (totals_line (total t) (total t) ++ counts_line nothing_counted)
+    → changes_text (plain_map s t) (plain_map s t) ≡ codes "ID  CLASS  WAS  WEIGHT  TYPE NAME\n" ++ (totals_line (total t) (total t) ++ counts_line no_tally)

@@ -3,7 +3,7 @@ use Rattle.crush_edits.specs.SettingSeen.{step_data}
 use Rattle.crush_model.specs.Stands.{Stands}
 use Rattle.crush_model.specs.Table.{Row}
 use Rattle.crush_since.specs.RulesByName.{named_step}
-use Rattle.crush_since.proofs.PairLaws.{same_seen}
+use Rattle.crush_compare.proofs.PairLaws.{same_seen}
 use Rattle.crush_since.proofs.since.rules_by_name.same_named_steps.Given as goal
 
 -- the two rules have the same steps at every index visited so far

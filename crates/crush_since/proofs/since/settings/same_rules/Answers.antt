@@ -1,7 +1,7 @@
 use Rattle.std.proofs.Common.{◌∙◌, sym, arith}
 use Rattle.crush_edits.specs.SettingSeen.{rule_data}
 use Rattle.crush_since.specs.Settings.{same_rule}
-use Rattle.crush_since.proofs.PairLaws.{pair_differs, pair_more}
+use Rattle.crush_compare.proofs.PairLaws.{pair_differs, pair_more}
 use Rattle.crush_since.proofs.since.settings.same_rules.Goals as goal
 
 pub returns-then-not-same_rule : goal.returns-then-not-same_rule

@@ -1,7 +1,7 @@
 use Rattle.std.proofs.Common.{◌≡◌, true, take}
 use Rattle.crush_edits.specs.SettingSeen.{rule_data}
 use Rattle.crush_since.specs.Settings.{same_rule}
-use Rattle.crush_since.proofs.PairLaws.{same_seen}
+use Rattle.crush_compare.proofs.PairLaws.{same_seen}
 use Rattle.crush_since.proofs.since.settings.same_rules.Given as goal
 
 -- the two lists have the same rules at every index visited so far

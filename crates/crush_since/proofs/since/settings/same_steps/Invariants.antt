@@ -1,7 +1,7 @@
 use Rattle.std.proofs.Common.{◌≡◌, true, take}
 use Rattle.crush_edits.specs.SettingSeen.{step_data}
 use Rattle.crush_since.specs.Settings.{same_step}
-use Rattle.crush_since.proofs.PairLaws.{same_seen}
+use Rattle.crush_compare.proofs.PairLaws.{same_seen}
 use Rattle.crush_since.proofs.since.settings.same_steps.Given as goal
 
 -- the two rules have the same steps at every index visited so far
