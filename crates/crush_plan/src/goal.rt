@@ -7,6 +7,7 @@ ghost use Rattle.std.specs.Option.{option_map, option_map_or};
 ghost use Rattle.crush_model.specs.Stands.{Stands};
 ghost use Rattle.crush_model.specs.Table.{Row, id_named, name_of};
 ghost use Rattle.crush_compare.specs.Named.{is_in};
+ghost use Rattle.crush_print.specs.WalkStep.{walk_step_data};
 ghost use Rattle.crush_plan.specs.Draft.{MayWeigh, MayWeighBelow};
 ghost use Rattle.crush_plan.specs.Part.{called, concerns, is_called_in, is_item_in_part, was_in_part, will_be_in_part};
 ghost use Rattle.crush_units.specs.declared.id.ItemId.TheVariants.{Bucket};
@@ -15,7 +16,7 @@ use crate::identity::Identity;
 use crate::item_table::ItemTable;
 use crush_compare::is_in;
 use crush_map::{CrushMap, Edit};
-use crush_since::all_below;
+use crush_print::{WalkStep, walk_below};
 use crush_units::{BucketId, ItemId, Name};
 use std::alloc::{AllocError, Allocator, Global};
 
@@ -196,18 +197,18 @@ impl<A: Allocator, B: Allocator> PlanGoal<'_, A, B> {
         ensures { IfOk result (λ is_allowed. is_allowed ≡ true → (v : List Row)
             → Stands map.now.forest v → MayWeighBelow self.now v (Some (Bucket bucket))) }
     {
-        let below = all_below(alloc, map, bucket)?;
+        let below = walk_below(alloc, map, bucket)?;
         Ok(self.are_in_part(map, below.as_slice()))
     }
 
-    fn are_in_part(&self, map: &CrushMap<A>, ids: &[ItemId]) -> bool
+    fn are_in_part(&self, map: &CrushMap<A>, steps: &[WalkStep<'_, A>]) -> bool
         ensures { (t u v : List Row) → Stands self.now.before.now.forest t
             → Stands self.now.wanted.now.forest u → Stands map.now.forest v
-            → result ≡ list_all
-            (is_item_in_part t u (option_map (λ n. n.now) self.now.under) v) ids.now }
+            → result ≡ list_all (λ s. is_item_in_part t u
+            (option_map (λ n. n.now) self.now.under) v (walk_step_data s).item.id) steps.now }
     {
-        for id in ids {
-            if !self.is_item_in_part(map, id) {
+        for step in steps {
+            if !self.is_item_in_part(map, &step.view().id) {
                 return false;
             }
         }

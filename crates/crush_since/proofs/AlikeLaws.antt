@@ -175,7 +175,6 @@ part_none same text e = ap (λ b. part b text) e
 pub none_of_five : {X : Type 0} (a b c d e : List X) → a ≡ [] → b ≡ [] → c ≡ [] → d ≡ [] → e ≡ [] → a ++ b ++ c ++ d ++ e ≡ []
 none_of_five a b c d e ha hb hc hd he = λ k. ha k ++ hb k ++ hc k ++ hd k ++ he k
 
-
 -- SETTINGS: the tests of tunables, types and rules are true if and only if the settings agree
 tunable_equal : (x y : TunableData) → same_tunable x y ≡ true → x ≡ y
 tunable_equal x y h =

@@ -1,7 +1,6 @@
 pub mod AlikeLaws
 pub mod AsideLaws
 pub mod AskedLaws
-pub mod BelowLaws
 pub mod BesideItself
 pub mod BesideLaws
 pub mod BucketLaws
@@ -14,7 +13,6 @@ pub mod ClassLaws
 pub mod CollectedLaws
 pub mod CountLaws
 pub mod EmptiedLaws
-pub mod EntryLaws
 pub mod EqualItems
 pub mod EqualRows
 pub mod Finds

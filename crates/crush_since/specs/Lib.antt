@@ -1,6 +1,5 @@
 pub mod Alike
 pub mod Aside
-pub mod Below
 pub mod ChangeItems
 pub mod ChangePart
 pub mod ChangeText
@@ -13,11 +12,9 @@ pub mod Collected
 pub mod CollectedSeen
 pub mod CountedByName
 pub mod Emptied
-pub mod Entries
 pub mod Grouped
 pub mod ItemParts
 pub mod ItemWords
-pub mod Listing
 pub mod NamedRules
 pub mod PairLines
 pub mod PartWalk

@@ -8,7 +8,6 @@ ghost use Rattle.crush_model.specs.Table.{Row};
 ghost use Rattle.crush_since.specs.Since.{plain_map, last_lines, since_text};
 ghost use Rattle.crush_since.specs.SinceLaws.{NothingSinceItself, NoItemWhereRowsAreEqual};
 
-mod below;
 mod beside;
 mod changed;
 mod class_lines;
@@ -17,9 +16,7 @@ mod collected;
 pub(crate) mod columns;
 pub(crate) mod counting;
 mod emptied;
-mod ids;
 pub(crate) mod listed;
-pub(crate) mod listing;
 mod pairs;
 mod part;
 pub(crate) mod parts;
@@ -32,7 +29,6 @@ mod taken;
 mod tally;
 mod words;
 
-pub use below::{all_below, is_among};
 use beside::push_lines_beside;
 pub(crate) use beside::push_lines_beside_part;
 pub use changed::{is_changed, is_part_changed};
