@@ -1,6 +1,8 @@
 -- Scripts without their calls.
-use Rattle.std.proofs.Common.{◌≡◌, ℕ, ◌+◌, ◌<◌, Bool, true, false, ◌&&◌, List, [], ◌∷◌, ◌++◌, length, take, get_or, sym, ap, refl, ◌∙◌}
+use Rattle.std.proofs.Common.{◌≡◌, ℕ, ◌+◌, ◌<◌, Bool, true, false, ◌&&◌, List, [], ◌∷◌, ◌++◌, Option, None, Some, length, take, get_or, sym, ap, refl, ◌∙◌}
+use Rattle.std.specs.Prelude.{is_some}
 use Rattle.std.proofs.lemmas.List.{length-map, map_push, take_more}
+use Rattle.std.proofs.lemmas.Option.{none-some}
 use Rattle.crush_history.specs.HistoryText.{names_of}
 use Rattle.crush_history.specs.Script.{ScriptData, script_data, scripts_data}
 use Rattle.crush_history.specs.declared.script.Script.{Script}
@@ -21,7 +23,12 @@ headings_push left xs i s x below is named so_far =
 pub names_counted : (scripts : List Script) → length (names_of (scripts_data scripts)) ≡ length scripts
 names_counted scripts = length-map (scripts_data scripts) (λ (x : ScriptData). x.name) ∙ length-map scripts script_data
 
--- if both are so, then the first is
+-- if both conditions are true, then the first condition is true
 pub both_first : (a b : Bool) → (a && b) ≡ true → a ≡ true
 both_first true b is = refl
 both_first false b is = is
+
+-- an option that has a value is not None
+pub is_not_none : {X : Type 0} (o : Option X) → is_some o ≡ true → o ≡ None → ⊥
+is_not_none None some none = absurd cc
+is_not_none (Some x) some none = none-some x (sym none)
