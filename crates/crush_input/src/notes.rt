@@ -71,7 +71,6 @@ pub fn history_notes(
     history: History<'_>,
     text: &KeptText<'_>,
 ) -> Result<Vec<u8>, AllocError>
-    requires short { length text.now.bytes.items ≤ LONGEST_JOB }
     requires few { length history.entries.now ≤ MOST_ENTRIES }
     requires operators { AreOf (length history.scripts.now) history.entries.now }
     requires kept { mode.explain ≡ true → is_some history.opening.now ≡ true }
@@ -93,7 +92,6 @@ fn refused_notes(
     history: History<'_>,
     text: &KeptText<'_>,
 ) -> Result<Vec<u8>, AllocError>
-    requires short { length text.now.bytes.items ≤ LONGEST_JOB }
     requires few { length history.entries.now ≤ MOST_ENTRIES }
     requires operators { AreOf (length history.scripts.now) history.entries.now }
     requires kept { mode.explain ≡ true → is_some history.opening.now ≡ true }

@@ -17,7 +17,7 @@ ghost use Rattle.crush_run.specs.Output.{IsPut, IsWritten, written_text};
 ghost use Rattle.crush_run.specs.Planned.{IsWhole};
 ghost use Rattle.crush_run.specs.Run.{differs_of, summed};
 ghost use Rattle.crush_run.specs.Stages.{AreEndNotes, CompletedRunEnds, IsCheckFault, IsOpening, IsWritingFault, needs_opening, notes_after_fault, notes_after};
-ghost use Rattle.crush_units.specs.declared.limits.TheConstants.{LONGEST_JOB, MOST_ENTRIES};
+ghost use Rattle.crush_units.specs.declared.limits.TheConstants.{MOST_ENTRIES};
 
 use crate::completed_run::CompletedRun;
 use crate::differing::differs_if_requested;
@@ -158,7 +158,6 @@ fn end_notes_of(
     requires few { length completed.now.entries.now ≤ MOST_ENTRIES }
     requires operators { AreOf (length completed.now.scripts.now) completed.now.entries.now }
     requires kept { mode.explain ≡ true → is_some completed.now.opening.now ≡ true }
-    requires short { length completed.now.text.now.bytes.items ≤ LONGEST_JOB }
     ensures { IfOk result (λ end_notes. (s : SettingData) (o : List Row)
         → (mode.explain ≡ true → IsKept completed.now.opening.now s o)
         → AreEndNotes mode (text_data completed.now.text.now) s o (names_of (scripts_data completed.now.scripts.now))
@@ -267,7 +266,6 @@ pub(crate) fn end_run<W: Write>(
     requires few { length completed.now.entries.now ≤ MOST_ENTRIES }
     requires operators { AreOf (length completed.now.scripts.now) completed.now.entries.now }
     requires plain { request.now.mode.explain ≡ false → completed.now.text.now.weights.items ≡ [] }
-    requires short { length completed.now.text.now.bytes.items ≤ LONGEST_JOB }
     requires kept { needs_opening request.now.mode request.now.output ≡ true
         → is_some completed.now.opening.now ≡ true }
     ensures { CompletedRunEnds request.now.mode request.now.output (plan_data completed.now.plan.now)

@@ -16,7 +16,7 @@ ghost use Rattle.crush_input.specs.Notes.{AreNotesOfResult, text_data, text_of};
 ghost use Rattle.crush_input.specs.Origins.{no_origin};
 ghost use Rattle.crush_run.specs.Run.{Ends, IsRunFault};
 ghost use Rattle.crush_run.specs.Stages.{IsOutcomeFault, IsScriptsFault, RunsScripts, needs_opening};
-ghost use Rattle.crush_units.specs.declared.limits.TheConstants.{LONGEST_JOB, MOST_ENTRIES, MOST_OPERATORS};
+ghost use Rattle.crush_units.specs.declared.limits.TheConstants.{MOST_ENTRIES, MOST_OPERATORS};
 
 use crate::at_once::run_at_once;
 use crate::completed_run::CompletedRun;
@@ -113,7 +113,6 @@ pub(crate) fn run_parsed_job<H: AllocGlobal + Threads + Wait + Sync, G: Gate + S
 ) -> Ending
     requires few { length parsed.job.scripts.items ≤ MOST_OPERATORS }
     requires plain { request.now.mode.explain ≡ false → parsed.text.weights.items ≡ [] }
-    requires short { length parsed.text.bytes.items ≤ LONGEST_JOB }
     ensures ends { (read : JobData) → JobStands parsed.entry.job read
         → Ends request.now.mode request.now.output read (text_data parsed.entry.text)
         result.outcome
