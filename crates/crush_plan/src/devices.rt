@@ -5,8 +5,8 @@ ghost use Rattle.crush_plan.specs.Draft.{GoesOn};
 
 use crate::draft::{Draft, NewDevice};
 use crate::goal::PlanGoal;
-use crate::item_table::bucket_named;
 use crate::items::SetDevice;
+use crush_since::bucket_named;
 use crush_tree::View;
 use crush_units::ItemId;
 use std::alloc::{AllocError, Allocator};

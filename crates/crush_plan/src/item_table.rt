@@ -2,6 +2,7 @@
 
 use crush_map::{CrushMap, Setting};
 use crush_print::{WalkStep, walk};
+use crush_since::bucket_named;
 use crush_tree::View;
 use crush_units::{BucketId, ItemId};
 use std::alloc::{AllocError, Allocator, Global};
@@ -102,17 +103,5 @@ impl<'a, A: Allocator> ItemTable<'a, A> {
     /// Returns the setting of the map: its tunables, types and rules.
     pub(crate) fn setting(&self) -> &Setting {
         self.map.setting()
-    }
-}
-
-/// Returns the bucket of this name, or `None` if no item or a device has the name.
-pub(crate) fn bucket_named<A: Allocator>(map: &CrushMap<A>, name: &str) -> Option<BucketId> {
-    bucket_of(map.locate(name)?)
-}
-
-fn bucket_of(id: ItemId) -> Option<BucketId> {
-    match id {
-        ItemId::Bucket(bucket) => Some(bucket),
-        ItemId::Device(_) => None,
     }
 }

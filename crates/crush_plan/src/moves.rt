@@ -6,8 +6,8 @@ ghost use Rattle.crush_plan.specs.Draft.{GoesOn};
 use crate::buckets::make_bucket;
 use crate::draft::Draft;
 use crate::goal::PlanGoal;
-use crate::item_table::bucket_named;
 use crate::items::{Placed, TargetBucket, TargetItems};
+use crush_since::bucket_named;
 use crush_units::{BucketId, ItemId};
 use std::alloc::{AllocError, Allocator};
 

@@ -13,7 +13,7 @@ use Rattle.crush_model.specs.Table.{Row, name_of}
 use Rattle.crush_model.proofs.NameColumn.{id_named-by}
 use Rattle.crush_model.proofs.Tested.{bytes_itself}
 use Rattle.crush_print.specs.RuleLines.{bucket_name}
-use Rattle.crush_since.specs.Emptied.{taken_weight, bucket_number, bucket_named, old_bucket, weight_before, is_emptied, if_emptied, emptied_by, emptied_of, emptied_rules}
+use Rattle.crush_since.specs.Emptied.{taken_weight, old_bucket, weight_before, is_emptied, if_emptied, emptied_by, emptied_of, emptied_rules}
 use Rattle.crush_since.specs.RuleChanges.{rule_changes, lines_beside}
 use Rattle.crush_since.specs.Rules.{RuleChangeData, changed_rules, or_order, rule_change_lines}
 use Rattle.crush_since.specs.RulesByName.{named_step, named_rule, same_rule_by}
@@ -21,6 +21,7 @@ use Rattle.crush_since.specs.Settings.{same_tunable, same_rule, listed_if_not, t
 use Rattle.crush_since.specs.Since.{plain_map}
 use Rattle.crush_since.proofs.ClassLaws.{no_classes}
 use Rattle.crush_since.proofs.SinceItself.{nothing_of, pairs_itself, option_itself, text_itself, bool_itself, rule_itself, tunable_itself, kinds_itself, not_emptied}
+use Rattle.crush_edits.specs.Stops.{bucket_named, number_of}
 
 -- RULES: each step and each rule is the same as itself
 named_step_itself : (t : List Row) (x : StepData) → named_step t t x x ≡ true
@@ -48,7 +49,7 @@ none_emptied (Names devices) t l b c = by_name (name_of t (Bucket b)) refl where
   by_name : (o : Option (List ℕ)) → name_of t (Bucket b) ≡ o → ((taken_weight t b c == 0) && not (option_map_or (λ x. taken_weight t x c) (option_and_then (bucket_named t) o) 0 == 0)) ≡ false
   by_name None is = never_more (taken_weight t b c == 0)
   by_name (Some n) is =
-      ap (λ o. (taken_weight t b c == 0) && not (option_map_or (λ x. taken_weight t x c) (option_and_then bucket_number o) 0 == 0)) (id_named-by t (Bucket b) n l.names is) ∙ not_emptied (taken_weight t b c)
+      ap (λ o. (taken_weight t b c == 0) && not (option_map_or (λ x. taken_weight t x c) (option_and_then number_of o) 0 == 0)) (id_named-by t (Bucket b) n l.names is) ∙ not_emptied (taken_weight t b c)
 
 no_emptied_step : (identity : Identity) (t : List Row) → Lawful t → (rule : List ℕ) (x : StepData) → emptied_by identity t t rule x ≡ []
 no_emptied_step identity t l rule (take b c) = ap (λ z. if_emptied z rule (bucket_name t b) c) (none_emptied identity t l b c)

@@ -4,12 +4,13 @@ use Rattle.std.specs.Option.{option_map_or}
 use Rattle.crush_compare.specs.declared.identity.Identity.{Identity}
 use Rattle.crush_compare.specs.declared.identity.Identity.TheVariants.{Ids, Names}
 use Rattle.crush_units.specs.declared.id.ItemId.{ItemId}
-use Rattle.crush_units.specs.declared.id.ItemId.TheVariants.{Device, Bucket}
+use Rattle.crush_units.specs.declared.id.ItemId.TheVariants.{Bucket}
 use Rattle.crush_model.specs.Classes.{class_weight_of}
-use Rattle.crush_model.specs.Table.{Row, weight_of, id_named, name_of}
+use Rattle.crush_model.specs.Table.{Row, weight_of, name_of}
 use Rattle.crush_edits.specs.Setting.{StepData, take, choose, set, emit, RuleData, SettingData}
 use Rattle.crush_print.specs.RuleLines.{bucket_name}
 use Rattle.crush_since.specs.Rules.{RuleChangeData, rule_takes_nothing, rule_change_lines}
+use Rattle.crush_edits.specs.Stops.{bucket_named}
 
 -- what an item weighs. If a class is given, what the item's devices of this class weigh
 abbrev pub weight_as : List Row → Option (List ℕ) → ItemId → Option ℕ
@@ -21,13 +22,6 @@ abbrev pub taken_weight : List Row → ℕ → Option (List ℕ) → ℕ
 taken_weight t b c = unwrap_or (weight_as t c (Bucket b)) 0
 
 -- the old table's bucket that is matched with the new table's bucket b: the bucket with the same id or the bucket with the same name, as `identity` says; none if there is no such bucket
-abbrev pub bucket_number : ItemId → Option ℕ
-bucket_number (Device d) = None
-bucket_number (Bucket b) = Some b
-
-abbrev pub bucket_named : List Row → List ℕ → Option ℕ
-bucket_named t n = option_and_then bucket_number (id_named t n)
-
 abbrev pub old_bucket : Identity → List Row → List Row → ℕ → Option ℕ
 old_bucket Ids t u b = Some b
 old_bucket (Names devices) t u b = option_and_then (bucket_named t) (name_of u (Bucket b))

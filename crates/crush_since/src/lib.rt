@@ -22,8 +22,8 @@ pub use names::{
     write_since_by_name, write_since_by_name_part,
 };
 pub use since::{
-    ClassChange, RuleChange, Seen, Tally, class_bytes, class_changes, count_changes, is_changed,
-    is_part_changed, no_item_is_told_where_rows_are_equal, nothing_changes_since_itself,
-    rule_changes, same_algs, same_class, same_class_ids, same_kinds, same_rules, same_tunables,
-    since_part_text, type_bytes, write_since,
+    ClassChange, RuleChange, Seen, Tally, bucket_named, class_bytes, class_changes, count_changes,
+    is_changed, is_part_changed, no_item_is_told_where_rows_are_equal,
+    nothing_changes_since_itself, rule_changes, same_algs, same_class, same_class_ids, same_kinds,
+    same_rules, same_tunables, since_part_text, type_bytes, write_since,
 };

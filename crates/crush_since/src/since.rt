@@ -38,6 +38,7 @@ pub use counting::count_changes;
 use crush_compare::{Comparison, Identity};
 use crush_map::CrushMap;
 use crush_units::{WriteFault, put};
+pub use emptied::bucket_named;
 use pairs::push_lines;
 pub use part::since_part_text;
 pub(crate) use parts::push_part;

@@ -3,7 +3,7 @@
 use super::EXAMPLE_MAP;
 use crate::maps::map_of;
 use crush_map::CrushMap;
-use crush_since::write_since;
+use crush_since::{bucket_named, write_since};
 use std::alloc::Global;
 use std::process::Abort;
 
@@ -49,6 +49,16 @@ fn a_moved_device_moves_its_weight(rt: HostRuntime) {
         total 2.50000 to 2.50000\n\
         0 made, 0 removed, 0 renamed, 1 moved, 2 of other weight, 0 of other class\n";
     assert!(rt; is_since(&rt, EXAMPLE_MAP, MOVED, changes));
+}
+
+#[test]
+fn a_bucket_is_found_by_its_name(rt: HostRuntime) {
+    let map = map_of(&rt, MOVED);
+    let is_found = bucket_named(&map, "h2").is_some_and(|id| id.distance() == 3)
+        && bucket_named(&map, "osd.0").is_none()
+        && bucket_named(&map, "h3").is_none();
+    drop(map);
+    assert!(rt; is_found);
 }
 
 const RULE: &[u8] = b"\

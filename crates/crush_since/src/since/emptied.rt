@@ -6,7 +6,8 @@ ghost use Rattle.crush_edits.specs.SettingSeen.{rule_data, step_data};
 ghost use Rattle.crush_print.specs.RuleLines.{bucket_name};
 ghost use Rattle.crush_model.specs.Stands.{Stands};
 ghost use Rattle.crush_model.specs.Table.{Row, id_named};
-ghost use Rattle.crush_since.specs.Emptied.{bucket_named, emptied_by, emptied_of, emptied_rules, if_emptied, is_emptied, old_bucket, taken_weight, weight_as, weight_before};
+ghost use Rattle.crush_edits.specs.Stops.{bucket_named};
+ghost use Rattle.crush_since.specs.Emptied.{emptied_by, emptied_of, emptied_rules, if_emptied, is_emptied, old_bucket, taken_weight, weight_as, weight_before};
 ghost use Rattle.crush_since.specs.RulesSeen.{rule_change_data};
 ghost use Rattle.crush_since.specs.TakenSeen.{AreRight};
 
@@ -245,7 +246,7 @@ fn old_bucket<A: Allocator, B: Allocator>(
 }
 
 /// Returns the bucket with this name, or `None` if no bucket has the name.
-fn bucket_named<A: Allocator>(map: &CrushMap<A>, name: &str) -> Option<BucketId>
+pub fn bucket_named<A: Allocator>(map: &CrushMap<A>, name: &str) -> Option<BucketId>
     ensures { (t : List Row) → Stands map.now.forest t → result ≡ bucket_named t name.now }
 {
     match map.locate(name) {
