@@ -39,8 +39,9 @@ enum StepKind {
 }
 
 impl ClassStep {
-    /// Returns a number by which the edits are ordered: class by class, each class first with the
-    /// edits that remove old classes.
+    /// Returns the number by which the edits are sorted. The edits of devices that get the same class
+    /// come together. Of these edits, those that remove old classes come before those that set the
+    /// class.
     fn rank(&self) -> u128
         ensures { result ≡ rank self.now }
     {

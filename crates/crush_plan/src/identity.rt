@@ -92,8 +92,8 @@ fn target_of<A: Allocator, B: Allocator>(
     }
 }
 
-/// `bucket` is a bucket of the wanted map. Returns it, or `None` if it is matched with the map's
-/// bucket that has the same id.
+/// `bucket` is a bucket of the wanted map. Returns `bucket`, or `None` if `bucket` is matched with
+/// the map's bucket that has the same id.
 fn unless_same_by_id<A: Allocator, B: Allocator>(
     map: &ItemTable<'_, A>,
     wanted: &ItemTable<'_, B>,
