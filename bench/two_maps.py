@@ -19,6 +19,7 @@ from hostile import TYPES, bucket
 
 DEVICES, HOSTS, RACKS = 60000, 3000, 60
 DEPTH = 4095
+RULES, STEPS = 256, 64
 
 
 def grouped(prefix, first_id, moved=False):
@@ -50,11 +51,22 @@ def nest(last):
     return lines
 
 
+def with_rules(first):
+    """A map of devices of one class in one root, and rules whose steps all take this root and class. The first device has the class `first`."""
+    lines = [f"device {number} osd.{number} class {'hdd' if number else first}" for number in range(DEVICES)] + TYPES
+    lines += bucket("root", "default", 1, [(f"osd.{number}", 1) for number in range(DEVICES)])
+    steps = ["step take default class hdd"] * STEPS
+    for number in range(RULES):
+        lines += [f"rule r{number} {{", f"id {number}", "type replicated", *steps, "}"]
+    return lines
+
+
 # What each two maps are called, both, and how often `--to` may take the time of `--since`.
 PAIRS = [
     ("a rack moved", lambda: grouped("", 0), lambda: grouped("", 0, moved=True), 4),
     ("nothing in common", lambda: grouped("", 0), lambda: grouped("new", 70000), 10),
     ("a weight at the foot of a nest", lambda: nest(1), lambda: nest(2), 4),
+    ("rules that take a class", lambda: with_rules("hdd"), lambda: with_rules("ssd"), 4),
 ]
 
 
