@@ -15,6 +15,8 @@
 //! the operator makes its calls.
 //! - **Two maps**: [`Comparison`] pairs their items, [`write_since`] writes what has changed, and
 //! [`find_plan`] finds edits that lead from one map toward the other.
+//! - **Several scripts**: [`lost_changes`] finds the changes of one script that the other scripts
+//! have undone.
 //! - **A whole job**: [`read_job`] reads a map together with the scripts of its operators.
 //!
 //! The contract of a type or a function refers to definitions in the crate that it comes from. So a
@@ -23,6 +25,7 @@
 
 pub use crush_builder::{BuildFault, MapBuilder, RuleFault, RulePart};
 pub use crush_compare::{Comparison, Devices, Difference, Identity, Report};
+pub use crush_conflicts::{lost_changes, map_alone};
 pub use crush_editor::{
     Book, Closed, Desk, Editor, LockFreeReader, MapBookSeat, MapGauge, Seat, Started, SubmitFault,
 };
@@ -42,8 +45,8 @@ pub use crush_print::{
 };
 pub use crush_script::{Job, JobFault, read_job};
 pub use crush_since::{
-    is_changed, is_changed_by_name, since_part_text, stays, stays_part, write_changes, write_since,
-    write_since_by_name, write_since_by_name_part,
+    is_changed, is_changed_by_name, since_part_text, stays, stays_part, write_changes,
+    write_changes_of_class, write_since, write_since_by_name, write_since_by_name_part,
 };
 pub use crush_text::{TextFault, TextFaultKind, read_map, read_map_in};
 pub use crush_units::{
