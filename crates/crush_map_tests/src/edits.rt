@@ -6,34 +6,36 @@ use crush_units::{DeviceId, Name, Weight};
 use std::alloc::Global;
 use std::process::Abort;
 
-fn leads_to_a_host(at: &Location) -> bool {
+fn assert_leads_to_a_host(rt: &impl Abort, at: &Location) {
     let pairs = at.pairs();
-    pairs.len() == 2 && pairs[0].kind.is(b"host") && pairs[1].name.is(b"default")
+    assert_eq!(rt; pairs.len(), 2);
+    assert_eq!(rt; pairs[0].kind.as_str(), "host");
+    assert_eq!(rt; pairs[1].name.as_str(), "default");
 }
 
-fn takes_two(rt: &impl Abort, at: &mut Location) -> bool {
+fn assert_takes_two(rt: &impl Abort, at: &mut Location) {
     at.push(b"host", b"h1").expect(rt, "a pair");
     at.push(b"root", b"default").expect(rt, "a pair");
-    at.push(b"", b"h1") == Err(LocationFault::BadName)
-        && at.push(b"host", b"h 1") == Err(LocationFault::BadName)
-        && leads_to_a_host(at)
+    assert_eq!(rt; at.push(b"", b"h1"), Err(LocationFault::BadName));
+    assert_eq!(rt; at.push(b"host", b"h 1"), Err(LocationFault::BadName));
+    assert_leads_to_a_host(rt, at);
 }
 
-fn is_full(rt: &impl Abort, at: &mut Location) -> bool {
+fn assert_full(rt: &impl Abort, at: &mut Location) {
     for _ in 2..MOST_PAIRS {
         at.push(b"host", b"h1").expect(rt, "a pair");
     }
-    at.pairs().len() == 16
-        && at.push(b"host", b"h1") == Err(LocationFault::TooMany)
-        && at.push(b"", b"") == Err(LocationFault::TooMany)
+    assert_eq!(rt; at.pairs().len(), 16);
+    assert_eq!(rt; at.push(b"host", b"h1"), Err(LocationFault::TooMany));
+    assert_eq!(rt; at.push(b"", b""), Err(LocationFault::TooMany));
 }
 
 #[test]
 fn locations(rt: HostRuntime) {
     let mut at = Location::new(rt.alloc());
-    let is_right = takes_two(&rt, &mut at) && is_full(&rt, &mut at);
+    assert_takes_two(&rt, &mut at);
+    assert_full(&rt, &mut at);
     drop(at);
-    assert!(rt; is_right);
 }
 
 fn name(rt: &impl Abort, alloc: Global, text: &str) -> Name<Global> {
@@ -128,18 +130,21 @@ fn copies(rt: HostRuntime) {
     drop(others);
 }
 
-fn has_name_and_numbers(refusal: Refusal, name: &str, number: u8, error: u8) -> bool {
-    refusal.name() == name && refusal.number() == number && refusal.error() == error
+fn assert_name_and_numbers(rt: &impl Abort, refusal: Refusal, name: &str, number: u8, error: u8) {
+    assert_eq!(rt; refusal.name(), name);
+    assert_eq!(rt; refusal.number(), number, "{name}");
+    assert_eq!(rt; refusal.error(), error, "{name}");
 }
 
 #[test]
 fn refusals(rt: HostRuntime) {
-    assert!(rt;
-        has_name_and_numbers(Refusal::Loop, "Loop", 13, 40)
-            && has_name_and_numbers(Refusal::ClassBound, "ClassBound", 21, 16)
-            && EditFault::from(Refusal::Loop) == EditFault::Refused(Refusal::Loop)
-            && LocationFault::OutOfMemory.number() == 3
+    assert_name_and_numbers(&rt, Refusal::Loop, "Loop", 13, 40);
+    assert_name_and_numbers(&rt, Refusal::ClassBound, "ClassBound", 21, 16);
+    assert_eq!(rt;
+        EditFault::from(Refusal::Loop),
+        EditFault::Refused(Refusal::Loop)
     );
+    assert_eq!(rt; LocationFault::OutOfMemory.number(), 3);
 }
 
 #[test]
@@ -147,12 +152,13 @@ fn faults_name_the_refusal(rt: HostRuntime) {
     let edit = EditFault::Refused(Refusal::ClassBound);
     let batch = BatchFault::Refused(1, Refusal::Loop);
     let told = format!(in rt.alloc(); "{edit}; {batch}").expect(&rt, "memory");
-    let is_right = told.as_str() == "the edit is refused: ClassBound; edit 1 is refused: Loop";
+    let text = "the edit is refused: ClassBound; edit 1 is refused: Loop";
+    assert_eq!(rt; told.as_str(), text);
     drop(told);
-    assert!(rt; is_right);
 }
 
 #[test]
 fn reserved_names(rt: HostRuntime) {
-    assert!(rt; is_reserved(b"tunable") && !is_reserved(b"host"));
+    assert!(rt; is_reserved(b"tunable"));
+    assert!(rt; !is_reserved(b"host"));
 }

@@ -6,6 +6,7 @@ use crush_units::*;
 use std::alloc::{AllocGlobal, Allocator};
 use std::collections::HashSet;
 use std::fmt::Display;
+use std::process::Abort;
 
 const _: () = prove!(UNITS_OF_ONE == 1 << 16);
 
@@ -28,6 +29,8 @@ const _: () = prove!(MOST_DEVICES == 65_536);
 const _: () = prove!(MOST_BUCKETS == 4_096);
 
 const _: () = prove!(LONGEST_NAME == 255);
+
+const _: () = prove!(LONGEST_SHORT_NAME == 30);
 
 const _: () = prove!(MOST_CLASS_IDS == 16);
 
@@ -61,14 +64,12 @@ fn device_number(number: i32) -> Option<u32> {
 #[test]
 fn device_ids(rt: HostRuntime) {
     let last = DeviceId::from_number(2147483647);
-    assert!(rt;
-        device_number(2147483647) == Some(2147483647)
-            && device_number(0) == Some(0)
-            && device_number(-1).is_none()
-            && last == DeviceId::new(2147483647)
-            && last.is_some()
-            && DeviceId::from_number(2147483648).is_none()
-    );
+    assert_eq!(rt; device_number(2147483647), Some(2147483647));
+    assert_eq!(rt; device_number(0), Some(0));
+    assert_eq!(rt; device_number(-1), None);
+    assert_eq!(rt; last, DeviceId::new(2147483647));
+    assert!(rt; last.is_some());
+    assert_eq!(rt; DeviceId::from_number(2147483648), None);
 }
 
 fn bucket_number(number: i32) -> Option<(i32, u32)> {
@@ -79,95 +80,90 @@ fn bucket_number(number: i32) -> Option<(i32, u32)> {
 #[test]
 fn bucket_ids(rt: HostRuntime) {
     let last = BucketId::below_zero(2147483648);
-    assert!(rt;
-        bucket_number(-2147483648) == Some((-2147483648, 2147483648))
-            && bucket_number(-3) == Some((-3, 3))
-            && bucket_number(0).is_none()
-            && last == BucketId::new(-2147483648)
-            && last.is_some()
-            && BucketId::below_zero(3) == BucketId::new(-3)
-            && BucketId::below_zero(0).is_none()
-            && BucketId::below_zero(2147483649).is_none()
-    );
+    assert_eq!(rt; bucket_number(-2147483648), Some((-2147483648, 2147483648)));
+    assert_eq!(rt; bucket_number(-3), Some((-3, 3)));
+    assert_eq!(rt; bucket_number(0), None);
+    assert_eq!(rt; last, BucketId::new(-2147483648));
+    assert!(rt; last.is_some());
+    assert_eq!(rt; BucketId::below_zero(3), BucketId::new(-3));
+    assert_eq!(rt; BucketId::below_zero(0), None);
+    assert_eq!(rt; BucketId::below_zero(2147483649), None);
 }
 
-fn are_two_items(device: &ItemId, bucket: &ItemId) -> bool {
-    device.number() == 1
-        && bucket.number() == -1
-        && device.is_same(*device)
-        && !device.is_same(*bucket)
+fn assert_two_items(rt: &impl Abort, device: &ItemId, bucket: &ItemId) {
+    assert_eq!(rt; device.number(), 1);
+    assert_eq!(rt; bucket.number(), -1);
+    assert!(rt; device.is_same(*device));
+    assert!(rt; !device.is_same(*bucket));
 }
 
 #[test]
 fn item_ids(rt: HostRuntime) {
     let device = DeviceId::new(1).expect(&rt, "a device");
     let bucket = BucketId::new(-1).expect(&rt, "a bucket");
-    assert!(rt;
-        are_two_items(&ItemId::Device(device), &ItemId::Bucket(bucket))
-            && TypeId::new(65535).number() == 65535
-    );
+    assert_two_items(&rt, &ItemId::Device(device), &ItemId::Bucket(bucket));
+    assert_eq!(rt; TypeId::new(65535).number(), 65535);
 }
 
-fn is_named(alg: Alg, name: &str) -> bool {
-    alg.name() == name && alg.is_same(alg) && Alg::read(name.as_bytes()) == Some(alg)
+fn assert_named(rt: &impl Abort, alg: Alg, name: &str) {
+    assert_eq!(rt; alg.name(), name);
+    assert!(rt; alg.is_same(alg), "{name}");
+    assert_eq!(rt; Alg::read(name.as_bytes()), Some(alg));
 }
 
 #[test]
 fn algorithms(rt: HostRuntime) {
-    assert!(rt;
-        is_named(Alg::Straw, "straw")
-            && is_named(Alg::List, "list")
-            && is_named(Alg::Straw2, "straw2")
-            && Alg::read(b"uniform").is_none()
-            && Alg::read(b"straw22").is_none()
-    );
+    assert_named(&rt, Alg::Straw, "straw");
+    assert_named(&rt, Alg::List, "list");
+    assert_named(&rt, Alg::Straw2, "straw2");
+    assert_eq!(rt; Alg::read(b"uniform"), None);
+    assert_eq!(rt; Alg::read(b"straw22"), None);
 }
 
-fn is_osd_0<A: Allocator>(name: &Name<A>) -> bool {
-    name.as_str() == "osd.0"
-        && name.as_bytes() == b"osd.0".as_slice()
-        && name.is(b"osd.0")
-        && !name.is(b"osd.1")
+fn assert_osd_0<A: Allocator>(rt: &impl Abort, name: &Name<A>) {
+    assert_eq!(rt; name.as_str(), "osd.0");
+    assert!(rt; name.as_bytes() == b"osd.0".as_slice());
+    assert!(rt; name.is(b"osd.0"));
+    assert!(rt; !name.is(b"osd.1"));
 }
 
 #[test]
 fn names(rt: HostRuntime) {
     let name = Name::read(rt.alloc(), b"osd.0").expect(&rt, "a name");
     let copy = name.try_copy(rt.alloc()).expect(&rt, "memory");
-    let are_names = is_osd_0(&name) && is_osd_0(&copy) && copy == name;
+    assert_osd_0(&rt, &name);
+    assert_osd_0(&rt, &copy);
+    assert_eq!(rt; copy, name);
     drop(copy);
     drop(name);
-    assert!(rt; are_names && Name::read(rt.alloc(), &[b'Z'; 255]).is_ok());
+    assert!(rt; Name::read(rt.alloc(), &[b'Z'; 255]).is_ok());
 }
 
-fn is_refused(rt: &impl AllocGlobal, bytes: &[u8], fault: NameFault, number: u8) -> bool {
-    let told = Name::read(rt.alloc(), bytes).err();
-    !is_name(bytes) && told == Some(fault) && fault.number() == number
+fn assert_refused(rt: &(impl Abort + AllocGlobal), bytes: &[u8], fault: NameFault, number: u8) {
+    assert!(rt; !is_name(bytes), "{fault:?}");
+    assert_eq!(rt; Name::read(rt.alloc(), bytes).err(), Some(fault));
+    assert_eq!(rt; fault.number(), number, "{fault:?}");
 }
 
 #[test]
 fn names_refused(rt: HostRuntime) {
-    assert!(rt;
-        is_refused(&rt, b"", NameFault::Empty, 1)
-            && is_refused(&rt, b"a b", NameFault::BadByte(1), 2)
-            && is_refused(&rt, &[b'{'; 256], NameFault::BadByte(0), 2)
-            && is_refused(&rt, &[b'a'; 256], NameFault::TooLong, 3)
-            && NameFault::OutOfMemory.number() == 4
-    );
+    assert_refused(&rt, b"", NameFault::Empty, 1);
+    assert_refused(&rt, b"a b", NameFault::BadByte(1), 2);
+    assert_refused(&rt, &[b'{'; 256], NameFault::BadByte(0), 2);
+    assert_refused(&rt, &[b'a'; 256], NameFault::TooLong, 3);
+    assert_eq!(rt; NameFault::OutOfMemory.number(), 4);
 }
 
-fn are_name_bytes(bytes: &[u8], may: bool) -> bool {
+fn assert_name_bytes(rt: &impl Abort, bytes: &[u8], may: bool) {
     for byte in bytes {
-        if is_name_byte(*byte) != may {
-            return false;
-        }
+        assert_eq!(rt; is_name_byte(*byte), may, "byte {byte}");
     }
-    true
 }
 
 #[test]
 fn bytes_of_names(rt: HostRuntime) {
-    assert!(rt; are_name_bytes(b"azAZ09-_.", true) && are_name_bytes(b"@[`{/:,+ ", false));
+    assert_name_bytes(&rt, b"azAZ09-_.", true);
+    assert_name_bytes(&rt, b"@[`{/:,+ ", false);
 }
 
 /// The text of a weight, the weight in units of 1/65536, and the text that is printed for this
@@ -188,13 +184,17 @@ const WEIGHTS: &[(&str, u32, &str)] = &[
     ("0000000001", 65536, "1.00000"),
 ];
 
-fn is_weight(text: &str, units: u32, printed: &str) -> bool {
+fn assert_weight(rt: &impl Abort, text: &str, units: u32, printed: &str) {
     let weight = Weight::from_units(units);
-    Weight::read(text) == Ok(weight)
-        && Weight::read_bytes(printed.as_bytes()) == Ok(weight)
-        && weight.units() == units
-        && weight.is_device_weight() == (units <= 2147483647)
-        && is_printed(weight, printed.as_bytes())
+    assert_eq!(rt; Weight::read(text), Ok(weight), "{text}");
+    assert_eq!(rt;
+        Weight::read_bytes(printed.as_bytes()),
+        Ok(weight),
+        "{printed}"
+    );
+    assert_eq!(rt; weight.units(), units);
+    assert_eq!(rt; weight.is_device_weight(), units <= 2147483647, "{text}");
+    assert!(rt; is_printed(weight, printed.as_bytes()), "{printed}");
 }
 
 fn is_printed(weight: Weight, printed: &[u8]) -> bool {
@@ -206,7 +206,7 @@ fn is_printed(weight: Weight, printed: &[u8]) -> bool {
 #[test]
 fn weights(rt: HostRuntime) {
     for (text, units, printed) in WEIGHTS {
-        assert!(rt; is_weight(*text, *units, *printed));
+        assert_weight(&rt, *text, *units, *printed);
     }
     printed_is_read_back();
 }
@@ -221,17 +221,22 @@ const EXACT_WEIGHTS: &[(u32, &str)] = &[
     (4294967295, "65535.999985"),
 ];
 
-fn is_exact(units: u32, exact: &str) -> bool {
-    let weight = Weight::from_units(units);
+fn is_exactly_printed(weight: Weight, exact: &[u8]) -> bool {
     let mut buffer = [0; 16];
     let length = weight.exact_text(&mut buffer);
-    length <= 16 && &buffer[..length] == exact.as_bytes() && Weight::read(exact) == Ok(weight)
+    length <= 16 && &buffer[..length] == exact
+}
+
+fn assert_exact(rt: &impl Abort, units: u32, exact: &str) {
+    let weight = Weight::from_units(units);
+    assert!(rt; is_exactly_printed(weight, exact.as_bytes()), "{exact}");
+    assert_eq!(rt; Weight::read(exact), Ok(weight), "{exact}");
 }
 
 #[test]
 fn exact_weights(rt: HostRuntime) {
     for (units, exact) in EXACT_WEIGHTS {
-        assert!(rt; is_exact(*units, *exact));
+        assert_exact(&rt, *units, *exact);
     }
     exact_is_read_back();
     exact_is_cut_back();
@@ -253,23 +258,18 @@ const NO_WEIGHTS: &[&str] = &[
 
 const TOO_LARGE: &[&str] = &["65536", "65535.999999", "9999999999"];
 
-fn are_no_weights(texts: &[&str], fault: WeightFault) -> bool {
+fn assert_no_weights(rt: &impl Abort, texts: &[&str], fault: WeightFault) {
     for text in texts {
-        if Weight::read(*text) != Err(fault) {
-            return false;
-        }
+        assert_eq!(rt; Weight::read(*text), Err(fault), "{text}");
     }
-    true
 }
 
 #[test]
 fn weights_refused(rt: HostRuntime) {
-    assert!(rt;
-        are_no_weights(NO_WEIGHTS, WeightFault::Syntax)
-            && are_no_weights(TOO_LARGE, WeightFault::TooLarge)
-            && WeightFault::Syntax.number() == 1
-            && WeightFault::TooLarge.number() == 2
-    );
+    assert_no_weights(&rt, NO_WEIGHTS, WeightFault::Syntax);
+    assert_no_weights(&rt, TOO_LARGE, WeightFault::TooLarge);
+    assert_eq!(rt; WeightFault::Syntax.number(), 1);
+    assert_eq!(rt; WeightFault::TooLarge.number(), 2);
 }
 
 fn device(number: u32) -> Option<DeviceId> {
@@ -282,20 +282,18 @@ fn bucket(number: i32) -> Option<BucketId> {
 
 #[test]
 fn conversions(rt: HostRuntime) {
-    assert!(rt;
-        device(3) == DeviceId::new(3)
-            && device(2147483648).is_none()
-            && DeviceId::try_from(0_i32).ok() == DeviceId::new(0)
-            && DeviceId::try_from(-1_i32) == Err(IdFault::NotDevice)
-            && bucket(-3) == BucketId::new(-3)
-            && BucketId::try_from(0) == Err(IdFault::NotBucket)
-            && TypeId::from(65535) == TypeId::new(65535)
-            && Weight::default() == Weight::from_units(0)
-            && "1.5".parse::<Weight>() == Ok(Weight::from_units(98304))
-            && "1.".parse::<Weight>() == Err(WeightFault::Syntax)
-            && "list".parse::<Alg>() == Ok(Alg::List)
-            && "tree".parse::<Alg>() == Err(AlgFault)
-    );
+    assert_eq!(rt; device(3), DeviceId::new(3));
+    assert_eq!(rt; device(2147483648), None);
+    assert_eq!(rt; DeviceId::try_from(0_i32).ok(), DeviceId::new(0));
+    assert_eq!(rt; DeviceId::try_from(-1_i32), Err(IdFault::NotDevice));
+    assert_eq!(rt; bucket(-3), BucketId::new(-3));
+    assert_eq!(rt; BucketId::try_from(0), Err(IdFault::NotBucket));
+    assert_eq!(rt; TypeId::from(65535), TypeId::new(65535));
+    assert_eq!(rt; Weight::default(), Weight::from_units(0));
+    assert_eq!(rt; "1.5".parse::<Weight>(), Ok(Weight::from_units(98304)));
+    assert_eq!(rt; "1.".parse::<Weight>(), Err(WeightFault::Syntax));
+    assert_eq!(rt; "list".parse::<Alg>(), Ok(Alg::List));
+    assert_eq!(rt; "tree".parse::<Alg>(), Err(AlgFault));
 }
 
 #[test]
@@ -304,34 +302,33 @@ fn orders(rt: HostRuntime) {
     let high = device(10).expect(&rt, "a device");
     let near = bucket(-1).expect(&rt, "a bucket");
     let far = bucket(-2).expect(&rt, "a bucket");
-    assert!(rt;
-        low < high
-            && far < near
-            && ItemId::from(low) < ItemId::from(high)
-            && ItemId::from(high) < ItemId::from(far)
-            && ItemId::from(far) < ItemId::from(near)
-            && TypeId::new(1) < TypeId::new(11)
-            && Weight::from_units(9) < Weight::from_units(10)
-            && Alg::Straw < Alg::Straw2
-            && Alg::Straw2 < Alg::List
-    );
+    assert!(rt; low < high);
+    assert!(rt; far < near);
+    assert!(rt; ItemId::from(low) < ItemId::from(high));
+    assert!(rt; ItemId::from(high) < ItemId::from(far));
+    assert!(rt; ItemId::from(far) < ItemId::from(near));
+    assert!(rt; TypeId::new(1) < TypeId::new(11));
+    assert!(rt; Weight::from_units(9) < Weight::from_units(10));
+    assert!(rt; Alg::Straw < Alg::Straw2);
+    assert!(rt; Alg::Straw2 < Alg::List);
 }
 
-fn is_shown(rt: &impl AllocGlobal, value: impl Display + Drop, shown: &str) -> bool {
-    format!(in rt.alloc(); "{value}").is_ok_and(|text| text.as_str() == shown)
+fn assert_shown(rt: &(impl Abort + AllocGlobal), value: impl Display + Drop, shown: &str) {
+    let text = format!(in rt.alloc(); "{value}").expect(rt, "memory");
+    assert_eq!(rt; text.as_str(), shown);
+    drop(text);
 }
 
 #[test]
 fn shown(rt: HostRuntime) {
     let name = Name::read(rt.alloc(), b"osd.3").expect(&rt, "a name");
-    let quoted = format!(in rt.alloc(); "{name:?}").is_ok_and(|text| text.as_str() == "\"osd.3\"");
+    let quoted = format!(in rt.alloc(); "{name:?}").expect(&rt, "memory");
+    assert_eq!(rt; quoted.as_str(), "\"osd.3\"");
+    drop(quoted);
     drop(name);
-    assert!(rt;
-        quoted
-            && is_shown(&rt, Alg::Straw2, "straw2")
-            && is_shown(&rt, TypeId::new(11), "11")
-            && is_shown(&rt, Weight::from_units(98304), "1.50000")
-    );
+    assert_shown(&rt, Alg::Straw2, "straw2");
+    assert_shown(&rt, TypeId::new(11), "11");
+    assert_shown(&rt, Weight::from_units(98304), "1.50000");
 }
 
 #[test]
@@ -343,5 +340,5 @@ fn values_are_keys(rt: HostRuntime) {
     let second = keys.insert(ItemId::from(bucket)).expect(&rt, "memory");
     let again = keys.insert(ItemId::from(device)).expect(&rt, "memory");
     drop(keys);
-    assert!(rt; first && second && !again);
+    assert_eq!(rt; [first, second, again], [true, true, false]);
 }

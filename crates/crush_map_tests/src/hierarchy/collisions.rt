@@ -7,6 +7,7 @@
 use super::names::{add, device};
 use crush_index::{Hashing, Index};
 use std::alloc::Global;
+use std::process::Abort;
 
 fn add_each(index: &mut Index, alloc: Global, texts: &[&str]) -> bool {
     for (number, text) in (0u32..32).zip(texts) {
@@ -17,18 +18,15 @@ fn add_each(index: &mut Index, alloc: Global, texts: &[&str]) -> bool {
     true
 }
 
-fn finds_each_name(index: &Index, texts: &[&str], gone: Option<u32>) -> bool {
+fn assert_finds_each_name(rt: &impl Abort, index: &Index, texts: &[&str], gone: Option<u32>) {
     for (number, text) in (0u32..32).zip(texts) {
         let id = if gone == Some(number) {
             None
         } else {
             device(number)
         };
-        if index.id_of(text.as_bytes()) != id {
-            return false;
-        }
+        assert_eq!(rt; index.id_of(text.as_bytes()), id, "{text}");
     }
-    true
 }
 
 fn rename(index: &mut Index, alloc: Global, from: &str, to: &str) -> bool {
@@ -47,11 +45,14 @@ fn names_that_collide_are_told_apart(rt: HostRuntime) {
         "ftlnew", "gmmf65", "gnmch3", "g2iytj", "hixqgc",
     ];
     let mut index = Index::new(rt.alloc(), Hashing::plain());
-    assert!(rt; add_each(&mut index, rt.alloc(), &texts) && finds_each_name(&index, &texts, None));
+    assert!(rt; add_each(&mut index, rt.alloc(), &texts));
+    assert_finds_each_name(&rt, &index, &texts, None);
     assert!(rt; rename(&mut index, rt.alloc(), "csstpo", "h6rr65"));
-    assert!(rt; index.id_of(b"h6rr65") == device(9) && finds_each_name(&index, &texts, Some(9)));
+    assert_eq!(rt; index.id_of(b"h6rr65"), device(9));
+    assert_finds_each_name(&rt, &index, &texts, Some(9));
     assert!(rt; rename(&mut index, rt.alloc(), "h6rr65", "csstpo"));
     index.forget_name(b"d9k551");
-    assert!(rt; index.id_of(b"h6rr65").is_none() && finds_each_name(&index, &texts, Some(20)));
+    assert_eq!(rt; index.id_of(b"h6rr65"), None);
+    assert_finds_each_name(&rt, &index, &texts, Some(20));
     drop(index);
 }

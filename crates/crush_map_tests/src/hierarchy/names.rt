@@ -6,6 +6,7 @@ use crush_index::{Hashing, Index};
 use crush_units::{BucketId, DeviceId, ItemId, Name};
 use std::alloc::{AllocGlobal, Global};
 use std::hash::RandomState;
+use std::process::Abort;
 
 fn bucket(distance: u32) -> Option<ItemId> {
     let id = BucketId::below_zero(distance)?;
@@ -33,22 +34,28 @@ fn add_three(index: &mut Index, alloc: Global) -> bool {
         && add(index, alloc, b"osd.0", device(0))
 }
 
-fn finds_names(index: &Index, h1: Option<ItemId>, h2: Option<ItemId>, osd: Option<ItemId>) -> bool {
-    index.id_of(b"h1") == h1
-        && index.id_of(b"h2") == h2
-        && index.id_of(b"osd.0") == osd
-        && index.id_of(b"x").is_none()
+fn assert_finds_names(
+    rt: &impl Abort,
+    index: &Index,
+    h1: Option<ItemId>,
+    h2: Option<ItemId>,
+    osd: Option<ItemId>,
+) {
+    assert_eq!(rt; index.id_of(b"h1"), h1);
+    assert_eq!(rt; index.id_of(b"h2"), h2);
+    assert_eq!(rt; index.id_of(b"osd.0"), osd);
+    assert_eq!(rt; index.id_of(b"x"), None);
 }
 
 #[test]
 fn names_come_and_go(rt: HostRuntime) {
     let mut index = Index::new(rt.alloc(), Hashing::plain());
-    assert!(rt; finds_names(&index, None, None, None));
+    assert_finds_names(&rt, &index, None, None, None);
     assert!(rt; add_three(&mut index, rt.alloc()));
-    assert!(rt; finds_names(&index, bucket(2), bucket(3), device(0)));
+    assert_finds_names(&rt, &index, bucket(2), bucket(3), device(0));
     index.forget_name(b"h2");
     index.forget_name(b"x");
-    assert!(rt; finds_names(&index, bucket(2), None, device(0)));
+    assert_finds_names(&rt, &index, bucket(2), None, device(0));
     drop(index);
 }
 
@@ -57,7 +64,7 @@ fn names_hash_with_keys_as_without(rt: HostRuntime) {
     let keys = RandomState::new(&rt).expect(&rt, "the machine has random bytes");
     let mut index = Index::new(rt.alloc(), Hashing::keyed(keys));
     assert!(rt; add_three(&mut index, rt.alloc()));
-    assert!(rt; finds_names(&index, bucket(2), bucket(3), device(0)));
+    assert_finds_names(&rt, &index, bucket(2), bucket(3), device(0));
     drop(index);
 }
 
@@ -66,6 +73,6 @@ fn two_names_are_exchanged(rt: HostRuntime) {
     let mut index = Index::new(rt.alloc(), Hashing::plain());
     assert!(rt; add_three(&mut index, rt.alloc()));
     exchange_hosts(&mut index);
-    assert!(rt; finds_names(&index, bucket(3), bucket(2), device(0)));
+    assert_finds_names(&rt, &index, bucket(3), bucket(2), device(0));
     drop(index);
 }

@@ -29,39 +29,38 @@ fn add_four(rt: &(impl Abort + AllocGlobal), index: &mut Index) {
     add(rt, index, inside(rt, 2), 1, leaf(rt, 2, "osd.2", 1));
 }
 
-fn has_position(index: &Index, id: ItemId, position: Option<Position>) -> bool {
-    index.places().position(id) == position
+fn assert_position(rt: &impl Abort, index: &Index, id: ItemId, position: Option<Position>) {
+    assert_eq!(rt; index.places().position(id), position);
 }
 
 #[test]
 fn places_come_and_go(rt: HostRuntime) {
     let mut index = Index::new(rt.alloc(), Hashing::plain());
-    let was_absent = has_position(&index, device_item(&rt, 2), None);
+    assert_position(&rt, &index, device_item(&rt, 2), None);
     add_four(&rt, &mut index);
-    let are_there = has_position(&index, bucket_item(&rt, 2), below(&rt, 1, 0))
-        && has_position(&index, device_item(&rt, 2), below(&rt, 2, 1));
+    assert_position(&rt, &index, bucket_item(&rt, 2), below(&rt, 1, 0));
+    assert_position(&rt, &index, device_item(&rt, 2), below(&rt, 2, 1));
     // A device and a bucket with the same number are different items.
-    let is_absent = has_position(&index, device_item(&rt, 1), None);
+    assert_position(&rt, &index, device_item(&rt, 1), None);
     drop(index);
-    assert!(rt; was_absent && are_there && is_absent);
 }
 
-fn finds(index: &Index, id: &ItemId, slot: u32, found: &Found) -> bool {
-    index.places().position_from(*id, slot) == *found
-}
-
-fn is_found_from_every_slot(
+fn assert_found_from_every_slot(
+    rt: &impl Abort,
     index: &Index,
     id: ItemId,
     position: Option<Position>,
     slot: u32,
-) -> bool {
+) {
     let id = &id;
     let found = Found { position, slot };
-    finds(index, id, 0, &found)
-        && finds(index, id, 1, &found)
-        && finds(index, id, 2, &found)
-        && finds(index, id, u32::MAX, &found)
+    for from in [0, 1, 2, u32::MAX] {
+        assert_eq!(rt;
+            index.places().position_from(*id, from),
+            found,
+            "from slot {from}"
+        );
+    }
 }
 
 #[test]
@@ -69,11 +68,10 @@ fn a_slot_is_never_trusted(rt: HostRuntime) {
     let mut index = Index::new(rt.alloc(), Hashing::plain());
     add_four(&rt, &mut index);
     // A bucket's slot is its own id, without the sign, until the bucket is exchanged.
-    let leads_there = is_found_from_every_slot(&index, device_item(&rt, 2), below(&rt, 2, 1), 2)
-        && is_found_from_every_slot(&index, bucket_item(&rt, 2), below(&rt, 1, 0), 1)
-        && is_found_from_every_slot(&index, bucket_item(&rt, 3), None, 0);
+    assert_found_from_every_slot(&rt, &index, device_item(&rt, 2), below(&rt, 2, 1), 2);
+    assert_found_from_every_slot(&rt, &index, bucket_item(&rt, 2), below(&rt, 1, 0), 1);
+    assert_found_from_every_slot(&rt, &index, bucket_item(&rt, 3), None, 0);
     drop(index);
-    assert!(rt; leads_there);
 }
 
 fn put(index: &mut Index, id: &ItemId, bucket: &BucketId, hint: u32) -> bool {
@@ -104,10 +102,9 @@ fn remove_and_move(rt: &(impl Abort + AllocGlobal), index: &mut Index) -> bool {
 fn items_go_and_move(rt: HostRuntime) {
     let mut index = Index::new(rt.alloc(), Hashing::plain());
     add_four(&rt, &mut index);
-    let is_changed = remove_and_move(&rt, &mut index);
-    let are_told = has_position(&index, device_item(&rt, 0), None)
-        && has_position(&index, device_item(&rt, 2), below(&rt, 1, 1))
-        && has_position(&index, bucket_item(&rt, 2), below(&rt, 1, 0));
+    assert!(rt; remove_and_move(&rt, &mut index));
+    assert_position(&rt, &index, device_item(&rt, 0), None);
+    assert_position(&rt, &index, device_item(&rt, 2), below(&rt, 1, 1));
+    assert_position(&rt, &index, bucket_item(&rt, 2), below(&rt, 1, 0));
     drop(index);
-    assert!(rt; is_changed && are_told);
 }

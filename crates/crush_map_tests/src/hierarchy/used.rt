@@ -52,26 +52,30 @@ fn bucket_with_one_class_id(rt: &(impl Abort + AllocGlobal)) -> Node<Global> {
     bucket_with_class_ids(rt, 3, "h2", class_ids)
 }
 
-fn has_used_id(rt: &impl Abort, index: &Index, distance: u32) -> bool {
-    index.is_used(bucket(rt, distance))
+fn assert_used(rt: &impl Abort, index: &Index, distance: u32, is_used: bool) {
+    assert_eq!(rt;
+        index.is_used(bucket(rt, distance)),
+        is_used,
+        "id -{distance}"
+    );
 }
 
-fn tells_ends(rt: &impl Abort, index: &Index) -> bool {
-    has_used_id(rt, index, 1)
-        && has_used_id(rt, index, 64)
-        && !has_used_id(rt, index, 65)
-        && has_used_id(rt, index, 66)
-        && !has_used_id(rt, index, 69_695)
-        && has_used_id(rt, index, 69_696)
-        && !has_used_id(rt, index, 69_697)
-        && has_used_id(rt, index, 2_147_483_648)
+fn assert_ends(rt: &impl Abort, index: &Index) {
+    assert_used(rt, index, 1, true);
+    assert_used(rt, index, 64, true);
+    assert_used(rt, index, 65, false);
+    assert_used(rt, index, 66, true);
+    assert_used(rt, index, 69_695, false);
+    assert_used(rt, index, 69_696, true);
+    assert_used(rt, index, 69_697, false);
+    assert_used(rt, index, 2_147_483_648, true);
 }
 
-fn tells_free(index: &Index) -> bool {
-    index.first_free(1) == Some(65)
-        && index.first_free(66) == Some(67)
-        && index.first_free(69_696) == Some(69_697)
-        && index.first_free(2_147_483_648).is_none()
+fn assert_free(rt: &impl Abort, index: &Index) {
+    assert_eq!(rt; index.first_free(1), Some(65));
+    assert_eq!(rt; index.first_free(66), Some(67));
+    assert_eq!(rt; index.first_free(69_696), Some(69_697));
+    assert_eq!(rt; index.first_free(2_147_483_648), None);
 }
 
 #[test]
@@ -81,27 +85,28 @@ fn ids_are_in_use(rt: HostRuntime) {
         bucket_with_most_class_ids(&rt),
         bucket_with_one_class_id(&rt),
     );
-    let is_free = !has_used_id(&rt, &index, 1) && index.first_free(1) == Some(1);
-    let is_free_further_on = index.first_free(500) == Some(500);
+    assert_used(&rt, &index, 1, false);
+    assert_eq!(rt; index.first_free(1), Some(1));
+    assert_eq!(rt; index.first_free(500), Some(500));
     index
         .insert_node(Place::Root, 0, &first)
         .expect(&rt, "memory");
     index
         .insert_node(Place::Root, 1, &second)
         .expect(&rt, "memory");
-    let is_told = tells_ends(&rt, &index) && tells_free(&index);
+    assert_ends(&rt, &index);
+    assert_free(&rt, &index);
     drop(second);
     drop(first);
     drop(index);
-    assert!(rt; is_free && is_free_further_on && is_told);
 }
 
-fn tells_what_is_free_again(rt: &impl Abort, index: &Index) -> bool {
-    index.first_free(1) == Some(3)
-        && index.first_free(4) == Some(65)
-        && has_used_id(rt, index, 2)
-        && has_used_id(rt, index, 4)
-        && !has_used_id(rt, index, 69_696)
+fn assert_free_again(rt: &impl Abort, index: &Index) {
+    assert_eq!(rt; index.first_free(1), Some(3));
+    assert_eq!(rt; index.first_free(4), Some(65));
+    assert_used(rt, index, 2, true);
+    assert_used(rt, index, 4, true);
+    assert_used(rt, index, 69_696, false);
 }
 
 #[test]
@@ -118,9 +123,8 @@ fn ids_are_free_again(rt: HostRuntime) {
         .insert_node(Place::Root, 1, &second)
         .expect(&rt, "memory");
     index.remove_node(&second);
-    let is_told = tells_what_is_free_again(&rt, &index);
+    assert_free_again(&rt, &index);
     drop(second);
     drop(first);
     drop(index);
-    assert!(rt; is_told);
 }

@@ -57,160 +57,156 @@ fn example_in<A: Allocator + Copy>(rt: &impl Abort, alloc: A) -> Result<Forest<A
     match put_all(rt, alloc, &mut forest) {
         Ok(()) => Ok(forest),
         Err(refused) => {
-            let is_begun = is_begun(rt, &forest);
+            assert_begun(rt, &forest);
             drop(forest);
-            assert!(rt; is_begun);
             Err(refused)
         }
     }
 }
 
-fn has_first<A: Allocator>(
-    rt: &impl Abort,
-    forest: &Forest<A>,
-    devices: u32,
-    buckets: u32,
-) -> bool {
-    for i in 0..4 {
-        if has_item(forest, &device_item(rt, i)) != (i < devices) {
-            return false;
-        }
-    }
-    for i in 1..4 {
-        if has_item(forest, &bucket_item(rt, i)) != (i <= buckets) {
-            return false;
-        }
-    }
-    true
-}
-
-fn has_so_many<A: Allocator>(
+fn assert_first<A: Allocator>(
     rt: &impl Abort,
     forest: &Forest<A>,
     devices: u32,
     buckets: u32,
     units: u64,
-) -> bool {
-    has_first(rt, forest, devices, buckets) && forest.total() == units
+) {
+    for i in 0..4 {
+        assert_eq!(rt;
+            has_item(forest, &device_item(rt, i)),
+            i < devices,
+            "device {i}"
+        );
+    }
+    for i in 1..4 {
+        assert_eq!(rt;
+            has_item(forest, &bucket_item(rt, i)),
+            i <= buckets,
+            "bucket -{i}"
+        );
+    }
+    assert_eq!(rt; forest.total(), units);
 }
 
-/// The items are added in this order: the root, h1, osd.0, osd.1, and h2 with osd.2. Returns
-/// whether the forest has the first items of this order and no others.
-fn is_begun<A: Allocator>(rt: &impl Abort, forest: &Forest<A>) -> bool {
-    if !has_item(forest, &bucket_item(rt, 1)) {
-        return has_so_many(rt, forest, 0, 0, 0);
-    }
-    if !has_item(forest, &bucket_item(rt, 2)) {
-        return has_so_many(rt, forest, 0, 1, 0);
-    }
-    if !has_item(forest, &device_item(rt, 0)) {
-        return has_so_many(rt, forest, 0, 2, 0);
-    }
-    if !has_item(forest, &device_item(rt, 1)) {
-        return has_so_many(rt, forest, 1, 2, 65536);
-    }
-    has_so_many(rt, forest, 2, 2, 131072)
+/// The items are added in this order: the root, h1, osd.0, osd.1, and h2 with osd.2. The forest
+/// must have the first items of this order and no others.
+fn assert_begun<A: Allocator>(rt: &impl Abort, forest: &Forest<A>) {
+    let (devices, buckets, units) = if !has_item(forest, &bucket_item(rt, 1)) {
+        (0, 0, 0)
+    } else if !has_item(forest, &bucket_item(rt, 2)) {
+        (0, 1, 0)
+    } else if !has_item(forest, &device_item(rt, 0)) {
+        (0, 2, 0)
+    } else if !has_item(forest, &device_item(rt, 1)) {
+        (1, 2, 65536)
+    } else {
+        (2, 2, 131072)
+    };
+    assert_first(rt, forest, devices, buckets, units);
 }
 
 pub(super) fn example(rt: &(impl Abort + AllocGlobal)) -> Forest<Global> {
     example_in(rt, rt.alloc()).expect(rt, "memory")
 }
 
-fn weighs(rt: &impl Abort, forest: &Forest<Global>, distance: u32, units: u32) -> bool {
-    forest.weight(bucket_item(rt, distance)) == Some(Weight::from_units(units))
+fn assert_weight(rt: &impl Abort, forest: &Forest<Global>, distance: u32, units: u32) {
+    let weight = forest.weight(bucket_item(rt, distance));
+    assert_eq!(rt;
+        weight,
+        Some(Weight::from_units(units)),
+        "bucket -{distance}"
+    );
 }
 
-fn sums_up(rt: &impl Abort, forest: &Forest<Global>) -> bool {
-    has_so_many(rt, forest, 4, 3, 163840)
-        && weighs(rt, forest, 2, 131072)
-        && weighs(rt, forest, 3, 32768)
+fn assert_sums(rt: &impl Abort, forest: &Forest<Global>) {
+    assert_first(rt, forest, 4, 3, 163840);
+    assert_weight(rt, forest, 2, 131072);
+    assert_weight(rt, forest, 3, 32768);
 }
 
-fn is_osd_2_in_h2(rt: &impl Abort, forest: &Forest<Global>) -> bool {
-    forest.id_of("osd.2") == Some(device_item(rt, 2))
-        && forest.parent(device_item(rt, 2)) == Some(bucket(rt, 3))
+fn assert_osd_2_in_h2(rt: &impl Abort, forest: &Forest<Global>) {
+    assert_eq!(rt; forest.id_of("osd.2"), Some(device_item(rt, 2)));
+    assert_eq!(rt; forest.parent(device_item(rt, 2)), Some(bucket(rt, 3)));
 }
 
-fn is_copied(rt: &impl Abort, forest: &Forest<Global>) -> bool {
+fn assert_copied(rt: &impl Abort, forest: &Forest<Global>) {
     let copy = copy_of(rt, forest);
-    let is_copied = is_same(rt, &copy, forest);
+    assert!(rt; is_same(rt, &copy, forest));
     drop(copy);
-    is_copied
 }
 
-fn is_of_class(rt: &impl Abort, forest: &Forest<Global>, number: u32, class: Option<&str>) -> bool {
-    match forest.find(device_item(rt, number)) {
-        Some(view) => view.class == class,
-        None => false,
-    }
+fn assert_class(rt: &impl Abort, forest: &Forest<Global>, number: u32, class: Option<&str>) {
+    let Some(view) = forest.find(device_item(rt, number)) else {
+        panic!(rt; "device {number} isn't found")
+    };
+    assert_eq!(rt; view.class, class, "device {number}");
 }
 
-fn tells_of_columns(rt: &impl Abort, forest: &Forest<Global>) -> bool {
-    is_of_class(rt, forest, 3, Some("ssd")) && forest.find(device_item(rt, 4)).is_none()
+fn assert_columns(rt: &impl Abort, forest: &Forest<Global>) {
+    assert_class(rt, forest, 3, Some("ssd"));
+    assert!(rt; forest.find(device_item(rt, 4)).is_none());
 }
 
-fn is_h2(view: &View<'_>, parent: BucketId) -> bool {
-    view.id.number() == -3
-        && view.kind.number() == 1
-        && view.name == "h2"
-        && view.alg == Some(Alg::Straw2)
-        && view.class.is_none()
-        && view.weight.units() == 32768
-        && view.parent == Some(parent)
+fn assert_h2(rt: &impl Abort, view: &View<'_>, parent: BucketId) {
+    assert_eq!(rt; view.id.number(), -3);
+    assert_eq!(rt; view.kind.number(), 1);
+    assert_eq!(rt; view.name, "h2");
+    assert_eq!(rt; view.alg, Some(Alg::Straw2));
+    assert_eq!(rt; view.class, None);
+    assert_eq!(rt; view.weight.units(), 32768);
+    assert_eq!(rt; view.parent, Some(parent));
 }
 
-fn finds_h2(rt: &impl Abort, forest: &Forest<Global>) -> bool {
+fn assert_finds_h2(rt: &impl Abort, forest: &Forest<Global>) {
     match forest.find(bucket_item(rt, 3)) {
-        Some(view) => is_h2(&view, bucket(rt, 1)),
-        None => false,
+        Some(view) => assert_h2(rt, &view, bucket(rt, 1)),
+        None => panic!(rt; "h2 isn't found"),
     }
 }
 
-fn tells_what_is_below(rt: &impl Abort, forest: &Forest<Global>) -> bool {
+fn assert_what_is_below(rt: &impl Abort, forest: &Forest<Global>) {
     let (root, h1) = (bucket(rt, 1), bucket(rt, 2));
-    forest.contains(root, device_item(rt, 2))
-        && forest.contains(h1, ItemId::Bucket(h1))
-        && !forest.contains(h1, device_item(rt, 2))
-        && !forest.contains(h1, ItemId::Bucket(root))
+    assert!(rt; forest.contains(root, device_item(rt, 2)));
+    assert!(rt; forest.contains(h1, ItemId::Bucket(h1)));
+    assert!(rt; !forest.contains(h1, device_item(rt, 2)));
+    assert!(rt; !forest.contains(h1, ItemId::Bucket(root)));
 }
 
-fn are_numbered(items: &[Node<Global>], numbers: &[i32]) -> bool {
-    items.len() == numbers.len()
-        && items
-            .iter()
-            .zip(numbers)
-            .all(|(item, number)| item.id().number() == *number)
+fn assert_numbered(rt: &impl Abort, items: &[Node<Global>], numbers: &[i32]) {
+    assert_eq!(rt; items.len(), numbers.len());
+    for (item, number) in items.iter().zip(numbers) {
+        assert_eq!(rt; item.id().number(), *number);
+    }
 }
 
-fn bucket_holds(rt: &impl Abort, forest: &Forest<Global>, distance: u32, numbers: &[i32]) -> bool {
+fn assert_holds(rt: &impl Abort, forest: &Forest<Global>, distance: u32, numbers: &[i32]) {
     let items = forest.items(bucket(rt, distance)).expect(rt, "a bucket");
-    are_numbered(items, numbers)
+    assert_numbered(rt, items, numbers);
 }
 
-fn is_in_order(rt: &impl Abort, forest: &Forest<Global>) -> bool {
-    are_numbered(forest.roots(), &[-1])
-        && are_numbered(forest.unplaced(), &[3])
-        && bucket_holds(rt, forest, 1, &[-2, -3])
-        && bucket_holds(rt, forest, 2, &[0, 1])
-        && forest.items(bucket(rt, 4)).is_none()
+fn assert_in_order(rt: &impl Abort, forest: &Forest<Global>) {
+    assert_numbered(rt, forest.roots(), &[-1]);
+    assert_numbered(rt, forest.unplaced(), &[3]);
+    assert_holds(rt, forest, 1, &[-2, -3]);
+    assert_holds(rt, forest, 2, &[0, 1]);
+    assert!(rt; forest.items(bucket(rt, 4)).is_none());
 }
 
-fn has_memory_for_a_name(rt: &impl Abort, forest: &Forest<Global>) -> bool {
+fn assert_memory_for_a_name(rt: &impl Abort, forest: &Forest<Global>) {
     let name = name(rt, *forest.allocator(), "osd.3");
-    let is_read = name.as_str() == "osd.3";
+    assert_eq!(rt; name.as_str(), "osd.3");
     drop(name);
-    is_read
 }
 
-fn answers_every_query(rt: &impl Abort, forest: &Forest<Global>) -> bool {
-    sums_up(rt, forest)
-        && is_osd_2_in_h2(rt, forest)
-        && is_copied(rt, forest)
-        && tells_of_columns(rt, forest)
-        && finds_h2(rt, forest)
-        && tells_what_is_below(rt, forest)
-        && is_in_order(rt, forest)
-        && has_memory_for_a_name(rt, forest)
+fn assert_answers(rt: &impl Abort, forest: &Forest<Global>) {
+    assert_sums(rt, forest);
+    assert_osd_2_in_h2(rt, forest);
+    assert_copied(rt, forest);
+    assert_columns(rt, forest);
+    assert_finds_h2(rt, forest);
+    assert_what_is_below(rt, forest);
+    assert_in_order(rt, forest);
+    assert_memory_for_a_name(rt, forest);
 }
 
 #[test]
@@ -218,9 +214,8 @@ fn the_example_answers_every_query(rt: HostRuntime) {
     let mut forest = example(&rt);
     let idle = Item::DeviceOfClass(3, "osd.3", 0);
     add(&rt, &mut forest, Place::Unplaced, idle);
-    let is_told = answers_every_query(&rt, &forest);
+    assert_answers(&rt, &forest);
     drop(forest);
-    assert!(rt; is_told);
 }
 
 fn lacks_a_copy(forest: &Forest<&LocalHeap>) -> bool {
@@ -236,13 +231,13 @@ fn lacks_a_copy(forest: &Forest<&LocalHeap>) -> bool {
 fn holds_the_forest(rt: &impl Abort, heap: &LocalHeap, whole: &Forest<Global>) -> bool {
     match example_in(rt, heap) {
         Ok(forest) => {
-            let is_whole = is_same(rt, &forest, whole) && lacks_a_copy(&forest);
+            assert!(rt; is_same(rt, &forest, whole));
+            assert!(rt; lacks_a_copy(&forest));
             drop(forest);
-            assert!(rt; is_whole);
             true
         }
         Err(refused) => {
-            assert!(rt; refused == Refused::NoMemory);
+            assert_eq!(rt; refused, Refused::NoMemory);
             false
         }
     }
@@ -272,86 +267,91 @@ fn take_h2_out(rt: &impl Abort, forest: &mut Forest<Global>) -> Weight {
     weight
 }
 
-fn is_without_h2(rt: &impl Abort, forest: &Forest<Global>) -> bool {
-    forest.total() == 131072
-        && !has_item(forest, &device_item(rt, 2))
-        && bucket_holds(rt, forest, 1, &[-2])
+fn assert_without_h2(rt: &impl Abort, forest: &Forest<Global>) {
+    assert_eq!(rt; forest.total(), 131072);
+    assert!(rt; !has_item(forest, &device_item(rt, 2)));
+    assert_holds(rt, forest, 1, &[-2]);
 }
 
-fn is_detached_and_put_back(rt: &(impl Abort + AllocGlobal), forest: &mut Forest<Global>) -> bool {
+fn assert_detached_and_put_back(rt: &(impl Abort + AllocGlobal), forest: &mut Forest<Global>) {
     let whole = copy_of(rt, forest);
-    let weight = take_h2_out(rt, forest);
-    let is_out = is_without_h2(rt, forest);
+    assert_eq!(rt; take_h2_out(rt, forest), Weight::from_units(32768));
+    assert_without_h2(rt, forest);
     put_h2(rt, rt.alloc(), forest).expect(rt, "memory");
-    let is_whole = is_same(rt, forest, &whole);
+    assert!(rt; is_same(rt, forest, &whole));
     drop(whole);
-    is_out && is_whole && weight == Weight::from_units(32768)
 }
 
-fn is_h1_at_h2(rt: &impl Abort, forest: &mut Forest<Global>) -> bool {
+fn assert_h1_at_h2(rt: &impl Abort, forest: &mut Forest<Global>) {
     exchange(forest, bucket(rt, 2), bucket(rt, 3)).expect(rt, "an exchange");
-    forest.id_of("h1") == Some(bucket_item(rt, 3))
-        && weighs(rt, forest, 3, 131072)
-        && forest.total() == 163840
+    assert_eq!(rt; forest.id_of("h1"), Some(bucket_item(rt, 3)));
+    assert_weight(rt, forest, 3, 131072);
+    assert_eq!(rt; forest.total(), 163840);
 }
 
 #[test]
 fn items_move(rt: HostRuntime) {
     let mut forest = example(&rt);
-    let is_moved = is_detached_and_put_back(&rt, &mut forest) && is_h1_at_h2(&rt, &mut forest);
+    assert_detached_and_put_back(&rt, &mut forest);
+    assert_h1_at_h2(&rt, &mut forest);
     drop(forest);
-    assert!(rt; is_moved);
 }
 
-fn sums_follow(rt: &impl Abort, forest: &mut Forest<Global>) -> bool {
+fn assert_sums_follow(rt: &impl Abort, forest: &mut Forest<Global>) {
     weigh(forest, device(rt, 2), Weight::from_units(65536)).expect(rt, "a weight");
-    let follows = forest.total() == 196608 && weighs(rt, forest, 3, 65536);
+    assert_eq!(rt; forest.total(), 196608);
+    assert_weight(rt, forest, 3, 65536);
     weigh_all(forest, bucket(rt, 1), Weight::from_units(1)).expect(rt, "a weight");
-    follows && forest.total() == 3 && weighs(rt, forest, 2, 2)
+    assert_eq!(rt; forest.total(), 3);
+    assert_weight(rt, forest, 2, 2);
 }
 
-fn gets_a_free_name(rt: &(impl Abort + AllocGlobal), forest: &mut Forest<Global>) -> bool {
+fn assert_gets_a_free_name(rt: &(impl Abort + AllocGlobal), forest: &mut Forest<Global>) {
     let h1 = bucket_item(rt, 2);
     let old = give_name(forest, &h1, name(rt, rt.alloc(), "h9")).expect(rt, "a free name");
-    let is_old = old.as_str() == "h1";
+    assert_eq!(rt; old.as_str(), "h1");
     drop(old);
-    is_old && forest.id_of("h9") == Some(h1)
+    assert_eq!(rt; forest.id_of("h9"), Some(h1));
 }
 
 #[test]
 fn weights_and_names(rt: HostRuntime) {
     let mut forest = example(&rt);
-    let is_weighed = sums_follow(&rt, &mut forest);
-    let is_named = gets_a_free_name(&rt, &mut forest);
+    assert_sums_follow(&rt, &mut forest);
+    assert_gets_a_free_name(&rt, &mut forest);
     drop(forest);
-    assert!(rt; is_weighed && is_named);
 }
 
-fn weighs_of_ssd(forest: &Forest<Global>, id: ItemId, units: u32) -> bool {
-    forest.class_weight(id, "ssd") == Some(Weight::from_units(units))
+fn assert_weight_of_ssd(rt: &impl Abort, forest: &Forest<Global>, id: ItemId, units: u32) {
+    assert_eq!(rt;
+        forest.class_weight(id, "ssd"),
+        Some(Weight::from_units(units))
+    );
 }
 
-fn gets_a_class(rt: &(impl Abort + AllocGlobal), forest: &mut Forest<Global>) -> bool {
+fn assert_gets_a_class(rt: &(impl Abort + AllocGlobal), forest: &mut Forest<Global>) {
     let class = Some(name(rt, rt.alloc(), "ssd"));
     let old = classify(forest, device(rt, 0), class).expect(rt, "osd.0");
-    let had_none = old.is_none();
+    assert!(rt; old.is_none());
     drop(old);
-    had_none
-        && is_of_class(rt, forest, 0, Some("ssd"))
-        && weighs_of_ssd(forest, bucket_item(rt, 1), 65536)
-        && weighs_of_ssd(forest, bucket_item(rt, 3), 0)
-        && forest.class_weight(bucket_item(rt, 1), "hdd") == Some(Weight::from_units(0))
-        && forest.class_weight(bucket_item(rt, 4), "ssd").is_none()
+    assert_class(rt, forest, 0, Some("ssd"));
+    assert_weight_of_ssd(rt, forest, bucket_item(rt, 1), 65536);
+    assert_weight_of_ssd(rt, forest, bucket_item(rt, 3), 0);
+    let hdd = forest.class_weight(bucket_item(rt, 1), "hdd");
+    assert_eq!(rt; hdd, Some(Weight::from_units(0)));
+    assert_eq!(rt; forest.class_weight(bucket_item(rt, 4), "ssd"), None);
 }
 
-fn loses_its_class(rt: &impl Abort, forest: &mut Forest<Global>) -> bool {
+fn assert_loses_its_class(rt: &impl Abort, forest: &mut Forest<Global>) {
     let old = classify(forest, device(rt, 3), None).expect(rt, "osd.3");
     let was_ssd = match &old {
         Some(old) => old.as_str() == "ssd",
         None => false,
     };
     drop(old);
-    was_ssd && is_of_class(rt, forest, 3, None) && forest.total() == 163840
+    assert!(rt; was_ssd);
+    assert_class(rt, forest, 3, None);
+    assert_eq!(rt; forest.total(), 163840);
 }
 
 #[test]
@@ -359,16 +359,16 @@ fn classes_of_devices(rt: HostRuntime) {
     let mut forest = example(&rt);
     let idle = Item::DeviceOfClass(3, "osd.3", 0);
     add(&rt, &mut forest, Place::Unplaced, idle);
-    let is_done = gets_a_class(&rt, &mut forest) && loses_its_class(&rt, &mut forest);
+    assert_gets_a_class(&rt, &mut forest);
+    assert_loses_its_class(&rt, &mut forest);
     drop(forest);
-    assert!(rt; is_done);
 }
 
-fn keeps_osd_3(rt: &impl Abort, forest: &mut Forest<Global>) -> bool {
+fn assert_keeps_osd_3(rt: &impl Abort, forest: &mut Forest<Global>) {
     forest.reserve(Place::Unplaced).expect(rt, "memory");
-    let is_there = are_numbered(forest.unplaced(), &[3]);
+    assert_numbered(rt, forest.unplaced(), &[3]);
     forest.shrink();
-    is_there && are_numbered(forest.unplaced(), &[3])
+    assert_numbered(rt, forest.unplaced(), &[3]);
 }
 
 #[test]
@@ -376,17 +376,16 @@ fn memory_to_spare(rt: HostRuntime) {
     let mut forest = example(&rt);
     let idle = Item::DeviceOfClass(3, "osd.3", 0);
     add(&rt, &mut forest, Place::Unplaced, idle);
-    let is_kept = keeps_osd_3(&rt, &mut forest);
+    assert_keeps_osd_3(&rt, &mut forest);
     drop(forest);
-    assert!(rt; is_kept);
 }
 
-fn grows_twice_and_back(rt: &impl Abort, forest: &mut Forest<Global>) -> bool {
+fn assert_grows_twice_and_back(rt: &impl Abort, forest: &mut Forest<Global>) {
     let h1 = bucket(rt, 2);
-    grows_and_back(forest, h1, 2, 4)
-        && bucket_holds(rt, forest, 2, &[0, 1])
-        && grows_and_back(forest, h1, 2, 4)
-        && is_in_order(rt, forest)
+    assert!(rt; grows_and_back(forest, h1, 2, 4));
+    assert_holds(rt, forest, 2, &[0, 1]);
+    assert!(rt; grows_and_back(forest, h1, 2, 4));
+    assert_in_order(rt, forest);
 }
 
 #[test]
@@ -394,45 +393,44 @@ fn memory_and_back(rt: HostRuntime) {
     let mut forest = example(&rt);
     let idle = Item::DeviceOfClass(3, "osd.3", 0);
     add(&rt, &mut forest, Place::Unplaced, idle);
-    let is_back = grows_twice_and_back(&rt, &mut forest);
+    assert_grows_twice_and_back(&rt, &mut forest);
     drop(forest);
-    assert!(rt; is_back);
 }
 
 /// The root weighs 163840 units, and may weigh at most 4294967295. The weight of a device that
 /// moves within the root is counted once.
-fn tells_what_fits(rt: &impl Abort, forest: &Forest<Global>) -> bool {
+fn assert_what_fits(rt: &impl Abort, forest: &Forest<Global>) {
     let (h2, osd_0) = (bucket(rt, 3), device(rt, 0));
     let too_much = Weight::from_units(4294803456);
-    fits(forest, h2, Weight::from_units(4294803455)) == Some(true)
-        && fits(forest, h2, too_much) == Some(false)
-        && fits_moved(forest, osd_0, h2, too_much) == Some(true)
+    assert_eq!(rt;
+        fits(forest, h2, Weight::from_units(4294803455)),
+        Some(true)
+    );
+    assert_eq!(rt; fits(forest, h2, too_much), Some(false));
+    assert_eq!(rt; fits_moved(forest, osd_0, h2, too_much), Some(true));
 }
 
 #[test]
 fn sums_that_fit(rt: HostRuntime) {
     let forest = example(&rt);
-    let is_told = tells_what_fits(&rt, &forest);
+    assert_what_fits(&rt, &forest);
     drop(forest);
-    assert!(rt; is_told);
 }
 
 /// `host` can be a root. `other` can't, because its class id, -3, is the id of h2.
-fn can_be_a_root(rt: &(impl Abort + AllocGlobal), forest: &Forest<Global>) -> bool {
+fn assert_can_be_a_root(rt: &(impl Abort + AllocGlobal), forest: &Forest<Global>) {
     let host = node(rt, Item::HostOfClass(4, "h3", 5));
     let other = node(rt, Item::HostOfClass(4, "h3", 3));
-    let is_root = forest.can_attach(Place::Root, &host)
-        && !forest.can_attach(Place::Unplaced, &host);
-    let is_refused = !forest.can_attach(Place::Root, &other);
+    assert!(rt; forest.can_attach(Place::Root, &host));
+    assert!(rt; !forest.can_attach(Place::Unplaced, &host));
+    assert!(rt; !forest.can_attach(Place::Root, &other));
     drop(host);
     drop(other);
-    is_root && is_refused
 }
 
 #[test]
 fn keys_and_places(rt: HostRuntime) {
     let forest = example(&rt);
-    let is_root = can_be_a_root(&rt, &forest);
+    assert_can_be_a_root(&rt, &forest);
     drop(forest);
-    assert!(rt; is_root);
 }
