@@ -1,6 +1,6 @@
 //! Short forms in which tests write an edit, and state facts about a map.
 
-use crush_map::{BatchFault, CrushMap, Done, Dones, Edit, EditFault, Location};
+use crush_map::{BatchFault, Counts, CrushMap, Done, Dones, Edit, EditFault, Location};
 use crush_tree::Node;
 use crush_units::limits::MOST_EDITS;
 use crush_units::{DeviceId, ItemId, Name, Weight};
@@ -136,69 +136,90 @@ fn name_of<A: Allocator>(node: &Node<A>) -> &str {
     }
 }
 
-fn are_named<A: Allocator>(nodes: &[Node<A>], names: &[&str]) -> bool {
-    nodes.len() == names.len()
-        && nodes
-            .iter()
-            .zip(names)
-            .all(|(node, name)| name_of(node) == *name)
+fn items_of<'m, A: Allocator>(map: &'m CrushMap<A>, bucket: &str) -> Option<&'m [Node<A>]> {
+    let ItemId::Bucket(id) = map.locate(bucket)? else {
+        return None;
+    };
+    map.items(id)
 }
 
-fn bucket_holds<A: Allocator>(map: &CrushMap<A>, bucket: &str, items: &[&str]) -> bool {
-    let Some(id) = map.locate(bucket) else {
-        return false;
-    };
-    let ItemId::Bucket(id) = id else {
-        return false;
-    };
-    let Some(nodes) = map.items(id) else {
-        return false;
-    };
-    are_named(nodes, items)
-}
-
-fn has_id<A: Allocator>(map: &CrushMap<A>, item: &str, number: i32) -> bool {
-    match map.locate(item) {
-        Some(id) => id.number() == number,
-        None => false,
+fn assert_holds<A: Allocator>(
+    rt: &impl Abort,
+    map: &CrushMap<A>,
+    place: usize,
+    bucket: &str,
+    names: &[&str],
+) {
+    let nodes = items_of(map, bucket).expect(rt, bucket);
+    assert_eq!(rt; nodes.len(), names.len(), "line {place}: {bucket}");
+    for (node, name) in nodes.iter().zip(names) {
+        assert_eq!(rt; name_of(node), *name, "line {place}: {bucket}");
     }
 }
 
-fn is_root<A: Allocator>(map: &CrushMap<A>, bucket: &str) -> bool {
-    match map.locate(bucket) {
-        Some(id) => map.parent(id).is_none(),
-        None => false,
-    }
+fn assert_id<A: Allocator>(
+    rt: &impl Abort,
+    map: &CrushMap<A>,
+    place: usize,
+    item: &str,
+    number: i32,
+) {
+    let id = map.locate(item).expect(rt, item);
+    assert_eq!(rt; id.number(), number, "line {place}: {item}");
 }
 
-fn weighs<A: Allocator>(map: &CrushMap<A>, item: &str, units: u32) -> bool {
-    map.weight_of(item) == Some(Weight::from_units(units))
+fn assert_root<A: Allocator>(rt: &impl Abort, map: &CrushMap<A>, place: usize, bucket: &str) {
+    let id = map.locate(bucket).expect(rt, bucket);
+    assert_eq!(rt; map.parent(id), None, "line {place}: {bucket}");
 }
 
-pub(super) fn has_class<A: Allocator>(map: &CrushMap<A>, device: &str, class: &str) -> bool {
-    match map.locate(device) {
-        Some(id) => map.class_of(id) == Some(class),
-        None => false,
-    }
+fn assert_absent<A: Allocator>(rt: &impl Abort, map: &CrushMap<A>, place: usize, item: &str) {
+    assert_eq!(rt; map.locate(item), None, "line {place}: {item}");
+    assert_eq!(rt; map.weight_of(item), None, "line {place}: {item}");
 }
 
-fn counts<A: Allocator>(map: &CrushMap<A>, devices: u32, buckets: u32) -> bool {
-    let counts = map.counts();
-    counts.devices == devices && counts.buckets == buckets
+fn assert_weight<A: Allocator>(
+    rt: &impl Abort,
+    map: &CrushMap<A>,
+    place: usize,
+    item: &str,
+    units: u32,
+) {
+    let weight = Some(Weight::from_units(units));
+    assert_eq!(rt; map.weight_of(item), weight, "line {place}: {item}");
 }
 
-fn is_true_of<A: Allocator>(map: &CrushMap<A>, fact: Fact) -> bool {
+pub(super) fn assert_class<A: Allocator>(
+    rt: &impl Abort,
+    map: &CrushMap<A>,
+    device: &str,
+    class: &str,
+) {
+    let id = map.locate(device).expect(rt, device);
+    assert_eq!(rt; map.class_of(id), Some(class), "{device}");
+}
+
+fn assert_total<A: Allocator>(rt: &impl Abort, map: &CrushMap<A>, place: usize, units: u64) {
+    assert_eq!(rt; map.total(), units, "line {place}");
+    assert_eq!(rt; map.forest().total(), units, "line {place}");
+}
+
+fn assert_true_of<A: Allocator>(rt: &impl Abort, map: &CrushMap<A>, place: usize, fact: Fact) {
     match fact {
         Fact::Holds(bucket, items, units) => {
-            bucket_holds(map, bucket, items) && weighs(map, bucket, units)
+            assert_holds(rt, map, place, bucket, items);
+            assert_weight(rt, map, place, bucket, units);
         }
-        Fact::HasId(item, number) => has_id(map, item, number),
-        Fact::IsRoot(bucket) => is_root(map, bucket),
-        Fact::IsAbsent(item) => map.locate(item).is_none() && map.weight_of(item).is_none(),
-        Fact::Weighs(item, units) => weighs(map, item, units),
-        Fact::HasClass(device, class) => has_class(map, device, class),
-        Fact::Total(units) => map.total() == units && map.forest().total() == units,
-        Fact::Counts(devices, buckets) => counts(map, devices, buckets),
+        Fact::HasId(item, number) => assert_id(rt, map, place, item, number),
+        Fact::IsRoot(bucket) => assert_root(rt, map, place, bucket),
+        Fact::IsAbsent(item) => assert_absent(rt, map, place, item),
+        Fact::Weighs(item, units) => assert_weight(rt, map, place, item, units),
+        Fact::HasClass(device, class) => assert_class(rt, map, device, class),
+        Fact::Total(units) => assert_total(rt, map, place, units),
+        Fact::Counts(devices, buckets) => {
+            let counts = Counts { devices, buckets };
+            assert_eq!(rt; map.counts(), counts, "line {place}");
+        }
     }
 }
 
@@ -209,7 +230,7 @@ pub(super) fn are_true_of<A: Allocator>(
     facts: &[Fact],
 ) {
     for fact in facts {
-        assert!(rt; is_true_of(map, *fact), "line {place}");
+        assert_true_of(rt, map, place, *fact);
     }
 }
 
@@ -222,7 +243,7 @@ pub(super) fn make_batch<A: Allocator + Clone>(
     map.apply_batch(edits)
 }
 
-#[derive(Clone, Copy, PartialEq)]
+#[derive(Clone, Copy, Debug, PartialEq)]
 pub(super) enum Told {
     One(Result<Done, EditFault>),
     Batch(Result<Dones, BatchFault>),

@@ -3,11 +3,13 @@
 
 use crate::map::asking::{Fact, are_true_of};
 use crate::map::same::has_the_same;
-use crate::map::statements::{Statement, takes_all};
-use crate::map::whole::{has_the_setting, map_in_the_making, whole_example_map};
+use crate::map::statements::{Statement, finish, takes_all};
+use crate::map::whole::{BEFORE_RULE, assert_the_setting, map_in_the_making, whole_example_map};
 use crush_builder::{BuildFault, MapBuilder};
+use crush_map::Hashing;
 use crush_units::{BucketId, DeviceId, ItemId, TypeId};
 use std::alloc::Global;
+use std::hash::RandomState;
 use std::process::Abort;
 
 const MADE: &[Fact] = &[
@@ -33,11 +35,23 @@ fn the_example_map_is_made_and_copied(rt: HostRuntime) {
     let map = whole_example_map(&rt, rt.alloc());
     are_true_of(&rt, &map, 0, MADE);
     let copy = map.try_copy().expect(&rt, "memory");
-    let is_same = has_the_same(&copy, &map);
-    let is_set = has_the_setting(&rt, map.setting()) && has_the_setting(&rt, copy.setting());
+    assert!(rt; has_the_same(&copy, &map));
+    assert_the_setting(&rt, map.setting());
+    assert_the_setting(&rt, copy.setting());
     drop(copy);
     drop(map);
-    assert!(rt; is_same && is_set);
+}
+
+/// A map that hashes names with random keys has the same items as one that hashes without keys.
+#[test]
+fn a_map_with_random_keys_is_made(rt: HostRuntime) {
+    let keys = RandomState::new(&rt).expect(&rt, "the machine has random bytes");
+    let made = MapBuilder::with_hashing(rt.alloc(), Hashing::keyed(keys), rt.alloc());
+    let mut builder = made.expect(&rt, "memory");
+    takes_all(&rt, &mut builder, BEFORE_RULE);
+    let map = finish(&rt, builder);
+    are_true_of(&rt, &map, 0, MADE);
+    drop(map);
 }
 
 fn device(rt: &impl Abort, number: i32) -> DeviceId {
@@ -48,34 +62,34 @@ pub(super) fn bucket(rt: &impl Abort, number: i32) -> BucketId {
     BucketId::new(number).expect(rt, "a bucket")
 }
 
-fn knows_the_setting(builder: &MapBuilder<Global>) -> bool {
+fn assert_knows_the_setting(rt: &impl Abort, builder: &MapBuilder<Global>) {
     let (osd, host) = (TypeId::new(0), TypeId::new(1));
-    builder.has_kind_number(host)
-        && builder.has_kind_name(b"rack")
-        && builder.is_bucket_kind(host)
-        && !builder.is_bucket_kind(osd)
-        && builder.kind_number(b"host") == Some(host)
-        && builder.has_tunable(b"choose_total_tries")
-        && builder.has_rule_name(b"replicated_rule")
-        && builder.has_rule_id(0)
-        && !builder.is_full_of_kinds()
-        && !builder.is_full_of_tunables()
-        && !builder.is_full_of_rules()
+    assert!(rt; builder.has_kind_number(host));
+    assert!(rt; builder.has_kind_name(b"rack"));
+    assert!(rt; builder.is_bucket_kind(host));
+    assert!(rt; !builder.is_bucket_kind(osd));
+    assert_eq!(rt; builder.kind_number(b"host"), Some(host));
+    assert!(rt; builder.has_tunable(b"choose_total_tries"));
+    assert!(rt; builder.has_rule_name(b"replicated_rule"));
+    assert!(rt; builder.has_rule_id(0));
+    assert!(rt; !builder.is_full_of_kinds());
+    assert!(rt; !builder.is_full_of_tunables());
+    assert!(rt; !builder.is_full_of_rules());
 }
 
 fn h2(rt: &impl Abort) -> ItemId {
     ItemId::Bucket(bucket(rt, -3))
 }
 
-fn knows_the_items(rt: &impl Abort, builder: &MapBuilder<Global>) -> bool {
-    builder.has_device(device(rt, 2))
-        && builder.has_name(b"osd.2")
-        && builder.has_bucket_id(bucket(rt, -2))
-        && builder.bucket_named(b"h1") == Some(bucket(rt, -2))
-        && builder.item_named(b"h2") == Ok(h2(rt))
-        && builder.is_placed(h2(rt))
-        && !builder.is_full_of_devices()
-        && !builder.is_full_of_buckets()
+fn assert_knows_the_items(rt: &impl Abort, builder: &MapBuilder<Global>) {
+    assert!(rt; builder.has_device(device(rt, 2)));
+    assert!(rt; builder.has_name(b"osd.2"));
+    assert!(rt; builder.has_bucket_id(bucket(rt, -2)));
+    assert_eq!(rt; builder.bucket_named(b"h1"), Some(bucket(rt, -2)));
+    assert_eq!(rt; builder.item_named(b"h2"), Ok(h2(rt)));
+    assert!(rt; builder.is_placed(h2(rt)));
+    assert!(rt; !builder.is_full_of_devices());
+    assert!(rt; !builder.is_full_of_buckets());
 }
 
 const OPENED: &[Statement] = &[
@@ -87,14 +101,14 @@ const OPENED: &[Statement] = &[
 
 /// The host isn't an item of the map before its closing brace, but its name and its ids are already
 /// used.
-fn knows_the_open_host(rt: &impl Abort, builder: &MapBuilder<Global>) -> bool {
-    !builder.is_idle()
-        && builder.is_numbered()
-        && builder.has_name(b"h9")
-        && builder.has_bucket_id(bucket(rt, -5))
-        && builder.has_class(b"ssd")
-        && !builder.is_full_of_class_ids()
-        && builder.item_named(b"h9") == Err(BuildFault::UnknownItem)
+fn assert_knows_the_open_host(rt: &impl Abort, builder: &MapBuilder<Global>) {
+    assert!(rt; !builder.is_idle());
+    assert!(rt; builder.is_numbered());
+    assert!(rt; builder.has_name(b"h9"));
+    assert!(rt; builder.has_bucket_id(bucket(rt, -5)));
+    assert!(rt; builder.has_class(b"ssd"));
+    assert!(rt; !builder.is_full_of_class_ids());
+    assert_eq!(rt; builder.item_named(b"h9"), Err(BuildFault::UnknownItem));
 }
 
 /// The root's statement lists the host with a weight that is one unit more than the host weighs.
@@ -112,11 +126,11 @@ const FILLED: &[Statement] = &[
 #[test]
 fn what_a_builder_is_asked(rt: HostRuntime) {
     let mut builder = map_in_the_making(&rt, rt.alloc());
-    let is_asked = knows_the_setting(&builder) && knows_the_items(&rt, &builder);
+    assert_knows_the_setting(&rt, &builder);
+    assert_knows_the_items(&rt, &builder);
     takes_all(&rt, &mut builder, OPENED);
-    let is_open = knows_the_open_host(&rt, &builder);
+    assert_knows_the_open_host(&rt, &builder);
     takes_all(&rt, &mut builder, FILLED);
-    let adjusted = builder.adjusted();
+    assert_eq!(rt; builder.adjusted(), 1);
     drop(builder);
-    assert!(rt; is_asked && is_open && adjusted == 1);
 }

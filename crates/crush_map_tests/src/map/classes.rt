@@ -1,9 +1,9 @@
 //! Tests the classes of devices, and what the devices of a class weigh.
 
-use crate::map::asking::{Asked, edit, edits, has_class, make_batch};
+use crate::map::asking::{Asked, assert_class, edit, edits, make_batch};
 use crate::map::statements::{Statement, finish, make_all};
 use crate::map::whole::{map_in_the_making, whole_example_map};
-use crush_map::{CrushMap, Done, EditFault};
+use crush_map::{CrushMap, Done, Dones};
 use crush_units::Weight;
 use std::alloc::Global;
 use std::process::Abort;
@@ -20,18 +20,8 @@ const ROWS: &[Row] = &[
     ("x", "ssd", None),
 ];
 
-fn is_weighed(map: &CrushMap<Global>, row: &Row) -> bool {
-    match row.2 {
-        Some(units) => map.weight_of_class(row.0, row.1) == Some(Weight::from_units(units)),
-        None => map.weight_of_class(row.0, row.1).is_none(),
-    }
-}
-
-fn is_changed(told: Result<Done, EditFault>) -> bool {
-    match told {
-        Ok(done) => done.changed,
-        Err(_) => false,
-    }
+fn weight(units: Option<u32>) -> Option<Weight> {
+    Some(Weight::from_units(units?))
 }
 
 fn give_class(
@@ -44,17 +34,24 @@ fn give_class(
     let edit = edit(rt, alloc, Asked::SetClass(device, class));
     let told = map.apply(&edit);
     drop(edit);
-    assert!(rt; is_changed(told), "{device}");
+    let done = Done {
+        changed: true,
+        made: 0,
+    };
+    assert_eq!(rt; told, Ok(done), "{device}");
 }
 
-fn change_it(rt: &impl Abort, alloc: Global, map: &mut CrushMap<Global>, all: &[Asked]) -> bool {
+/// Applies two edits as a batch. Both edits must change the map.
+fn change_twice(rt: &impl Abort, alloc: Global, map: &mut CrushMap<Global>, all: &[Asked]) {
     let batch = edits(rt, alloc, all);
     let told = make_batch(rt, map, batch.as_slice());
     drop(batch);
-    match told {
-        Ok(dones) => dones.changed as usize == all.len(),
-        Err(_) => false,
-    }
+    let dones = Dones {
+        edits: 2,
+        changed: 2,
+        made: 0,
+    };
+    assert_eq!(rt; told, Ok(dones));
 }
 
 #[test]
@@ -62,9 +59,14 @@ fn classes_are_weighed(rt: HostRuntime) {
     let mut map = whole_example_map(&rt, rt.alloc());
     give_class(&rt, rt.alloc(), &mut map, "osd.0", "ssd");
     give_class(&rt, rt.alloc(), &mut map, "osd.2", "ssd");
-    let are_weighed = ROWS.iter().all(|row| is_weighed(&map, row));
+    for (item, class, units) in ROWS {
+        assert_eq!(rt;
+            map.weight_of_class(*item, *class),
+            weight(*units),
+            "{item} {class}"
+        );
+    }
     drop(map);
-    assert!(rt; are_weighed);
 }
 
 const ANOTHER: &[Asked] = &[Asked::RemoveClass("osd.0"), Asked::SetClass("osd.0", "ssd")];
@@ -78,18 +80,17 @@ const NEW: &[Asked] = &[
 fn a_class_is_exchanged_in_a_batch(rt: HostRuntime) {
     let mut map = whole_example_map(&rt, rt.alloc());
     give_class(&rt, rt.alloc(), &mut map, "osd.0", "hdd");
-    let is_exchanged = change_it(&rt, rt.alloc(), &mut map, ANOTHER)
-        && has_class(&map, "osd.0", "ssd");
+    change_twice(&rt, rt.alloc(), &mut map, ANOTHER);
+    assert_class(&rt, &map, "osd.0", "ssd");
     drop(map);
-    assert!(rt; is_exchanged);
 }
 
 #[test]
 fn a_new_device_gets_its_class_in_a_batch(rt: HostRuntime) {
     let mut map = whole_example_map(&rt, rt.alloc());
-    let is_made = change_it(&rt, rt.alloc(), &mut map, NEW) && has_class(&map, "osd.4", "ssd");
+    change_twice(&rt, rt.alloc(), &mut map, NEW);
+    assert_class(&rt, &map, "osd.4", "ssd");
     drop(map);
-    assert!(rt; is_made);
 }
 
 #[test]
@@ -98,7 +99,6 @@ fn an_unplaced_device_gets_a_class(rt: HostRuntime) {
     make_all(&rt, &mut builder, &[Statement::Device(3, "osd.3")]).expect(&rt, "a device");
     let mut map = finish(&rt, builder);
     give_class(&rt, rt.alloc(), &mut map, "osd.3", "ssd");
-    let is_classed = has_class(&map, "osd.3", "ssd");
+    assert_class(&rt, &map, "osd.3", "ssd");
     drop(map);
-    assert!(rt; is_classed);
 }

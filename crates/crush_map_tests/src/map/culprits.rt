@@ -2,7 +2,7 @@
 
 use crate::map::asking::{Asked, edit};
 use crate::map::whole::whole_example_map;
-use crush_map::{CrushMap, Edit, EditFault, Refusal};
+use crush_map::{CrushMap, EditFault, Refusal};
 use std::alloc::Global;
 use std::process::Abort;
 
@@ -42,16 +42,16 @@ const ROWS: &[Row] = &[
     (Asked::Remove("h1"), Refusal::NotEmpty, "h1"),
 ];
 
-fn is_culprit(map: &mut CrushMap<Global>, edit: &Edit, refusal: Refusal, name: &str) -> bool {
-    map.apply(edit) == Err(EditFault::Refused(refusal))
-        && map.culprit(edit, refusal).as_str() == name
-}
-
 fn assert_culprit(rt: &impl Abort, alloc: Global, map: &mut CrushMap<Global>, row: &Row) {
-    let edit = edit(rt, alloc, row.0);
-    let is_right = is_culprit(map, &edit, row.1, row.2);
+    let (asked, refusal, name) = *row;
+    let edit = edit(rt, alloc, asked);
+    assert_eq!(rt;
+        map.apply(&edit),
+        Err(EditFault::Refused(refusal)),
+        "{name}"
+    );
+    assert_eq!(rt; map.culprit(&edit, refusal).as_str(), name);
     drop(edit);
-    assert!(rt; is_right, "{}", row.2);
 }
 
 #[test]

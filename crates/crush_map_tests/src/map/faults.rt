@@ -6,22 +6,19 @@ use std::alloc::Global;
 use std::fmt::Display;
 use std::process::Abort;
 
-fn is_written<F: Display + Drop>(rt: &impl Abort, alloc: Global, fault: F, text: &str) -> bool {
+fn assert_written<F: Display + Drop>(rt: &impl Abort, alloc: Global, fault: F, text: &str) {
     let told = format!(in alloc; "{fault}").expect(rt, "memory");
-    let is_text = told.as_str() == text;
+    assert_eq!(rt; told.as_str(), text);
     drop(told);
-    is_text
 }
 
 #[test]
 fn what_is_told_of_a_fault(rt: HostRuntime) {
     let refused = EditFault::from(Refusal::NoSuchItem);
     let heavy = "a bucket or the whole map is too heavy with this item";
-    assert!(rt;
-        is_written(&rt, rt.alloc(), refused, "the edit is refused: NoSuchItem")
-            && is_written(&rt, rt.alloc(), EditFault::OutOfMemory, "out of memory")
-            && is_written(&rt, rt.alloc(), BuildFault::SumTooLarge, heavy)
-            && is_written(&rt, rt.alloc(), BuildFault::OutOfMemory, "out of memory")
-            && BuildFault::SecondParent.number() == 10
-    );
+    assert_written(&rt, rt.alloc(), refused, "the edit is refused: NoSuchItem");
+    assert_written(&rt, rt.alloc(), EditFault::OutOfMemory, "out of memory");
+    assert_written(&rt, rt.alloc(), BuildFault::SumTooLarge, heavy);
+    assert_written(&rt, rt.alloc(), BuildFault::OutOfMemory, "out of memory");
+    assert_eq!(rt; BuildFault::SecondParent.number(), 10);
 }

@@ -53,26 +53,25 @@ fn first_edits(rt: &impl Abort, alloc: Global, count: usize) -> Vec<Edit> {
     made
 }
 
-fn is_the_example_map(rt: &impl Abort, alloc: Global, map: &CrushMap<&LocalHeap>) -> bool {
+fn assert_the_example_map(rt: &impl Abort, alloc: Global, map: &CrushMap<&LocalHeap>, count: u32) {
     let whole = whole_example_map(rt, alloc);
-    let same = has_the_same(map, &whole);
+    assert!(rt; has_the_same(map, &whole), "behind {count}");
     drop(whole);
-    same
 }
 
-/// Whether the batch is refused at the edit with this position, and the heap has the same amount of
-/// memory in use afterwards as before.
-fn is_refused(
+/// The batch must be refused at the edit with this position, and the heap must have the same amount
+/// of memory in use afterwards as before.
+fn assert_refused(
     rt: &impl Abort,
     heap: &LocalHeap,
     map: &mut CrushMap<&LocalHeap>,
     edits: &[Edit],
     place: u32,
-) -> bool {
+) {
     let used = heap.used();
-    let told = answer(rt, map, edits);
-    let is_told = told == Told::Batch(Err(BatchFault::Refused(place, Refusal::NoSuchItem)));
-    is_told && heap.used() == used
+    let refused = Told::Batch(Err(BatchFault::Refused(place, Refusal::NoSuchItem)));
+    assert_eq!(rt; answer(rt, map, edits), refused, "behind {place}");
+    assert_eq!(rt; heap.used(), used, "behind {place}");
 }
 
 fn refuse_behind(rt: &impl Abort, alloc: Global, count: u32) {
@@ -80,11 +79,10 @@ fn refuse_behind(rt: &impl Abort, alloc: Global, count: u32) {
     let mut map = whole_example_map_in(rt, alloc, &heap).expect(rt, "a map");
     let mut edits = first_edits(rt, alloc, count as usize);
     edits.push(edit(rt, alloc, REFUSED)).expect(rt, "memory");
-    let is_refused = is_refused(rt, &heap, &mut map, edits.as_slice(), count);
+    assert_refused(rt, &heap, &mut map, edits.as_slice(), count);
     drop(edits);
-    let is_same = is_the_example_map(rt, alloc, &map);
+    assert_the_example_map(rt, alloc, &map, count);
     drop(map);
-    assert!(rt; is_refused && is_same, "behind {count}");
 }
 
 #[test]
@@ -98,7 +96,8 @@ fn made_one_by_one(rt: &impl Abort, alloc: Global) -> CrushMap<Global> {
     let mut map = whole_example_map(rt, alloc);
     for asked in EDITS {
         let edit = edit(rt, alloc, *asked);
-        assert!(rt; map.apply(&edit).is_ok());
+        let told = map.apply(&edit);
+        assert!(rt; told.is_ok(), "{told:?}");
         drop(edit);
     }
     map
@@ -116,9 +115,9 @@ fn a_batch_does_what_its_edits_do(rt: HostRuntime) {
     let edits = edits(&rt, rt.alloc(), EDITS);
     let told = answer(&rt, &mut map, edits.as_slice());
     drop(edits);
+    assert_eq!(rt; told, ALL);
     let other = made_one_by_one(&rt, rt.alloc());
-    let is_same = has_the_same(&map, &other);
+    assert!(rt; has_the_same(&map, &other));
     drop(map);
     drop(other);
-    assert!(rt; told == ALL && is_same);
 }

@@ -76,7 +76,7 @@ fn is_err(told: Told) -> bool {
 }
 
 fn is_made(rt: &impl Abort, map: &CrushMap<&LocalHeap>, place: usize, call: &Call, told: Told) {
-    assert!(rt; told == call.told, "call {place}");
+    assert_eq!(rt; told, call.told, "call {place}");
     are_true_of(rt, map, place, call.then);
 }
 
@@ -479,5 +479,5 @@ fn as_many_edits_as_there_may_be(rt: HostRuntime) {
         changed: 65536,
         made: 0,
     };
-    assert!(rt; told == Ok(all));
+    assert_eq!(rt; told, Ok(all));
 }

@@ -3,7 +3,7 @@
 use crate::map::asking::{Asked, edit};
 use crate::map::whole::whole_example_map;
 use crush_map::{CrushMap, Done, EditFault};
-use crush_units::{BucketId, ItemId, Weight};
+use crush_units::{ItemId, Weight};
 use std::alloc::Global;
 use std::process::Abort;
 
@@ -41,45 +41,42 @@ fn weight_found(map: &CrushMap<Global>, id: Option<ItemId>) -> Option<Weight> {
     }
 }
 
-fn has_name(map: &CrushMap<Global>, id: Option<ItemId>, name: &str) -> bool {
-    match id {
-        Some(id) => map.name_of(id) == Some(name),
-        None => true,
-    }
-}
-
-fn is_found(map: &CrushMap<Global>, id: Option<ItemId>, name: &str) -> bool {
-    let Some(id) = id else {
-        return true;
-    };
-    let id = &id;
+fn assert_found(rt: &impl Abort, map: &CrushMap<Global>, place: usize, id: &ItemId, name: &str) {
     let Some(view) = map.find(*id) else {
-        return false;
+        panic!(rt; "edit {place}: {name} isn't found")
     };
-    view.name == name
-        && map.class_of(*id) == view.class
-        && map.kind_of(*id) == Some(view.kind)
-        && map.parent(*id) == map.forest().parent(*id)
-        && stands_in(map, id, view.parent)
-}
-
-fn stands_in(map: &CrushMap<Global>, id: &ItemId, parent: Option<BucketId>) -> bool {
-    match parent {
-        Some(bucket) => map.parent(*id) == parent && map.contains(bucket, *id),
-        None => map.parent(*id).is_none(),
+    assert_eq!(rt; map.name_of(*id), Some(name), "edit {place}");
+    assert_eq!(rt; view.name, name, "edit {place}");
+    assert_eq!(rt; map.class_of(*id), view.class, "edit {place}: {name}");
+    assert_eq!(rt; map.kind_of(*id), Some(view.kind), "edit {place}: {name}");
+    assert_eq!(rt;
+        map.parent(*id),
+        map.forest().parent(*id),
+        "edit {place}: {name}"
+    );
+    assert_eq!(rt; map.parent(*id), view.parent, "edit {place}: {name}");
+    if let Some(bucket) = view.parent {
+        assert!(rt; map.contains(bucket, *id), "edit {place}: {name}");
     }
 }
 
-fn is_looked_up(map: &CrushMap<Global>, name: &str) -> bool {
+fn assert_looked_up(rt: &impl Abort, map: &CrushMap<Global>, place: usize, name: &str) {
     let id = map.forest().id_of(name);
-    map.locate(name) == id
-        && map.weight_of(name) == weight_found(map, id)
-        && has_name(map, id, name)
-        && is_found(map, id, name)
+    assert_eq!(rt; map.locate(name), id, "edit {place}: {name}");
+    assert_eq!(rt;
+        map.weight_of(name),
+        weight_found(map, id),
+        "edit {place}: {name}"
+    );
+    if let Some(id) = id {
+        assert_found(rt, map, place, &id, name);
+    }
 }
 
-pub(super) fn are_looked_up(map: &CrushMap<Global>) -> bool {
-    NAMES.iter().all(|name| is_looked_up(map, name))
+pub(super) fn assert_all_looked_up(rt: &impl Abort, map: &CrushMap<Global>, place: usize) {
+    for name in NAMES {
+        assert_looked_up(rt, map, place, name);
+    }
 }
 
 fn is_changed(told: Result<Done, EditFault>) -> bool {
@@ -99,8 +96,8 @@ fn make_and_look(
     let edit = edit(rt, alloc, asked);
     let told = map.apply(&edit);
     drop(edit);
-    assert!(rt; is_changed(told), "edit {place}");
-    assert!(rt; are_looked_up(map), "edit {place}");
+    assert!(rt; is_changed(told), "edit {place}: {told:?}");
+    assert_all_looked_up(rt, map, place);
 }
 
 #[test]

@@ -3,7 +3,7 @@
 
 use crate::map::same::has_the_same;
 use crate::map::statements::make;
-use crate::map::whole::{BEFORE_RULE, has_the_setting, whole_example_map, whole_example_map_in};
+use crate::map::whole::{BEFORE_RULE, assert_the_setting, whole_example_map, whole_example_map_in};
 use crush_builder::{BuildFault, MapBuilder};
 use crush_map::CrushMap;
 use crush_units::ItemId;
@@ -90,12 +90,10 @@ fn lacks_a_copy(map: &CrushMap<&LocalHeap>) -> bool {
     map.forest().try_copy().is_err()
 }
 
-fn is_in_full_memory(
-    rt: &impl Abort,
-    map: &CrushMap<&LocalHeap>,
-    whole: &CrushMap<Global>,
-) -> bool {
-    has_the_setting(rt, map.setting()) && has_the_same(map, whole) && lacks_a_copy(map)
+fn assert_in_full_memory(rt: &impl Abort, map: &CrushMap<&LocalHeap>, whole: &CrushMap<Global>) {
+    assert_the_setting(rt, map.setting());
+    assert!(rt; has_the_same(map, whole));
+    assert!(rt; lacks_a_copy(map));
 }
 
 fn holds_the_map(
@@ -106,13 +104,12 @@ fn holds_the_map(
 ) -> bool {
     match whole_example_map_in(rt, alloc, heap) {
         Ok(map) => {
-            let is_whole = is_in_full_memory(rt, &map, whole);
+            assert_in_full_memory(rt, &map, whole);
             drop(map);
-            assert!(rt; is_whole);
             true
         }
         Err(fault) => {
-            assert!(rt; fault == BuildFault::OutOfMemory);
+            assert_eq!(rt; fault, BuildFault::OutOfMemory);
             false
         }
     }

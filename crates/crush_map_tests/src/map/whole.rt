@@ -147,11 +147,11 @@ pub(super) fn whole_example_map_in<'h>(
     made_whole(rt, alloc, MapBuilder::new(alloc, heap)?)
 }
 
-pub(super) fn has_the_setting(rt: &impl Abort, setting: &Setting) -> bool {
-    setting.kinds().len() == 4
-        && setting.kind_number(b"rack") == Some(TypeId::new(3))
-        && setting.tunables().len() == 1
-        && setting.rules().len() == 1
-        && setting.takes(bucket(rt, -1))
-        && !setting.takes(bucket(rt, -2))
+pub(super) fn assert_the_setting(rt: &impl Abort, setting: &Setting) {
+    assert_eq!(rt; setting.kinds().len(), 4);
+    assert_eq!(rt; setting.kind_number(b"rack"), Some(TypeId::new(3)));
+    assert_eq!(rt; setting.tunables().len(), 1);
+    assert_eq!(rt; setting.rules().len(), 1);
+    assert!(rt; setting.takes(bucket(rt, -1)));
+    assert!(rt; !setting.takes(bucket(rt, -2)));
 }

@@ -3,7 +3,7 @@
 //! finds.
 
 use crate::map::asking::{Asked, CHANGED, Told, answer, edits};
-use crate::map::looked_up::{NAMES, are_looked_up};
+use crate::map::looked_up::{NAMES, assert_all_looked_up};
 use crate::map::whole::whole_example_map;
 use crush_map::{BatchFault, CrushMap, Done, Dones, EditFault, Refusal};
 use crush_units::{BucketId, ItemId, Weight};
@@ -48,21 +48,30 @@ fn name_of(map: &CrushMap<Global>, bucket: Option<BucketId>) -> Option<&str> {
     }
 }
 
-fn is_row(map: &CrushMap<Global>, item: &Item, parent_name: Option<&str>) -> bool {
+fn assert_row(
+    rt: &impl Abort,
+    map: &CrushMap<Global>,
+    place: usize,
+    item: &Item,
+    parent_name: Option<&str>,
+) {
     let (name, number, units) = *item;
-    let Some(id) = map.locate(name) else {
-        return false;
-    };
+    let id = map.locate(name).expect(rt, name);
     let id = &id;
-    id.number() == number
-        && map.weight_of(name) == Some(Weight::from_units(units))
-        && name_of(map, map.parent(*id)) == parent_name
+    let weight = Some(Weight::from_units(units));
+    assert_eq!(rt; id.number(), number, "line {place}: {name}");
+    assert_eq!(rt; map.weight_of(name), weight, "line {place}: {name}");
+    assert_eq!(rt;
+        name_of(map, map.parent(*id)),
+        parent_name,
+        "line {place}: {name}"
+    );
 }
 
-fn are_rows(map: &CrushMap<Global>, kids: &Kids) -> bool {
-    items(kids)
-        .iter()
-        .all(|item| is_row(map, item, parent_name(kids)))
+fn assert_rows(rt: &impl Abort, map: &CrushMap<Global>, place: usize, kids: &Kids) {
+    for item in items(kids) {
+        assert_row(rt, map, place, item, parent_name(kids));
+    }
 }
 
 fn has_name(table: &[Kids], name: &str) -> bool {
@@ -71,13 +80,26 @@ fn has_name(table: &[Kids], name: &str) -> bool {
         .any(|kids| items(kids).iter().any(|item| item.0 == name))
 }
 
-fn is_no_other(map: &CrushMap<Global>, table: &[Kids], name: &str) -> bool {
-    has_name(table, name) || (map.locate(name).is_none() && map.weight_of(name).is_none())
+fn assert_no_other(
+    rt: &impl Abort,
+    map: &CrushMap<Global>,
+    place: usize,
+    table: &[Kids],
+    name: &str,
+) {
+    if !has_name(table, name) {
+        assert_eq!(rt; map.locate(name), None, "line {place}: {name}");
+        assert_eq!(rt; map.weight_of(name), None, "line {place}: {name}");
+    }
 }
 
-fn has_all_rows(map: &CrushMap<Global>, table: &[Kids]) -> bool {
-    table.iter().all(|kids| are_rows(map, kids))
-        && NAMES.iter().all(|name| is_no_other(map, table, name))
+fn assert_all_rows(rt: &impl Abort, map: &CrushMap<Global>, place: usize, table: &[Kids]) {
+    for kids in table {
+        assert_rows(rt, map, place, kids);
+    }
+    for name in NAMES {
+        assert_no_other(rt, map, place, table, name);
+    }
 }
 
 fn make_and_look(
@@ -90,9 +112,9 @@ fn make_and_look(
     let edits = edits(rt, alloc, line.asked);
     let told = answer(rt, map, edits.as_slice());
     drop(edits);
-    assert!(rt; told == line.told, "line {place}");
-    assert!(rt; has_all_rows(map, line.then), "line {place}");
-    assert!(rt; are_looked_up(map), "line {place}");
+    assert_eq!(rt; told, line.told, "line {place}");
+    assert_all_rows(rt, map, place, line.then);
+    assert_all_looked_up(rt, map, place);
 }
 
 fn make_all(rt: &impl Abort, alloc: Global, lines: &[Line]) {
