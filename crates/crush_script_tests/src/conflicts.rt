@@ -70,7 +70,10 @@ fn changes_that_stand_are_not_lost(rt: HostRuntime) {
             &rt,
             b"%operator alice\nreweight osd.0 2\n%operator bob\nreweight osd.0 2\n",
             b""
-        ) && are_lost(
+        )
+    );
+    assert!(&rt;
+        are_lost(
             &rt,
             b"%operator alice\nmove osd.0 host=h2\n%operator bob\nreweight osd.0 3\n",
             b""
@@ -108,7 +111,7 @@ fn two_swaps_undo_each_other(rt: HostRuntime) {
 fn the_map_of_an_operator_without_calls_is_the_map_before(rt: HostRuntime) {
     let before = map_of(&rt, MAP);
     let alone = map_alone(&before, 0, &[]).expect(&rt, "no memory");
-    assert!(&rt; alone.total() == before.total());
+    assert_eq!(&rt; alone.total(), before.total());
     drop(alone);
     drop(before);
 }

@@ -56,7 +56,10 @@ fn a_fault_is_told_with_its_place(rt: HostRuntime) {
             },
             MISSPELT,
             b"  line 24, column 1\n    hots h2 {\n    ^\n  no type named `hots` is declared above\n"
-        ) && is_listed(
+        )
+    );
+    assert!(rt;
+        is_listed(
             &rt,
             Origin {
                 name: b"alice.txt",
@@ -116,12 +119,18 @@ fn what_does_not_fit_is_told(rt: HostRuntime) {
             origin,
             b"%operator a\nreweight osd.0 1,5\n",
             b"  line 2, column 16\n    reweight osd.0 1,5\n                   ^\n  reweight NAME WEIGHT: `1,5` is not a weight: did you mean 1.5?\n"
-        ) && is_listed(
+        )
+    );
+    assert!(rt;
+        is_listed(
             &rt,
             origin,
             CUT,
             b"  line 3, column 5\n     id -2\n        ^\n  host h1, which begins at line 2, is not closed\n"
-        ) && is_listed(
+        )
+    );
+    assert!(rt;
+        is_listed(
             &rt,
             origin,
             ALGO,
@@ -145,7 +154,10 @@ fn a_misspelt_class_and_a_bucket_below_are_told(rt: HostRuntime) {
             origin,
             b"device 0 osd.0 clas ssd\n",
             b"  line 1, column 16\n    device 0 osd.0 clas ssd\n                   ^\n  no type named `clas` is declared above; did you mean `class`?\n"
-        ) && is_listed(
+        )
+    );
+    assert!(rt;
+        is_listed(
             &rt,
             origin,
             BELOW,
@@ -166,12 +178,18 @@ fn texts_that_are_no_maps_are_named(rt: HostRuntime) {
             origin,
             b"\xEF\xBB\xBFtype 1 host\n",
             b"  line 1, column 1\n    ???type 1 host\n    ^\n  the text begins with a byte order mark: save it without one\n"
-        ) && is_listed(
+        )
+    );
+    assert!(rt;
+        is_listed(
             &rt,
             origin,
             b"\x1F\x8B\x08\n",
             b"  line 1, column 1\n    ???\n    ^\n  this file is compressed with gzip: unpack it first\n"
-        ) && is_listed(
+        )
+    );
+    assert!(rt;
+        is_listed(
             &rt,
             origin,
             b"ID  CLASS  WEIGHT\n",
@@ -192,12 +210,18 @@ fn numbers_and_words_that_are_expected_are_told(rt: HostRuntime) {
             origin,
             b"tunable a 4294967296\n",
             b"  line 1, column 11\n    tunable a 4294967296\n              ^\n  expected a whole number from 0 to 4294967295\n"
-        ) && is_listed(
+        )
+    );
+    assert!(rt;
+        is_listed(
             &rt,
             origin,
             b"type 1 host\nhost h1 id",
             b"  line 2, column 9\n    host h1 id\n            ^\n  unexpected word: expected `{`\n"
-        ) && is_listed(
+        )
+    );
+    assert!(rt;
+        is_listed(
             &rt,
             origin,
             b"device 0 osd.0\ndevice 1",
@@ -379,15 +403,13 @@ fn a_negative_weight_is_told_as_that_of_a_heavy_bucket(rt: HostRuntime) {
 
 #[test]
 fn control_characters_are_not_shown(rt: HostRuntime) {
-    assert!(rt;
-        shown_byte(b' ') == b' '
-            && shown_byte(b'~') == b'~'
-            && shown_byte(b'\t') == b' '
-            && shown_byte(b'\r') == b' '
-            && shown_byte(27) == b'?'
-            && shown_byte(127) == b'?'
-            && shown_byte(255) == b'?'
-    );
+    assert_eq!(rt; shown_byte(b' '), b' ');
+    assert_eq!(rt; shown_byte(b'~'), b'~');
+    assert_eq!(rt; shown_byte(b'\t'), b' ');
+    assert_eq!(rt; shown_byte(b'\r'), b' ');
+    assert_eq!(rt; shown_byte(27), b'?');
+    assert_eq!(rt; shown_byte(127), b'?');
+    assert_eq!(rt; shown_byte(255), b'?');
 }
 
 #[test]
@@ -425,7 +447,10 @@ fn a_line_is_told_as_that_of_its_own_file(rt: HostRuntime) {
             second,
             JOINED,
             b"  bob.txt line 2, column 1\n    fly z\n    ^\n  `fly` is not a command: see --help\n"
-        ) && is_listed(
+        )
+    );
+    assert!(rt;
+        is_listed(
             &rt,
             second,
             DUPLICATE,
@@ -440,7 +465,8 @@ fn stands_at(rt: &(impl Abort + AllocGlobal), bytes: &[u8], line: usize) -> bool
 
 #[test]
 fn the_line_of_a_fault_counts_in_the_job(rt: HostRuntime) {
-    assert!(rt; stands_at(&rt, MISSPELT, 24) && stands_at(&rt, JOINED, 6));
+    assert!(rt; stands_at(&rt, MISSPELT, 24));
+    assert!(rt; stands_at(&rt, JOINED, 6));
 }
 
 fn are_printed(
@@ -608,10 +634,8 @@ fn a_batch_tells_where_its_refused_edit_stands(rt: HostRuntime) {
         name: b"b.txt",
         before: 14,
     };
-    assert!(rt;
-        are_explained(&rt, &job, 0, &cmds, BATCHES_OF_A)
-            && are_explained(&rt, &job, 0, &none, BATCHES_OF_NO_FILE)
-            && are_explained(&rt, &job, 1, &second, BATCHES_OF_B)
-    );
+    assert!(rt; are_explained(&rt, &job, 0, &cmds, BATCHES_OF_A));
+    assert!(rt; are_explained(&rt, &job, 0, &none, BATCHES_OF_NO_FILE));
+    assert!(rt; are_explained(&rt, &job, 1, &second, BATCHES_OF_B));
     drop(job);
 }

@@ -3,6 +3,7 @@
 //! in the data of `crush_examples` instead.
 
 mod heaps;
+mod histories;
 mod jobs;
 mod limits;
 mod lines;

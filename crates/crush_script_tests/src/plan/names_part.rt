@@ -79,15 +79,15 @@ fn other_ids(rt: &(impl Abort + AllocGlobal), under: Option<&str>) -> usize {
 
 #[test]
 fn ids_are_counted_of_everything(rt: HostRuntime) {
-    assert!(rt; other_ids(&rt, None) == 1);
+    assert_eq!(rt; other_ids(&rt, None), 1);
 }
 
 #[test]
 fn ids_are_counted_of_a_part(rt: HostRuntime) {
-    assert!(rt; other_ids(&rt, Some("h1")) == 1);
+    assert_eq!(rt; other_ids(&rt, Some("h1")), 1);
 }
 
 #[test]
 fn and_those_of_no_other(rt: HostRuntime) {
-    assert!(rt; other_ids(&rt, Some("h2")) == 0);
+    assert_eq!(rt; other_ids(&rt, Some("h2")), 0);
 }

@@ -25,7 +25,7 @@ fn holds_the_map(rt: &(impl Abort + AllocGlobal), size: usize) -> Result<bool, T
 
 #[test]
 fn the_plain_example_map_is_read_into_a_heap(rt: HostRuntime) {
-    assert!(rt; holds_the_map(&rt, 65536) == Ok(true));
+    assert_eq!(rt; holds_the_map(&rt, 65536), Ok(true));
 }
 
 /// Whether the fault is that memory ran out. In the smallest heap, memory runs out for the first
@@ -41,7 +41,8 @@ fn heaps_that_are_too_small(rt: HostRuntime) {
     for i in 1..1024 {
         match holds_the_map(&rt, 64 * i) {
             Ok(is_held) => {
-                assert!(rt; i > 1 && is_held);
+                assert!(rt; i > 1);
+                assert!(rt; is_held);
                 return;
             }
             Err(fault) => assert!(rt; is_lack(fault, i == 1)),

@@ -84,7 +84,8 @@ fn calls_are_answered_in_turn(rt: HostRuntime) {
     let are_answered = are_answered(&rt, &mut job.map, job.scripts.as_slice());
     let total = job.map.total();
     drop(job);
-    assert!(rt; are_answered && total == 131072);
+    assert!(rt; are_answered);
+    assert_eq!(rt; total, 131072);
 }
 
 fn with_lines(rt: &(impl Abort + AllocGlobal), text: &[u8], line: &[u8]) -> Vec<u8> {
@@ -166,13 +167,11 @@ fn a_fault_tells_why_a_line_is_misplaced(rt: HostRuntime) {
         line: 2,
         why: BadLine::NoBatch,
     };
-    assert!(rt;
-        is_no_job(&rt, b"%operato a", &no_operator)
-            && is_no_job(&rt, b"%operator a\nbegin\nbegin", &open)
-            && is_no_job(&rt, b"%operator a\ncommit", &none)
-            && is_no_job(&rt, b"%operator a b", &misfit_in(1, 2, Due::End))
-            && is_no_job(&rt, b"%operator", &misfit_in(1, 1, Due::Name))
-    );
+    assert!(rt; is_no_job(&rt, b"%operato a", &no_operator));
+    assert!(rt; is_no_job(&rt, b"%operator a\nbegin\nbegin", &open));
+    assert!(rt; is_no_job(&rt, b"%operator a\ncommit", &none));
+    assert!(rt; is_no_job(&rt, b"%operator a b", &misfit_in(1, 2, Due::End)));
+    assert!(rt; is_no_job(&rt, b"%operator", &misfit_in(1, 1, Due::Name)));
 }
 
 const TWO_SCRIPTS: &[u8] =
@@ -198,45 +197,41 @@ fn a_word_of_a_line_has_its_place(rt: HostRuntime) {
     let line: &[u8] = b" rm\tosd.0 x#y\r";
     let last = placed_word(line, 2);
     let none = placed_word(line, 3);
-    assert!(rt;
-        placed_word(line, 0).place == 1
-            && last.place == 10
-            && last.text == b"x".as_slice()
-            && none.place == 11
-            && none.text.is_empty()
-    );
+    assert_eq!(rt; placed_word(line, 0).place, 1);
+    assert_eq!(rt; last.place, 10);
+    assert!(rt; last.text == b"x".as_slice());
+    assert_eq!(rt; none.place, 11);
+    assert!(rt; none.text.is_empty());
 }
 
 #[test]
 fn a_line_has_the_form_of_its_first_word(rt: HostRuntime) {
     let add = Keyword::Place(Placement::Add);
-    assert!(rt;
-        Keyword::read(b"remove") == Some(Keyword::Rm)
-            && Keyword::read(b"begin") == None
-            && Keyword::Rm.word() == "rm"
-            && Form::read(b"add") == Some(Form::Edit(add))
-            && Form::Edit(add).text() == "add osd.N WEIGHT TYPE=NAME .."
-            && Form::read(b"fly") == None
-            && Form::Begin.text() == "begin at N"
-    );
+    assert_eq!(rt; Keyword::read(b"remove"), Some(Keyword::Rm));
+    assert_eq!(rt; Keyword::read(b"begin"), None);
+    assert_eq!(rt; Keyword::Rm.word(), "rm");
+    assert_eq!(rt; Form::read(b"add"), Some(Form::Edit(add)));
+    assert_eq!(rt; Form::Edit(add).text(), "add osd.N WEIGHT TYPE=NAME ..");
+    assert_eq!(rt; Form::read(b"fly"), None);
+    assert_eq!(rt; Form::Begin.text(), "begin at N");
 }
 
 #[test]
 fn a_job_has_at_most_65536_calls(rt: HostRuntime) {
     let text = with_lines(&rt, b"%operator a\n", b"reweight x 1\n");
     let text = text.as_slice();
+    assert_eq!(rt; call_count(&rt, text), Some(65536));
     assert!(rt;
-        call_count(&rt, text) == Some(65536)
-            && is_no_job_with(
-                &rt,
-                text,
-                b"\nreweight x\n",
-                &misfit_in(65539, 2, Due::Weight)
-            )
-            && is_no_job_with(&rt, text, b"\nreweight x 1", &JobFault::TooManyCalls(65539))
-            && is_no_job_with(&rt, text, b"\nbegin\nfly", &JobFault::TooManyCalls(65539))
-            && is_no_job_with(&rt, text, b"\nbegin x", &misfit_in(65539, 1, Due::At))
+        is_no_job_with(
+            &rt,
+            text,
+            b"\nreweight x\n",
+            &misfit_in(65539, 2, Due::Weight)
+        )
     );
+    assert!(rt; is_no_job_with(&rt, text, b"\nreweight x 1", &JobFault::TooManyCalls(65539)));
+    assert!(rt; is_no_job_with(&rt, text, b"\nbegin\nfly", &JobFault::TooManyCalls(65539)));
+    assert!(rt; is_no_job_with(&rt, text, b"\nbegin x", &misfit_in(65539, 1, Due::At)));
 }
 
 #[test]
@@ -244,19 +239,19 @@ fn a_batch_has_at_most_65536_edits(rt: HostRuntime) {
     let open = with_lines(&rt, b"%operator a\nbegin\n", b"rm x\n");
     let open = open.as_slice();
     let text = joined(&rt, &[open, b"\ncommit"]);
+    assert_eq!(rt; call_count(&rt, text.as_slice()), Some(1));
     assert!(rt;
-        call_count(&rt, text.as_slice()) == Some(1)
-            && is_no_job_with(
-                &rt,
-                open,
-                b"\nrm x",
-                &JobFault::BadLine {
-                    line: 65540,
-                    why: BadLine::BatchFull,
-                }
-            )
-            && is_no_job_with(&rt, open, b"\nfly", &JobFault::NoSuchCommand(65540))
+        is_no_job_with(
+            &rt,
+            open,
+            b"\nrm x",
+            &JobFault::BadLine {
+                line: 65540,
+                why: BadLine::BatchFull,
+            }
+        )
     );
+    assert!(rt; is_no_job_with(&rt, open, b"\nfly", &JobFault::NoSuchCommand(65540)));
 }
 
 #[test]
@@ -266,12 +261,14 @@ fn a_job_has_at_most_sixteen_mebibytes(rt: HostRuntime) {
     let job = job_of(&rt, text);
     let count = job.scripts.len();
     drop(job);
-    assert!(rt; count == 0 && is_no_job_with(&rt, text, b"%", &JobFault::TooLong));
+    assert_eq!(rt; count, 0);
+    assert!(rt; is_no_job_with(&rt, text, b"%", &JobFault::TooLong));
 }
 
 #[test]
 fn a_job_is_cut_before_its_first_section(rt: HostRuntime) {
     let job: &[u8] = b"device 0 a # 100 %\n \r\n%operator b\nrm a\n";
     let text: &[u8] = b"device 0 a # 100 %\n \r\n";
-    assert!(rt; map_part(job) == text && line_feeds(job) == 4);
+    assert!(rt; map_part(job) == text);
+    assert_eq!(rt; line_feeds(job), 4);
 }

@@ -58,7 +58,8 @@ fn at_most_65536_devices(rt: HostRuntime) {
         b"device 65536 osd.65536\n",
         TextFaultKind::TooMany,
     );
-    assert!(rt; devices == 65536 && is_refused);
+    assert_eq!(rt; devices, 65536);
+    assert!(rt; is_refused);
 }
 
 /// Returns the text of a map with 4,096 buckets. The item of each bucket is the bucket of the
@@ -125,5 +126,6 @@ fn a_total_of_at_most_8796093022207_units(rt: HostRuntime) {
         b"0.03125 }",
         TextFaultKind::SumTooLarge,
     );
-    assert!(rt; total == 8796093022207 && is_refused);
+    assert_eq!(rt; total, 8796093022207);
+    assert!(rt; is_refused);
 }

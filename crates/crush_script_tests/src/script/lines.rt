@@ -2,7 +2,7 @@
 //! lines.
 
 use crush_edits::{Done, Dones, Edit, Refusal};
-use crush_history::{Call, Edits, Reply, write_entry};
+use crush_history::{Call, Edits, Reply, write_edit, write_entry};
 use crush_units::{Name, Weight};
 use std::process::Abort;
 
@@ -76,4 +76,15 @@ fn copies_of_calls_are_lines(rt: HostRuntime) {
     drop(batch);
     drop(single);
     assert!(rt; are_lines);
+}
+
+/// A weight of 21823 units is 0.332993 with six digits after the point.
+#[test]
+fn an_edit_is_written_as_a_command(rt: HostRuntime) {
+    let edit = reweight(&rt, b"osd.0", 21823);
+    let mut out = Vec::new(rt.alloc());
+    let is_written = write_edit(&edit, &mut out).is_ok();
+    drop(edit);
+    assert!(rt; is_written);
+    assert!(rt; out.as_slice() == b"reweight osd.0 0.33299".as_slice());
 }

@@ -29,7 +29,9 @@ fn the_plain_example_map_is_read_and_printed(rt: HostRuntime) {
     let is_read = is_plain_example_map(&map);
     let text = text_of(&rt, &map);
     drop(map);
-    assert!(rt; is_read && adjusted == 0 && text.as_slice() == PLAIN_EXAMPLE_MAP);
+    assert!(rt; is_read);
+    assert_eq!(rt; adjusted, 0);
+    assert!(rt; text.as_slice() == PLAIN_EXAMPLE_MAP);
 }
 
 #[test]
@@ -43,11 +45,12 @@ fn faults_are_told(rt: HostRuntime) {
     let line = JobFault::NoSuchCommand(3);
     let whole = JobFault::TooLong;
     let told = format!(in rt.alloc(); "{text}, {line}, {whole}").expect(&rt, "no memory");
-    assert!(rt;
-        kind.number() == 16
-            && kind.name() == "OutOfMemory"
-            && told.as_str() == "byte 102: OutOfMemory, line 3: NoSuchCommand, TooLong"
-            && JobFault::Text(text).lacks_memory()
-            && !line.lacks_memory()
+    assert_eq!(rt; kind.number(), 16);
+    assert_eq!(rt; kind.name(), "OutOfMemory");
+    assert_eq!(rt;
+        told.as_str(),
+        "byte 102: OutOfMemory, line 3: NoSuchCommand, TooLong"
     );
+    assert!(rt; JobFault::Text(text).lacks_memory());
+    assert!(rt; !line.lacks_memory());
 }

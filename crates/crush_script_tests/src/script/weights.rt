@@ -65,6 +65,8 @@ fn both_forms_are_read_as_the_same_map(rt: HostRuntime) {
         let mut exact = Vec::new(rt.alloc());
         let written = write_map(rt.alloc(), &map, WeightForm::Exact, &mut exact);
         drop(map);
-        assert!(rt; written.is_ok() && rounded.as_slice() == ROUNDED && exact.as_slice() == EXACT);
+        assert!(rt; written.is_ok());
+        assert!(rt; rounded.as_slice() == ROUNDED);
+        assert!(rt; exact.as_slice() == EXACT);
     }
 }

@@ -46,17 +46,16 @@ fn stops_at_bad_bytes_and_long_words(rt: HostRuntime) {
     let mut reader = Reader::new(b"host$ h1");
     let mut longest = Reader::new(LONGEST);
     let text = joined(&rt, &[TOO_LONG, b"$"]);
-    assert!(rt;
-        is_word(&mut reader, 0, b"host")
-            && is_bad(&mut reader, 4)
-            && is_bad(&mut reader, 4)
-            && is_word(&mut longest, 0, LONGEST)
-            && is_too_long(TOO_LONG)
-            && is_too_long(text.as_slice())
-    );
+    assert!(rt; is_word(&mut reader, 0, b"host"));
+    assert!(rt; is_bad(&mut reader, 4));
+    assert!(rt; is_bad(&mut reader, 4));
+    assert!(rt; is_word(&mut longest, 0, LONGEST));
+    assert!(rt; is_too_long(TOO_LONG));
+    assert!(rt; is_too_long(text.as_slice()));
 }
 
 #[test]
 fn numbers_are_read_up_to_the_greatest(rt: HostRuntime) {
-    assert!(rt; number_up_to(65535, b"65535") == Some(65535) && number_up_to(0, b"").is_none());
+    assert_eq!(rt; number_up_to(65535, b"65535"), Some(65535));
+    assert!(rt; number_up_to(0, b"").is_none());
 }

@@ -37,13 +37,11 @@ impl Write for Slow {
 fn parts_go_out_one_after_the_other(rt: HostRuntime) {
     let mut held = Vec::new(rt.alloc());
     let parts = [b"h1".as_slice(), b"".as_slice(), b" {\n".as_slice()];
-    assert!(rt;
-        put(&mut held, b"host ").is_ok()
-            && put_all(&mut held, &parts).is_ok()
-            && held.as_slice() == b"host h1 {\n".as_slice()
-            && WriteFault::Write.number() == 1
-            && WriteFault::OutOfMemory.number() == 2
-    );
+    assert!(rt; put(&mut held, b"host ").is_ok());
+    assert!(rt; put_all(&mut held, &parts).is_ok());
+    assert!(rt; held.as_slice() == b"host h1 {\n".as_slice());
+    assert_eq!(rt; WriteFault::Write.number(), 1);
+    assert_eq!(rt; WriteFault::OutOfMemory.number(), 2);
 }
 
 fn is_answer(

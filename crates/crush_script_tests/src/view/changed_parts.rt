@@ -75,19 +75,22 @@ fn are_changed(
 #[test]
 fn a_map_is_not_changed_since_itself(rt: HostRuntime) {
     let (whole, part) = are_changed(&rt, MOVED, MOVED, "default");
-    assert!(rt; !whole && !part);
+    assert!(rt; !whole);
+    assert!(rt; !part);
 }
 
 #[test]
 fn a_move_is_a_change_where_it_was_made(rt: HostRuntime) {
     let (whole, part) = are_changed(&rt, EXAMPLE_MAP, MOVED, "h1");
-    assert!(rt; whole && part);
+    assert!(rt; whole);
+    assert!(rt; part);
 }
 
 #[test]
 fn elsewhere_it_is_none(rt: HostRuntime) {
     let (whole, part) = are_changed(&rt, EXAMPLE_MAP, MOVED, "osd.2");
-    assert!(rt; whole && !part);
+    assert!(rt; whole);
+    assert!(rt; !part);
 }
 
 const RETUNED: &[u8] = b"\
@@ -105,7 +108,8 @@ const RETUNED: &[u8] = b"\
 #[test]
 fn a_setting_alone_is_a_change(rt: HostRuntime) {
     let (whole, part) = are_changed(&rt, EXAMPLE_MAP, RETUNED, "default");
-    assert!(rt; whole && !part);
+    assert!(rt; whole);
+    assert!(rt; !part);
 }
 
 #[test]
@@ -117,7 +121,9 @@ fn settings_are_compared_each(rt: HostRuntime) {
     let rules = same_rules(old.setting().rules(), new.setting().rules());
     drop(old);
     drop(new);
-    assert!(rt; !tunables && !kinds && rules);
+    assert!(rt; !tunables);
+    assert!(rt; !kinds);
+    assert!(rt; rules);
 }
 
 fn counts_of_the_move(rt: &(impl Abort + AllocGlobal)) -> Tally {
@@ -132,9 +138,10 @@ fn counts_of_the_move(rt: &(impl Abort + AllocGlobal)) -> Tally {
 #[test]
 fn a_move_is_counted_with_the_weights_round_it(rt: HostRuntime) {
     let counts = counts_of_the_move(&rt);
-    assert!(rt;
-        counts.made == 0 && counts.removed == 0 && counts.moved == 1 && counts.reweighed == 2
-    );
+    assert_eq!(rt; counts.made, 0);
+    assert_eq!(rt; counts.removed, 0);
+    assert_eq!(rt; counts.moved, 1);
+    assert_eq!(rt; counts.reweighed, 2);
 }
 
 #[test]
@@ -147,7 +154,8 @@ fn a_move_is_counted_in_the_part_that_it_left(rt: HostRuntime) {
     drop(both);
     drop(old);
     drop(new);
-    assert!(rt;
-        counts.made == 0 && counts.removed == 0 && counts.moved == 1 && counts.reweighed == 1
-    );
+    assert_eq!(rt; counts.made, 0);
+    assert_eq!(rt; counts.removed, 0);
+    assert_eq!(rt; counts.moved, 1);
+    assert_eq!(rt; counts.reweighed, 1);
 }

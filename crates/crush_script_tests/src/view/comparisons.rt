@@ -137,7 +137,8 @@ fn pairs_of_a_part_are_of_the_items_that_were_or_are_in_it(rt: HostRuntime) {
     drop(both);
     drop(new);
     drop(old);
-    assert!(rt; are && same);
+    assert!(rt; are);
+    assert!(rt; same);
 }
 
 #[test]

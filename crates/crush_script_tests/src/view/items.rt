@@ -94,7 +94,29 @@ fn a_bucket_of_the_list_has_its_class_ids(rt: HostRuntime) {
     );
     drop(items);
     drop(map);
-    assert!(rt; counts.0 == 1 && counts.1 == 0 && counts.2 == 0);
+    assert_eq!(rt; counts, (1, 0, 0));
+}
+
+fn assert_host_a(rt: &impl Abort, item: &Item<'_, Global>) {
+    let view = item.view();
+    assert_eq!(rt; view.name, "a");
+    assert_eq!(rt; view.id.number(), -2);
+    assert_eq!(rt; view.weight.units(), 65536);
+    assert_eq!(rt; view.parent, None);
+    assert_eq!(rt; item.class_ids().len(), 1);
+}
+
+/// The host `a` has one class id and one device, with the weight 1.0, which is 65536 units.
+#[test]
+fn an_item_is_viewed_with_its_columns(rt: HostRuntime) {
+    let map = map_of(&rt, TWO_ROOTS);
+    let items = items_of(&rt, &map);
+    match items.all.as_slice().first() {
+        Some(item) => assert_host_a(&rt, item),
+        None => panic!(rt; "the list is empty"),
+    }
+    drop(items);
+    drop(map);
 }
 
 fn is_seen(items: &Items<'_, Global>, at: u32, name: &[u8]) -> bool {
@@ -163,7 +185,8 @@ fn an_item_is_found_by_its_id(rt: HostRuntime) {
     drop(items);
     drop(other);
     drop(map);
-    assert!(rt; found == Some(4) && missing == None);
+    assert_eq!(rt; found, Some(4));
+    assert_eq!(rt; missing, None);
 }
 
 fn runs(items: &Items<'_, Global>, at: u32, to: u32) -> bool

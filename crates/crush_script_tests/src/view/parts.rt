@@ -102,7 +102,7 @@ fn a_rack_is_told_down_to_its_hosts(rt: HostRuntime) {
 fn the_whole_tree_is_a_part(rt: HostRuntime) {
     let map = map_of(&rt, EXAMPLE_MAP);
     let steps = walk_part(rt.alloc(), &map, TreePart::whole()).expect(&rt, "no walk");
-    assert!(rt; steps.len() == 6);
+    assert_eq!(rt; steps.len(), 6);
     drop(steps);
     drop(map);
 }

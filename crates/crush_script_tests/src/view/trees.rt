@@ -3,7 +3,7 @@
 use super::EXAMPLE_MAP;
 use crate::maps::map_of;
 use crush_map::CrushMap;
-use crush_print::{walk, walk_below, write_tree};
+use crush_print::{WalkStep, walk, walk_below, write_tree};
 use crush_units::{BucketId, ItemId};
 use std::alloc::Global;
 use std::process::Abort;
@@ -109,5 +109,26 @@ fn walks_reach_what_is_below(rt: HostRuntime) {
         below_named(&rt, &map, "h1"),
     );
     drop(map);
-    assert!(rt; counts.0 == 6 && counts.1 == 5 && counts.2 == 2);
+    assert_eq!(rt; counts, (6, 5, 2));
+}
+
+fn assert_root(rt: &impl Abort, step: &WalkStep<'_, Global>) {
+    let view = step.view();
+    assert_eq!(rt; view.name, "default");
+    assert_eq!(rt; view.id.number(), -1);
+    assert_eq!(rt; view.weight.units(), 163840);
+    assert_eq!(rt; view.parent, None);
+}
+
+/// The weight of the root is 2.5, which is 163840 units.
+#[test]
+fn a_walk_begins_with_the_root(rt: HostRuntime) {
+    let map = map_of(&rt, EXAMPLE_MAP);
+    let steps = walk(rt.alloc(), &map).expect(&rt, "no memory");
+    match steps.as_slice().first() {
+        Some(step) => assert_root(&rt, step),
+        None => panic!(rt; "the walk is empty"),
+    }
+    drop(steps);
+    drop(map);
 }
