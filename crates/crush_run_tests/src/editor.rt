@@ -3,11 +3,12 @@
 //! total, and each call sets the weight of one of the first two devices to 2.
 
 ghost use Rattle.std.specs.Prelude.{◌≡◌, ◌<◌, ◌≤◌};
+ghost use mathlib.Core.List.{IsPrefix};
 ghost use Rattle.crush_units.specs.declared.limits.TheConstants.{MOST_OPERATORS};
 ghost use Rattle.crush_run_tests.specs.Seats.{AreAll};
 
 use crate::maps::PLAIN;
-use crush_editor::{Desk, Editor, Seat, Started, SubmitFault};
+use crush_editor::{Desk, Editor, LockFreeReader, Note, Seat, Started, SubmitFault};
 use crush_edits::Edit;
 use crush_gauge::Reading;
 use crush_history::{Call, Reply};
@@ -110,8 +111,8 @@ fn weigh_two<N: Desk>(
     assert!(rt; answered);
 }
 
-fn reads(read: Reading, changes: u64, weight: u64) -> bool {
-    read.changes == changes && read.weight == weight
+fn assert_reads(rt: &impl Abort, read: Reading, changes: u64, weight: u64) {
+    assert_eq!(rt; read, Reading { changes, weight });
 }
 
 #[test]
@@ -126,15 +127,17 @@ fn one_operator_of<N: Desk>(rt: &(impl Abort + AllocGlobal + Wait), started: Sta
     requires parts { started.parts ≡ N.parts }
 {
     let (editor, mut seats) = opened::<N>(rt, started);
-    assert!(rt; reads(reading_by(rt, &editor, &mut seats, 0), 0, 163840));
+    assert_reads(rt, reading_by(rt, &editor, &mut seats, 0), 0, 163840);
     let call = Call::One(weight_two(rt, b"osd.0"));
     let answered = submit_by(rt, &editor, &mut seats, 0, &call).is_ok();
     drop(call);
     let read = reading_by(rt, &editor, &mut seats, 0);
-    assert!(rt; answered && reads(read, 1, 229376));
+    assert!(rt; answered);
+    assert_reads(rt, read, 1, 229376);
     let closed = editor.close(seats);
-    assert!(rt; closed.history.len() == 1 && closed.map.total() == 229376);
-    assert!(rt; closed.opening.total() == 163840);
+    assert_eq!(rt; closed.history.len(), 1);
+    assert_eq!(rt; closed.map.total(), 229376);
+    assert_eq!(rt; closed.opening.total(), 163840);
 }
 
 #[test]
@@ -152,7 +155,21 @@ fn two_operators<N: Desk>(rt: &(impl Abort + AllocGlobal + Wait), started: Start
     let mut last = seats.pop().expect(rt, "no seat");
     let mut first = seats.pop().expect(rt, "no seat");
     weigh_two(rt, &editor, &mut first, b"osd.0");
-    assert!(rt; reads(editor.reading(&mut last), 1, 229376) && last.slips().len() == 0);
+    assert_reads(rt, editor.reading(&mut last), 1, 229376);
+    assert_eq!(rt; last.slips().len(), 0);
+}
+
+/// Passes a note of the first seat to the second one, and returns a note of the second seat.
+///
+/// A reading always loads the newest numbers, with or without a note. So no output of a test shows
+/// what a seat has learned, but this contract does: the returned note has everything that the first
+/// seat had seen. The prover would refuse this function if `learn` promised nothing about the note.
+fn pass_note<N: Desk>(editor: &Editor<N>, from: &mut Seat<N>, to: &mut Seat<N>) -> Note<N>
+    ensures { IsPrefix from.old.seen result }
+{
+    let note = editor.note(from);
+    editor.learn(to, note);
+    editor.note(to)
 }
 
 #[test]
@@ -170,9 +187,44 @@ fn a_note_between_two<N: Desk>(rt: &(impl Abort + AllocGlobal + Wait), started: 
     let mut last = seats.pop().expect(rt, "no seat");
     let mut first = seats.pop().expect(rt, "no seat");
     weigh_two(rt, &editor, &mut first, b"osd.0");
-    let note = editor.note(&mut first);
-    editor.learn(&mut last, note);
-    assert!(rt; reads(editor.reading(&mut last), 1, 229376) && last.operator() == 1);
+    let note = pass_note(&editor, &mut first, &mut last);
+    editor.learn(&mut first, note);
+    assert_reads(rt, editor.reading(&mut last), 1, 229376);
+    assert_eq!(rt; last.operator(), 1);
+}
+
+/// Does what [`pass_note`] does, without the editor's lock.
+fn pass_note_by_reader<N: Desk>(
+    reader: &LockFreeReader<N>,
+    from: &mut Seat<N>,
+    to: &mut Seat<N>,
+) -> Note<N>
+    ensures { IsPrefix from.old.seen result }
+{
+    let note = reader.note(from);
+    reader.learn(to, note);
+    reader.note(to)
+}
+
+#[test]
+fn a_lock_free_reader_passes_notes(rt: HostRuntime) {
+    a_reader_between_two::<Brand>(&rt, started(&rt, 2));
+}
+
+fn a_reader_between_two<N: Desk>(rt: &(impl Abort + AllocGlobal + Wait), started: Started)
+    requires gauge { started.table ≡ N.gauge }
+    requires opening { started.opening ≡ N.opening }
+    requires name { started.name ≡ N.name }
+    requires parts { started.parts ≡ N.parts }
+{
+    let (editor, mut seats) = opened::<N>(rt, started);
+    let mut last = seats.pop().expect(rt, "no seat");
+    let mut first = seats.pop().expect(rt, "no seat");
+    weigh_two(rt, &editor, &mut first, b"osd.0");
+    let reader = editor.lock_free_reader();
+    let note = pass_note_by_reader(reader, &mut first, &mut last);
+    reader.learn(&mut first, note);
+    assert_reads(rt, reader.reading(&mut last), 1, 229376);
 }
 
 #[test]
@@ -196,5 +248,5 @@ fn three_operators<N: Desk>(rt: &(impl Abort + AllocGlobal + Wait), started: Sta
     let of_middle = editor.note(&mut middle);
     editor.learn(&mut last, of_first);
     editor.learn(&mut last, of_middle);
-    assert!(rt; reads(editor.reading(&mut last), 2, 294912));
+    assert_reads(rt, editor.reading(&mut last), 2, 294912);
 }

@@ -99,10 +99,8 @@ fn runs_one_operator_at_once(rt: HostRuntime) {
     let job = joined(&rt, PLAIN, b"%operator a\nreweight osd.2 1.0\n");
     let lines = b"# 1 a reweight osd.2 1.00000 = done changed 1 made 0\n";
     let sum = summary(0, 1, 1);
-    assert!(rt;
-        writes(&rt, MODE, job.as_slice(), (REWEIGHED, lines), sum)
-            && writes(&rt, AT_ONCE, job.as_slice(), (REWEIGHED, lines), sum)
-    );
+    assert!(rt; writes(&rt, MODE, job.as_slice(), (REWEIGHED, lines), sum));
+    assert!(rt; writes(&rt, AT_ONCE, job.as_slice(), (REWEIGHED, lines), sum));
 }
 
 fn summary(adjusted: u32, calls: u32, changes: u32) -> Summary {

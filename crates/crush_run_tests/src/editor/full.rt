@@ -4,7 +4,7 @@
 ghost use Rattle.std.specs.Prelude.{◌≡◌};
 ghost use Rattle.crush_run_tests.specs.Seats.{AreAll};
 
-use super::{opened, reading_by, reads, started, submit_by};
+use super::{assert_reads, opened, reading_by, started, submit_by};
 use crush_editor::{Book, Desk, Editor, MapGauge, Seat, Started, SubmitFault};
 use crush_edits::{Edit, Refusal};
 use crush_history::{Call, Reply};
@@ -29,8 +29,10 @@ fn a_book_is_full_with_the_most_entries(rt: HostRuntime) {
     let call = remove_nobody(&rt);
     let filled = fill_book(&rt, &gauge, &mut book, &call);
     let outcome = book.commit(rt.alloc(), &gauge, 0, &call);
-    assert!(&rt; filled && outcome == Err(SubmitFault::Full));
-    assert!(&rt; book.history().len() == MOST_ENTRIES && book.map().total() == 163840);
+    assert!(&rt; filled);
+    assert_eq!(&rt; outcome, Err(SubmitFault::Full));
+    assert_eq!(&rt; book.history().len(), MOST_ENTRIES);
+    assert_eq!(&rt; book.map().total(), 163840);
 }
 
 fn fill_book(rt: &impl AllocGlobal, gauge: &MapGauge, book: &mut Book<Global>, call: &Call) -> bool
@@ -61,10 +63,12 @@ fn one_operator<N: Desk>(rt: &(impl Abort + AllocGlobal + Wait), started: Starte
     let call = remove_nobody(rt);
     let filled = fill_editor(rt, &editor, &mut seats, &call);
     let outcome = submit_by(rt, &editor, &mut seats, 0, &call);
-    assert!(rt; filled && outcome == Err(SubmitFault::Full));
-    assert!(rt; reads(reading_by(rt, &editor, &mut seats, 0), 0, 163840));
+    assert!(rt; filled);
+    assert_eq!(rt; outcome, Err(SubmitFault::Full));
+    assert_reads(rt, reading_by(rt, &editor, &mut seats, 0), 0, 163840);
     let closed = editor.close(seats);
-    assert!(rt; closed.history.len() == MOST_ENTRIES && closed.map.total() == 163840);
+    assert_eq!(rt; closed.history.len(), MOST_ENTRIES);
+    assert_eq!(rt; closed.map.total(), 163840);
 }
 
 fn fill_editor<N: Desk>(

@@ -5,6 +5,7 @@ ghost use Rattle.crush_gauge.specs.declared.view.View.TheVariants.{Book as BookS
 ghost use Rattle.crush_gauge.specs.Rule.{known, grown};
 ghost use Rattle.crush_gauge.specs.Held.{held};
 
+use super::assert_reads;
 use crush_gauge::{Gauge, Law};
 
 /// The law by which every history is legal. The last entry of a history has its number of changes
@@ -30,10 +31,10 @@ fn the_largest_pair_is_read_as_it_was_published(rt: HostRuntime) {
     );
     let mut seat = seats.pop().expect(&rt, "a seat");
     let first = gauge.read(&mut seat);
-    assert!(&rt; first.changes == 0 && first.weight == 8796093022207);
+    assert_reads(&rt, first, 0, 8796093022207);
     gauge.publish(&mut book, 65536, 8796093022207);
     let second = gauge.read(&mut seat);
-    assert!(&rt; second.changes == 65536 && second.weight == 8796093022207);
+    assert_reads(&rt, second, 65536, 8796093022207);
 }
 
 #[test]
@@ -47,6 +48,6 @@ fn a_note_is_learned_by_a_seat_of_either_kind(rt: HostRuntime) {
     let of_first = gauge.note(&mut first);
     gauge.learn(&mut second, of_first);
     let read = gauge.read(&mut second);
-    assert!(&rt; read.changes == 1 && read.weight == 7);
+    assert_reads(&rt, read, 1, 7);
     gauge.learn(&mut book, second.into_note());
 }

@@ -2,7 +2,7 @@
 
 ghost use Rattle.std.specs.Prelude.{◌≡◌};
 
-use super::{opened, reads, started, weigh_two, weight_two};
+use super::{assert_reads, opened, started, weigh_two, weight_two};
 use crush_editor::{Desk, Editor, Seat, Started};
 use crush_edits::Dones;
 use crush_history::{Call, Edits, Reply};
@@ -10,13 +10,13 @@ use std::marker::Brand;
 use std::process::Abort;
 use std::sync::Wait;
 
-fn is_answered<N: Desk>(
+fn assert_answered<N: Desk>(
     rt: &(impl Abort + AllocGlobal + Wait),
     editor: &Editor<N>,
     seat: &mut Seat<N>,
     seen: u32,
     reply: Reply,
-) -> bool {
+) {
     let mut edits = Vec::new(rt.alloc());
     edits.push(weight_two(rt, b"osd.1")).expect(rt, "no memory");
     let call = Call::Guarded {
@@ -25,7 +25,7 @@ fn is_answered<N: Desk>(
     };
     let answer = editor.submit(rt, rt.alloc(), seat, &call);
     drop(call);
-    answer == Ok(reply)
+    assert_eq!(rt; answer, Ok(reply));
 }
 
 #[test]
@@ -42,15 +42,15 @@ fn two_operators<N: Desk>(rt: &(impl Abort + AllocGlobal + Wait), started: Start
     let (editor, mut seats) = opened::<N>(rt, started);
     let mut other = seats.pop().expect(rt, "no seat");
     let mut seat = seats.pop().expect(rt, "no seat");
-    assert!(rt; reads(editor.reading(&mut seat), 0, 163840));
+    assert_reads(rt, editor.reading(&mut seat), 0, 163840);
     weigh_two(rt, &editor, &mut other, b"osd.0");
-    assert!(rt; is_answered(rt, &editor, &mut seat, 0, Reply::Stale(1)));
-    assert!(rt; reads(editor.reading(&mut seat), 1, 229376));
+    assert_answered(rt, &editor, &mut seat, 0, Reply::Stale(1));
+    assert_reads(rt, editor.reading(&mut seat), 1, 229376);
     let made = Reply::Dones(Dones {
         edits: 1,
         changed: 1,
         made: 0,
     });
-    assert!(rt; is_answered(rt, &editor, &mut seat, 1, made));
-    assert!(rt; reads(editor.reading(&mut seat), 2, 294912));
+    assert_answered(rt, &editor, &mut seat, 1, made);
+    assert_reads(rt, editor.reading(&mut seat), 2, 294912);
 }

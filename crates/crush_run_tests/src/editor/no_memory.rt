@@ -4,7 +4,7 @@
 ghost use Rattle.std.specs.Prelude.{◌≡◌};
 ghost use Rattle.crush_run_tests.specs.Seats.{AreAll};
 
-use super::{opened, read_map, reads, started, submit_by, weigh_two, weight_two};
+use super::{assert_reads, opened, read_map, started, submit_by, weigh_two, weight_two};
 use crate::maps::PLAIN;
 use crush_editor::{Desk, Editor, Seat, Started};
 use crush_edits::Setting;
@@ -93,7 +93,7 @@ fn read_editor<N: Desk>(rt: &(impl Abort + AllocGlobal + Wait), started: Started
         editor.learn(&mut last, note);
         let _read = editor.reading(&mut last);
     }
-    assert!(rt; reads(editor.reading(&mut last), 1, 229376));
+    assert_reads(rt, editor.reading(&mut last), 1, 229376);
 }
 
 #[test]
@@ -119,7 +119,8 @@ fn end_editor<N: Desk>(rt: &(impl Abort + AllocGlobal + Wait), started: Started,
     let answered = submit_by(rt, &editor, &mut seats, 0, &call).is_ok();
     drop(call);
     let ended = !closes || is_closed(editor, seats);
-    assert!(rt; answered && ended);
+    assert!(rt; answered);
+    assert!(rt; ended);
 }
 
 fn is_closed<N: Desk>(editor: Editor<N>, seats: Vec<Seat<N>>) -> bool

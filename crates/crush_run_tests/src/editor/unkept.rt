@@ -26,8 +26,10 @@ fn started_unkept(rt: &(impl Abort + AllocGlobal)) -> Started<Global, WithoutSna
     }
 }
 
-fn is_closed(closed: &Closed<Global, WithoutSnapshot>, weight: u64) -> bool {
-    closed.opening == WithoutSnapshot && closed.history.len() == 1 && closed.map.total() == weight
+fn assert_closed(rt: &impl Abort, closed: &Closed<Global, WithoutSnapshot>, weight: u64) {
+    assert_eq!(rt; closed.opening, WithoutSnapshot);
+    assert_eq!(rt; closed.history.len(), 1);
+    assert_eq!(rt; closed.map.total(), weight);
 }
 
 #[test]
@@ -36,7 +38,8 @@ fn a_book_without_an_opening(rt: HostRuntime) {
     let call = Call::One(weight_two(&rt, b"osd.0"));
     let answered = book.commit_copied(&gauge, 0, call).is_ok();
     let closed = book.into_closed();
-    assert!(&rt; answered && is_closed(&closed, 229376));
+    assert!(&rt; answered);
+    assert_closed(&rt, &closed, 229376);
 }
 
 #[test]
@@ -63,7 +66,8 @@ fn one_operator<N: Desk>(
             let slips = seat.slips().len();
             drop(seat);
             drop(editor);
-            assert!(rt; answered && slips == 1);
+            assert!(rt; answered);
+            assert_eq!(rt; slips, 1);
         }
         Err(map) => {
             drop(map);

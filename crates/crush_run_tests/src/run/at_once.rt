@@ -98,11 +98,9 @@ fn two_operators_are_at_work_at_the_same_time(rt: HostRuntime) {
     let mut out = Vec::new(rt.alloc());
     let outcome = run_map(&rt, &gate, AT_ONCE, &mut job.as_slice(), &mut out);
     let missed = gate.missed.load(Ordering::SeqCst);
-    assert!(&rt;
-        missed == 0
-            && outcome == Ok(summary(0, 2, 1))
-            && (out.ends_with(FIRST_HAS_IT) || out.ends_with(SECOND_HAS_IT))
-    );
+    assert_eq!(&rt; missed, 0);
+    assert_eq!(&rt; outcome, Ok(summary(0, 2, 1)));
+    assert!(&rt; out.ends_with(FIRST_HAS_IT) || out.ends_with(SECOND_HAS_IT));
 }
 
 /// Both scripts insert the device `osd.7`, so exactly one of the two calls changes the map.
@@ -135,5 +133,7 @@ fn a_gate_dictates_the_order_of_calls(rt: HostRuntime) {
     let mut out = Vec::new(rt.alloc());
     let outcome = run_map(&rt, &gate, AT_ONCE, &mut job.as_slice(), &mut out);
     let in_order = gate.kept_order();
-    assert!(&rt; in_order && outcome == Ok(summary(0, 4, 2)) && out.ends_with(BY_TURNS));
+    assert!(&rt; in_order);
+    assert_eq!(&rt; outcome, Ok(summary(0, 4, 2)));
+    assert!(&rt; out.ends_with(BY_TURNS));
 }

@@ -34,24 +34,12 @@ fn parses_to(
 
 #[test]
 fn flags_and_a_file_are_read(rt: HostRuntime) {
-    assert!(rt;
-        parses_to(&rt, &[], false, true, None)
-            && parses_to(
-                &rt,
-                &["--in-turn", "--no-history", "j.txt"],
-                true,
-                false,
-                Some("j.txt")
-            )
-            && parses_to(&rt, &["j.txt", "--in-turn"], true, true, Some("j.txt"))
-            && parses_to(
-                &rt,
-                &["--no-history", "--", "--in-turn"],
-                false,
-                false,
-                Some("--in-turn")
-            )
-    );
+    assert!(rt; parses_to(&rt, &[], false, true, None));
+    let words = &["--in-turn", "--no-history", "j.txt"];
+    assert!(rt; parses_to(&rt, words, true, false, Some("j.txt")));
+    assert!(rt; parses_to(&rt, &["j.txt", "--in-turn"], true, true, Some("j.txt")));
+    let words = &["--no-history", "--", "--in-turn"];
+    assert!(rt; parses_to(&rt, words, false, false, Some("--in-turn")));
 }
 
 /// Whether a command line with the verb `apply` means the options for which this verb is a short
@@ -84,15 +72,13 @@ fn applies(rt: &impl AllocGlobal, words: &[&str], is_dry: bool, scripts: usize) 
 
 #[test]
 fn verbs_are_short_for_plain_words(rt: HostRuntime) {
-    assert!(rt;
-        applies(&rt, &["apply", "m", "a", "b"], false, 2)
-            && applies(&rt, &["apply", "m", "--dry-run"], true, 0)
-            && applies(&rt, &["apply", "m", "a", "-o", "n", "b"], false, 2)
-            && parses_to(&rt, &["tree", "m"], false, false, Some("m"))
-            && parses_to(&rt, &["diff", "o", "n"], false, false, Some("n"))
-            && parses_to(&rt, &["plan", "m", "w"], false, false, Some("m"))
-            && parses_to(&rt, &["--", "apply"], false, true, Some("apply"))
-            && options(rt.alloc(), &["apply", "-", "-"]).is_err()
-            && options(rt.alloc(), &["apply", "--tree", "m"]).is_err()
-    );
+    assert!(rt; applies(&rt, &["apply", "m", "a", "b"], false, 2));
+    assert!(rt; applies(&rt, &["apply", "m", "--dry-run"], true, 0));
+    assert!(rt; applies(&rt, &["apply", "m", "a", "-o", "n", "b"], false, 2));
+    assert!(rt; parses_to(&rt, &["tree", "m"], false, false, Some("m")));
+    assert!(rt; parses_to(&rt, &["diff", "o", "n"], false, false, Some("n")));
+    assert!(rt; parses_to(&rt, &["plan", "m", "w"], false, false, Some("m")));
+    assert!(rt; parses_to(&rt, &["--", "apply"], false, true, Some("apply")));
+    assert!(rt; options(rt.alloc(), &["apply", "-", "-"]).is_err());
+    assert!(rt; options(rt.alloc(), &["apply", "--tree", "m"]).is_err());
 }

@@ -166,10 +166,8 @@ fn leaves_a_prefix_at_a_failed_write(rt: HostRuntime) {
     let run = (job.as_slice(), whole.as_slice());
     for room in 0..run.1.len() {
         for way in WAYS {
-            assert!(rt;
-                leaves_a_prefix(&rt, run, room, true, way)
-                    && leaves_a_prefix(&rt, run, room, false, way)
-            );
+            assert!(rt; leaves_a_prefix(&rt, run, room, true, way));
+            assert!(rt; leaves_a_prefix(&rt, run, room, false, way));
         }
     }
 }
@@ -195,7 +193,8 @@ fn asks_an_endless_reader_for_one_byte_too_many(rt: HostRuntime) {
         most: 1,
         asked: 0,
     };
-    assert!(rt; is_too_long(&rt, &mut reader) && reader.asked == 16_777_217);
+    assert!(rt; is_too_long(&rt, &mut reader));
+    assert_eq!(rt; reader.asked, 16_777_217);
 }
 
 #[test]

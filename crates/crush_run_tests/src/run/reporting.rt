@@ -11,23 +11,14 @@ use std::alloc::AllocError;
 use std::io::{self, ErrorKind, Write};
 use std::process::Abort;
 
-fn is_one_fault() -> bool {
-    RunFault::from(WriteFault::OutOfMemory) == RunFault::Memory
-        && RunFault::from(AllocError) == RunFault::Memory
-}
-
 #[test]
 fn reports_what_no_run_here_comes_to(rt: HostRuntime) {
     let of_job = Err(RunFault::Job(JobFault::OutOfMemory));
-    assert!(rt;
-        is_listed(
-            &rt,
-            &Err(RunFault::Memory),
-            b"crushedit: out of memory\n",
-            4
-        ) && is_listed(&rt, &of_job, b"crushedit: out of memory\n", 4)
-            && is_one_fault()
-    );
+    let line = b"crushedit: out of memory\n";
+    assert!(rt; is_listed(&rt, &Err(RunFault::Memory), line, 4));
+    assert!(rt; is_listed(&rt, &of_job, line, 4));
+    assert_eq!(rt; RunFault::from(WriteFault::OutOfMemory), RunFault::Memory);
+    assert_eq!(rt; RunFault::from(AllocError), RunFault::Memory);
 }
 
 #[test]
@@ -47,12 +38,10 @@ fn differing(adjusted: u32) -> Summary {
 #[test]
 fn counts_what_ended_a_run_and_has_a_status_of_what_differs(rt: HostRuntime) {
     let (made, stays) = (Err(RunFault::Made(3)), Err(RunFault::Differs(7)));
-    assert!(rt;
-        is_listed(&rt, &made, b"crushedit: made 3\n", 5)
-            && is_listed(&rt, &stays, b"crushedit: differs 7\n", 5)
-            && is_listed(&rt, &Ok(differing(0)), b"", 6)
-            && is_listed(&rt, &Ok(differing(7)), b"crushedit: adjusted 7\n", 6)
-    );
+    assert!(rt; is_listed(&rt, &made, b"crushedit: made 3\n", 5));
+    assert!(rt; is_listed(&rt, &stays, b"crushedit: differs 7\n", 5));
+    assert!(rt; is_listed(&rt, &Ok(differing(0)), b"", 6));
+    assert!(rt; is_listed(&rt, &Ok(differing(7)), b"crushedit: adjusted 7\n", 6));
 }
 
 fn is_explained(rt: &impl AllocGlobal, outcome: &Result<Summary, RunFault>, told: &[u8]) -> bool {
@@ -100,12 +89,11 @@ fn keeps_the_status_where_standard_error_fails(rt: HostRuntime) {
     let mut held = [0u8; 14];
     let mut room = held.as_mut_slice();
     let told = report(Words::none(), &Err(RunFault::Read), b"", &mut room);
-    assert!(rt;
-        told.status == 3
-            && told.written.is_err()
-            && held == *b"crushedit: rea"
-            && report(Words::none(), &Err(RunFault::Memory), b"", &mut Closed).status == 4
-    );
+    assert_eq!(rt; told.status, 3);
+    assert!(rt; told.written.is_err());
+    assert!(rt; held == *b"crushedit: rea");
+    let closed = report(Words::none(), &Err(RunFault::Memory), b"", &mut Closed);
+    assert_eq!(rt; closed.status, 4);
 }
 
 fn is_ended(
@@ -159,5 +147,6 @@ fn help_that_cannot_be_written_is_a_write_fault(rt: HostRuntime) {
     let are_write_faults = is_write_fault(&rt, &help, &mut Closed)
         && is_write_fault(&rt, &help, &mut room);
     drop(help);
-    assert!(rt; are_write_faults && held == *b"Usage: crushed");
+    assert!(rt; are_write_faults);
+    assert!(rt; held == *b"Usage: crushed");
 }

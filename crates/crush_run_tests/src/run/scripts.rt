@@ -80,11 +80,9 @@ fn a_file_whose_name_is_no_operators_is_a_bad_line(rt: HostRuntime) {
     let refused = Err(RunFault::Job(JobFault::BadLine { line: 42, why }));
     for name in NAMELESS {
         let output = joined(&rt, PLAIN, BOB_LINE);
-        assert!(&rt;
-            ends_so(&rt, name, ALICE, refused, b"")
-                && ends_so(&rt, name, b"", refused, b"")
-                && ends_so(&rt, name, BOB, Ok(summary(0, 1, 0)), output.as_slice())
-        );
+        assert!(&rt; ends_so(&rt, name, ALICE, refused, b""));
+        assert!(&rt; ends_so(&rt, name, b"", refused, b""));
+        assert!(&rt; ends_so(&rt, name, BOB, Ok(summary(0, 1, 0)), output.as_slice()));
     }
 }
 
@@ -142,9 +140,11 @@ fn the_files_of_a_job_are_read_up_to_one_limit(rt: HostRuntime) {
         &mut input,
         &mut out,
     );
-    let has_ended_so = ending.outcome == Err(RunFault::Job(JobFault::TooLong));
+    let outcome = ending.outcome;
     drop(options);
     drop(ending);
     let count = taken.load(Ordering::SeqCst);
-    assert!(rt; has_ended_so && out.is_empty() && count == 16_777_217);
+    assert_eq!(rt; outcome, Err(RunFault::Job(JobFault::TooLong)));
+    assert!(rt; out.is_empty());
+    assert_eq!(rt; count, 16_777_217);
 }

@@ -52,30 +52,21 @@ fn is_told(
 
 #[test]
 fn whole_maps_are_read(rt: HostRuntime) {
-    assert!(rt;
-        is_read(&rt, MapForm::WholeMap, PLAIN)
-            && is_read(&rt, MapForm::WholeMap, b"# end crush map")
-            && is_read(&rt, MapForm::WholeMap, b"# end crush map \t\r\n\n  \n")
-            && is_read(&rt, MapForm::Map, BEGUN)
-            && is_read(&rt, MapForm::Map, b"")
-    );
+    assert!(rt; is_read(&rt, MapForm::WholeMap, PLAIN));
+    assert!(rt; is_read(&rt, MapForm::WholeMap, b"# end crush map"));
+    assert!(rt; is_read(&rt, MapForm::WholeMap, b"# end crush map \t\r\n\n  \n"));
+    assert!(rt; is_read(&rt, MapForm::Map, BEGUN));
+    assert!(rt; is_read(&rt, MapForm::Map, b""));
 }
 
 #[test]
 fn maps_that_may_be_cut_are_told(rt: HostRuntime) {
-    assert!(rt;
-        is_told(&rt, VerbMap::First, b"", CUT, 1)
-            && is_told(&rt, VerbMap::Old, BEGUN, CUT_OLD, 1)
-            && is_told(&rt, VerbMap::First, b"# end crush map\n# more\n", CUT, 1)
-            && is_told(
-                &rt,
-                VerbMap::First,
-                b"tunable a 1\n ## end crush map\n",
-                CUT,
-                1
-            )
-            && is_told(&rt, VerbMap::First, b"tunable a 1\ntunable b", CUT, 1)
-    );
+    assert!(rt; is_told(&rt, VerbMap::First, b"", CUT, 1));
+    assert!(rt; is_told(&rt, VerbMap::Old, BEGUN, CUT_OLD, 1));
+    assert!(rt; is_told(&rt, VerbMap::First, b"# end crush map\n# more\n", CUT, 1));
+    let quoted = b"tunable a 1\n ## end crush map\n";
+    assert!(rt; is_told(&rt, VerbMap::First, quoted, CUT, 1));
+    assert!(rt; is_told(&rt, VerbMap::First, b"tunable a 1\ntunable b", CUT, 1));
 }
 
 #[test]
@@ -88,18 +79,11 @@ fn flaws_and_scripts_are_told(rt: HostRuntime) {
     let mut err = Vec::new(rt.alloc());
     let status = report_verb_map(&refusal, &mut err).status;
     drop(refusal);
-    assert!(rt;
-        is_told(
-            &rt,
-            VerbMap::Wanted,
-            b"# end crush map\n%operator a\n",
-            script,
-            1
-        ) && status == 1
-            && err
-                .as_slice()
-                .starts_with(b"crushedit: byte 0: UnknownType\n  m line 1, column 1\n")
-    );
+    let text = b"# end crush map\n%operator a\n";
+    assert!(rt; is_told(&rt, VerbMap::Wanted, text, script, 1));
+    assert_eq!(rt; status, 1);
+    let flaw = b"crushedit: byte 0: UnknownType\n  m line 1, column 1\n";
+    assert!(rt; err.as_slice().starts_with(flaw));
 }
 
 #[test]
@@ -119,12 +103,9 @@ fn files_that_fail_are_noted(rt: HostRuntime) {
     let mut err = Vec::new(rt.alloc());
     let status = report_verb_map(&refusal, &mut err).status;
     drop(refusal);
-    assert!(rt;
-        is_noted
-            && is_quiet
-            && status == 3
-            && err
-                .as_slice()
-                .starts_with(b"crushedit: old: read fault\n  m: ")
-    );
+    assert!(rt; is_noted);
+    assert!(rt; is_quiet);
+    assert_eq!(rt; status, 3);
+    let fault = b"crushedit: old: read fault\n  m: ";
+    assert!(rt; err.as_slice().starts_with(fault));
 }
