@@ -23,8 +23,9 @@ use std::marker::Brand;
 /// one total order (sequential consistency).
 #[derive(Drop)]
 pub struct Gauge<O, E, P: Law<O, E>> {
-    /// The table that has the shared word. In contracts, the table also has what each seat has
-    /// seen. This part doesn't exist when the program runs.
+    /// The shared word, in a `Table` of the crate `atomic_table` (this isn't the table of a map).
+    /// In contracts, this `Table` also has what each seat has seen. This part doesn't exist when
+    /// the program runs.
     pub table: Table<(), View<O, E>, u64, Rule<P>, Global>,
     pub ghost one_word: { (table.shared.table_id.words ≡ 1) × (table.shared.table_id.slots ≡ 0) },
 }
@@ -42,10 +43,10 @@ pub struct Reading {
 impl<O, E, P: Law<O, E>> Gauge<O, E, P> {
     /// Creates a gauge with one seat that publishes and `readers` seats that read.
     ///
-    /// `weight` is the weight at the opening, as the gauge's law `P` computes it, and below 2^43.
-    /// The caller's proof chooses the opening. After this opening, the empty history must be legal,
-    /// have no changes, and have the weight `weight`. Each new seat has seen the opening and no
-    /// entry. Returns an error if memory runs out.
+    /// The caller's proof chooses the opening. After the opening, the empty history must be legal
+    /// and have no changes. `weight` must be the value that `P.weight` gives for the opening and the
+    /// empty history, and must be below 2^43. Each new seat has seen the opening and no entry.
+    /// Returns an error if memory runs out.
     pub fn new(
         alloc: Global,
         weight: u64,

@@ -72,8 +72,8 @@ impl<O, E, P: Law<O, E>> Play<(), View<O, E>> for Load<P> {
     ghost then = { loaded P.legal P.changes P.weight };
 }
 
-/// The load after a join. It shows that both histories that the join compared are prefixes of what
-/// the seat has seen.
+/// A load by a seat into which another seat was joined just before ([`Merge`]). The load shows that
+/// the histories that the two seats had seen are prefixes of what the seat has seen now.
 pub(crate) struct Compare<P> {
     of: PhantomData<P>,
 }

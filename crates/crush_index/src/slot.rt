@@ -18,8 +18,9 @@ pub(crate) enum SlotParent {
 #[derive(Clone, Copy)]
 pub(crate) struct Entry {
     pub(crate) parent: SlotParent,
-    /// A hint that says where the slot in `parent` is probably stored. A look-up tries this
-    /// position first, and checks whether the slot is there.
+    /// The probable position of the parent's slot in the map `Slots::slots`, which gives the bucket
+    /// of a slot. A look-up tries this position first, and checks whether the slot is there. If
+    /// `parent` names no slot, the hint is 0.
     pub(crate) slot_hint: u32,
     /// A hint: the item's probable index among its siblings, from 0. A walk tries this index first,
     /// and checks whether the item is there.

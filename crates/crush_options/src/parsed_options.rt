@@ -37,7 +37,8 @@ pub struct Mode {
 #[derive(Clone, Copy, Debug, PartialEq, Eq)]
 pub enum MapForm {
     /// The first file is a job, so scripts may follow the text of its map. The text of another map
-    /// needn't end with the line `# end crush map`. Every plain command line has this form.
+    /// needn't end with the line `# end crush map`. A command line that doesn't begin with a verb
+    /// (a *plain* command line) always requires this form of its files.
     Job,
     /// Each of these files is the text of a map, without scripts.
     Map,

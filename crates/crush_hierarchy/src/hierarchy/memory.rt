@@ -1,5 +1,5 @@
-//! Moves the items of a place from one vector to another. The old vector is returned, so that the
-//! move can be undone exactly.
+//! Moves the items of a *place* (a bucket, the list of roots, or the list of unplaced devices) from
+//! one vector to another. The old vector is returned, so that the move can be undone exactly.
 
 ghost use Rattle.std.specs.Prelude.{◌≡◌, true, vec_capacity};
 ghost use Rattle.crush_model.specs.Forest.{rows_of};

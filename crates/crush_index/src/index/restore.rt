@@ -49,7 +49,8 @@ pub(crate) enum PlaceMemory {
 pub struct RestoreMemory {
     name: NameMemory,
     place: PlaceMemory,
-    /// For a bucket, the memory of one link for its id, and of one link for each of its class ids.
+    /// Memory to mark the ids of a bucket as used again, even if the set of used ids can't grow:
+    /// one link of a linked list (`Chain`) for the bucket's id, and one for each of its class ids.
     /// For a device the vector is empty.
     ids: Vec<Spare<u32, ()>>,
 }
