@@ -115,7 +115,7 @@ def met_faults():
     """Which edits may meet other refusals than edits.md says, by the tests of their definitions."""
     specs = "\n".join(path.read_text() for path in sorted((TOP / "crates/crush_edits/specs").glob("*.antt")))
     bodies = dict(re.findall(r"(?m)^(\w+_tests?) [^:=\n]*=((?: .*|\n    .*)+)$", specs))
-    edits = re.findall(r"(?m)^tests s t \((\w+)[^)]*\) a = (\w+_tests)", specs)
+    edits = re.findall(r"(?m)^tests s t \((?:Place )?(\w+)[^)]*\) a = (\w+_tests)", specs)
     numbers = {name: number for number, name in enumerate(variants(*ROWS["Refusals"]), 1)}
 
     def met(name):

@@ -6,7 +6,8 @@ use Rattle.crush_units.specs.declared.id.ItemId.TheVariants.{Device}
 use Rattle.crush_model.specs.Columns.{set_weight}
 use Rattle.crush_model.specs.Lawful.{Lawful}
 use Rattle.crush_model.specs.Table.{Row, is_placed}
-use Rattle.crush_edits.specs.declared.edit.Edit.TheVariants.{Insert, CreateOrMove, Update}
+use Rattle.crush_edits.specs.declared.edit.Edit.TheVariants.{Place}
+use Rattle.crush_edits.specs.declared.edit.Placing.TheVariants.{Insert, CreateOrMove, Update}
 use Rattle.crush_edits.specs.declared.location.Pair.{Pair}
 use Rattle.crush_edits.specs.declared.refusal.Refusal.{Refusal}
 use Rattle.crush_edits.specs.declared.refusal.Refusal.TheVariants.{AlreadyPlaced}
@@ -56,7 +57,7 @@ module _ (s : SettingData) (t : List Row) (d : ℕ) (n : List ℕ) (w : ℕ) (l 
   pub insert_last : (a : After) → first_refusal (located_device_tests s t d n w l) ≡ None → is_placed t (Device d) ≡ false → first_refusal (end_tests t (stops s l)) ≡ None → first_refusal (insert_tests s t d n w l a) ≡ last_refusal a
   insert_last a e free f = group_passes device (placed a) e ∙ next_test AlreadyPlaced (is_placed t (Device d)) (ends ++ last_tests a) free ∙ group_passes ends (last_tests a) f
 
-  pub insert_answer : first_refusal (located_device_tests s t d n w l) ≡ None → is_placed t (Device d) ≡ false → first_refusal (end_tests t (stops s l)) ≡ None → edit s t (Insert d n w l) ≡ last_answer t (put_after t (edited_device t d n w) (stops s l))
+  pub insert_answer : first_refusal (located_device_tests s t d n w l) ≡ None → is_placed t (Device d) ≡ false → first_refusal (end_tests t (stops s l)) ≡ None → edit s t (Place Insert d n w l) ≡ last_answer t (put_after t (edited_device t d n w) (stops s l))
   insert_answer e free f = let a = after_insert s t d n w l in ap (λ o. answer o t a) (insert_last a e free f)
 
   -- CREATE OR MOVE, UPDATE
@@ -71,14 +72,14 @@ module _ (s : SettingData) (t : List Row) (d : ℕ) (n : List ℕ) (w : ℕ) (l 
 
   -- if the device isn't held, it is put
   module _ (e : first_refusal (located_device_tests s t d n w l) ≡ None) (f : first_refusal (end_tests t (stops s l)) ≡ None) (free : held t (Device d) (stops s l) ≡ false) where
-    pub move_answer : edit s t (CreateOrMove d n w l) ≡ last_answer t (put_after t (edited_device t d n (kept_weight t d w)) (stops s l))
+    pub move_answer : edit s t (Place CreateOrMove d n w l) ≡ last_answer t (put_after t (edited_device t d n (kept_weight t d w)) (stops s l))
     move_answer = let a = after_create_or_move s t d n w l in ap (λ o. answer o t a) (put_last a e f) ∙ ap (λ b. last_answer t (if b then kept t else put_after t (edited_device t d n (kept_weight t d w)) (stops s l))) free
 
-    pub update_answer : edit s t (Update d n w l) ≡ last_answer t (put_after t (edited_device t d n w) (stops s l))
+    pub update_answer : edit s t (Place Update d n w l) ≡ last_answer t (put_after t (edited_device t d n w) (stops s l))
     update_answer = let a = after_update s t d n w l in ap (λ o. answer o t a) (put_last a e f) ∙ ap (λ b. last_answer t (if b then kept (set_weight (Device d) w t) else put_after t (edited_device t d n w) (stops s l))) free
 
   -- if the device is held, nothing changes
-  pub held_answer : first_refusal (located_device_tests s t d n w l) ≡ None → first_refusal (end_tests t (stops s l)) ≡ None → held t (Device d) (stops s l) ≡ true → Lawful t → edit s t (CreateOrMove d n w l) ≡ done false 0 t
+  pub held_answer : first_refusal (located_device_tests s t d n w l) ≡ None → first_refusal (end_tests t (stops s l)) ≡ None → held t (Device d) (stops s l) ≡ true → Lawful t → edit s t (Place CreateOrMove d n w l) ≡ done false 0 t
   held_answer e f there lawful =
       let a = after_create_or_move s t d n w l in
       ap (λ o. answer o t a) (put_last a e f) ∙ ap (λ b. last_answer t (if b then kept t else put_after t (edited_device t d n (kept_weight t d w)) (stops s l))) there ∙ last_kept t lawful

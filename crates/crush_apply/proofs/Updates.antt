@@ -18,7 +18,8 @@ use Rattle.crush_model.proofs.Changes.{with_weight, with_weight-id}
 use Rattle.crush_model.proofs.Columns.{count-map}
 use Rattle.crush_model.proofs.Passing.{lawful_room}
 use Rattle.crush_model.proofs.Weighs.{or_left}
-use Rattle.crush_edits.specs.declared.edit.Edit.TheVariants.{Reweight, Update}
+use Rattle.crush_edits.specs.declared.edit.Edit.TheVariants.{Place, Reweight}
+use Rattle.crush_edits.specs.declared.edit.Placing.TheVariants.{Update}
 use Rattle.crush_edits.specs.declared.location.Pair.{Pair}
 use Rattle.crush_edits.specs.declared.refusal.Refusal.TheVariants.{NoRoom, SumTooLarge}
 use Rattle.crush_edits.specs.Answer.{After, answer, kept, meets, first_refusal, is_heavy, sum_test}
@@ -77,7 +78,7 @@ light_weight w h = grind (arith, nat_tests)
 
 -- THE HELD DEVICE: Update gives what Reweight gives
 pub held_update : (s : SettingData) (t : List Row) (d : ℕ) (n : List ℕ) (w : ℕ) (l : List Pair) → Lawful t → ((a : After) → first_refusal (device_put_tests s t d n w l a) ≡ last_refusal a)
-    → is_taken t (Device d) n ≡ false → w ≤ HEAVIEST_DEVICE → held t (Device d) (stops s l) ≡ true → edit s t (Update d n w l) ≡ edit s t (Reweight n w)
+    → is_taken t (Device d) n ≡ false → w ≤ HEAVIEST_DEVICE → held t (Device d) (stops s l) ≡ true → edit s t (Place Update d n w l) ≡ edit s t (Reweight n w)
 held_update s t d n w l lawful last own light there =
     let u : List Row = set_weight (Device d) w t in
     let placed = held_placed t (Device d) (stops s l) there in

@@ -4,7 +4,7 @@ use Rattle.std.specs.List.{list_any}
 use Rattle.std.specs.Option.{option_map, option_or}
 use Rattle.crush_model.specs.Table.{Row, id_named, is_named}
 use Rattle.crush_edits.specs.declared.edit.Edit.{Edit}
-use Rattle.crush_edits.specs.declared.edit.Edit.TheVariants.{Insert, CreateOrMove, Update, Move, Swap, Reweight, ReweightSubtree, Remove, AddBucket, Rename, SetClass, RemoveClass}
+use Rattle.crush_edits.specs.declared.edit.Edit.TheVariants.{Place, Move, Swap, Reweight, ReweightSubtree, Remove, AddBucket, Rename, SetClass, RemoveClass}
 use Rattle.crush_edits.specs.declared.location.Pair.{Pair}
 use Rattle.crush_edits.specs.declared.refusal.Refusal.{Refusal}
 use Rattle.crush_edits.specs.declared.refusal.Refusal.TheVariants.{BadLocation, NoSuchType, NoSuchItem, NameTaken, NotABucket, WrongType, Loop, AlreadyRenamed}
@@ -63,9 +63,7 @@ name_culprit from to r = from
 
 -- THE NAME that a refusal of the edit is about; for an edit that sets a weight, changes a class or removes an item, it is the name of the item
 abbrev pub culprit : SettingData → List Row → Edit → Refusal → List ℕ
-culprit s t (Insert d n w l) r = put_culprit s t n l r
-culprit s t (CreateOrMove d n w l) r = put_culprit s t n l r
-culprit s t (Update d n w l) r = put_culprit s t n l r
+culprit s t (Place how d n w l) r = put_culprit s t n l r
 culprit s t (Move n l) r = put_culprit s t n l r
 culprit s t (Swap a b) r = swap_culprit t a b r
 culprit s t (Reweight n w) r = n

@@ -1,11 +1,9 @@
 //! Applies one edit, by calling the function for the kind of the edit.
 
-ghost use Rattle.std.specs.Prelude.{◌≡◌, ℕ, List, IfOk, OnErr, true, false};
+ghost use Rattle.std.specs.Prelude.{◌≡◌, List, IfOk, OnErr, true, false};
 ghost use Rattle.crush_model.specs.Table.{Row};
 ghost use Rattle.crush_model.specs.Forest.{rows_of};
 ghost use Rattle.crush_model.specs.Stands.{Stands};
-ghost use Rattle.crush_edits.specs.declared.edit.Edit.TheVariants.{Insert, CreateOrMove, Update};
-ghost use Rattle.crush_edits.specs.declared.location.Pair.{Pair};
 ghost use Rattle.crush_edits.specs.declared.refusal.Refusal.{Refusal as DeclaredRefusal};
 ghost use Rattle.crush_edits.specs.Answer.{refused};
 ghost use Rattle.crush_edits.specs.Edit.{edit, takes_memory, sets_weights};
@@ -14,11 +12,10 @@ ghost use Rattle.crush_edits.specs.LawEdit.{IsEdit};
 ghost use Rattle.crush_edits.specs.Outcome.{IsDone, IsChange};
 ghost use Rattle.crush_apply.specs.Answered.{KeepsRooms};
 ghost use Rattle.crush_apply.specs.UndoLog.{AnswersLoggedIf};
-ghost use Rattle.crush_apply.specs.declared.place.IfPlaced.TheVariants.{Refuse, KeepWeight, SetWeight};
 
 use crate::add_bucket::add_bucket;
 use crate::classes::{remove_class, set_class};
-use crate::place::{IfPlaced, place};
+use crate::place::place;
 use crate::relocate::relocate;
 use crate::remove::remove;
 use crate::rename::rename;
@@ -73,19 +70,7 @@ pub(crate) fn recall_forms(requested: &Edit)
     ensures { IsEdit requested.now }
 {
     match requested {
-        Edit::Insert {
-            device,
-            name,
-            at,
-            ..
-        }
-        | Edit::CreateOrMove {
-            device,
-            name,
-            at,
-            ..
-        }
-        | Edit::Update {
+        Edit::Place {
             device,
             name,
             at,
@@ -111,22 +96,6 @@ pub(crate) fn recall_forms(requested: &Edit)
     }
 }
 
-/// Returns what an edit that puts a device does with a device that is already in a bucket.
-fn if_placed(requested: &Edit) -> IfPlaced
-    ensures insert { (d : ℕ) (n : List ℕ) (w : ℕ) (l : List Pair)
-        → requested.now ≡ Insert d n w l → result ≡ Refuse }
-    ensures create_or_move { (d : ℕ) (n : List ℕ) (w : ℕ) (l : List Pair)
-        → requested.now ≡ CreateOrMove d n w l → result ≡ KeepWeight }
-    ensures update { (d : ℕ) (n : List ℕ) (w : ℕ) (l : List Pair)
-        → requested.now ≡ Update d n w l → result ≡ SetWeight }
-{
-    match requested {
-        Edit::Insert { .. } => IfPlaced::Refuse,
-        Edit::Update { .. } => IfPlaced::SetWeight,
-        _ => IfPlaced::KeepWeight,
-    }
-}
-
 /// Applies an edit. Returns what the edit has done, and an entry for the undo log that can undo the
 /// edit.
 ///
@@ -144,19 +113,8 @@ pub(crate) fn make<A: Allocator + Clone>(
     ensures rooms { sets_weights requested.now ≡ true → KeepsRooms hierarchy.old hierarchy.new }
 {
     match requested {
-        Edit::Insert {
-            device,
-            name,
-            weight,
-            at,
-        }
-        | Edit::CreateOrMove {
-            device,
-            name,
-            weight,
-            at,
-        }
-        | Edit::Update {
+        Edit::Place {
+            how,
             device,
             name,
             weight,
@@ -168,7 +126,7 @@ pub(crate) fn make<A: Allocator + Clone>(
                 weight: *weight,
                 at,
             };
-            place(hierarchy, setting, if_placed(requested), &arrival)
+            place(hierarchy, setting, *how, &arrival)
         }
         Edit::Move { name, at } => relocate(hierarchy, setting, name, at),
         Edit::Swap { a, b } => swap(hierarchy, a, b),

@@ -28,10 +28,9 @@ pub fn culprit<'a, A: Allocator>(
         → result.now ≡ culprit setting.now t requested.now refusal }
 {
     match requested {
-        Edit::Insert { name, at, .. }
-        | Edit::CreateOrMove { name, at, .. }
-        | Edit::Update { name, at, .. }
-        | Edit::Move { name, at } => put_culprit(hierarchy, setting, name, at, refusal),
+        Edit::Place { name, at, .. } | Edit::Move { name, at } => put_culprit(
+            hierarchy, setting, name, at, refusal,
+        ),
         Edit::Swap { a, b } => swap_culprit(hierarchy, a, b, refusal),
         Edit::AddBucket { name, kind } => bucket_culprit(name, kind, refusal),
         Edit::Rename { from, to } => name_culprit(from, to, refusal),

@@ -1,45 +1,35 @@
-//! Applies the edits that put a device at a location: `Insert`, `CreateOrMove` and `Update`.
+//! Applies the edit that puts a device at a location, in each of its three ways.
 
 ghost use Rattle.std.specs.Prelude.{◌≡◌, ◌≤◌, List};
 ghost use Rattle.crush_units.specs.declared.limits.TheConstants.{HEAVIEST_DEVICE};
 ghost use Rattle.crush_model.specs.Table.{Row};
 ghost use Rattle.crush_model.specs.Forest.{rows_of};
 ghost use Rattle.crush_model.specs.Stands.{Stands};
+ghost use Rattle.crush_edits.specs.declared.edit.Edit.TheVariants.{Place};
 ghost use Rattle.crush_edits.specs.Edit.{edit};
 ghost use Rattle.crush_edits.specs.Fits.{Fits};
 ghost use Rattle.crush_edits.specs.Placing.{kept_weight};
 ghost use Rattle.crush_edits.specs.Setting.{SettingData};
 ghost use Rattle.crush_apply.specs.UndoLog.{AnswersLogged};
-ghost use Rattle.crush_apply.specs.IfPlaced.{placing, is_barred, coming_weight, stay_answer};
+ghost use Rattle.crush_apply.specs.IfPlaced.{is_barred, coming_weight, stay_answer};
 
 use crate::reweight::reweight;
 use crate::route::{NewDevice, check_device, destination_of, is_held, place_device};
 use crate::undo_log::Undo;
-use crush_edits::{Done, EditFault, Refusal, Setting};
+use crush_edits::{Done, EditFault, Placing, Refusal, Setting};
 use crush_hierarchy::Hierarchy;
 use crush_units::{DeviceId, ItemId, Weight};
 use std::alloc::Allocator;
 
-/// What an edit does with a device that is already in a bucket.
-#[derive(Clone, Copy)]
-pub(crate) enum IfPlaced {
-    /// `Insert`: the edit is refused.
-    Refuse,
-    /// `CreateOrMove`: the device keeps its weight.
-    KeepWeight,
-    /// `Update`: the device gets the weight of the edit.
-    SetWeight,
-}
-
-/// Applies `Insert`, `CreateOrMove` or `Update`, as `how` says.
+/// Applies `Place`. `how` says what the edit does with a device that is already in a bucket.
 pub(crate) fn place<A: Allocator + Clone>(
     hierarchy: &mut Hierarchy<A>,
     setting: &Setting,
-    how: IfPlaced,
+    how: Placing,
     arrival: &NewDevice<'_>,
 ) -> Result<(Done, Option<Undo<A>>), EditFault>
     requires { Fits setting.now (rows_of hierarchy.old) }
-    ensures { AnswersLogged (λ t. edit setting.now t (placing how arrival.now.device
+    ensures { AnswersLogged (λ t. edit setting.now t (Place how arrival.now.device
         arrival.now.name.now arrival.now.weight arrival.now.at.now))
         hierarchy.old hierarchy.new result }
 {
@@ -58,13 +48,13 @@ pub(crate) fn place<A: Allocator + Clone>(
 }
 
 /// Whether the edit is refused because the device is already in a bucket.
-fn is_barred<A: Allocator>(hierarchy: &Hierarchy<A>, how: IfPlaced, device: DeviceId) -> bool
+fn is_barred<A: Allocator>(hierarchy: &Hierarchy<A>, how: Placing, device: DeviceId) -> bool
     ensures { (t : List Row) → Stands hierarchy.now t → result ≡ is_barred how t device }
 {
     match how {
-        IfPlaced::Refuse => hierarchy.parent(ItemId::Device(device)).is_some(),
-        IfPlaced::KeepWeight => false,
-        IfPlaced::SetWeight => false,
+        Placing::Insert => hierarchy.parent(ItemId::Device(device)).is_some(),
+        Placing::CreateOrMove => false,
+        Placing::Update => false,
     }
 }
 
@@ -72,14 +62,14 @@ fn is_barred<A: Allocator>(hierarchy: &Hierarchy<A>, how: IfPlaced, device: Devi
 /// device isn't moved; `Update` may change its weight.
 fn stay<A: Allocator>(
     hierarchy: &mut Hierarchy<A>,
-    how: IfPlaced,
+    how: Placing,
     arrival: &NewDevice<'_>,
 ) -> Result<(Done, Option<Undo<A>>), EditFault>
     ensures { (s : SettingData) → AnswersLogged
         (λ t. stay_answer s t how arrival.now.name.now arrival.now.weight)
         hierarchy.old hierarchy.new result }
 {
-    if let IfPlaced::SetWeight = how {
+    if let Placing::Update = how {
         return reweight(hierarchy, arrival.name, arrival.weight);
     }
     let done = Done {
@@ -92,7 +82,7 @@ fn stay<A: Allocator>(
 /// Returns the weight that the device has after it is put at the location.
 fn coming_weight<A: Allocator>(
     hierarchy: &Hierarchy<A>,
-    how: IfPlaced,
+    how: Placing,
     device: DeviceId,
     weight: Weight,
 ) -> Weight
@@ -102,9 +92,9 @@ fn coming_weight<A: Allocator>(
     ensures light { result ≤ HEAVIEST_DEVICE }
 {
     match how {
-        IfPlaced::Refuse => weight,
-        IfPlaced::KeepWeight => kept_weight(hierarchy, device, weight),
-        IfPlaced::SetWeight => weight,
+        Placing::Insert => weight,
+        Placing::CreateOrMove => kept_weight(hierarchy, device, weight),
+        Placing::Update => weight,
     }
 }
 

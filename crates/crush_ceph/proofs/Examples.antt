@@ -3,7 +3,8 @@ use Rattle.std.proofs.Common.{◌≡◌, [], ◌∷◌, refl}
 use Rattle.std.specs.Fmt.{digits}
 use Rattle.std.specs.Prelude.{None, Some, codes}
 use Rattle.crush_edits.proofs.Worked.Examples.{example_table, example_kinds, rack, root, host}
-use Rattle.crush_edits.specs.declared.edit.Edit.TheVariants.{AddBucket, Move, Rename, SetClass, RemoveClass, Swap, Update}
+use Rattle.crush_edits.specs.declared.edit.Edit.TheVariants.{Place, AddBucket, Move, Rename, SetClass, RemoveClass, Swap}
+use Rattle.crush_edits.specs.declared.edit.Placing.TheVariants.{Update}
 use Rattle.crush_edits.specs.Setting.{SettingData, take, emit}
 use Rattle.crush_history.specs.Ceph.{ceph_heading}
 use Rattle.crush_ceph.specs.CephText.{ceph_text}
@@ -44,7 +45,7 @@ renames = refl
 
 -- a device that no bucket holds is added, and then it is set
 set_twice : ceph_text classed example_table (
-    Update 3 (codes "osd.3") 65536 (host (codes "h1") ∷ []) ∷ Update 3 (codes "osd.3") 131072 (host (codes "h2") ∷ []) ∷ [])
+    Place Update 3 (codes "osd.3") 65536 (host (codes "h1") ∷ []) ∷ Place Update 3 (codes "osd.3") 131072 (host (codes "h2") ∷ []) ∷ [])
     ≡ codes "# 2 commands\nceph osd crush add osd.3 1.000000 host=h1\nceph osd crush set osd.3 2.000000 host=h2\n"
 unfolding ceph_text ceph_heading ceph_steps digits
 set_twice = refl

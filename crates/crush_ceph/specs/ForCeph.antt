@@ -5,7 +5,9 @@ use Rattle.crush_units.specs.declared.id.ItemId.TheVariants.{Device}
 use Rattle.crush_model.specs.Table.{Row, is_placed}
 use Rattle.crush_edits.specs.Answer.{meets}
 use Rattle.crush_edits.specs.declared.edit.Edit.{Edit}
-use Rattle.crush_edits.specs.declared.edit.Edit.TheVariants.{Insert, Update, Rename}
+use Rattle.crush_edits.specs.declared.edit.Edit.TheVariants.{Place, Rename}
+use Rattle.crush_edits.specs.declared.edit.Placing.{Placing}
+use Rattle.crush_edits.specs.declared.edit.Placing.TheVariants.{Insert, Update}
 use Rattle.crush_edits.specs.Edit.{edit}
 use Rattle.crush_edits.specs.Setting.{RuleData, SettingData, StepData, take}
 use Rattle.crush_edits.specs.Stops.{bucket_named}
@@ -13,12 +15,17 @@ use Rattle.crush_history.specs.History.{edit_outcome}
 
 -- the edit is a `set` of a device that no bucket holds. Ceph's `set` refuses a device that isn't in Ceph's map, but Ceph's `add` accepts it
 abbrev pub sets_unplaced : List Row → Edit → Bool
-sets_unplaced t (Update device name weight at) = not (is_placed t (Device device))
+sets_unplaced t (Place Update device name weight at) = not (is_placed t (Device device))
 sets_unplaced t e = false
+
+-- the way of `set` becomes the way of `add`, and any other way to place a device is unchanged
+abbrev pub added_way : Placing → Placing
+added_way Update = Insert
+added_way how = how
 
 -- a `set` becomes an `add` with the same values, and any other edit is unchanged
 abbrev pub added : Edit → Edit
-added (Update device name weight at) = Insert device name weight at
+added (Place how device name weight at) = Place (added_way how) device name weight at
 added e = e
 
 -- FOR CEPH: the edit with which Ceph makes this edit, if the table is as here before the edit

@@ -6,9 +6,9 @@ ghost use Rattle.crush_model.specs.Stands.{Stands};
 ghost use Rattle.crush_model.specs.Table.{Row};
 ghost use Rattle.crush_edits.specs.SettingSeen.{rule_data, step_data};
 ghost use Rattle.crush_edits.specs.Stops.{bucket_named};
-ghost use Rattle.crush_ceph.specs.ForCeph.{added, edit_for_ceph, is_taken_with_class, leaves_old_name, rule_takes_with_class, sets_unplaced, table_after_edit, takes_with_class};
+ghost use Rattle.crush_ceph.specs.ForCeph.{added, added_way, edit_for_ceph, is_taken_with_class, leaves_old_name, rule_takes_with_class, sets_unplaced, table_after_edit, takes_with_class};
 
-use crush_edits::{Edit, EditFault, KeptRule, KeptStep};
+use crush_edits::{Edit, EditFault, KeptRule, KeptStep, Placing};
 use crush_map::CrushMap;
 use crush_units::{BucketId, ItemId, Name};
 use std::alloc::{AllocError, Global};
@@ -17,8 +17,22 @@ fn sets_unplaced(map: &CrushMap<Global>, edit: &Edit) -> bool
     ensures { (t : List Row) → Stands map.now.forest t → result ≡ sets_unplaced t edit.now }
 {
     match edit {
-        Edit::Update { device, .. } => map.parent(ItemId::Device(*device)).is_none(),
+        Edit::Place {
+            how: Placing::Update,
+            device,
+            ..
+        } => map.parent(ItemId::Device(*device)).is_none(),
         _ => false,
+    }
+}
+
+/// Returns the way of `add` for the way of `set`, and any other way unchanged.
+fn added_way(how: Placing) -> Placing
+    ensures { result ≡ added_way how }
+{
+    match how {
+        Placing::Update => Placing::Insert,
+        how => how,
     }
 }
 
@@ -27,12 +41,14 @@ fn added(edit: Edit) -> Edit
     ensures { result ≡ added edit }
 {
     match edit {
-        Edit::Update {
+        Edit::Place {
+            how,
             device,
             name,
             weight,
             at,
-        } => Edit::Insert {
+        } => Edit::Place {
+            how: added_way(how),
             device,
             name,
             weight,

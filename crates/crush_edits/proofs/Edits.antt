@@ -26,7 +26,8 @@ use Rattle.crush_edits.specs.declared.refusal.Refusal.{Refusal}
 use Rattle.crush_edits.specs.declared.refusal.Refusal.TheVariants.{BadName, BadLocation, NoSuchType, NoPlace, WeightTooLarge, NameTaken, NotPlaced, NotADevice, NotABucket, WrongType, Loop, Nested, NotEmpty, InUse, NoRoom, SumTooLarge}
 use Rattle.crush_edits.specs.declared.refusal.Dones.{Dones}
 use Rattle.crush_edits.specs.declared.edit.Edit.{Edit}
-use Rattle.crush_edits.specs.declared.edit.Edit.TheVariants.{Insert, CreateOrMove, Update, Move, Swap, Reweight, ReweightSubtree, Remove, AddBucket, Rename, SetClass, RemoveClass}
+use Rattle.crush_edits.specs.declared.edit.Edit.TheVariants.{Place, Move, Swap, Reweight, ReweightSubtree, Remove, AddBucket, Rename, SetClass, RemoveClass}
+use Rattle.crush_edits.specs.declared.edit.Placing.TheVariants.{Insert, CreateOrMove, Update}
 use Rattle.crush_edits.specs.declared.location.Pair.{Pair}
 use Rattle.crush_edits.specs.Stops.{StopData, stops, end_id, number_of, bucket_named, receiver}
 use Rattle.crush_edits.specs.Put.{put, is_id, held}
@@ -238,14 +239,14 @@ module _ (s : SettingData) (t : List Row) (k : Keeps s t) where
 
 -- THE LAW
 pub edit_keeps : EditKeeps
-edit_keeps s t (Insert d n w l) k form told =
-    let h = edit_passed s t (Insert d n w l) told in
+edit_keeps s t (Place Insert d n w l) k form told =
+    let h = edit_passed s t (Place Insert d n w l) told in
     device_put s t k d n l form (h BadName) (h BadLocation) (h NoSuchType) (h NoPlace) (h NameTaken) (h NotABucket) w (not_heavy w (h WeightTooLarge)) (h SumTooLarge) (h NoRoom)
-edit_keeps s t (CreateOrMove d n w l) k form told =
-    let h = edit_passed s t (CreateOrMove d n w l) told in
+edit_keeps s t (Place CreateOrMove d n w l) k form told =
+    let h = edit_passed s t (Place CreateOrMove d n w l) told in
     create_or_move s t k d n l form (h BadName) (h BadLocation) (h NoSuchType) (h NoPlace) (h NameTaken) (h NotABucket) (kept_weight t d w) (device_light t k.lawful d w (not_heavy w (h WeightTooLarge))) (held t (Device d) (stops s l)) (h NoRoom) (h SumTooLarge)
-edit_keeps s t (Update d n w l) k form told =
-    let h = edit_passed s t (Update d n w l) told in
+edit_keeps s t (Place Update d n w l) k form told =
+    let h = edit_passed s t (Place Update d n w l) told in
     update s t k d n l form (h BadName) (h BadLocation) (h NoSuchType) (h NoPlace) (h NameTaken) (h NotABucket) w (not_heavy w (h WeightTooLarge)) (held t (Device d) (stops s l)) (held_placed s t k (Device d) (stops s l)) (h NoRoom) (h SumTooLarge)
 edit_keeps s t (Move n l) k form told =
     let h = edit_passed s t (Move n l) told in

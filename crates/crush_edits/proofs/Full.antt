@@ -8,7 +8,8 @@ use Rattle.crush_units.specs.declared.id.ItemId.TheVariants.{Device}
 use Rattle.crush_units.specs.declared.limits.TheConstants.{MOST_BUCKETS, MOST_DEVICES}
 use Rattle.crush_model.specs.Lawful.{has_too_many}
 use Rattle.crush_model.specs.Table.{Row, row_of, is_there, is_placed, device_count, bucket_count}
-use Rattle.crush_edits.specs.declared.edit.Edit.TheVariants.{Insert}
+use Rattle.crush_edits.specs.declared.edit.Edit.TheVariants.{Place}
+use Rattle.crush_edits.specs.declared.edit.Placing.TheVariants.{Insert}
 use Rattle.crush_edits.specs.declared.location.Pair.{Pair}
 use Rattle.crush_edits.specs.declared.refusal.Refusal.TheVariants.{AlreadyPlaced, NoRoom}
 use Rattle.crush_edits.specs.Answer.{first_refusal, room_test, sum_test}
@@ -38,7 +39,7 @@ over_buckets u b c k more full = grind (arith, nat_tests)
 
 module _ (s : SettingData) (t : List Row) (d : ℕ) (n : List ℕ) (w : ℕ) (l : List Pair) where
   -- if the tests before the one of room don't hold, the refusal is NoRoom
-  room_is_told : first_refusal (located_device_tests s t d n w l) ≡ None → is_placed t (Device d) ≡ false → first_refusal (end_tests t (stops s l)) ≡ None → has_too_many (put t (edited_device t d n w) (stops s l)) ≡ true → refusal s t (Insert d n w l) ≡ Some NoRoom
+  room_is_told : first_refusal (located_device_tests s t d n w l) ≡ None → is_placed t (Device d) ≡ false → first_refusal (end_tests t (stops s l)) ≡ None → has_too_many (put t (edited_device t d n w) (stops s l)) ≡ true → refusal s t (Place Insert d n w l) ≡ Some NoRoom
   room_is_told e free f many =
       let a = after_insert s t d n w l in
       let ends = end_tests t (stops s l) in

@@ -12,7 +12,8 @@ use Rattle.crush_model.proofs.Classes.{with_class, with_class-id}
 use Rattle.crush_model.proofs.Columns.{count-map}
 use Rattle.crush_model.proofs.Moved.{row_id}
 use Rattle.crush_model.proofs.Weighs.{true_or_false}
-use Rattle.crush_edits.specs.declared.edit.Edit.TheVariants.{Insert, CreateOrMove, Update, Move, Swap, Reweight, ReweightSubtree, Remove, AddBucket, Rename, SetClass, RemoveClass}
+use Rattle.crush_edits.specs.declared.edit.Edit.TheVariants.{Place, Move, Swap, Reweight, ReweightSubtree, Remove, AddBucket, Rename, SetClass, RemoveClass}
+use Rattle.crush_edits.specs.declared.edit.Placing.TheVariants.{Insert, CreateOrMove, Update}
 use Rattle.crush_edits.specs.declared.location.Pair.{Pair}
 use Rattle.crush_edits.specs.declared.refusal.Refusal.TheVariants.{BadName, BadLocation, NoSuchType, NoPlace, NameTaken, NotABucket}
 use Rattle.crush_edits.specs.Stops.{stops, end_id, bucket_named}
@@ -77,16 +78,16 @@ module _ (s : SettingData) (t : List Row) (k : Keeps s t) (l : List Pair) (r : I
 
 -- THE LAW
 pub made_are_buckets : MadeAreBuckets
-made_are_buckets s t (Insert d n w l) k form told other =
-    let h = edit_passed s t (Insert d n w l) told in
+made_are_buckets s t (Place Insert d n w l) k form told other =
+    let h = edit_passed s t (Place Insert d n w l) told in
     device_makes s t k l (route s t k d n l form (h BadName) (h BadLocation) (h NoSuchType) (h NoPlace) (h NameTaken) (h NotABucket)) d n w (there_named s t k d n l form (h BadName) (h BadLocation) (h NoSuchType) (h NoPlace) (h NameTaken) (h NotABucket))
-made_are_buckets s t (CreateOrMove d n w l) k form told other =
-    let h = edit_passed s t (CreateOrMove d n w l) told in
+made_are_buckets s t (Place CreateOrMove d n w l) k form told other =
+    let h = edit_passed s t (Place CreateOrMove d n w l) told in
     let r = route s t k d n l form (h BadName) (h BadLocation) (h NoSuchType) (h NoPlace) (h NameTaken) (h NotABucket) in
     held_makes s t k l r (held t (Device d) (stops s l)) t (put_after t (edited_device t d n (kept_weight t d w)) (stops s l)) refl
     (device_makes s t k l r d n (kept_weight t d w) (there_named s t k d n l form (h BadName) (h BadLocation) (h NoSuchType) (h NoPlace) (h NameTaken) (h NotABucket)))
-made_are_buckets s t (Update d n w l) k form told other =
-    let h = edit_passed s t (Update d n w l) told in
+made_are_buckets s t (Place Update d n w l) k form told other =
+    let h = edit_passed s t (Place Update d n w l) told in
     let r = route s t k d n l form (h BadName) (h BadLocation) (h NoSuchType) (h NoPlace) (h NameTaken) (h NotABucket) in
     held_makes s t k l r (held t (Device d) (stops s l)) (set_weight (Device d) w t) (put_after t (edited_device t d n w) (stops s l)) (weights_count (λ (x : Row). same_id x.id (Device d)) w t)
     (device_makes s t k l r d n w (there_named s t k d n l form (h BadName) (h BadLocation) (h NoSuchType) (h NoPlace) (h NameTaken) (h NotABucket)))

@@ -8,7 +8,8 @@ use Rattle.crush_model.specs.Table.{Row}
 use Rattle.crush_edits.specs.declared.refusal.Refusal.{Refusal}
 use Rattle.crush_edits.specs.declared.refusal.Refusal.TheVariants.{BadName, BadLocation, NoSuchType, NoPlace, WeightTooLarge, NoSuchItem, NameTaken, AlreadyPlaced, NotPlaced, NotADevice, NotABucket, WrongType, Loop, Nested, NotEmpty, InUse, NotDirectory, AlreadyRenamed, NoRoom, SumTooLarge, ClassBound}
 use Rattle.crush_edits.specs.declared.edit.Edit.{Edit}
-use Rattle.crush_edits.specs.declared.edit.Edit.TheVariants.{Insert, CreateOrMove, Update, Move, Swap, Reweight, ReweightSubtree, Remove, AddBucket, Rename, SetClass, RemoveClass}
+use Rattle.crush_edits.specs.declared.edit.Edit.TheVariants.{Place, Move, Swap, Reweight, ReweightSubtree, Remove, AddBucket, Rename, SetClass, RemoveClass}
+use Rattle.crush_edits.specs.declared.edit.Placing.TheVariants.{Insert, CreateOrMove, Update}
 use Rattle.crush_edits.specs.Setting.{SettingData}
 use Rattle.crush_edits.specs.Refusal.{refusal_number}
 use Rattle.crush_edits.specs.Answer.{After, first_refusal}
@@ -63,9 +64,9 @@ numbers ps = map (λ p. refusal_number p.0) ps
 
 -- the numbers rise in each list of tests, whatever the results of the tests are
 tests_rise : (s : SettingData) (t : List Row) (e : Edit) (a : After) → rises (numbers (tests s t e a)) ≡ true
-tests_rise s t (Insert d n w l) a = refl
-tests_rise s t (CreateOrMove d n w l) a = refl
-tests_rise s t (Update d n w l) a = refl
+tests_rise s t (Place Insert d n w l) a = refl
+tests_rise s t (Place CreateOrMove d n w l) a = refl
+tests_rise s t (Place Update d n w l) a = refl
 tests_rise s t (Move n l) a = refl
 tests_rise s t (Swap m n) a = refl
 tests_rise s t (Reweight n w) a = refl

@@ -3,7 +3,8 @@ use Rattle.std.specs.Prelude.{List, Option, Bool, true, false}
 use Rattle.crush_model.specs.Table.{Row}
 use Rattle.crush_edits.specs.declared.refusal.Refusal.{Refusal}
 use Rattle.crush_edits.specs.declared.edit.Edit.{Edit}
-use Rattle.crush_edits.specs.declared.edit.Edit.TheVariants.{Insert, CreateOrMove, Update, Move, Swap, Reweight, ReweightSubtree, Remove, AddBucket, Rename, SetClass, RemoveClass}
+use Rattle.crush_edits.specs.declared.edit.Edit.TheVariants.{Place, Move, Swap, Reweight, ReweightSubtree, Remove, AddBucket, Rename, SetClass, RemoveClass}
+use Rattle.crush_edits.specs.declared.edit.Placing.TheVariants.{Insert, CreateOrMove, Update}
 use Rattle.crush_edits.specs.Setting.{SettingData}
 use Rattle.crush_edits.specs.Answer.{After, first_refusal, Answer, answer}
 use Rattle.crush_edits.specs.Placing.{after_insert, insert_tests, after_create_or_move, after_update, device_put_tests, after_move, move_tests}
@@ -14,9 +15,9 @@ use Rattle.crush_edits.specs.Making.{after_remove, remove_tests, after_add_bucke
 
 -- THE TABLE AFTER the edit, with the number of buckets that it created, if the edit isn't refused
 abbrev pub after : SettingData → List Row → Edit → After
-after s t (Insert d n w l) = after_insert s t d n w l
-after s t (CreateOrMove d n w l) = after_create_or_move s t d n w l
-after s t (Update d n w l) = after_update s t d n w l
+after s t (Place Insert d n w l) = after_insert s t d n w l
+after s t (Place CreateOrMove d n w l) = after_create_or_move s t d n w l
+after s t (Place Update d n w l) = after_update s t d n w l
 after s t (Move n l) = after_move s t n l
 after s t (Swap m n) = after_swap t m n
 after s t (Reweight n w) = after_reweight t n w
@@ -29,9 +30,9 @@ after s t (RemoveClass n) = after_remove_class t n
 
 -- THE REFUSALS of an edit, each with its test: the first whose test holds is reported; the tests for room and sums are of a, the table after the edit
 abbrev pub tests : SettingData → List Row → Edit → After → List (Refusal × Bool)
-tests s t (Insert d n w l) a = insert_tests s t d n w l a
-tests s t (CreateOrMove d n w l) a = device_put_tests s t d n w l a
-tests s t (Update d n w l) a = device_put_tests s t d n w l a
+tests s t (Place Insert d n w l) a = insert_tests s t d n w l a
+tests s t (Place CreateOrMove d n w l) a = device_put_tests s t d n w l a
+tests s t (Place Update d n w l) a = device_put_tests s t d n w l a
 tests s t (Move n l) a = move_tests s t n l a
 tests s t (Swap m n) a = swap_tests t m n a
 tests s t (Reweight n w) a = reweight_tests t n w a
@@ -56,9 +57,7 @@ takes_memory (Reweight n w) = false
 takes_memory (ReweightSubtree n w) = false
 takes_memory (Swap m n) = false
 takes_memory (Remove n) = false
-takes_memory (Insert d n w l) = true
-takes_memory (CreateOrMove d n w l) = true
-takes_memory (Update d n w l) = true
+takes_memory (Place how d n w l) = true
 takes_memory (Move n l) = true
 takes_memory (AddBucket n kind) = true
 takes_memory (Rename from to) = true
@@ -71,9 +70,7 @@ sets_weights (Reweight n w) = true
 sets_weights (ReweightSubtree n w) = true
 sets_weights (Swap m n) = false
 sets_weights (Remove n) = false
-sets_weights (Insert d n w l) = false
-sets_weights (CreateOrMove d n w l) = false
-sets_weights (Update d n w l) = false
+sets_weights (Place how d n w l) = false
 sets_weights (Move n l) = false
 sets_weights (AddBucket n kind) = false
 sets_weights (Rename from to) = false

@@ -5,7 +5,7 @@ use Rattle.crush_model.specs.Table.{Row, bucket_count}
 use Rattle.crush_model.specs.Lawful.{Lawful}
 use Rattle.crush_edits.specs.declared.location.Pair.{Pair}
 use Rattle.crush_edits.specs.declared.edit.Edit.{Edit}
-use Rattle.crush_edits.specs.declared.edit.Edit.TheVariants.{Insert, CreateOrMove, Update, Move, Swap, Reweight, ReweightSubtree, Remove, AddBucket, Rename, SetClass, RemoveClass}
+use Rattle.crush_edits.specs.declared.edit.Edit.TheVariants.{Place, Move, Swap, Reweight, ReweightSubtree, Remove, AddBucket, Rename, SetClass, RemoveClass}
 use Rattle.crush_edits.specs.declared.refusal.Dones.{Dones}
 use Rattle.crush_edits.specs.Setting.{SettingData}
 use Rattle.crush_edits.specs.Fits.{Fits}
@@ -22,9 +22,7 @@ pub record IsPlacing (d : ℕ) (n : List ℕ) (l : List Pair) : Type 0 where
 
 -- an edit is valid in the parts that its types in the code guarantee: the device, the location, and the names and classes that it gives to items
 abbrev pub IsEdit : Edit → Type 0
-IsEdit (Insert d n w l) = IsPlacing d n l
-IsEdit (CreateOrMove d n w l) = IsPlacing d n l
-IsEdit (Update d n w l) = IsPlacing d n l
+IsEdit (Place how d n w l) = IsPlacing d n l
 IsEdit (Move n l) = IsLocation l
 IsEdit (Swap m n) = Unit {0}
 IsEdit (Reweight n w) = Unit {0}

@@ -22,7 +22,8 @@ use Rattle.crush_edits.specs.Setting.{SettingData}
 use Rattle.crush_edits.specs.Fits.{HasKind, Fits}
 use Rattle.crush_edits.specs.LawRoute.{rows_made}
 use Rattle.crush_units.specs.declared.limits.TheConstants.{HEAVIEST_DEVICE, MOST_BUCKETS, MOST_DEVICES}
-use Rattle.crush_edits.specs.declared.edit.Edit.TheVariants.{Insert}
+use Rattle.crush_edits.specs.declared.edit.Edit.TheVariants.{Place}
+use Rattle.crush_edits.specs.declared.edit.Placing.TheVariants.{Insert}
 use Rattle.crush_edits.specs.declared.refusal.Refusal.TheVariants.{NoRoom}
 use Rattle.crush_edits.specs.Answer.{first_refusal}
 use Rattle.crush_edits.specs.Edit.{refusal}
@@ -140,9 +141,9 @@ RoomForNewDevice = (t : List Row) (ps : List StopData) (d : LeafData) → Lawful
 -- NO ROOM: if a table has 65,536 devices or more, and no test of the location, the device and the end of the route holds, then inserting a device that the table doesn't have is refused with NoRoom
 abbrev pub FullOfDevices : Type 0
 FullOfDevices = (s : SettingData) (t : List Row) (d : ℕ) (n : List ℕ) (w : ℕ) (l : List Pair) → Lawful t → IsRoute t (stops s l) → is_there t (Device d) ≡ false
-    → first_refusal (located_device_tests s t d n w l) ≡ None → first_refusal (end_tests t (stops s l)) ≡ None → MOST_DEVICES ≤ device_count t → refusal s t (Insert d n w l) ≡ Some NoRoom
+    → first_refusal (located_device_tests s t d n w l) ≡ None → first_refusal (end_tests t (stops s l)) ≡ None → MOST_DEVICES ≤ device_count t → refusal s t (Place Insert d n w l) ≡ Some NoRoom
 
 -- the same if the table would have more than 4,096 buckets after the route's new buckets are added
 abbrev pub FullOfBuckets : Type 0
 FullOfBuckets = (s : SettingData) (t : List Row) (d : ℕ) (n : List ℕ) (w : ℕ) (l : List Pair) → Lawful t → IsRoute t (stops s l) → is_there t (Device d) ≡ false
-    → first_refusal (located_device_tests s t d n w l) ≡ None → first_refusal (end_tests t (stops s l)) ≡ None → MOST_BUCKETS < bucket_count t + length (fresh_stops t (stops s l)) → refusal s t (Insert d n w l) ≡ Some NoRoom
+    → first_refusal (located_device_tests s t d n w l) ≡ None → first_refusal (end_tests t (stops s l)) ≡ None → MOST_BUCKETS < bucket_count t + length (fresh_stops t (stops s l)) → refusal s t (Place Insert d n w l) ≡ Some NoRoom

@@ -6,6 +6,7 @@ pub mod Classing
 pub mod Codes
 pub mod Edit
 pub mod Fits
+pub mod Keyword
 pub mod KindsTold
 pub mod LawBatch
 pub mod LawEdit

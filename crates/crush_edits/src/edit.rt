@@ -6,6 +6,21 @@ use crate::location::Location;
 use crush_units::{DeviceId, Name, Weight};
 use std::alloc::{AllocError, Global};
 
+/// What [`Edit::Place`] does with a device that is already in a bucket. At the end of each
+/// variant's comment, brackets name the command and the function of Ceph.
+#[derive(Clone, Copy, Debug, PartialEq, Eq)]
+pub enum Placing {
+    /// The edit is refused: the device must not be in a bucket yet (`add`, `insert_item`).
+    Insert,
+    /// The device keeps its own weight; a device that is in no bucket gets the weight `weight`. If
+    /// the location's bucket of the lowest type already holds the device, nothing changes
+    /// (`create-or-move`, `create_or_move_item`).
+    CreateOrMove,
+    /// The device gets the weight `weight`. If the location's bucket of the lowest type already
+    /// holds the device, only its weight is set (`set`, `update_item`).
+    Update,
+}
+
 /// An edit of a map, as a command of `ceph osd crush` makes it. At the end of each variant's
 /// comment, brackets name this command and, for most edits, the function of Ceph.
 ///
@@ -14,29 +29,11 @@ use std::alloc::{AllocError, Global};
 /// device, and `at` is the location where an item is to be put.
 #[derive(Debug, Drop)]
 pub enum Edit {
-    /// Puts a device into the bucket that the location leads to, with this weight. The device must
-    /// not be in a bucket yet. If its id is new, the edit creates the device (`add`,
-    /// `insert_item`).
-    Insert {
-        device: DeviceId,
-        name: Name<Global>,
-        weight: Weight,
-        at: Location,
-    },
-    /// Creates the device at the location, or moves it there. A device that is already in a bucket
-    /// keeps its own weight; any other device gets the weight `weight`. If the location's bucket of
-    /// the lowest type already holds the device, nothing changes (`create-or-move`,
-    /// `create_or_move_item`).
-    CreateOrMove {
-        device: DeviceId,
-        name: Name<Global>,
-        weight: Weight,
-        at: Location,
-    },
-    /// Creates the device at the location, or moves it there, with this weight. If the location's
-    /// bucket of the lowest type already holds the device, only its weight is set (`set`,
-    /// `update_item`).
-    Update {
+    /// Puts a device into the bucket that the location leads to, with this weight. If its id is new,
+    /// the edit creates the device. `how` says what the edit does with a device that is already in
+    /// a bucket (`add`, `create-or-move` or `set`).
+    Place {
+        how: Placing,
         device: DeviceId,
         name: Name<Global>,
         weight: Weight,
@@ -110,42 +107,16 @@ impl Edit {
         ensures { IfOk result (λ copy. copy ≡ self.now) }
     {
         match self {
-            Edit::Insert {
+            Edit::Place {
+                how,
                 device,
                 name,
                 weight,
                 at,
             } => {
                 let Placed { name, at } = copy_placed(name, at, alloc)?;
-                Ok(Edit::Insert {
-                    device: *device,
-                    name,
-                    weight: *weight,
-                    at,
-                })
-            }
-            Edit::CreateOrMove {
-                device,
-                name,
-                weight,
-                at,
-            } => {
-                let Placed { name, at } = copy_placed(name, at, alloc)?;
-                Ok(Edit::CreateOrMove {
-                    device: *device,
-                    name,
-                    weight: *weight,
-                    at,
-                })
-            }
-            Edit::Update {
-                device,
-                name,
-                weight,
-                at,
-            } => {
-                let Placed { name, at } = copy_placed(name, at, alloc)?;
-                Ok(Edit::Update {
+                Ok(Edit::Place {
+                    how: *how,
                     device: *device,
                     name,
                     weight: *weight,

@@ -6,13 +6,15 @@
 #![tactic(auto)]
 
 mod edit;
+mod keyword;
 pub mod law;
 mod location;
 mod refusal;
 mod rule;
 mod setting;
 
-pub use edit::Edit;
+pub use edit::{Edit, Placing};
+pub use keyword::Keyword;
 pub use location::{Location, LocationFault, Pair};
 pub use refusal::{BatchFault, Done, Dones, EditFault, Refusal};
 pub use rule::{Rule, Step};

@@ -4,14 +4,15 @@ use Rattle.std.proofs.lemmas.Fmt.{decimal_digit}
 use Rattle.std.specs.Fmt.{digits}
 use Rattle.std.specs.Prelude.{codes}
 use Rattle.crush_units.specs.declared.limits.TheConstants.{UNITS_OF_ONE}
-use Rattle.crush_edits.specs.declared.edit.Edit.TheVariants.{Insert, Reweight, Remove, Rename}
+use Rattle.crush_edits.specs.declared.edit.Edit.TheVariants.{Place, Reweight, Remove, Rename}
+use Rattle.crush_edits.specs.declared.edit.Placing.TheVariants.{Insert}
 use Rattle.crush_edits.specs.declared.refusal.Refusal.TheVariants.{NotPlaced, NoSuchItem}
 use Rattle.crush_history.specs.declared.call.Call.TheVariants.{One, Batch, Guarded}
 use Rattle.crush_history.specs.declared.call.Reply.TheVariants.{Done, Dones, Refused, BatchRefused, Stale}
 use Rattle.crush_history.specs.HistoryText.{edit_text, line_head, line_end, line_text}
 
 -- an edit as its command
-put_text : edit_text (Insert 3 (codes "osd.3") 21823 ((record { kind = codes "host"; name = codes "h3" }) ∷ ((record { kind = codes "rack"; name = codes "r1" }) ∷ ((record { kind = codes "root"; name = codes "default" }) ∷ [])))) ≡ codes "add osd.3 0.33299 host=h3 rack=r1 root=default"
+put_text : edit_text (Place Insert 3 (codes "osd.3") 21823 ((record { kind = codes "host"; name = codes "h3" }) ∷ ((record { kind = codes "rack"; name = codes "r1" }) ∷ ((record { kind = codes "root"; name = codes "default" }) ∷ [])))) ≡ codes "add osd.3 0.33299 host=h3 rack=r1 root=default"
 put_text = rw (decimal_digit 0 (lit< tt)) refl
 
 remove_text : edit_text (Remove (codes "osd.0")) ≡ codes "rm osd.0"

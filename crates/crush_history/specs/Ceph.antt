@@ -3,15 +3,14 @@ use Rattle.std.specs.Prelude.{ℕ, ◌==◌, Bool, false, ◌||◌, List, [], �
 use Rattle.std.specs.List.{list_any}
 use Rattle.crush_edits.specs.declared.location.Pair.{Pair}
 use Rattle.crush_edits.specs.declared.edit.Edit.{Edit}
-use Rattle.crush_edits.specs.declared.edit.Edit.TheVariants.{Insert, CreateOrMove, Update, Move, Swap, Reweight, ReweightSubtree, Remove, AddBucket, Rename, SetClass, RemoveClass}
+use Rattle.crush_edits.specs.declared.edit.Edit.TheVariants.{Place, Move, Swap, Reweight, ReweightSubtree, Remove, AddBucket, Rename, SetClass, RemoveClass}
 use Rattle.crush_units.specs.ExactWeight.{exact_text}
+use Rattle.crush_edits.specs.Keyword.{placing_word}
 use Rattle.crush_history.specs.HistoryText.{edit_text, pairs_text}
 
 -- the option ` --yes-i-really-mean-it` for a swap, which Ceph requires if the two buckets have different parents; no text for any other edit
 abbrev pub assent : Edit → List ℕ
-assent (Insert device name weight at) = []
-assent (CreateOrMove device name weight at) = []
-assent (Update device name weight at) = []
+assent (Place how device name weight at) = []
 assent (Move name at) = []
 assent (Swap a b) = codes " --yes-i-really-mean-it"
 assent (Reweight name weight) = []
@@ -33,9 +32,7 @@ has_dashed_type at = list_any (λ (p : Pair). is_dashed p.kind) at
 
 -- whether a command has, after its first word, a word that begins with `-`, which Ceph would read as an option
 abbrev pub has_dash : Edit → Bool
-has_dash (Insert device name weight at) = is_dashed name || has_dashed_type at
-has_dash (CreateOrMove device name weight at) = is_dashed name || has_dashed_type at
-has_dash (Update device name weight at) = is_dashed name || has_dashed_type at
+has_dash (Place how device name weight at) = is_dashed name || has_dashed_type at
 has_dash (Move name at) = is_dashed name || has_dashed_type at
 has_dash (Swap a b) = is_dashed a || is_dashed b
 has_dash (Reweight name weight) = is_dashed name
@@ -56,9 +53,7 @@ name_and_exact first name weight = first ++ codes " " ++ name ++ codes " " ++ ex
 
 -- the words of a command: those of a script, but with weights in exact form, because Ceph rounds a weight down
 abbrev pub ceph_words : Edit → List ℕ
-ceph_words (Insert device name weight at) = name_and_exact (codes "add") name weight ++ pairs_text at
-ceph_words (CreateOrMove device name weight at) = name_and_exact (codes "create-or-move") name weight ++ pairs_text at
-ceph_words (Update device name weight at) = name_and_exact (codes "set") name weight ++ pairs_text at
+ceph_words (Place how device name weight at) = name_and_exact (placing_word how) name weight ++ pairs_text at
 ceph_words (Move name at) = edit_text (Move name at)
 ceph_words (Swap a b) = edit_text (Swap a b)
 ceph_words (Reweight name weight) = name_and_exact (codes "reweight") name weight

@@ -3,7 +3,8 @@ use Rattle.std.specs.Prelude.{ℕ, ◌+◌, List, [], ◌∷◌, ◌++◌, Bool,
 use Rattle.crush_units.specs.Weight.{weight_text}
 use Rattle.crush_edits.specs.declared.location.Pair.{Pair}
 use Rattle.crush_edits.specs.declared.edit.Edit.{Edit}
-use Rattle.crush_edits.specs.declared.edit.Edit.TheVariants.{Insert, CreateOrMove, Update, Move, Swap, Reweight, ReweightSubtree, Remove, AddBucket, Rename, SetClass, RemoveClass}
+use Rattle.crush_edits.specs.declared.edit.Edit.TheVariants.{Place, Move, Swap, Reweight, ReweightSubtree, Remove, AddBucket, Rename, SetClass, RemoveClass}
+use Rattle.crush_edits.specs.Keyword.{placing_word}
 use Rattle.crush_edits.specs.declared.refusal.Refusal.{Refusal}
 use Rattle.crush_edits.specs.Refusal.{refusal_name, refusal_error}
 use Rattle.crush_history.specs.declared.call.Call.{Call}
@@ -35,9 +36,7 @@ name_and_weight first name weight = first ++ codes " " ++ name ++ codes " " ++ w
 
 -- AN EDIT as its command in a script
 abbrev pub edit_text : Edit → List ℕ
-edit_text (Insert device name weight at) = name_and_weight (codes "add") name weight ++ pairs_text at
-edit_text (CreateOrMove device name weight at) = name_and_weight (codes "create-or-move") name weight ++ pairs_text at
-edit_text (Update device name weight at) = name_and_weight (codes "set") name weight ++ pairs_text at
+edit_text (Place how device name weight at) = name_and_weight (placing_word how) name weight ++ pairs_text at
 edit_text (Move name at) = one_name (codes "move") name ++ pairs_text at
 edit_text (Swap a b) = two_names (codes "swap-bucket") a b
 edit_text (Reweight name weight) = name_and_weight (codes "reweight") name weight

@@ -6,7 +6,7 @@ use Rattle.crush_units.specs.Weight.{are_digits}
 use Rattle.crush_units.specs.Id.{device_from}
 use Rattle.crush_edits.specs.declared.location.Pair.{Pair}
 use Rattle.crush_edits.specs.declared.edit.Edit.{Edit}
-use Rattle.crush_edits.specs.declared.edit.Edit.TheVariants.{Insert, CreateOrMove, Update, Move, Swap, Reweight, ReweightSubtree, Remove, AddBucket, Rename, SetClass, RemoveClass}
+use Rattle.crush_edits.specs.declared.edit.Edit.TheVariants.{Place, Move, Swap, Reweight, ReweightSubtree, Remove, AddBucket, Rename, SetClass, RemoveClass}
 use Rattle.crush_edits.specs.Pushed.{IsLocation}
 
 -- whether these are 1 to 10 digits, and the first isn't 0 unless it is the only one
@@ -28,9 +28,7 @@ pub record IsSaidPlacing (d : ℕ) (n : List ℕ) (w : ℕ) (l : List Pair) : Ty
 
 -- a command can express the edit: each name in it has the form of a name, each weight is below 2^32, each location has the form of a location, and a device that the edit places satisfies `IsSaidPlacing`
 abbrev pub IsSaid : Edit → Type 0
-IsSaid (Insert d n w l) = IsSaidPlacing d n w l
-IsSaid (CreateOrMove d n w l) = IsSaidPlacing d n w l
-IsSaid (Update d n w l) = IsSaidPlacing d n w l
+IsSaid (Place how d n w l) = IsSaidPlacing d n w l
 IsSaid (Move n l) = IsName n × IsLocation l
 IsSaid (Swap a b) = IsName a × IsName b
 IsSaid (Reweight n w) = IsName n × (w < 2 ^ 32)

@@ -39,10 +39,9 @@ pub fn has_dash(edit: &Edit) -> bool
     ensures { result ≡ has_dash edit.now }
 {
     match edit {
-        Edit::Insert { name, at, .. }
-        | Edit::CreateOrMove { name, at, .. }
-        | Edit::Update { name, at, .. }
-        | Edit::Move { name, at } => is_dashed(name) || has_dashed_type(at.pairs()),
+        Edit::Place { name, at, .. } | Edit::Move { name, at } => {
+            is_dashed(name) || has_dashed_type(at.pairs())
+        }
         Edit::Swap { a, b } => is_dashed(a) || is_dashed(b),
         Edit::Rename { from, to } => is_dashed(from) || is_dashed(to),
         Edit::AddBucket { name, kind } => is_dashed(name) || is_dashed(kind),
@@ -73,24 +72,13 @@ fn push_words(edit: &Edit, text: &mut Vec<u8>) -> Result<(), AllocError>
     ensures { OnOk result (text.new.items ≡ text.old.items ++ ceph_words edit.now) }
 {
     match edit {
-        Edit::Insert {
+        Edit::Place {
+            how,
             name,
             weight,
             at,
             ..
-        } => push_placing(b"add", name, *weight, at, text),
-        Edit::CreateOrMove {
-            name,
-            weight,
-            at,
-            ..
-        } => push_placing(b"create-or-move", name, *weight, at, text),
-        Edit::Update {
-            name,
-            weight,
-            at,
-            ..
-        } => push_placing(b"set", name, *weight, at, text),
+        } => push_placing(how.word().as_bytes(), name, *weight, at, text),
         Edit::Reweight { name, weight } => push_weighing(b"reweight", name, *weight, text),
         Edit::ReweightSubtree { name, weight } => {
             push_weighing(b"reweight-subtree", name, *weight, text)

@@ -136,24 +136,13 @@ pub fn write_edit<W: Write>(edit: &Edit, out: &mut W) -> Result<(), WriteFault>
     ensures fault { IfErr result (λ fault. fault ≡ WriteFault.Write) }
 {
     match edit {
-        Edit::Insert {
+        Edit::Place {
+            how,
             name,
             weight,
             at,
             ..
-        } => write_placing(b"add", name, *weight, at, out),
-        Edit::CreateOrMove {
-            name,
-            weight,
-            at,
-            ..
-        } => write_placing(b"create-or-move", name, *weight, at, out),
-        Edit::Update {
-            name,
-            weight,
-            at,
-            ..
-        } => write_placing(b"set", name, *weight, at, out),
+        } => write_placing(how.word().as_bytes(), name, *weight, at, out),
         Edit::Move { name, at } => write_move(name, at, out),
         Edit::Swap { a, b } => write_two_names(b"swap-bucket", a, b, out),
         Edit::Reweight { name, weight } => write_name_and_weight(b"reweight", name, *weight, out),

@@ -4,7 +4,9 @@ use Rattle.std.specs.Str.Lossy.{utf8_lossy}
 use Rattle.crush_units.specs.ExactWeight.{exact_text}
 use Rattle.crush_edits.specs.declared.location.Pair.{Pair}
 use Rattle.crush_edits.specs.declared.edit.Edit.{Edit}
-use Rattle.crush_edits.specs.declared.edit.Edit.TheVariants.{Insert, CreateOrMove, Update, Move, Swap, Reweight, ReweightSubtree, Remove, AddBucket, Rename, SetClass, RemoveClass}
+use Rattle.crush_edits.specs.declared.edit.Edit.TheVariants.{Place, Move, Swap, Reweight, ReweightSubtree, Remove, AddBucket, Rename, SetClass, RemoveClass}
+use Rattle.crush_edits.specs.declared.edit.Placing.{Placing}
+use Rattle.crush_edits.specs.declared.edit.Placing.TheVariants.{Insert, CreateOrMove, Update}
 use Rattle.json.specs.Json as json
 use Rattle.json.specs.Print.{print}
 use Rattle.json.specs.Tree.{json_tokens}
@@ -68,11 +70,15 @@ classing name class =
 unfoldable pub declassing : List ℕ → json.Json
 declassing name = json.object (told (codes "ids") (one_name name) (text (codes "prefix") (codes "osd crush rm-device-class") json.no_members))
 
+-- the words of the command that places a device
+abbrev pub placing_prefix : Placing → List ℕ
+placing_prefix Insert = codes "osd crush add"
+placing_prefix CreateOrMove = codes "osd crush create-or-move"
+placing_prefix Update = codes "osd crush set"
+
 -- AN EDIT as the value for its command
 abbrev pub command : Edit → json.Json
-command (Insert device name w at) = placing (codes "osd crush add") device w at
-command (CreateOrMove device name w at) = placing (codes "osd crush create-or-move") device w at
-command (Update device name w at) = placing (codes "osd crush set") device w at
+command (Place how device name w at) = placing (placing_prefix how) device w at
 command (Move name at) = moving name at
 command (Swap a b) = swapping a b
 command (Reweight name w) = weighing (codes "osd crush reweight") name w

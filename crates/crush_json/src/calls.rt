@@ -74,24 +74,13 @@ fn push_edit(edit: &Edit, text: &mut String) -> Result<(), AllocError>
         ≡ string_bytes text.old ++ edit_text edit.now) }
 {
     match edit {
-        Edit::Insert {
+        Edit::Place {
+            how,
             name,
             weight,
             at,
             ..
-        } => push_placing("add", name, *weight, at, text),
-        Edit::CreateOrMove {
-            name,
-            weight,
-            at,
-            ..
-        } => push_placing("create-or-move", name, *weight, at, text),
-        Edit::Update {
-            name,
-            weight,
-            at,
-            ..
-        } => push_placing("set", name, *weight, at, text),
+        } => push_placing(how.word(), name, *weight, at, text),
         Edit::Move { name, at } => push_move(name, at, text),
         Edit::Swap { a, b } => push_two_names("swap-bucket", a, b, text),
         Edit::Reweight { name, weight } => push_weighed("reweight", name, *weight, text),

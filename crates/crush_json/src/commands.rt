@@ -3,12 +3,12 @@
 ghost use Rattle.std.specs.Prelude.{◌≡◌, ◌++◌, codes, IfOk, OnOk, flat_map, string_bytes};
 ghost use Rattle.json.specs.Tree.{json_tokens};
 ghost use Rattle.serde_json.specs.Data.{string};
-ghost use Rattle.crush_json.specs.PlanDocument.{adding, classing, command, declassing, moving, one_name, pair_values, pair_word, placing, removing, renaming, swapping, weighing};
+ghost use Rattle.crush_json.specs.PlanDocument.{adding, classing, command, declassing, moving, one_name, pair_values, pair_word, placing, placing_prefix, removing, renaming, swapping, weighing};
 ghost use Rattle.crush_json.specs.Tokens.{tokens_of};
 ghost use Rattle.crush_json.specs.Values.{list};
 
 use crate::document::Document;
-use crush_map::{Edit, Location, Pair};
+use crush_map::{Edit, Location, Pair, Placing};
 use crush_units::{DeviceId, Name, Weight};
 use std::alloc::{AllocError, Global};
 
@@ -17,24 +17,13 @@ pub(crate) fn push_command(alloc: Global, edit: &Edit, out: &mut Document) -> Re
     ensures { OnOk result (out.new ≡ out.old ++ json_tokens (command edit.now)) }
 {
     match edit {
-        Edit::Insert {
+        Edit::Place {
+            how,
             device,
             weight,
             at,
             ..
-        } => push_placing(alloc, "osd crush add", *device, *weight, at, out),
-        Edit::CreateOrMove {
-            device,
-            weight,
-            at,
-            ..
-        } => push_placing(alloc, "osd crush create-or-move", *device, *weight, at, out),
-        Edit::Update {
-            device,
-            weight,
-            at,
-            ..
-        } => push_placing(alloc, "osd crush set", *device, *weight, at, out),
+        } => push_placing(alloc, placing_prefix(*how), *device, *weight, at, out),
         Edit::Move { name, at } => push_moving(alloc, name, at, out),
         Edit::Swap { a, b } => push_swapping(a, b, out),
         Edit::Reweight { name, weight } => {
@@ -48,6 +37,16 @@ pub(crate) fn push_command(alloc: Global, edit: &Edit, out: &mut Document) -> Re
         Edit::Rename { from, to } => push_renaming(from, to, out),
         Edit::SetClass { name, class } => push_classing(name, class, out),
         Edit::RemoveClass { name } => push_declassing(name, out),
+    }
+}
+
+fn placing_prefix(how: Placing) -> &'static str
+    ensures { result.now ≡ placing_prefix how }
+{
+    match how {
+        Placing::Insert => "osd crush add",
+        Placing::CreateOrMove => "osd crush create-or-move",
+        Placing::Update => "osd crush set",
     }
 }
 

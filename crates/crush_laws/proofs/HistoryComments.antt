@@ -12,7 +12,8 @@ use Rattle.crush_edits.specs.Pushed.{IsLocation}
 use Rattle.crush_edits.specs.Refusal.{refusal_name, refusal_error}
 use Rattle.crush_edits.specs.declared.location.Pair.{Pair}
 use Rattle.crush_edits.specs.declared.edit.Edit.{Edit}
-use Rattle.crush_edits.specs.declared.edit.Edit.TheVariants.{Insert, CreateOrMove, Update, Move, Swap, Reweight, ReweightSubtree, Remove, AddBucket, Rename, SetClass, RemoveClass}
+use Rattle.crush_edits.specs.declared.edit.Edit.TheVariants.{Place, Move, Swap, Reweight, ReweightSubtree, Remove, AddBucket, Rename, SetClass, RemoveClass}
+use Rattle.crush_edits.specs.declared.edit.Placing.TheVariants.{Insert, CreateOrMove, Update}
 use Rattle.crush_edits.specs.declared.refusal.Refusal.{Refusal}
 use Rattle.crush_edits.specs.declared.refusal.Refusal.TheVariants.{BadName, BadLocation, NoSuchType, NoPlace, WeightTooLarge, NoSuchItem, NameTaken, AlreadyPlaced, NotPlaced, NotADevice, NotABucket, WrongType, Loop, Nested, NotEmpty, InUse, NotDirectory, AlreadyRenamed, NoRoom, SumTooLarge, ClassBound}
 use Rattle.crush_print.proofs.PrintedWords.{in_line}
@@ -107,9 +108,9 @@ names_in_line : (word a b : List ℕ) → IsInLine word → IsName a → IsName 
 names_in_line word a b h first second = two_in_line word a b h (name_in_line a first) (name_in_line b second)
 
 pub edit_in_line : (e : Edit) → IsNamed e → IsInLine (edit_text e)
-edit_in_line (Insert d n w l) is = both_in_line (name_and_weight (codes "add") n w) (pairs_text l) (weighed_in_line (codes "add") n w refl is.0) (location_in_line l is.1)
-edit_in_line (CreateOrMove d n w l) is = both_in_line (name_and_weight (codes "create-or-move") n w) (pairs_text l) (weighed_in_line (codes "create-or-move") n w refl is.0) (location_in_line l is.1)
-edit_in_line (Update d n w l) is = both_in_line (name_and_weight (codes "set") n w) (pairs_text l) (weighed_in_line (codes "set") n w refl is.0) (location_in_line l is.1)
+edit_in_line (Place Insert d n w l) is = both_in_line (name_and_weight (codes "add") n w) (pairs_text l) (weighed_in_line (codes "add") n w refl is.0) (location_in_line l is.1)
+edit_in_line (Place CreateOrMove d n w l) is = both_in_line (name_and_weight (codes "create-or-move") n w) (pairs_text l) (weighed_in_line (codes "create-or-move") n w refl is.0) (location_in_line l is.1)
+edit_in_line (Place Update d n w l) is = both_in_line (name_and_weight (codes "set") n w) (pairs_text l) (weighed_in_line (codes "set") n w refl is.0) (location_in_line l is.1)
 edit_in_line (Move n l) is = both_in_line (one_name (codes "move") n) (pairs_text l) (one_in_line (codes "move") n refl is.0) (location_in_line l is.1)
 edit_in_line (Swap a b) is = names_in_line (codes "swap-bucket") a b refl is.0 is.1
 edit_in_line (Reweight n w) is = weighed_in_line (codes "reweight") n w refl is

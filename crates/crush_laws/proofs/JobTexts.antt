@@ -8,7 +8,7 @@ use Rattle.crush_units.specs.Name.{IsName}
 use Rattle.crush_units.specs.Id.{device_from}
 use Rattle.crush_units.specs.declared.limits.TheConstants.{DEVICE_IDS, LAST_DEVICE_ID}
 use Rattle.crush_edits.specs.declared.edit.Edit.{Edit}
-use Rattle.crush_edits.specs.declared.edit.Edit.TheVariants.{Insert, CreateOrMove, Update, Move, Swap, Reweight, ReweightSubtree, Remove, AddBucket, Rename, SetClass, RemoveClass}
+use Rattle.crush_edits.specs.declared.edit.Edit.TheVariants.{Place, Move, Swap, Reweight, ReweightSubtree, Remove, AddBucket, Rename, SetClass, RemoveClass}
 use Rattle.crush_edits.specs.declared.location.Pair.{Pair}
 use Rattle.crush_edits.specs.LawEdit as table
 use Rattle.crush_laws.proofs.ReadBack.{printed_texts_are_read_back}
@@ -45,9 +45,7 @@ placing_form : (d : ℕ) (n : List ℕ) (w : ℕ) (l : List Pair) → IsSaidPlac
 placing_form d n w l is = record { id = device_in_range n d is.device; name = is.name; at = is.at }
 
 edit_form : (e : Edit) → IsSaid e → table.IsEdit e
-edit_form (Insert d n w l) is = placing_form d n w l is
-edit_form (CreateOrMove d n w l) is = placing_form d n w l is
-edit_form (Update d n w l) is = placing_form d n w l is
+edit_form (Place how d n w l) is = placing_form d n w l is
 edit_form (Move n l) is = is.1
 edit_form (Swap a b) is = tt
 edit_form (Reweight n w) is = tt
@@ -64,9 +62,7 @@ call_form (Batch es) is = All-weaker IsSaid table.IsEdit edit_form es is.0
 call_form (Guarded seen es) is = All-weaker IsSaid table.IsEdit edit_form es is.0
 
 pub edit_named : (e : Edit) → IsSaid e → IsNamed e
-edit_named (Insert d n w l) is = (is.name, is.at)
-edit_named (CreateOrMove d n w l) is = (is.name, is.at)
-edit_named (Update d n w l) is = (is.name, is.at)
+edit_named (Place how d n w l) is = (is.name, is.at)
 edit_named (Move n l) is = is
 edit_named (Swap a b) is = is
 edit_named (Reweight n w) is = is.0

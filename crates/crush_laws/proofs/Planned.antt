@@ -13,7 +13,8 @@ use Rattle.crush_edits.specs.Answer.{Answer}
 use Rattle.crush_edits.specs.Edit.{edit}
 use Rattle.crush_edits.specs.Setting.{SettingData}
 use Rattle.crush_edits.specs.declared.edit.Edit.{Edit}
-use Rattle.crush_edits.specs.declared.edit.Edit.TheVariants.{Insert, CreateOrMove, Update, Move, Swap, Reweight, ReweightSubtree, Remove, AddBucket, Rename, SetClass, RemoveClass}
+use Rattle.crush_edits.specs.declared.edit.Edit.TheVariants.{Place, Move, Swap, Reweight, ReweightSubtree, Remove, AddBucket, Rename, SetClass, RemoveClass}
+use Rattle.crush_edits.specs.declared.edit.Placing.TheVariants.{Insert, CreateOrMove, Update}
 use Rattle.crush_text.specs.Document.{IsMapText}
 use Rattle.crush_history.specs.declared.call.Call.{Call}
 use Rattle.crush_history.specs.declared.call.Call.TheVariants.{One}
@@ -150,9 +151,9 @@ abbrev state : List ℕ → List ℕ → List Call → ℕ → SectionsData
 state numbers name calls count = record { scripts = (record { name = name; calls = calls }) ∷ []; lines = numbers ∷ []; calls = count; begun = None }
 
 begins_none : (e : Edit) → begins_section (edit_text e) ≡ false
-begins_none (Insert d n w l) = refl
-begins_none (CreateOrMove d n w l) = refl
-begins_none (Update d n w l) = refl
+begins_none (Place Insert d n w l) = refl
+begins_none (Place CreateOrMove d n w l) = refl
+begins_none (Place Update d n w l) = refl
 begins_none (Move n l) = refl
 begins_none (Swap a b) = refl
 begins_none (Reweight n w) = refl

@@ -8,7 +8,7 @@ use Rattle.crush_edits.specs.Fits.{Fits}
 use Rattle.crush_edits.specs.LawEdit.{Keeps}
 use Rattle.crush_edits.specs.Pushed.{IsLocation}
 use Rattle.crush_edits.specs.declared.edit.Edit.{Edit}
-use Rattle.crush_edits.specs.declared.edit.Edit.TheVariants.{Insert, CreateOrMove, Update, Move, Swap, Reweight, ReweightSubtree, Remove, AddBucket, Rename, SetClass, RemoveClass}
+use Rattle.crush_edits.specs.declared.edit.Edit.TheVariants.{Place, Move, Swap, Reweight, ReweightSubtree, Remove, AddBucket, Rename, SetClass, RemoveClass}
 use Rattle.crush_print.specs.MapText.{map_text}
 use Rattle.crush_print.specs.declared.weight_form.WeightForm.{WeightForm}
 use Rattle.crush_laws.specs.ReadingBack.{IsReadAs, AreCommentLines}
@@ -24,9 +24,7 @@ use Rattle.crush_script.specs.ScriptsText.{AreScripts, scripts_text}
 
 -- the names of an edit have the form of names, and its location has the form of a location; the types of the code ensure that
 abbrev pub IsNamed : Edit → Type 0
-IsNamed (Insert d n w l) = IsName n × IsLocation l
-IsNamed (CreateOrMove d n w l) = IsName n × IsLocation l
-IsNamed (Update d n w l) = IsName n × IsLocation l
+IsNamed (Place how d n w l) = IsName n × IsLocation l
 IsNamed (Move n l) = IsName n × IsLocation l
 IsNamed (Swap a b) = IsName a × IsName b
 IsNamed (Reweight n w) = IsName n

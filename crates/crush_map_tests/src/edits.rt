@@ -52,19 +52,22 @@ fn placing_edits(rt: &impl Abort, alloc: Global) -> [Edit; 3] {
     let device = DeviceId::new(3).expect(rt, "a device");
     let weight = Weight::from_units(65536);
     [
-        Edit::Insert {
+        Edit::Place {
+            how: Placing::Insert,
             device,
             name: name(rt, alloc, "osd.3"),
             weight,
             at: at_h1(rt, alloc),
         },
-        Edit::CreateOrMove {
+        Edit::Place {
+            how: Placing::CreateOrMove,
             device,
             name: name(rt, alloc, "osd.3"),
             weight,
             at: at_h1(rt, alloc),
         },
-        Edit::Update {
+        Edit::Place {
+            how: Placing::Update,
             device,
             name: name(rt, alloc, "osd.3"),
             weight,

@@ -6,7 +6,7 @@ use Rattle.crush_units.specs.declared.id.ItemId.{ItemId}
 use Rattle.crush_units.specs.declared.id.ItemId.TheVariants.{Device, Bucket}
 use Rattle.crush_model.specs.Table.{Row, id_named, is_below, name_of}
 use Rattle.crush_edits.specs.declared.edit.Edit.{Edit}
-use Rattle.crush_edits.specs.declared.edit.Edit.TheVariants.{Insert, CreateOrMove, Update, Move, Swap, Reweight, ReweightSubtree, Remove, AddBucket, Rename, SetClass, RemoveClass}
+use Rattle.crush_edits.specs.declared.edit.Edit.TheVariants.{Place, Move, Swap, Reweight, ReweightSubtree, Remove, AddBucket, Rename, SetClass, RemoveClass}
 use Rattle.crush_edits.specs.declared.location.Pair.{Pair}
 use Rattle.crush_compare.specs.Named.{is_in}
 use Rattle.crush_history.specs.Said.{IsSaid}
@@ -20,9 +20,7 @@ abbrev pub keeps_name : List ℕ → List Called
 keeps_name n = record { before = n; behind = Some n } ∷ []
 
 abbrev pub called : Edit → List Called
-called (Insert d n w l) = keeps_name n
-called (CreateOrMove d n w l) = keeps_name n
-called (Update d n w l) = keeps_name n
+called (Place how d n w l) = keeps_name n
 called (Move n l) = keeps_name n
 called (Swap a b) = record { before = a; behind = Some b } ∷ record { before = b; behind = Some a } ∷ []
 called (Reweight n w) = keeps_name n
@@ -60,9 +58,7 @@ HasPartBelow old new under t (Some (Bucket b)) = (i : ItemId) → is_below t b i
 
 -- WEIGHS PART: if the edit sets all weights below a bucket, then each item below this bucket meets this test. For any other edit this requires nothing
 abbrev pub WeighsPart : List Row → List Row → Option (List ℕ) → List Row → Edit → Type 0
-WeighsPart old new under t (Insert d n w l) = Unit {0}
-WeighsPart old new under t (CreateOrMove d n w l) = Unit {0}
-WeighsPart old new under t (Update d n w l) = Unit {0}
+WeighsPart old new under t (Place how d n w l) = Unit {0}
 WeighsPart old new under t (Move n l) = Unit {0}
 WeighsPart old new under t (Swap a b) = Unit {0}
 WeighsPart old new under t (Reweight n w) = Unit {0}
@@ -75,9 +71,7 @@ WeighsPart old new under t (RemoveClass n) = Unit {0}
 
 -- the location of an edit
 abbrev pub location_of : Edit → List Pair
-location_of (Insert d n w l) = l
-location_of (CreateOrMove d n w l) = l
-location_of (Update d n w l) = l
+location_of (Place how d n w l) = l
 location_of (Move n l) = l
 location_of (Swap a b) = []
 location_of (Reweight n w) = []

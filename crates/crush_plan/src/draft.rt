@@ -11,7 +11,7 @@ ghost use Rattle.std.specs.Option.{option_map};
 
 use crate::expressible::is_expressible;
 use crate::goal::PlanGoal;
-use crush_map::{CrushMap, Edit, EditFault, Location};
+use crush_map::{CrushMap, Edit, EditFault, Location, Placing};
 use crush_units::{BucketId, DeviceId, ItemId, Name, Weight};
 use std::alloc::{AllocError, Allocator, Global};
 
@@ -264,7 +264,8 @@ impl<A: Allocator + Clone> Draft<A> {
     {
         let name = copy_name(self.alloc, device.name.as_bytes())?;
         let at = self.place(bucket, bucket_name)?;
-        let edit = Edit::Insert {
+        let edit = Edit::Place {
+            how: Placing::Insert,
             device: device.id,
             name,
             weight: device.weight,
@@ -314,9 +315,7 @@ fn is_located<A: Allocator>(map: &CrushMap<A>, edit: &Edit) -> bool
         → are_there v (location_of edit.now) ≡ true }
 {
     match edit {
-        Edit::Insert { at, .. } => is_there(map, at),
-        Edit::CreateOrMove { at, .. } => is_there(map, at),
-        Edit::Update { at, .. } => is_there(map, at),
+        Edit::Place { at, .. } => is_there(map, at),
         Edit::Move { at, .. } => is_there(map, at),
         Edit::Swap { .. } => true,
         Edit::Reweight { .. } => true,

@@ -16,23 +16,12 @@ pub(crate) fn is_expressible(edit: &Edit) -> bool
     ensures { result ≡ true → IsSaid edit.now }
 {
     match edit {
-        Edit::Insert {
+        Edit::Place {
             device,
             name,
             weight,
             at,
-        } => is_expressible_placing(*device, name, *weight, at),
-        Edit::CreateOrMove {
-            device,
-            name,
-            weight,
-            at,
-        } => is_expressible_placing(*device, name, *weight, at),
-        Edit::Update {
-            device,
-            name,
-            weight,
-            at,
+            ..
         } => is_expressible_placing(*device, name, *weight, at),
         Edit::Move { name, at } => {
             recall_name(name);

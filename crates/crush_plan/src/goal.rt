@@ -79,9 +79,7 @@ impl<A: Allocator, B: Allocator> PlanGoal<'_, A, B> {
             (is_called_in t u (option_map (λ n. n.now) self.now.under) v) (called edit.now) }
     {
         match edit {
-            Edit::Insert { name, .. } => self.is_called_in(map, name, name),
-            Edit::CreateOrMove { name, .. } => self.is_called_in(map, name, name),
-            Edit::Update { name, .. } => self.is_called_in(map, name, name),
+            Edit::Place { name, .. } => self.is_called_in(map, name, name),
             Edit::Move { name, .. } => self.is_called_in(map, name, name),
             Edit::Swap { a, b } => self.is_called_in(map, a, b) && self.is_called_in(map, b, a),
             Edit::Reweight { name, .. } => self.is_called_in(map, name, name),
@@ -127,9 +125,7 @@ impl<A: Allocator, B: Allocator> PlanGoal<'_, A, B> {
             → Stands map.now.forest v → MayWeigh self.now v edit.now) }
     {
         match edit {
-            Edit::Insert { .. } => Ok(true),
-            Edit::CreateOrMove { .. } => Ok(true),
-            Edit::Update { .. } => Ok(true),
+            Edit::Place { .. } => Ok(true),
             Edit::Move { .. } => Ok(true),
             Edit::Swap { .. } => Ok(true),
             Edit::Reweight { .. } => Ok(true),

@@ -3,7 +3,8 @@ use Rattle.std.proofs.Common.{◌≡◌, ℕ, Bool, true, false, List, [], ◌�
 use Rattle.std.specs.Fmt.{digits}
 use Rattle.std.specs.Prelude.{None, codes}
 use Rattle.crush_model.specs.Table.{Row}
-use Rattle.crush_edits.specs.declared.edit.Edit.TheVariants.{Insert, Move, Reweight, Remove, SetClass, Swap, Update}
+use Rattle.crush_edits.specs.declared.edit.Edit.TheVariants.{Place, Move, Reweight, Remove, SetClass, Swap}
+use Rattle.crush_edits.specs.declared.edit.Placing.TheVariants.{Insert, Update}
 use Rattle.crush_edits.specs.declared.location.Pair.{Pair}
 use Rattle.crush_edits.specs.declared.refusal.Refusal.TheVariants.{AlreadyPlaced, BadLocation, InUse, Loop, NotEmpty, NoSuchItem, WrongType}
 use Rattle.crush_edits.specs.Setting.{SettingData, take, emit}
@@ -27,7 +28,8 @@ use Rattle.crush_ceph.specs.Steps.{ceph_steps}
 use Rattle.crush_reasons.specs.Ceph.{ceph_text}
 use Rattle.crush_reasons.specs.Explained.{explained_behind, explained_text}
 use Rattle.crush_reasons.specs.Fault.{fault_line, fault_text, line_fault_index, line_fault_reason, line_shown, word_place}
-use Rattle.crush_script.specs.Keyword.{form_of, keyword_of}
+use Rattle.crush_edits.specs.Keyword.{keyword_of}
+use Rattle.crush_script.specs.Keyword.{form_of}
 use Rattle.crush_script.specs.declared.fault.BadLine.TheVariants as bad
 use Rattle.crush_script.specs.declared.fault.Due.TheVariants as due
 use Rattle.crush_reasons.specs.Named.{edit_reason}
@@ -70,8 +72,8 @@ two_commands s t = refl
 
 -- the first `set` of a device that no bucket holds becomes an `add`, and the second `set` stays a `set`
 set_twice : ceph_text setting example (
-    entry (One (Update 3 (codes "osd.3") 65536 (pair (codes "host") (codes "h1") ∷ []))) (changed true 0)
-    ∷ entry (One (Update 3 (codes "osd.3") 131072 (pair (codes "host") (codes "h2") ∷ []))) (changed true 0)
+    entry (One (Place Update 3 (codes "osd.3") 65536 (pair (codes "host") (codes "h1") ∷ []))) (changed true 0)
+    ∷ entry (One (Place Update 3 (codes "osd.3") 131072 (pair (codes "host") (codes "h2") ∷ []))) (changed true 0)
     ∷ [])
     ≡ codes "# 2 commands\nceph osd crush add osd.3 1.000000 host=h1\nceph osd crush set osd.3 2.000000 host=h2\n"
 unfolding ceph_text ceph_text_of_edits ceph_heading ceph_steps digits
@@ -129,7 +131,7 @@ not_looked = refl
 taken : edit_reason true ruled example (Remove (codes "default")) InUse ≡ codes "the rule fast takes default"
 taken = refl
 
-placed : edit_reason true setting example (Insert 0 (codes "osd.0") 65536 (pair (codes "host") (codes "h2") ∷ [])) AlreadyPlaced ≡ codes "osd.0 stands in h1: set and create-or-move put it into another"
+placed : edit_reason true setting example (Place Insert 0 (codes "osd.0") 65536 (pair (codes "host") (codes "h2") ∷ [])) AlreadyPlaced ≡ codes "osd.0 stands in h1: set and create-or-move put it into another"
 placed = refl
 
 below : edit_reason true setting example (Move (codes "default") (pair (codes "host") (codes "h1") ∷ [])) Loop ≡ codes "h1 stands below default: a bucket cannot come below itself"

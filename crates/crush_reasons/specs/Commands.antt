@@ -1,8 +1,8 @@
 -- The reason for a line of a script whose first word isn't a command.
 use Rattle.std.specs.Prelude.{ℕ, ◌+◌, Bool, ◌&&◌, ◌||◌, List, [], ◌∷◌, ◌++◌, Option, Some, None, bytes_eq, codes, drop, find, if◌then◌else◌}
-use Rattle.crush_script.specs.declared.keyword.Keyword.TheVariants.{Place, Move, SwapBucket, Reweight, ReweightSubtree, Rm, AddBucket, RenameBucket, SetDeviceClass, RmDeviceClass}
-use Rattle.crush_script.specs.declared.keyword.Placement.TheVariants.{Add, Set, CreateOrMove}
-use Rattle.crush_script.specs.Keyword.{keyword_word}
+use Rattle.crush_edits.specs.declared.keyword.Keyword.TheVariants.{Place, Move, SwapBucket, Reweight, ReweightSubtree, Rm, AddBucket, RenameBucket, SetDeviceClass, RmDeviceClass}
+use Rattle.crush_edits.specs.declared.edit.Placing.TheVariants.{Insert, CreateOrMove, Update}
+use Rattle.crush_edits.specs.Keyword.{keyword_word}
 use Rattle.crush_script.specs.Lines.{word_in_line}
 use Rattle.crush_reasons.specs.Near.{is_one_off, same_heads, shared}
 use Rattle.crush_reasons.specs.Shown.{told}
@@ -19,7 +19,7 @@ is_near_command a b = is_one_off a b || is_swapped a b
 -- the words of all commands, and the words `begin` and `commit` of a batch
 abbrev pub commands : List (List ℕ)
 commands =
-    keyword_word (Place Add) ∷ (keyword_word (Place Set) ∷ (keyword_word (Place CreateOrMove) ∷ (keyword_word Move ∷ (keyword_word SwapBucket
+    keyword_word (Place Insert) ∷ (keyword_word (Place Update) ∷ (keyword_word (Place CreateOrMove) ∷ (keyword_word Move ∷ (keyword_word SwapBucket
     ∷ (keyword_word Reweight ∷ (keyword_word ReweightSubtree ∷ (keyword_word Rm ∷ (keyword_word AddBucket ∷ (keyword_word RenameBucket
     ∷ (keyword_word SetDeviceClass ∷ (keyword_word RmDeviceClass ∷ (codes "begin" ∷ (codes "commit" ∷ [])))))))))))))
 

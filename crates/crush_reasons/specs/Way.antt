@@ -5,7 +5,7 @@ use Rattle.std.specs.Option.{option_map, option_map_or}
 use Rattle.crush_units.specs.declared.id.ItemId.TheVariants.{Bucket}
 use Rattle.crush_model.specs.Table.{Row, class_of, id_named, kids, kind_of, member, name_of, parent_of}
 use Rattle.crush_edits.specs.declared.edit.Edit.{Edit}
-use Rattle.crush_edits.specs.declared.edit.Edit.TheVariants.{Insert, CreateOrMove, Update, Move}
+use Rattle.crush_edits.specs.declared.edit.Edit.TheVariants.{Place, Move}
 use Rattle.crush_edits.specs.declared.location.Pair.{Pair}
 use Rattle.crush_edits.specs.Setting.{RuleData, SettingData, StepData, bucket_taken, kind_name}
 use Rattle.crush_edits.specs.Stops.{bucket_named}
@@ -81,9 +81,7 @@ end_reason s t l end = types_reason end (type_of_item s t end) (type_of_pair l e
 
 -- the location at which an edit puts an item
 abbrev pub location_of : Edit → Option (List Pair)
-location_of (Insert d n w l) = Some l
-location_of (CreateOrMove d n w l) = Some l
-location_of (Update d n w l) = Some l
+location_of (Place how d n w l) = Some l
 location_of (Move n l) = Some l
 location_of e = None
 

@@ -9,7 +9,8 @@ ghost use Rattle.crush_reasons.specs.Near.{same_heads};
 use crate::near::{is_one_off, shared};
 use crate::shown::push_told;
 use crate::words::{from_place, push_all};
-use crush_script::{Keyword, Placement, placed_word};
+use crush_edits::{Keyword, Placing};
+use crush_script::placed_word;
 use std::alloc::AllocError;
 
 fn same_heads(a: &[u8], b: &[u8]) -> bool
@@ -61,9 +62,9 @@ fn near_command(word: &[u8]) -> Option<&'static str>
     first_command(
         word,
         &[
-            Keyword::Place(Placement::Add).word(),
-            Keyword::Place(Placement::Set).word(),
-            Keyword::Place(Placement::CreateOrMove).word(),
+            Keyword::Place(Placing::Insert).word(),
+            Keyword::Place(Placing::Update).word(),
+            Keyword::Place(Placing::CreateOrMove).word(),
             Keyword::Move.word(),
             Keyword::SwapBucket.word(),
             Keyword::Reweight.word(),

@@ -337,10 +337,7 @@ fn location_of(edit: &Edit) -> Option<&Location>
     ensures { option_map (λ at. at.now) result ≡ location_of edit.now }
 {
     match edit {
-        Edit::Insert { at, .. }
-        | Edit::CreateOrMove { at, .. }
-        | Edit::Update { at, .. }
-        | Edit::Move { at, .. } => Some(at),
+        Edit::Place { at, .. } | Edit::Move { at, .. } => Some(at),
         _ => None,
     }
 }

@@ -2,7 +2,8 @@
 use Rattle.std.proofs.Common.{◌≡◌, ℕ, List, [], ◌∷◌, Ok, Err, Some, None, refl}
 use Rattle.std.specs.Prelude.{codes}
 use Rattle.crush_units.specs.declared.limits.TheConstants.{UNITS_OF_ONE, LAST_DEVICE_ID}
-use Rattle.crush_edits.specs.declared.edit.Edit.TheVariants.{Insert, CreateOrMove, Update, Move, Swap, Reweight, ReweightSubtree, Remove, AddBucket, Rename, SetClass, RemoveClass}
+use Rattle.crush_edits.specs.declared.edit.Edit.TheVariants.{Place, Move, Swap, Reweight, ReweightSubtree, Remove, AddBucket, Rename, SetClass, RemoveClass}
+use Rattle.crush_edits.specs.declared.edit.Placing.TheVariants.{Insert, CreateOrMove, Update}
 use Rattle.crush_history.specs.declared.call.Call.TheVariants.{One, Batch, Guarded}
 use Rattle.crush_script.specs.declared.command.Command.TheVariants.{Nothing, Edit, Begin, Commit}
 use Rattle.crush_script.specs.declared.command.LineFault.TheVariants as line
@@ -10,7 +11,7 @@ use Rattle.crush_script.specs.declared.fault.JobFault.TheVariants as job
 use Rattle.crush_script.specs.Lines.{lines, words_between_blanks, line_words, map_part}
 use Rattle.crush_history.specs.Said.{device_named}
 use Rattle.crush_script.specs.Command.{name_at, weight_at, end_at, with_pair, with_pairs, location_at, placing_at, located_at, one_name_at, two_names_at, name_and_weight_at, edit_at, count_at, begin_at, command, misfit, operator}
-use Rattle.crush_script.specs.Keyword.{keyword_of}
+use Rattle.crush_edits.specs.Keyword.{keyword_of}
 use Rattle.crush_script.specs.declared.fault.Due.TheVariants as due
 use Rattle.crush_script.specs.declared.fault.BadLine.TheVariants as bad
 use Rattle.crush_script.specs.Sections.{with_line, with_lines, sections_of}
@@ -49,20 +50,20 @@ one_weight : command (codes "reweight" ∷ (codes "osd.2" ∷ (codes "1.0" ∷ [
 unfolding name_at weight_at end_at with_pair with_pairs location_at placing_at located_at one_name_at two_names_at name_and_weight_at keyword_of edit_at count_at begin_at command
 one_weight = refl
 
-one_device : command (codes "add" ∷ (codes "osd.3" ∷ (codes "0.333" ∷ (codes "host=h3" ∷ (codes "rack=r1" ∷ []))))) ≡ Ok (Edit (Insert 3 (codes "osd.3") 21823 ((record { kind = codes "host"; name = codes "h3" }) ∷ ((record { kind = codes "rack"; name = codes "r1" }) ∷ []))))
+one_device : command (codes "add" ∷ (codes "osd.3" ∷ (codes "0.333" ∷ (codes "host=h3" ∷ (codes "rack=r1" ∷ []))))) ≡ Ok (Edit (Place Insert 3 (codes "osd.3") 21823 ((record { kind = codes "host"; name = codes "h3" }) ∷ ((record { kind = codes "rack"; name = codes "r1" }) ∷ []))))
 unfolding name_at weight_at end_at with_pair with_pairs location_at placing_at located_at one_name_at two_names_at name_and_weight_at keyword_of edit_at count_at begin_at command
 one_device = refl
 
-one_update : command (codes "set" ∷ (codes "osd.1" ∷ (codes "3" ∷ (codes "host=h1" ∷ [])))) ≡ Ok (Edit (Update 1 (codes "osd.1") 196608 ((record { kind = codes "host"; name = codes "h1" }) ∷ [])))
+one_update : command (codes "set" ∷ (codes "osd.1" ∷ (codes "3" ∷ (codes "host=h1" ∷ [])))) ≡ Ok (Edit (Place Update 1 (codes "osd.1") 196608 ((record { kind = codes "host"; name = codes "h1" }) ∷ [])))
 unfolding name_at weight_at end_at with_pair with_pairs location_at placing_at located_at one_name_at two_names_at name_and_weight_at keyword_of edit_at count_at begin_at command
 one_update = refl
 
-one_choice : command (codes "create-or-move" ∷ (codes "osd.0" ∷ (codes "5.0" ∷ (codes "host=h2" ∷ [])))) ≡ Ok (Edit (CreateOrMove 0 (codes "osd.0") 327680 ((record { kind = codes "host"; name = codes "h2" }) ∷ [])))
+one_choice : command (codes "create-or-move" ∷ (codes "osd.0" ∷ (codes "5.0" ∷ (codes "host=h2" ∷ [])))) ≡ Ok (Edit (Place CreateOrMove 0 (codes "osd.0") 327680 ((record { kind = codes "host"; name = codes "h2" }) ∷ [])))
 unfolding name_at weight_at end_at with_pair with_pairs location_at placing_at located_at one_name_at two_names_at name_and_weight_at keyword_of edit_at count_at begin_at command
 one_choice = refl
 
 -- a command without pairs can be read; later, the edit is refused because its location is empty
-no_location : command (codes "add" ∷ (codes "osd.3" ∷ (codes "1" ∷ []))) ≡ Ok (Edit (Insert 3 (codes "osd.3") UNITS_OF_ONE []))
+no_location : command (codes "add" ∷ (codes "osd.3" ∷ (codes "1" ∷ []))) ≡ Ok (Edit (Place Insert 3 (codes "osd.3") UNITS_OF_ONE []))
 unfolding name_at weight_at end_at with_pair with_pairs location_at placing_at located_at one_name_at two_names_at name_and_weight_at keyword_of edit_at count_at begin_at command
 no_location = refl
 

@@ -7,7 +7,7 @@ use Rattle.crush_units.specs.Name.{is_name}
 use Rattle.crush_units.specs.Weight.{weight_of_text}
 use Rattle.crush_units.specs.declared.weight.WeightFault.{WeightFault}
 use Rattle.crush_units.specs.declared.limits.TheConstants.{MOST_PAIRS}
-use Rattle.crush_edits.specs.declared.edit.Edit.TheVariants.{Move, Swap, Reweight, ReweightSubtree, Remove, AddBucket, Rename, SetClass, RemoveClass}
+use Rattle.crush_edits.specs.declared.edit.Edit.TheVariants.{Place, Move, Swap, Reweight, ReweightSubtree, Remove, AddBucket, Rename, SetClass, RemoveClass}
 use Rattle.crush_edits.specs.declared.location.Pair.{Pair}
 use Rattle.crush_history.specs.Said.{device_named}
 use Rattle.crush_text.specs.Flow.{◌>>=◌}
@@ -19,11 +19,11 @@ use Rattle.crush_script.specs.declared.command.Placing.{Placing}
 use Rattle.crush_script.specs.declared.fault.Due.{Due}
 use Rattle.crush_script.specs.declared.fault.Due.TheVariants as due
 use Rattle.crush_script.specs.declared.fault.Misfit.{Misfit}
-use Rattle.crush_script.specs.declared.keyword.Keyword.{Keyword}
-use Rattle.crush_script.specs.declared.keyword.Keyword.TheVariants as word
-use Rattle.crush_script.specs.Keyword.{keyword_of}
+use Rattle.crush_edits.specs.declared.keyword.Keyword.{Keyword}
+use Rattle.crush_edits.specs.declared.keyword.Keyword.TheVariants as word
+use Rattle.crush_edits.specs.Keyword.{keyword_of}
 use Rattle.crush_script.specs.Words.{pair_of, is_pair, is_count, count_of}
-use Rattle.crush_script.specs.Command.{misfit, name_at, weight_at, end_at, with_pair, with_pairs, location_at, placing_at, located_at, one_name_at, two_names_at, name_and_weight_at, edit_to_place, edit_of, edit_by, edit_at, count_at, begin_at, command, operator}
+use Rattle.crush_script.specs.Command.{misfit, name_at, weight_at, end_at, with_pair, with_pairs, location_at, placing_at, located_at, one_name_at, two_names_at, name_and_weight_at, edit_of, edit_by, edit_at, count_at, begin_at, command, operator}
 use Rattle.crush_script.specs.FirstMisfit.{IsDue, may_end, FirstMisfit, MisfitsOfCommands, MisfitsOfOperators}
 
 -- a way to read the words of a line
@@ -439,7 +439,7 @@ begin_tells (w ∷ rest) m told = by (bytes_eq w (codes "at")) refl where
 
 -- LINES with a command
 edit_tells : (k : Keyword) → Tells (edit_of k) 1
-edit_tells (word.Place how) = makes placing_at (edit_to_place how) 1 placing_tells
+edit_tells (word.Place how) = makes placing_at (λ (p : Placing). Place how p.device p.name p.weight p.at) 1 placing_tells
 edit_tells word.Move = makes located_at (λ (p : List ℕ × List Pair). Move p.0 p.1) 1 located_tells
 edit_tells word.SwapBucket = makes two_names_at (λ (p : List ℕ × List ℕ). Swap p.0 p.1) 1 two_names_tells
 edit_tells word.Reweight = makes name_and_weight_at (λ (p : List ℕ × ℕ). Reweight p.0 p.1) 1 name_and_weight_tells

@@ -16,14 +16,15 @@ use Rattle.crush_units.proofs.ReadBack.{read_again}
 use Rattle.crush_units.specs.declared.limits.TheConstants.{MOST_ENTRIES, MOST_PAIRS}
 use Rattle.crush_edits.specs.declared.location.Pair.{Pair}
 use Rattle.crush_edits.specs.declared.edit.Edit.{Edit}
-use Rattle.crush_edits.specs.declared.edit.Edit.TheVariants.{Insert, CreateOrMove, Update, Move, Swap, Reweight, ReweightSubtree, Remove, AddBucket, Rename, SetClass, RemoveClass}
+use Rattle.crush_edits.specs.declared.edit.Edit.TheVariants.{Place, Move, Swap, Reweight, ReweightSubtree, Remove, AddBucket, Rename, SetClass, RemoveClass}
+use Rattle.crush_edits.specs.declared.edit.Placing.TheVariants.{Insert, CreateOrMove, Update}
 use Rattle.crush_edits.specs.Pushed.{IsLocation}
 use Rattle.crush_script.specs.declared.command.Command.TheVariants as says
 use Rattle.crush_script.specs.Lines.{line_words}
 use Rattle.crush_history.specs.Said.{device_named, IsSaid}
 use Rattle.crush_script.specs.Words.{equals_at, pair_of}
 use Rattle.crush_script.specs.Command.{name_at, weight_at, end_at, with_pair, with_pairs, location_at, placing_at, located_at, one_name_at, two_names_at, name_and_weight_at, edit_at, command}
-use Rattle.crush_script.specs.Keyword.{keyword_of}
+use Rattle.crush_edits.specs.Keyword.{keyword_of}
 use Rattle.crush_history.specs.HistoryText.{edit_text, pairs_text, one_name}
 use Rattle.crush_script.specs.Printed.{PrintedIsRead}
 use Rattle.crush_script.proofs.Pairs.{pair_added}
@@ -189,18 +190,18 @@ said first words e is some bytes are reads = record { first = first; words = wor
 
 pub printed : (e : Edit) → IsSaid e → IsPrinted e
 unfolding command keyword_of edit_at
-printed (Insert d n w l) is =
+printed (Place Insert d n w l) is =
     let are = of_location l is.at in
     let reads = placing_read d n (weight_text w) w l is.name is.device (read_again w is.weight) are is.at.few in
-    said (codes "add") (n ∷ (weight_text w ∷ map pair_word l)) (Insert d n w l) (placing-joined (codes "add") n (weight_text w) l) (omega arith) refl (name_word n is.name, (weight_word w is.weight, are.words)) (rw reads refl)
-printed (CreateOrMove d n w l) is =
+    said (codes "add") (n ∷ (weight_text w ∷ map pair_word l)) (Place Insert d n w l) (placing-joined (codes "add") n (weight_text w) l) (omega arith) refl (name_word n is.name, (weight_word w is.weight, are.words)) (rw reads refl)
+printed (Place CreateOrMove d n w l) is =
     let are = of_location l is.at in
     let reads = placing_read d n (weight_text w) w l is.name is.device (read_again w is.weight) are is.at.few in
-    said (codes "create-or-move") (n ∷ (weight_text w ∷ map pair_word l)) (CreateOrMove d n w l) (placing-joined (codes "create-or-move") n (weight_text w) l) (omega arith) refl (name_word n is.name, (weight_word w is.weight, are.words)) (rw reads refl)
-printed (Update d n w l) is =
+    said (codes "create-or-move") (n ∷ (weight_text w ∷ map pair_word l)) (Place CreateOrMove d n w l) (placing-joined (codes "create-or-move") n (weight_text w) l) (omega arith) refl (name_word n is.name, (weight_word w is.weight, are.words)) (rw reads refl)
+printed (Place Update d n w l) is =
     let are = of_location l is.at in
     let reads = placing_read d n (weight_text w) w l is.name is.device (read_again w is.weight) are is.at.few in
-    said (codes "set") (n ∷ (weight_text w ∷ map pair_word l)) (Update d n w l) (placing-joined (codes "set") n (weight_text w) l) (omega arith) refl (name_word n is.name, (weight_word w is.weight, are.words)) (rw reads refl)
+    said (codes "set") (n ∷ (weight_text w ∷ map pair_word l)) (Place Update d n w l) (placing-joined (codes "set") n (weight_text w) l) (omega arith) refl (name_word n is.name, (weight_word w is.weight, are.words)) (rw reads refl)
 printed (Move n l) is =
     let are = of_location l is.1 in
     let reads = located_read n l is.0 are is.1.few in

@@ -15,18 +15,15 @@ use Rattle.crush_edits.specs.declared.location.Pair.{Pair}
 use Rattle.crush_edits.specs.Pushed.{IsLocation}
 use Rattle.crush_script.specs.declared.command.Command.{Command}
 use Rattle.crush_script.specs.declared.command.Command.TheVariants as says
-use Rattle.crush_script.specs.declared.keyword.Keyword.{Keyword}
-use Rattle.crush_script.specs.declared.keyword.Keyword.TheVariants as word
-use Rattle.crush_script.specs.declared.keyword.Placement.{Placement}
-use Rattle.crush_script.specs.declared.keyword.Placement.TheVariants as place
+use Rattle.crush_edits.specs.declared.keyword.Keyword.{Keyword}
+use Rattle.crush_edits.specs.declared.keyword.Keyword.TheVariants as word
+use Rattle.crush_edits.specs.Keyword.{keyword_of}
 use Rattle.crush_script.specs.declared.fault.Due.{Due}
 use Rattle.crush_script.specs.declared.fault.Due.TheVariants as due
 use Rattle.crush_script.specs.declared.fault.Due.TheVariants.{Pair as a_pair, NoMorePairs}
-use Rattle.crush_script.specs.Keyword.{keyword_of}
-use Rattle.crush_script.specs.declared.command.Placing.{Placing}
 use Rattle.crush_history.specs.Said.{device_named, IsSaidPlacing, IsSaid}
 use Rattle.crush_script.specs.Words.{pair_of, is_pair, is_count, count_of}
-use Rattle.crush_script.specs.Command.{misfit, name_at, read_weight, weight_at, end_at, with_pair, with_pairs, location_at, the_device, placing_at, located_at, one_name_at, two_names_at, name_and_weight_at, edit_to_place, edit_of, edit_by, edit_at, read_count, count_at, begin_at, command, operator}
+use Rattle.crush_script.specs.Command.{misfit, name_at, read_weight, weight_at, end_at, with_pair, with_pairs, location_at, the_device, placing_at, located_at, one_name_at, two_names_at, name_and_weight_at, edit_of, edit_by, edit_at, read_count, count_at, begin_at, command, operator}
 use Rattle.crush_script.specs.Printed.{ReadIsSaid}
 use Rattle.crush_script.proofs.Oks.{bind-if_ok_at, if_ok-either, if_ok-then, if_ok-passed, if_ok-at}
 
@@ -126,13 +123,8 @@ name_and_weight_said words =
     end_said 3 (name.value, weight.value) weight.rest (λ p. IsName p.0 × (p.1 < 2 ^ 32)) (is_name, is_weight)))
 
 -- COMMANDS
-edit_to_place_said : (how : Placement) (p : Placing) → IsSaidPlacing p.device p.name p.weight p.at → IsSaid (edit_to_place how p)
-edit_to_place_said place.Add p is = is
-edit_to_place_said place.Set p is = is
-edit_to_place_said place.CreateOrMove p is = is
-
 edit_of_said : (keyword : Keyword) (rest : List (List ℕ)) → IfOk (edit_of keyword rest) IsSaid
-edit_of_said (word.Place how) rest = bind-if_ok_at (placing_at rest) _ IsSaid _ (placing_said rest) (edit_to_place_said how)
+edit_of_said (word.Place how) rest = bind-if_ok_at (placing_at rest) _ IsSaid _ (placing_said rest) (λ p is. is)
 edit_of_said word.Move rest = bind-if_ok_at (located_at rest) _ IsSaid _ (located_said rest) (λ p is. is)
 edit_of_said word.SwapBucket rest = bind-if_ok_at (two_names_at rest) _ IsSaid _ (two_names_said rest) (λ p is. is)
 edit_of_said word.Reweight rest = bind-if_ok_at (name_and_weight_at rest) _ IsSaid _ (name_and_weight_said rest) (λ p is. is)

@@ -12,7 +12,8 @@ use Rattle.crush_units.specs.Name.{IsName}
 use Rattle.crush_units.proofs.Names.{is_name_true}
 use Rattle.crush_units.specs.declared.limits.TheConstants.{MOST_CALLS, MOST_EDITS, MOST_ENTRIES, MOST_OPERATORS}
 use Rattle.crush_edits.specs.declared.edit.Edit.{Edit}
-use Rattle.crush_edits.specs.declared.edit.Edit.TheVariants.{Insert, CreateOrMove, Update, Move, Swap, Reweight, ReweightSubtree, Remove, AddBucket, Rename, SetClass, RemoveClass}
+use Rattle.crush_edits.specs.declared.edit.Edit.TheVariants.{Place, Move, Swap, Reweight, ReweightSubtree, Remove, AddBucket, Rename, SetClass, RemoveClass}
+use Rattle.crush_edits.specs.declared.edit.Placing.TheVariants.{Insert, CreateOrMove, Update}
 use Rattle.crush_text.specs.Document.{IsMapText}
 use Rattle.crush_history.specs.declared.call.Call.{Call}
 use Rattle.crush_history.specs.declared.call.Call.TheVariants.{One, Batch, Guarded}
@@ -148,9 +149,9 @@ goes_to n numbers s e f ls is goes = subst (Goes n numbers s ls) is goes
 
 -- the line of an edit begins no section
 begins_none : (e : Edit) → begins_section (edit_text e) ≡ false
-begins_none (Insert d n w l) = refl
-begins_none (CreateOrMove d n w l) = refl
-begins_none (Update d n w l) = refl
+begins_none (Place Insert d n w l) = refl
+begins_none (Place CreateOrMove d n w l) = refl
+begins_none (Place Update d n w l) = refl
 begins_none (Move n l) = refl
 begins_none (Swap a b) = refl
 begins_none (Reweight n w) = refl

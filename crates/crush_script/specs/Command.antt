@@ -6,19 +6,17 @@ use Rattle.crush_units.specs.declared.weight.WeightFault.{WeightFault}
 use Rattle.crush_units.specs.declared.limits.TheConstants.{MOST_PAIRS}
 use Rattle.crush_edits.specs.declared.location.Pair.{Pair}
 use Rattle.crush_edits.specs.declared.edit.Edit.{Edit}
-use Rattle.crush_edits.specs.declared.edit.Edit.TheVariants.{Insert, CreateOrMove, Update, Move, Swap, Reweight, ReweightSubtree, Remove, AddBucket, Rename, SetClass, RemoveClass}
+use Rattle.crush_edits.specs.declared.edit.Edit.TheVariants.{Place, Move, Swap, Reweight, ReweightSubtree, Remove, AddBucket, Rename, SetClass, RemoveClass}
 use Rattle.crush_script.specs.declared.command.Command.{Command}
 use Rattle.crush_script.specs.declared.command.Command.TheVariants as says
-use Rattle.crush_script.specs.declared.keyword.Keyword.{Keyword}
-use Rattle.crush_script.specs.declared.keyword.Keyword.TheVariants as word
-use Rattle.crush_script.specs.declared.keyword.Placement.{Placement}
-use Rattle.crush_script.specs.declared.keyword.Placement.TheVariants as place
+use Rattle.crush_edits.specs.declared.keyword.Keyword.{Keyword}
+use Rattle.crush_edits.specs.declared.keyword.Keyword.TheVariants as word
+use Rattle.crush_edits.specs.Keyword.{keyword_of}
 use Rattle.crush_script.specs.declared.command.Placing.{Placing}
 use Rattle.crush_script.specs.declared.command.LineFault.{LineFault}
 use Rattle.crush_script.specs.declared.command.LineFault.TheVariants.{Word, NoOperator, NoSuchCommand}
 use Rattle.crush_script.specs.declared.fault.Due.{Due}
 use Rattle.crush_script.specs.declared.fault.Due.TheVariants as due
-use Rattle.crush_script.specs.Keyword.{keyword_of}
 use Rattle.crush_text.specs.Flow.{◌>>=◌}
 use Rattle.crush_history.specs.Said.{device_named}
 use Rattle.crush_script.specs.Words.{pair_of, is_pair, count_of}
@@ -108,15 +106,9 @@ name_and_weight_at words = do
   weight ← weight_at 2 name.rest
   end_at 3 (name.value, weight.value) weight.rest
 
--- the edit of `add`, `set` or `create-or-move` with this device, weight and location
-abbrev pub edit_to_place : Placement → Placing → Edit
-edit_to_place place.Add p = Insert p.device p.name p.weight p.at
-edit_to_place place.Set p = Update p.device p.name p.weight p.at
-edit_to_place place.CreateOrMove p = CreateOrMove p.device p.name p.weight p.at
-
 -- the edit of a command, given the words after the first; in `set-device-class CLASS NAME` the class comes before the name
 abbrev pub edit_of : Keyword → List (List ℕ) → Result Edit LineFault
-edit_of (word.Place how) rest = placing_at rest >>= λ p. Ok (edit_to_place how p)
+edit_of (word.Place how) rest = placing_at rest >>= λ p. Ok (Place how p.device p.name p.weight p.at)
 edit_of word.Move rest = located_at rest >>= λ p. Ok (Move p.0 p.1)
 edit_of word.SwapBucket rest = two_names_at rest >>= λ p. Ok (Swap p.0 p.1)
 edit_of word.Reweight rest = name_and_weight_at rest >>= λ p. Ok (Reweight p.0 p.1)

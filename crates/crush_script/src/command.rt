@@ -2,13 +2,12 @@
 
 ghost use Rattle.std.specs.Prelude.{◌≡◌, ◌≤◌};
 ghost use Rattle.crush_script.specs.ReadsAs.{ReadsAs, ReadsAndLeaves};
-ghost use Rattle.crush_script.specs.Command.{command, misfit, operator, name_at, weight_at, end_at, with_pair, location_at, placing_at, located_at, one_name_at, two_names_at, name_and_weight_at, edit_to_place, edit_of, edit_at, begin_at, count_at};
+ghost use Rattle.crush_script.specs.Command.{command, misfit, operator, name_at, weight_at, end_at, with_pair, location_at, placing_at, located_at, one_name_at, two_names_at, name_and_weight_at, edit_of, edit_at, begin_at, count_at};
 
 use crate::fault::{Due, Misfit};
-use crate::keyword::{Keyword, Placement};
 use crate::line::LineWords;
 use crate::word::{count_of, cut_pair};
-use crush_edits::{Edit, Location, LocationFault};
+use crush_edits::{Edit, Keyword, Location, LocationFault};
 use crush_history::device_named;
 use crush_units::{DeviceId, Name, NameFault, Weight};
 use std::alloc::Global;
@@ -65,37 +64,6 @@ fn with_pair(first: usize, at: Location, word: &[u8]) -> Result<Location, LineFa
         Err(LocationFault::TooMany) => Err(misfit(index, Due::NoMorePairs)),
         Err(LocationFault::BadName) => Err(misfit(index, Due::Pair)),
         Err(LocationFault::OutOfMemory) => Err(LineFault::OutOfMemory),
-    }
-}
-
-fn edit_to_place(how: Placement, placing: Placing) -> Edit
-    ensures { result ≡ edit_to_place how placing }
-{
-    let Placing {
-        device,
-        name,
-        weight,
-        at,
-    } = placing;
-    match how {
-        Placement::Add => Edit::Insert {
-            device,
-            name,
-            weight,
-            at,
-        },
-        Placement::Set => Edit::Update {
-            device,
-            name,
-            weight,
-            at,
-        },
-        Placement::CreateOrMove => Edit::CreateOrMove {
-            device,
-            name,
-            weight,
-            at,
-        },
     }
 }
 
@@ -213,8 +181,19 @@ impl LineWords<'_> {
     {
         match keyword {
             Keyword::Place(how) => {
-                let placing = self.placing(alloc)?;
-                Ok(edit_to_place(how, placing))
+                let Placing {
+                    device,
+                    name,
+                    weight,
+                    at,
+                } = self.placing(alloc)?;
+                Ok(Edit::Place {
+                    how,
+                    device,
+                    name,
+                    weight,
+                    at,
+                })
             }
             Keyword::Move => {
                 let (name, at) = self.located(alloc)?;

@@ -2,51 +2,52 @@
 use Rattle.std.proofs.Common.{◌≡◌, ◌+◌, [], ◌∷◌, refl}
 use Rattle.std.specs.Prelude.{codes, None}
 use Rattle.crush_units.specs.declared.limits.TheConstants.{HEAVIEST_DEVICE}
-use Rattle.crush_edits.specs.declared.edit.Edit.TheVariants.{Insert, CreateOrMove, Update, Move, Swap, Reweight, ReweightSubtree, Remove, AddBucket, Rename, SetClass, RemoveClass}
+use Rattle.crush_edits.specs.declared.edit.Edit.TheVariants.{Place, Move, Swap, Reweight, ReweightSubtree, Remove, AddBucket, Rename, SetClass, RemoveClass}
+use Rattle.crush_edits.specs.declared.edit.Placing.TheVariants.{Insert, CreateOrMove, Update}
 use Rattle.crush_edits.proofs.Worked.Examples.{a_bucket, table_with_spare, table_with_classes, heavy_table, example_setting, plain_setting, at, host, rack, root, holding}
 
 -- 1: a bucket of the location has the device's name, also above the end of the route
-bad_name : holding example_setting table_with_spare (Insert 3 (codes "osd.3") 65536 (host (codes "osd.3") ∷ [])) ≡ 1 ∷ []
+bad_name : holding example_setting table_with_spare (Place Insert 3 (codes "osd.3") 65536 (host (codes "osd.3") ∷ [])) ≡ 1 ∷ []
 bad_name = refl
 
-bad_name_above : holding example_setting table_with_spare (Insert 3 (codes "osd.3") 65536 (host (codes "h1") ∷ (rack (codes "osd.3") ∷ []))) ≡ 1 ∷ []
+bad_name_above : holding example_setting table_with_spare (Place Insert 3 (codes "osd.3") 65536 (host (codes "h1") ∷ (rack (codes "osd.3") ∷ []))) ≡ 1 ∷ []
 bad_name_above = refl
 
 -- 2: a type twice, a bucket twice, type 0
-type_twice : holding example_setting table_with_spare (Insert 3 (codes "osd.3") 65536 (host (codes "h1") ∷ (host (codes "h2") ∷ []))) ≡ 2 ∷ []
+type_twice : holding example_setting table_with_spare (Place Insert 3 (codes "osd.3") 65536 (host (codes "h1") ∷ (host (codes "h2") ∷ []))) ≡ 2 ∷ []
 type_twice = refl
 
-bucket_twice : holding example_setting table_with_spare (Insert 3 (codes "osd.3") 65536 (host (codes "n1") ∷ (rack (codes "n1") ∷ []))) ≡ 2 ∷ []
+bucket_twice : holding example_setting table_with_spare (Place Insert 3 (codes "osd.3") 65536 (host (codes "n1") ∷ (rack (codes "n1") ∷ []))) ≡ 2 ∷ []
 bucket_twice = refl
 
-type_zero : holding example_setting table_with_spare (Insert 3 (codes "osd.3") 65536 (at (codes "osd") (codes "x") ∷ [])) ≡ 2 ∷ []
+type_zero : holding example_setting table_with_spare (Place Insert 3 (codes "osd.3") 65536 (at (codes "osd") (codes "x") ∷ [])) ≡ 2 ∷ []
 type_zero = refl
 
-bucket_called_as_type : holding example_setting table_with_spare (Insert 3 (codes "osd.3") 65536 (host (codes "osd") ∷ (rack (codes "host") ∷ []))) ≡ []
+bucket_called_as_type : holding example_setting table_with_spare (Place Insert 3 (codes "osd.3") 65536 (host (codes "osd") ∷ (rack (codes "host") ∷ []))) ≡ []
 bucket_called_as_type = refl
 
 -- 3: of a location, of a new bucket
-no_type : holding example_setting table_with_spare (Insert 3 (codes "osd.3") 65536 (at (codes "pod") (codes "p") ∷ [])) ≡ 3 ∷ []
+no_type : holding example_setting table_with_spare (Place Insert 3 (codes "osd.3") 65536 (at (codes "pod") (codes "p") ∷ [])) ≡ 3 ∷ []
 no_type = refl
 
 no_type_of_bucket : holding example_setting table_with_spare (AddBucket (codes "x") (codes "pod")) ≡ 3 ∷ []
 no_type_of_bucket = refl
 
 -- 4
-no_place : holding example_setting table_with_spare (Insert 3 (codes "osd.3") 65536 []) ≡ 4 ∷ []
+no_place : holding example_setting table_with_spare (Place Insert 3 (codes "osd.3") 65536 []) ≡ 4 ∷ []
 no_place = refl
 
 no_place_of_move : holding example_setting table_with_spare (Move (codes "h1") []) ≡ 4 ∷ []
 no_place_of_move = refl
 
 -- 5: the weight of a new device, and of a device that is already at its location, if the edit sets the weight and if it doesn't use it
-too_large : holding example_setting table_with_spare (Insert 13 (codes "osd.13") (HEAVIEST_DEVICE + 1) (host (codes "hy") ∷ [])) ≡ 5 ∷ []
+too_large : holding example_setting table_with_spare (Place Insert 13 (codes "osd.13") (HEAVIEST_DEVICE + 1) (host (codes "hy") ∷ [])) ≡ 5 ∷ []
 too_large = refl
 
-too_large_set : holding example_setting table_with_spare (Update 1 (codes "osd.1") (HEAVIEST_DEVICE + 1) (host (codes "h1") ∷ [])) ≡ 5 ∷ []
+too_large_set : holding example_setting table_with_spare (Place Update 1 (codes "osd.1") (HEAVIEST_DEVICE + 1) (host (codes "h1") ∷ [])) ≡ 5 ∷ []
 too_large_set = refl
 
-too_large_unused : holding example_setting table_with_spare (CreateOrMove 1 (codes "osd.1") (HEAVIEST_DEVICE + 1) (host (codes "h1") ∷ [])) ≡ 5 ∷ []
+too_large_unused : holding example_setting table_with_spare (Place CreateOrMove 1 (codes "osd.1") (HEAVIEST_DEVICE + 1) (host (codes "h1") ∷ [])) ≡ 5 ∷ []
 too_large_unused = refl
 
 -- 6
@@ -75,13 +76,13 @@ nothing_loses_its_class : holding example_setting table_with_classes (RemoveClas
 nothing_loses_its_class = refl
 
 -- 7: a bucket's name, another name of the device that is there, a name for a bucket
-name_of_bucket : holding example_setting table_with_spare (Insert 3 (codes "h1") 65536 (rack (codes "r1") ∷ [])) ≡ 7 ∷ []
+name_of_bucket : holding example_setting table_with_spare (Place Insert 3 (codes "h1") 65536 (rack (codes "r1") ∷ [])) ≡ 7 ∷ []
 name_of_bucket = refl
 
-other_name_of_device : holding example_setting table_with_spare (Insert 9 (codes "disk") 65536 (host (codes "h1") ∷ [])) ≡ 7 ∷ []
+other_name_of_device : holding example_setting table_with_spare (Place Insert 9 (codes "disk") 65536 (host (codes "h1") ∷ [])) ≡ 7 ∷ []
 other_name_of_device = refl
 
-name_of_other_device : holding example_setting table_with_spare (Insert 7 (codes "osd.9") 65536 (host (codes "h1") ∷ [])) ≡ 7 ∷ []
+name_of_other_device : holding example_setting table_with_spare (Place Insert 7 (codes "osd.9") 65536 (host (codes "h1") ∷ [])) ≡ 7 ∷ []
 name_of_other_device = refl
 
 name_of_new_bucket : holding example_setting table_with_spare (AddBucket (codes "h1") (codes "host")) ≡ 7 ∷ []
@@ -91,7 +92,7 @@ name_of_renamed : holding example_setting table_with_spare (Rename (codes "h1") 
 name_of_renamed = refl
 
 -- 8
-placed : holding example_setting table_with_spare (Insert 0 (codes "osd.0") 65536 (host (codes "h1") ∷ [])) ≡ 8 ∷ []
+placed : holding example_setting table_with_spare (Place Insert 0 (codes "osd.0") 65536 (host (codes "h1") ∷ [])) ≡ 8 ∷ []
 placed = refl
 
 -- 9
@@ -122,7 +123,7 @@ device_swaps = refl
 wrong_type : holding example_setting table_with_spare (Move (codes "h1") (rack (codes "default") ∷ [])) ≡ 12 ∷ []
 wrong_type = refl
 
-wrong_type_held : holding example_setting table_with_spare (CreateOrMove 0 (codes "osd.0") 65536 (rack (codes "h1") ∷ [])) ≡ 12 ∷ []
+wrong_type_held : holding example_setting table_with_spare (Place CreateOrMove 0 (codes "osd.0") 65536 (rack (codes "h1") ∷ [])) ≡ 12 ∷ []
 wrong_type_held = refl
 
 wrong_type_of_bucket : holding example_setting table_with_spare (AddBucket (codes "x") (codes "osd")) ≡ 12 ∷ []
@@ -162,7 +163,7 @@ already_renamed : holding example_setting table_with_spare (Rename (codes "x") (
 already_renamed = refl
 
 -- 20: of a new device, a new weight, a moved device, two buckets
-sum_of_new : holding plain_setting heavy_table (Insert 4 (codes "d4") HEAVIEST_DEVICE (root (codes "q") ∷ [])) ≡ 20 ∷ []
+sum_of_new : holding plain_setting heavy_table (Place Insert 4 (codes "d4") HEAVIEST_DEVICE (root (codes "q") ∷ [])) ≡ 20 ∷ []
 sum_of_new = refl
 
 subtree_to_the_limit : holding plain_setting heavy_table (ReweightSubtree (codes "p") HEAVIEST_DEVICE) ≡ []

@@ -3,30 +3,31 @@ use Rattle.std.proofs.Common.{◌≡◌, ◌+◌, [], ◌∷◌, refl}
 use Rattle.std.specs.Prelude.{codes}
 use Rattle.crush_units.specs.declared.limits.TheConstants.{HEAVIEST_DEVICE}
 use Rattle.crush_edits.specs.declared.refusal.Refusal.TheVariants.{BadName, BadLocation, NoSuchType, NoPlace, WeightTooLarge, NoSuchItem, NameTaken, AlreadyPlaced, NotABucket, WrongType, NotEmpty}
-use Rattle.crush_edits.specs.declared.edit.Edit.TheVariants.{Insert, CreateOrMove, Move, Swap, Reweight, ReweightSubtree, Remove, AddBucket, Rename}
+use Rattle.crush_edits.specs.declared.edit.Edit.TheVariants.{Place, Move, Swap, Reweight, ReweightSubtree, Remove, AddBucket, Rename}
+use Rattle.crush_edits.specs.declared.edit.Placing.TheVariants.{Insert, CreateOrMove}
 use Rattle.crush_edits.specs.Answer.{refused}
 use Rattle.crush_edits.specs.Edit.{edit}
 use Rattle.crush_edits.proofs.Worked.Examples.{table_with_spare, heavy_table, example_setting, plain_setting, at, host, rack, holding}
 
 -- 1 and 2
-bad_name_and_location_hold : holding example_setting table_with_spare (Insert 3 (codes "osd.3") 65536 (host (codes "osd.3") ∷ (host (codes "h1") ∷ []))) ≡ 1 ∷ (2 ∷ [])
+bad_name_and_location_hold : holding example_setting table_with_spare (Place Insert 3 (codes "osd.3") 65536 (host (codes "osd.3") ∷ (host (codes "h1") ∷ []))) ≡ 1 ∷ (2 ∷ [])
 bad_name_and_location_hold = refl
 
-bad_name_and_location : edit example_setting table_with_spare (Insert 3 (codes "osd.3") 65536 (host (codes "osd.3") ∷ (host (codes "h1") ∷ []))) ≡ refused BadName
+bad_name_and_location : edit example_setting table_with_spare (Place Insert 3 (codes "osd.3") 65536 (host (codes "osd.3") ∷ (host (codes "h1") ∷ []))) ≡ refused BadName
 bad_name_and_location = refl
 
 -- 1 and 3
-bad_name_and_type_hold : holding example_setting table_with_spare (Insert 3 (codes "osd.3") 65536 (at (codes "pod") (codes "osd.3") ∷ [])) ≡ 1 ∷ (3 ∷ [])
+bad_name_and_type_hold : holding example_setting table_with_spare (Place Insert 3 (codes "osd.3") 65536 (at (codes "pod") (codes "osd.3") ∷ [])) ≡ 1 ∷ (3 ∷ [])
 bad_name_and_type_hold = refl
 
-bad_name_and_type : edit example_setting table_with_spare (Insert 3 (codes "osd.3") 65536 (at (codes "pod") (codes "osd.3") ∷ [])) ≡ refused BadName
+bad_name_and_type : edit example_setting table_with_spare (Place Insert 3 (codes "osd.3") 65536 (at (codes "pod") (codes "osd.3") ∷ [])) ≡ refused BadName
 bad_name_and_type = refl
 
 -- 2 and 3
-location_and_type_hold : holding example_setting table_with_spare (Insert 3 (codes "osd.3") 65536 (at (codes "osd") (codes "x") ∷ (at (codes "pod") (codes "p") ∷ []))) ≡ 2 ∷ (3 ∷ [])
+location_and_type_hold : holding example_setting table_with_spare (Place Insert 3 (codes "osd.3") 65536 (at (codes "osd") (codes "x") ∷ (at (codes "pod") (codes "p") ∷ []))) ≡ 2 ∷ (3 ∷ [])
 location_and_type_hold = refl
 
-location_and_type : edit example_setting table_with_spare (Insert 3 (codes "osd.3") 65536 (at (codes "osd") (codes "x") ∷ (at (codes "pod") (codes "p") ∷ []))) ≡ refused BadLocation
+location_and_type : edit example_setting table_with_spare (Place Insert 3 (codes "osd.3") 65536 (at (codes "osd") (codes "x") ∷ (at (codes "pod") (codes "p") ∷ []))) ≡ refused BadLocation
 location_and_type = refl
 
 -- 2 and 6
@@ -37,10 +38,10 @@ location_and_item : edit example_setting table_with_spare (Move (codes "x") (at 
 location_and_item = refl
 
 -- 3 and 5
-type_and_weight_hold : holding example_setting table_with_spare (Insert 3 (codes "osd.3") (HEAVIEST_DEVICE + 1) (at (codes "pod") (codes "p") ∷ [])) ≡ 3 ∷ (5 ∷ [])
+type_and_weight_hold : holding example_setting table_with_spare (Place Insert 3 (codes "osd.3") (HEAVIEST_DEVICE + 1) (at (codes "pod") (codes "p") ∷ [])) ≡ 3 ∷ (5 ∷ [])
 type_and_weight_hold = refl
 
-type_and_weight : edit example_setting table_with_spare (Insert 3 (codes "osd.3") (HEAVIEST_DEVICE + 1) (at (codes "pod") (codes "p") ∷ [])) ≡ refused NoSuchType
+type_and_weight : edit example_setting table_with_spare (Place Insert 3 (codes "osd.3") (HEAVIEST_DEVICE + 1) (at (codes "pod") (codes "p") ∷ [])) ≡ refused NoSuchType
 type_and_weight = refl
 
 -- 3 and 7
@@ -51,10 +52,10 @@ type_and_name : edit example_setting table_with_spare (AddBucket (codes "h1") (c
 type_and_name = refl
 
 -- 4 and 5
-place_and_weight_hold : holding example_setting table_with_spare (Insert 3 (codes "osd.3") (HEAVIEST_DEVICE + 1) []) ≡ 4 ∷ (5 ∷ [])
+place_and_weight_hold : holding example_setting table_with_spare (Place Insert 3 (codes "osd.3") (HEAVIEST_DEVICE + 1) []) ≡ 4 ∷ (5 ∷ [])
 place_and_weight_hold = refl
 
-place_and_weight : edit example_setting table_with_spare (Insert 3 (codes "osd.3") (HEAVIEST_DEVICE + 1) []) ≡ refused NoPlace
+place_and_weight : edit example_setting table_with_spare (Place Insert 3 (codes "osd.3") (HEAVIEST_DEVICE + 1) []) ≡ refused NoPlace
 place_and_weight = refl
 
 -- 4 and 6
@@ -72,10 +73,10 @@ weight_and_item : edit example_setting table_with_spare (Reweight (codes "x") (H
 weight_and_item = refl
 
 -- 5 and 7
-weight_and_name_hold : holding example_setting table_with_spare (Insert 9 (codes "disk") (HEAVIEST_DEVICE + 1) (host (codes "h1") ∷ [])) ≡ 5 ∷ (7 ∷ [])
+weight_and_name_hold : holding example_setting table_with_spare (Place Insert 9 (codes "disk") (HEAVIEST_DEVICE + 1) (host (codes "h1") ∷ [])) ≡ 5 ∷ (7 ∷ [])
 weight_and_name_hold = refl
 
-weight_and_name : edit example_setting table_with_spare (Insert 9 (codes "disk") (HEAVIEST_DEVICE + 1) (host (codes "h1") ∷ [])) ≡ refused WeightTooLarge
+weight_and_name : edit example_setting table_with_spare (Place Insert 9 (codes "disk") (HEAVIEST_DEVICE + 1) (host (codes "h1") ∷ [])) ≡ refused WeightTooLarge
 weight_and_name = refl
 
 -- 5 and 9
@@ -114,17 +115,17 @@ item_and_end : edit example_setting table_with_spare (Move (codes "x") (host (co
 item_and_end = refl
 
 -- 7 and 8
-name_and_placed_hold : holding example_setting table_with_spare (Insert 0 (codes "disk") 65536 (host (codes "h1") ∷ [])) ≡ 7 ∷ (8 ∷ [])
+name_and_placed_hold : holding example_setting table_with_spare (Place Insert 0 (codes "disk") 65536 (host (codes "h1") ∷ [])) ≡ 7 ∷ (8 ∷ [])
 name_and_placed_hold = refl
 
-name_and_placed : edit example_setting table_with_spare (Insert 0 (codes "disk") 65536 (host (codes "h1") ∷ [])) ≡ refused NameTaken
+name_and_placed : edit example_setting table_with_spare (Place Insert 0 (codes "disk") 65536 (host (codes "h1") ∷ [])) ≡ refused NameTaken
 name_and_placed = refl
 
 -- 7, 11 and 12
-name_and_end_hold : holding example_setting table_with_spare (CreateOrMove 9 (codes "disk") 65536 (host (codes "osd.1") ∷ [])) ≡ 7 ∷ (11 ∷ (12 ∷ []))
+name_and_end_hold : holding example_setting table_with_spare (Place CreateOrMove 9 (codes "disk") 65536 (host (codes "osd.1") ∷ [])) ≡ 7 ∷ (11 ∷ (12 ∷ []))
 name_and_end_hold = refl
 
-name_and_end : edit example_setting table_with_spare (CreateOrMove 9 (codes "disk") 65536 (host (codes "osd.1") ∷ [])) ≡ refused NameTaken
+name_and_end : edit example_setting table_with_spare (Place CreateOrMove 9 (codes "disk") 65536 (host (codes "osd.1") ∷ [])) ≡ refused NameTaken
 name_and_end = refl
 
 -- 7 and 12
@@ -142,24 +143,24 @@ name_and_directory : edit example_setting table_with_spare (Rename (codes "osd.0
 name_and_directory = refl
 
 -- 8, 11 and 12
-placed_and_end_hold : holding example_setting table_with_spare (Insert 0 (codes "osd.0") 65536 (host (codes "osd.1") ∷ [])) ≡ 8 ∷ (11 ∷ (12 ∷ []))
+placed_and_end_hold : holding example_setting table_with_spare (Place Insert 0 (codes "osd.0") 65536 (host (codes "osd.1") ∷ [])) ≡ 8 ∷ (11 ∷ (12 ∷ []))
 placed_and_end_hold = refl
 
-placed_and_end : edit example_setting table_with_spare (Insert 0 (codes "osd.0") 65536 (host (codes "osd.1") ∷ [])) ≡ refused AlreadyPlaced
+placed_and_end : edit example_setting table_with_spare (Place Insert 0 (codes "osd.0") 65536 (host (codes "osd.1") ∷ [])) ≡ refused AlreadyPlaced
 placed_and_end = refl
 
 -- 8 and 12
-placed_and_wrong_type_hold : holding example_setting table_with_spare (Insert 0 (codes "osd.0") 65536 (rack (codes "h1") ∷ [])) ≡ 8 ∷ (12 ∷ [])
+placed_and_wrong_type_hold : holding example_setting table_with_spare (Place Insert 0 (codes "osd.0") 65536 (rack (codes "h1") ∷ [])) ≡ 8 ∷ (12 ∷ [])
 placed_and_wrong_type_hold = refl
 
-placed_and_wrong_type : edit example_setting table_with_spare (Insert 0 (codes "osd.0") 65536 (rack (codes "h1") ∷ [])) ≡ refused AlreadyPlaced
+placed_and_wrong_type : edit example_setting table_with_spare (Place Insert 0 (codes "osd.0") 65536 (rack (codes "h1") ∷ [])) ≡ refused AlreadyPlaced
 placed_and_wrong_type = refl
 
 -- 11 and 12
-device_and_type_hold : holding example_setting table_with_spare (Insert 3 (codes "osd.3") 65536 (host (codes "osd.1") ∷ [])) ≡ 11 ∷ (12 ∷ [])
+device_and_type_hold : holding example_setting table_with_spare (Place Insert 3 (codes "osd.3") 65536 (host (codes "osd.1") ∷ [])) ≡ 11 ∷ (12 ∷ [])
 device_and_type_hold = refl
 
-device_and_type : edit example_setting table_with_spare (Insert 3 (codes "osd.3") 65536 (host (codes "osd.1") ∷ [])) ≡ refused NotABucket
+device_and_type : edit example_setting table_with_spare (Place Insert 3 (codes "osd.3") 65536 (host (codes "osd.1") ∷ [])) ≡ refused NotABucket
 device_and_type = refl
 
 -- 11, 12 and 13
@@ -177,10 +178,10 @@ type_and_loop : edit example_setting table_with_spare (Move (codes "h1") (rack (
 type_and_loop = refl
 
 -- 12 and 20
-type_and_sum_hold : holding plain_setting heavy_table (Insert 4 (codes "d4") HEAVIEST_DEVICE (rack (codes "q") ∷ [])) ≡ 12 ∷ (20 ∷ [])
+type_and_sum_hold : holding plain_setting heavy_table (Place Insert 4 (codes "d4") HEAVIEST_DEVICE (rack (codes "q") ∷ [])) ≡ 12 ∷ (20 ∷ [])
 type_and_sum_hold = refl
 
-type_and_sum : edit plain_setting heavy_table (Insert 4 (codes "d4") HEAVIEST_DEVICE (rack (codes "q") ∷ [])) ≡ refused WrongType
+type_and_sum : edit plain_setting heavy_table (Place Insert 4 (codes "d4") HEAVIEST_DEVICE (rack (codes "q") ∷ [])) ≡ refused WrongType
 type_and_sum = refl
 
 -- 15 and 16

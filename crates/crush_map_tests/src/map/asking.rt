@@ -1,6 +1,6 @@
 //! Short forms in which tests write an edit, and state facts about a map.
 
-use crush_map::{BatchFault, Counts, CrushMap, Done, Dones, Edit, EditFault, Location};
+use crush_map::{BatchFault, Counts, CrushMap, Done, Dones, Edit, EditFault, Location, Placing};
 use crush_tree::Node;
 use crush_units::limits::MOST_EDITS;
 use crush_units::{DeviceId, ItemId, Name, Weight};
@@ -66,19 +66,22 @@ fn location(rt: &impl Abort, alloc: Global, pairs: Pairs) -> Location {
 
 pub(super) fn edit(rt: &impl Abort, alloc: Global, asked: Asked) -> Edit {
     match asked {
-        Asked::Add(number, units, pairs) => Edit::Insert {
+        Asked::Add(number, units, pairs) => Edit::Place {
+            how: Placing::Insert,
             device: device(rt, number),
             name: device_name(rt, alloc, number),
             weight: Weight::from_units(units),
             at: location(rt, alloc, pairs),
         },
-        Asked::CreateOrMove(number, units, pairs) => Edit::CreateOrMove {
+        Asked::CreateOrMove(number, units, pairs) => Edit::Place {
+            how: Placing::CreateOrMove,
             device: device(rt, number),
             name: device_name(rt, alloc, number),
             weight: Weight::from_units(units),
             at: location(rt, alloc, pairs),
         },
-        Asked::Set(number, units, pairs) => Edit::Update {
+        Asked::Set(number, units, pairs) => Edit::Place {
+            how: Placing::Update,
             device: device(rt, number),
             name: device_name(rt, alloc, number),
             weight: Weight::from_units(units),

@@ -1,13 +1,10 @@
 //! Tests jobs, and runs in which their scripts are applied one after the other.
 
 use crate::script::{PLAIN_EXAMPLE_MAP, is_no_job, job_of, joined};
-use crush_edits::Edit;
+use crush_edits::{Edit, Keyword, Placing};
 use crush_history::{Call, Script, make_call, write_entry};
 use crush_map::CrushMap;
-use crush_script::{
-    BadLine, Due, Form, Job, JobFault, Keyword, Misfit, Placement, line_feeds, map_part,
-    placed_word,
-};
+use crush_script::{BadLine, Due, Form, Job, JobFault, Misfit, line_feeds, map_part, placed_word};
 use std::alloc::Global;
 use std::process::Abort;
 
@@ -206,7 +203,7 @@ fn a_word_of_a_line_has_its_place(rt: HostRuntime) {
 
 #[test]
 fn a_line_has_the_form_of_its_first_word(rt: HostRuntime) {
-    let add = Keyword::Place(Placement::Add);
+    let add = Keyword::Place(Placing::Insert);
     assert_eq!(rt; Keyword::read(b"remove"), Some(Keyword::Rm));
     assert_eq!(rt; Keyword::read(b"begin"), None);
     assert_eq!(rt; Keyword::Rm.word(), "rm");

@@ -1,17 +1,13 @@
-use Rattle.std.proofs.Common.{◌≡◌, ℕ, Bool, true, List, refl, ap, sym, subst, ◌∙◌, ⊎_elim}
+use Rattle.std.proofs.Common.{◌≡◌, Bool, true, refl, sym, subst}
 use Rattle.std.specs.Prelude.{Option, Result, Err}
 use Rattle.crush_model.specs.Forest.{ForestData}
 use Rattle.crush_edits.specs.declared.edit.Edit.{Edit}
-use Rattle.crush_edits.specs.declared.location.Pair.{Pair}
 use Rattle.crush_edits.specs.declared.refusal.Done.{Done}
 use Rattle.crush_edits.specs.declared.refusal.EditFault.{EditFault}
 use Rattle.crush_edits.specs.declared.refusal.EditFault.TheVariants.{OutOfMemory}
 use Rattle.crush_edits.specs.Edit.{edit, takes_memory}
 use Rattle.crush_edits.specs.Setting.{SettingData}
-use Rattle.crush_apply.specs.declared.place.IfPlaced.{IfPlaced}
-use Rattle.crush_apply.specs.declared.place.IfPlaced.TheVariants.{Refuse, KeepWeight, SetWeight}
 use Rattle.crush_apply.specs.declared.undo_log.Undo.{Undo}
-use Rattle.crush_apply.specs.IfPlaced.{placing}
 use Rattle.crush_apply.specs.UndoLog.{AnswersLogged, AnswersLoggedIf}
 use Rattle.crush_apply.proofs.RolledBack.{noted_anyway}
 use Rattle.crush_apply.proofs.apply.make.Goals as goal
@@ -24,26 +20,8 @@ made s e d logged f g x is told = subst (λ z. AnswersLoggedIf logged (takes_mem
 noted : {A : Type 0} (s : SettingData) (e d : Edit) (logged : Bool) (f g : ForestData) (x : Result (Done × Option (Undo A)) EditFault) → e ≡ d → AnswersLogged (λ t. edit s t d) f g x → (x ≡ Err OutOfMemory → takes_memory d ≡ true) → AnswersLoggedIf logged (takes_memory e) (λ t. edit s t e) f g x
 noted s e d logged f g x is told memory = made s e d logged f g x is (noted_anyway logged (takes_memory d) (λ t. edit s t d) f g x told memory)
 
-placing_takes : (how : IfPlaced) (d : ℕ) (n : List ℕ) (w : ℕ) (l : List Pair) → takes_memory (placing how d n w l) ≡ true
-placing_takes Refuse d n w l = refl
-placing_takes KeepWeight d n w l = refl
-placing_takes SetWeight d n w l = refl
-
-pub returns-in-Insert-clause-answers : goal.returns-in-Insert-clause-answers
-returns-in-Insert-clause-answers g c =
-    let d = c.in-Insert.device in
-    let n = c.in-Insert.name in
-    let w = c.in-Insert.weight in
-    let l = c.in-Insert.at in
-    let how = c.if_placed.ensures in
-    let same : c.args.requested.now ≡ placing c.if_placed.result d n w l = ⊎_elim
-    (λ is. is ∙ ap (λ h. placing h d n w l) (sym (how.insert d n w l is)))
-    (λ more. ⊎_elim
-    (λ is. is ∙ ap (λ h. placing h d n w l) (sym (how.create_or_move d n w l is)))
-    (λ is. is ∙ ap (λ h. placing h d n w l) (sym (how.update d n w l is)))
-    more)
-    c.in-Insert.is in
-    noted c.args.setting.now _ _ _ _ _ _ same c.place.ensures (λ lacks. placing_takes c.if_placed.result d n w l)
+pub returns-in-Place-clause-answers : goal.returns-in-Place-clause-answers
+returns-in-Place-clause-answers g c = noted c.args.setting.now _ _ _ _ _ _ c.in-Place.is c.place.ensures (λ lacks. refl)
 
 pub returns-in-Move-clause-answers : goal.returns-in-Move-clause-answers
 returns-in-Move-clause-answers g c = noted c.args.setting.now _ _ _ _ _ _ c.in-Move.is c.relocate.ensures (λ lacks. refl)

@@ -1,8 +1,5 @@
 use Rattle.crush_history.proofs.printed.write_edit.Goals as goal
 
-pub returns-in-CreateOrMove-clause-writes : goal.returns-in-CreateOrMove-clause-writes
-returns-in-CreateOrMove-clause-writes g c = rw c.in-CreateOrMove.is c.write_placing-in-CreateOrMove.ensures.writes
-
 pub returns-in-Swap-clause-writes : goal.returns-in-Swap-clause-writes
 returns-in-Swap-clause-writes g c = rw c.in-Swap.is c.write_two_names.ensures.writes
 

@@ -1,8 +1,5 @@
 use Rattle.crush_json.proofs.calls.push_edit.Goals as goal
 
-pub returns-in-CreateOrMove : goal.returns-in-CreateOrMove
-returns-in-CreateOrMove c = rw c.in-CreateOrMove.is c.push_placing-in-CreateOrMove.ensures
-
 pub returns-in-Swap : goal.returns-in-Swap
 returns-in-Swap c = rw c.in-Swap.is c.push_two_names.ensures
 

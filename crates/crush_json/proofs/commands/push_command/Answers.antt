@@ -1,13 +1,8 @@
+use Rattle.std.proofs.Common.{sym}
 use Rattle.crush_json.proofs.commands.push_command.Goals as goal
 
-pub returns-in-Insert : goal.returns-in-Insert
-returns-in-Insert c = rw c.in-Insert.is c.push_placing.ensures
-
-pub returns-in-CreateOrMove : goal.returns-in-CreateOrMove
-returns-in-CreateOrMove c = rw c.in-CreateOrMove.is c.push_placing-in-CreateOrMove.ensures
-
-pub returns-in-Update : goal.returns-in-Update
-returns-in-Update c = rw c.in-Update.is c.push_placing-in-Update.ensures
+pub returns-in-Place : goal.returns-in-Place
+returns-in-Place c = rw (c.in-Place.is, sym c.placing_prefix.ensures) c.push_placing.ensures
 
 pub returns-in-Move : goal.returns-in-Move
 returns-in-Move c = rw c.in-Move.is c.push_moving.ensures
