@@ -31,8 +31,7 @@ pub use crush_editor::{
 };
 pub use crush_gauge::{Gauge, Reading};
 pub use crush_history::{
-    Call, Edits, Entry, Reply, Script, history_text, is_change, is_refused, make_call, write_edit,
-    write_entry,
+    Call, Edits, Entry, Line, Reply, Script, history_text, is_change, is_refused, make_call,
 };
 pub use crush_items::{Item, Items};
 pub use crush_map::{

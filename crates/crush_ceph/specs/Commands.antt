@@ -4,7 +4,7 @@ use Rattle.std.specs.List.{list_any}
 use Rattle.crush_edits.specs.declared.edit.Edit.{Edit}
 use Rattle.crush_edits.specs.declared.edit.Edit.TheVariants.{Move, AddBucket, SetClass, RemoveClass}
 use Rattle.crush_history.specs.Ceph.{ceph_line, has_dash}
-use Rattle.crush_history.specs.HistoryText.{edit_text, pairs_text}
+use Rattle.crush_edits.specs.EditText.{edit_text, pairs_text}
 use Rattle.crush_ceph.specs.declared.steps.CephStep.{CephStep}
 use Rattle.crush_ceph.specs.declared.steps.CephStep.TheVariants.{Does, ReweightAll}
 

@@ -2,14 +2,14 @@
 
 ghost use Rattle.std.specs.Prelude.{◌≡◌, ◌≤◌, ◌<◌, ◌+◌, ◌∷◌, ◌++◌, OnOk, codes, drop, flat_map, length, take, true};
 ghost use Rattle.std.specs.List.{list_any};
-ghost use Rattle.crush_history.specs.HistoryText.{edit_text, pairs_text};
 ghost use Rattle.crush_ceph.specs.Commands.{command_line, cut, edits_join, first_words, gives_class, has_option, joined_head, joined_line, joins, joins_edit, more_words, moves, second_joins, step_line, takes_class_away, words_added};
 
 use crate::steps::CephStep;
 use crush_edits::Edit;
-use crush_history::{has_dash, push_ceph_line, push_pairs, write_edit};
+use crush_history::{has_dash, push_ceph_line};
 use crush_units::Name;
 use std::alloc::{AllocError, Global};
+use std::io::Write;
 
 fn moves(name: &Name<Global>, edit: &Edit) -> bool
     ensures { result ≡ moves name.now edit.now }
@@ -123,7 +123,7 @@ fn push_first(step: &CephStep, text: &mut Vec<u8>) -> Result<(), AllocError>
     ensures { OnOk result (text.new.items ≡ text.old.items ++ first_words step.now) }
 {
     match step {
-        CephStep::Does(edit) => write_edit(edit, text).map_err(|_| AllocError),
+        CephStep::Does(edit) => write!(text, "{edit}").map_err(|_| AllocError),
         CephStep::ReweightAll => Ok(()),
     }
 }
@@ -139,7 +139,7 @@ fn push_added(edit: &Edit, text: &mut Vec<u8>) -> Result<(), AllocError>
     ensures { OnOk result (text.new.items ≡ text.old.items ++ words_added edit.now) }
 {
     match edit {
-        Edit::Move { at, .. } => push_pairs(at.pairs(), text),
+        Edit::Move { at, .. } => write!(text, "{at}").map_err(|_| AllocError),
         Edit::RemoveClass { name } => push_word(name, text),
         Edit::SetClass { name, .. } => push_word(name, text),
         _ => Ok(()),

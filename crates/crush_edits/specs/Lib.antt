@@ -5,6 +5,7 @@ pub mod Changed
 pub mod Classing
 pub mod Codes
 pub mod Edit
+pub mod EditText
 pub mod Fits
 pub mod Keyword
 pub mod KindsTold

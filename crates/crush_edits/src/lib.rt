@@ -5,6 +5,7 @@
 //! defines what each edit does to the table of a map; read that first.
 #![tactic(auto)]
 
+mod display;
 mod edit;
 mod keyword;
 pub mod law;

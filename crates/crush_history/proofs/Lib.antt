@@ -1,4 +1,3 @@
-pub mod Writing
 pub mod Histories
 pub mod RunLaws
 pub mod InTurn

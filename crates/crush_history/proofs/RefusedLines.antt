@@ -9,7 +9,7 @@ use Rattle.crush_history.specs.declared.call.Call.TheVariants.{One, Batch, Guard
 use Rattle.crush_history.specs.declared.call.Reply.TheVariants.{Done, Dones, Refused, BatchRefused, Stale}
 use Rattle.crush_history.specs.declared.entry.Entry.{Entry}
 use Rattle.crush_history.specs.History.{EntryData}
-use Rattle.crush_history.specs.HistoryText.{line_head, line_end}
+use Rattle.crush_history.specs.HistoryText.{line_head, reply_text}
 use Rattle.crush_history.specs.Refused.{is_refused, refusals, refused_line, refused_text}
 
 -- the lines with one more entry are the lines before, followed by this entry's line if it was refused
@@ -54,17 +54,17 @@ no_refusals = refl
 -- an example: of three calls, the first and the last are refused
 example : refused_text (codes "a" ∷ []) 1 ((record { operator = 0; call = One (Remove (codes "default")); reply = Refused NotEmpty }) ∷ ((record { operator = 0; call = One (Reweight (codes "osd.0") 131072); reply = Done (record { changed = true; made = 0 }) }) ∷ ((record { operator = 0; call = One (Remove (codes "x")); reply = Refused NoSuchItem }) ∷ [])))
     ≡ codes "# 1 a rm default = refused NotEmpty 39\n# 3 a rm x = refused NoSuchItem 2\n"
-unfolding refused_text line_head line_end digits
+unfolding refused_text line_head reply_text digits
 example = refl
 
 -- an example of a refused batch
 batch_example : refused_text (codes "a" ∷ []) 1 ((record { operator = 0; call = Batch (Remove (codes "osd.0") ∷ (Remove (codes "default") ∷ [])); reply = BatchRefused 1 NotEmpty }) ∷ [])
     ≡ codes "# 1 a begin ; rm osd.0 ; rm default ; commit = refused at 1 NotEmpty 39\n"
-unfolding refused_text line_head line_end digits
+unfolding refused_text line_head reply_text digits
 batch_example = refl
 
 -- an example of a guarded batch that is stale
 stale_example : refused_text (codes "a" ∷ []) 1 ((record { operator = 0; call = Guarded 0 (Reweight (codes "osd.0") 131072 ∷ []); reply = Dones (record { edits = 1; changed = 1; made = 0 }) }) ∷ ((record { operator = 0; call = Guarded 0 (Reweight (codes "osd.0") 131072 ∷ []); reply = Stale 1 }) ∷ []))
     ≡ codes "# 2 a begin at 0 ; reweight osd.0 2.00000 ; commit = refused Stale 11 changes 1\n"
-unfolding refused_text line_head line_end digits
+unfolding refused_text line_head reply_text digits
 stale_example = refl

@@ -5,8 +5,8 @@ use Rattle.crush_edits.specs.declared.location.Pair.{Pair}
 use Rattle.crush_edits.specs.declared.edit.Edit.{Edit}
 use Rattle.crush_edits.specs.declared.edit.Edit.TheVariants.{Place, Move, Swap, Reweight, ReweightSubtree, Remove, AddBucket, Rename, SetClass, RemoveClass}
 use Rattle.crush_units.specs.ExactWeight.{exact_text}
+use Rattle.crush_edits.specs.EditText.{edit_text, pairs_text}
 use Rattle.crush_edits.specs.Keyword.{placing_word}
-use Rattle.crush_history.specs.HistoryText.{edit_text, pairs_text}
 
 -- the option ` --yes-i-really-mean-it` for a swap, which Ceph requires if the two buckets have different parents; no text for any other edit
 abbrev pub assent : Edit → List ℕ

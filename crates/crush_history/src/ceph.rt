@@ -1,14 +1,14 @@
 //! Prints an edit as the command of Ceph that makes the same change.
 
 ghost use Rattle.std.specs.Prelude.{◌≡◌, ◌++◌, OnOk, codes, flat_map};
+ghost use Rattle.crush_edits.specs.EditText.{edit_text, pairs_text};
 ghost use Rattle.crush_history.specs.Ceph.{assent, ceph_head, ceph_heading, ceph_line, ceph_words, has_dash, has_dashed_type, is_dashed, name_and_exact};
-ghost use Rattle.crush_history.specs.HistoryText.{edit_text, pairs_text};
 
-use crate::printed::{write_edit, write_pairs};
 use crush_edits::{Edit, Location, Pair};
 use crush_units::{Name, Weight, put_all};
 use itoa::Buffer;
 use std::alloc::{AllocError, Global};
+use std::io::Write;
 
 /// Returns ` --yes-i-really-mean-it` if the edit swaps two buckets: Ceph requires this option if
 /// they have different parents. Returns an empty text for any other edit.
@@ -39,9 +39,8 @@ pub fn has_dash(edit: &Edit) -> bool
     ensures { result ≡ has_dash edit.now }
 {
     match edit {
-        Edit::Place { name, at, .. } | Edit::Move { name, at } => {
-            is_dashed(name) || has_dashed_type(at.pairs())
-        }
+        Edit::Place { name, at, .. } | Edit::Move { name, at } => is_dashed(name)
+            || has_dashed_type(at.pairs()),
         Edit::Swap { a, b } => is_dashed(a) || is_dashed(b),
         Edit::Rename { from, to } => is_dashed(from) || is_dashed(to),
         Edit::AddBucket { name, kind } => is_dashed(name) || is_dashed(kind),
@@ -96,7 +95,7 @@ fn push_words(edit: &Edit, text: &mut Vec<u8>) -> Result<(), AllocError>
 fn push_edit(edit: &Edit, text: &mut Vec<u8>) -> Result<(), AllocError>
     ensures { OnOk result (text.new.items ≡ text.old.items ++ edit_text edit.now) }
 {
-    write_edit(edit, text).map_err(|_| AllocError)
+    write!(text, "{edit}").map_err(|_| AllocError)
 }
 
 /// Appends a command that puts a device at a location: the command's first word, the device's name,
@@ -112,7 +111,7 @@ fn push_placing(
         ++ (name_and_exact first.now name.now weight ++ pairs_text at.now)) }
 {
     push_weighing(first, name, weight, text)?;
-    push_pairs(at.pairs(), text)
+    push_pairs(at, text)
 }
 
 /// Appends a command's first word, a name, and a weight in exact form.
@@ -140,11 +139,10 @@ fn push_weighing(
     )
 }
 
-/// Appends the pairs of a location, each after a space: ` TYPE=NAME`.
-pub fn push_pairs(pairs: &[Pair], text: &mut Vec<u8>) -> Result<(), AllocError>
-    ensures { OnOk result (text.new.items ≡ text.old.items ++ pairs_text pairs.now) }
+fn push_pairs(at: &Location, text: &mut Vec<u8>) -> Result<(), AllocError>
+    ensures { OnOk result (text.new.items ≡ text.old.items ++ pairs_text at.now) }
 {
-    write_pairs(pairs, text).map_err(|_| AllocError)
+    write!(text, "{at}").map_err(|_| AllocError)
 }
 
 fn push_end(edit: &Edit, text: &mut Vec<u8>) -> Result<(), AllocError>

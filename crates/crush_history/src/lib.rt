@@ -9,21 +9,21 @@
 mod call;
 mod ceph;
 mod device;
+mod display;
 mod entry;
 mod history;
 mod law;
 mod making;
-mod printed;
 mod refused;
 mod script;
 
 pub use call::{Call, Edits, Reply};
-pub use ceph::{has_dash, push_ceph_heading, push_ceph_line, push_pairs};
+pub use ceph::{has_dash, push_ceph_heading, push_ceph_line};
 pub use device::device_named;
+pub use display::Line;
 pub use entry::{Entry, Slip, count_changes, is_change};
-pub use history::{history_text, operator_name, write_entry};
+pub use history::{history_text, operator_name};
 pub use law::{runs_keep_lawful, same_count_is_same_table, turns_are_history};
 pub use making::make_call;
-pub use printed::write_edit;
 pub use refused::{count_refused, is_refused, refused_text};
 pub use script::Script;

@@ -7,10 +7,12 @@ ghost use Rattle.crush_history.specs.Refused.{is_refused, refusals, refused_line
 ghost use Rattle.crush_history.specs.Script.{scripts_data};
 
 use crate::call::Reply;
+use crate::display::Line;
 use crate::entry::Entry;
-use crate::history::{operator_name, write_entry};
+use crate::history::operator_name;
 use crate::script::Script;
 use std::alloc::{AllocError, Global};
+use std::io::Write;
 
 /// Whether the reply refuses an edit or a batch, or says that a guarded batch is stale.
 pub fn is_refused(reply: Reply) -> bool
@@ -42,7 +44,7 @@ pub fn count_refused(entries: &[Entry]) -> u32
 /// Appends the entry's line to the text if the entry was refused.
 fn push_refused(
     number: u32,
-    operator: &[u8],
+    operator: &str,
     entry: &Entry,
     text: &mut Vec<u8>,
 ) -> Result<(), AllocError>
@@ -52,12 +54,18 @@ fn push_refused(
     if !is_refused(entry.reply) {
         return Ok(());
     }
-    write_entry(number, operator, &entry.call, entry.reply, text).map_err(|_| AllocError)
+    let line = Line {
+        number,
+        operator,
+        call: &entry.call,
+        reply: entry.reply,
+    };
+    write!(text, "{line}\n").map_err(|_| AllocError)
 }
 
 /// Returns the lines of the entries that were refused or stale, numbered as in the whole history.
 ///
-/// The lines have the form that [`write_entry`] writes. The field `operator` of an entry is an
+/// The lines have the form that [`Line`] prints. The field `operator` of an entry is an
 /// index in `scripts`. The caller guarantees that each index is in range, and that there are fewer
 /// than 2^32 entries. Returns an error if memory runs out.
 pub fn refused_text(

@@ -9,7 +9,7 @@ use Rattle.crush_history.specs.declared.call.Call.TheVariants.{One, Batch, Guard
 use Rattle.crush_history.specs.declared.call.Reply.TheVariants.{Done, Dones, Refused}
 use Rattle.crush_history.specs.declared.entry.Entry.{Entry}
 use Rattle.crush_history.specs.History.{EntryData}
-use Rattle.crush_history.specs.HistoryText.{line_head, line_end}
+use Rattle.crush_history.specs.HistoryText.{line_head, reply_text}
 use Rattle.crush_input.specs.Made.{made_line, made_text, makings}
 
 -- the lines after one more entry are the lines before, followed by the line of this entry
@@ -63,5 +63,5 @@ two_of_five = refl
 
 their_lines : made_text (codes "a" ∷ []) 1 history
     ≡ codes "# 2 a move osd.0 host=h11 = done changed 1 made 1\n# 5 a begin at 0 ; add-bucket h3 host ; move h3 root=defualt ; commit = dones 2 changed 2 made 2\n"
-unfolding history mistyped output refused asked_batch mistyped_batch made_text line_head line_end digits
+unfolding history mistyped output refused asked_batch mistyped_batch made_text line_head reply_text digits
 their_lines = refl

@@ -15,8 +15,9 @@ ghost use Rattle.crush_units.specs.declared.limits.TheConstants.{MOST_ENTRIES};
 use crate::ending::write_made;
 use crate::fault::RunFault;
 use crush_edits::Edit;
-use crush_history::{Call, Entry, Reply, Script, operator_name, write_entry};
+use crush_history::{Call, Entry, Line, Reply, Script, operator_name};
 use std::alloc::{AllocError, Global};
+use std::io::Write;
 
 fn is_add_bucket(edit: &Edit) -> bool
     ensures { result ≡ is_add_bucket edit.now }
@@ -96,7 +97,7 @@ pub fn check_made(no_make: bool, entries: &[Entry]) -> Result<(), RunFault>
 
 fn push_made(
     number: u32,
-    operator: &[u8],
+    operator: &str,
     entry: &Entry,
     text: &mut Vec<u8>,
 ) -> Result<(), AllocError>
@@ -106,7 +107,13 @@ fn push_made(
     if !makes_more(entry) {
         return Ok(());
     }
-    write_entry(number, operator, &entry.call, entry.reply, text).map_err(|_| AllocError)
+    let line = Line {
+        number,
+        operator,
+        call: &entry.call,
+        reply: entry.reply,
+    };
+    write!(text, "{line}\n").map_err(|_| AllocError)
 }
 
 /// Returns the history lines of the calls that created more buckets than they have `add-bucket`

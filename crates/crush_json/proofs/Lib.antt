@@ -7,7 +7,6 @@ pub mod Kids
 pub mod Listed
 pub mod Numbers
 pub mod PlanLaws
-pub mod ReplyLaws
 pub mod SinceLaws
 pub mod TreeLaws
 pub mod WeightNumber

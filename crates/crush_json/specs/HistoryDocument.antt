@@ -1,26 +1,14 @@
 -- A history as a JSON value: an object for each entry. The object has everything that the entry's history line shows.
-use Rattle.std.specs.Prelude.{◌≡◌, ℕ, ◌+◌, List, [], ◌∷◌, ◌++◌, Option, Some, None, codes, decimal, slice_index_or}
+use Rattle.std.specs.Prelude.{ℕ, ◌+◌, List, [], ◌∷◌, Option, Some, None, codes, slice_index_or}
 use Rattle.crush_model.specs.Count.{one_if}
 use Rattle.crush_edits.specs.declared.refusal.Refusal.{Refusal}
 use Rattle.crush_edits.specs.Refusal.{refusal_name, refusal_error}
 use Rattle.crush_history.specs.declared.call.Reply.{Reply}
 use Rattle.crush_history.specs.declared.call.Reply.TheVariants.{Done, Dones, Refused, BatchRefused, Stale}
 use Rattle.crush_history.specs.History.{EntryData}
-use Rattle.crush_history.specs.HistoryText.{call_text, digit_of, line_end}
+use Rattle.crush_history.specs.HistoryText.{call_text, reply_text}
 use Rattle.serde_json.specs.Data.{Data, string, object, Members, member, no_members}
 use Rattle.crush_json.specs.Values.{natural, list, text_if}
-
--- the name and the error number of a refusal
-abbrev pub refusal_words : Refusal → List ℕ
-refusal_words r = refusal_name r ++ codes " " ++ decimal (refusal_error r)
-
--- A REPLY as text, in the form that it has in its history line after ` = `
-unfoldable pub reply_text : Reply → List ℕ
-reply_text (Done d) = codes "done changed " ++ digit_of d.changed ++ codes " made " ++ decimal d.made
-reply_text (Dones d) = codes "dones " ++ decimal d.edits ++ codes " changed " ++ decimal d.changed ++ codes " made " ++ decimal d.made
-reply_text (Refused r) = codes "refused " ++ refusal_words r
-reply_text (BatchRefused index r) = codes "refused at " ++ decimal index ++ codes " " ++ refusal_words r
-reply_text (Stale n) = codes "refused Stale 11 changes " ++ decimal n
 
 -- the last members of an entry: its number, its operator, the name of the refusal if there is one, and the reply
 abbrev pub last_members : ℕ → List ℕ → Option (List ℕ) → List ℕ → Members
@@ -62,7 +50,3 @@ entry_documents names number (e ∷ h) = entry_document number (slice_index_or n
 -- HISTORY DOCUMENT: the list of the entries' objects; the first entry has the number 1
 unfoldable pub history_document : List (List ℕ) → List EntryData → Data
 history_document names h = list (entry_documents names 1 h)
-
--- the law: the text of a reply has the same words as the reply in its history line
-abbrev pub RepliesAreOfLines : Type 0
-RepliesAreOfLines = (r : Reply) → line_end r ≡ codes " = " ++ reply_text r ++ codes "\n"

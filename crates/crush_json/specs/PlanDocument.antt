@@ -7,6 +7,7 @@ use Rattle.crush_edits.specs.declared.edit.Edit.{Edit}
 use Rattle.crush_edits.specs.declared.edit.Edit.TheVariants.{Place, Move, Swap, Reweight, ReweightSubtree, Remove, AddBucket, Rename, SetClass, RemoveClass}
 use Rattle.crush_edits.specs.declared.edit.Placing.{Placing}
 use Rattle.crush_edits.specs.declared.edit.Placing.TheVariants.{Insert, CreateOrMove, Update}
+use Rattle.crush_edits.specs.EditText.{pair_word}
 use Rattle.json.specs.Json as json
 use Rattle.json.specs.Print.{print}
 use Rattle.json.specs.Tree.{json_tokens}
@@ -25,9 +26,6 @@ abbrev pub weight : ℕ → json.Members
 weight w = json.member (codes "weight") (json.number (exact_text w)) json.no_members
 
 -- the pairs of a location, each as a text `TYPE=NAME`
-abbrev pub pair_word : Pair → List ℕ
-pair_word p = p.kind ++ codes "=" ++ p.name
-
 abbrev pub pair_values : List Pair → List Data
 pair_values at = map (λ p. string (pair_word p)) at
 

@@ -3,7 +3,8 @@
 ghost use Rattle.std.specs.Prelude.{◌≡◌, ◌++◌, codes, IfOk, OnOk, flat_map, string_bytes};
 ghost use Rattle.json.specs.Tree.{json_tokens};
 ghost use Rattle.serde_json.specs.Data.{string};
-ghost use Rattle.crush_json.specs.PlanDocument.{adding, classing, command, declassing, moving, one_name, pair_values, pair_word, placing, placing_prefix, removing, renaming, swapping, weighing};
+ghost use Rattle.crush_edits.specs.EditText.{pair_word};
+ghost use Rattle.crush_json.specs.PlanDocument.{adding, classing, command, declassing, moving, one_name, pair_values, placing, placing_prefix, removing, renaming, swapping, weighing};
 ghost use Rattle.crush_json.specs.Tokens.{tokens_of};
 ghost use Rattle.crush_json.specs.Values.{list};
 

@@ -1,22 +1,20 @@
 //! Writes a history as a JSON value.
 
-ghost use Rattle.std.specs.Prelude.{◌≡◌, ◌++◌, ◌<◌, [], Some, codes, IfSome, OnOk, length, slice_index_or};
+ghost use Rattle.std.specs.Prelude.{◌≡◌, ◌++◌, Some, codes, IfSome, OnOk};
 ghost use Rattle.std.specs.Option.{option_map};
 ghost use Rattle.serde_json.specs.Data.{member, object, string};
 ghost use Rattle.crush_model.specs.Count.{one_if};
 ghost use Rattle.crush_edits.specs.Refusal.{refusal_error, refusal_name};
-ghost use Rattle.crush_history.specs.HistoryText.{names_of};
+ghost use Rattle.crush_history.specs.HistoryText.{names_of, reply_text};
 ghost use Rattle.crush_history.specs.Script.{scripts_data};
-ghost use Rattle.crush_json.specs.HistoryDocument.{RepliesAreOfLines, answered_document, entry_document, entry_documents, made_document, refused_members, reply_text, stale_document};
+ghost use Rattle.crush_json.specs.HistoryDocument.{answered_document, entry_document, entry_documents, made_document, refused_members, stale_document};
 ghost use Rattle.crush_json.specs.Seen.{IsHistory, history_data};
 ghost use Rattle.crush_json.specs.Tokens.{history_tokens_if, last_tokens, member_tokens, tokens_of, tokens_of_all};
 ghost use Rattle.crush_json.specs.Values.{natural};
 
-use crate::calls::call_text;
 use crate::document::Document;
-use crate::replies::reply_text;
 use crush_edits::{Done, Refusal};
-use crush_history::{Entry, Reply, Script};
+use crush_history::{Entry, Reply, Script, operator_name};
 use std::alloc::{AllocError, Global};
 
 /// A history: the calls that were made on a map, each with its reply.
@@ -26,11 +24,6 @@ pub struct History<'a> {
     pub scripts: &'a [Script],
     pub entries: &'a [Entry],
 }
-
-/// The law that a document and a history line have the same words for a reply.
-pub fn replies_are_of_lines()
-    ensures { RepliesAreOfLines }
-{}
 
 /// The parts of an entry that are written, except for the counts in its reply.
 #[derive(Clone, Copy)]
@@ -82,14 +75,6 @@ fn push_entries(alloc: Global, history: History<'_>, out: &mut Document) -> Resu
     Ok(())
 }
 
-fn operator_name(scripts: &[Script], operator: usize) -> &str
-    requires { operator < length scripts.now }
-    ensures { result.now ≡ slice_index_or (names_of (scripts_data scripts.now)) operator [] }
-{
-    let script = &scripts[operator];
-    script.name.as_str()
-}
-
 fn push_entry(
     alloc: Global,
     number: u32,
@@ -100,8 +85,10 @@ fn push_entry(
     ensures { OnOk result (out.new ≡ out.old
         ++ tokens_of (entry_document number operator.now entry.now)) }
 {
-    let call = call_text(alloc, &entry.call)?;
-    let reply = reply_text(alloc, entry.reply)?;
+    let call = &entry.call;
+    let call = format!(in alloc; "{call}")?;
+    let reply = entry.reply;
+    let reply = format!(in alloc; "{reply}")?;
     let reported = Reported {
         number,
         operator,

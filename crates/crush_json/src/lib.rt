@@ -8,7 +8,6 @@
 #![tactic(auto)]
 
 mod buckets;
-mod calls;
 mod changes;
 mod class_changes;
 mod class_ids;
@@ -19,7 +18,6 @@ mod history;
 mod items;
 mod kinds;
 mod map;
-mod replies;
 mod rule_changes;
 mod rules;
 mod since;
@@ -30,7 +28,7 @@ mod tunables;
 mod write;
 
 pub use crush_units::WriteFault;
-pub use history::{History, replies_are_of_lines};
+pub use history::History;
 pub use write::plan::write_plan_document;
 pub use write::since::write_since_document;
 pub use write::tree::write_tree_document;

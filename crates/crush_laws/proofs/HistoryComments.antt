@@ -25,7 +25,8 @@ use Rattle.crush_history.specs.declared.call.Call.TheVariants.{One, Batch, Guard
 use Rattle.crush_history.specs.declared.call.Reply.{Reply}
 use Rattle.crush_history.specs.declared.call.Reply.TheVariants.{Done, Dones, Refused, BatchRefused, Stale}
 use Rattle.crush_history.specs.History.{EntryData}
-use Rattle.crush_history.specs.HistoryText.{pair_text, pairs_text, one_name, two_names, name_and_weight, edit_text, edits_text, rest_text, guard_text, call_text, digit_of, line_head, refusal_text, refused_at_text, line_end, line_text, entries_text}
+use Rattle.crush_edits.specs.EditText.{pair_text, pairs_text, one_name, two_names, name_and_weight, edit_text}
+use Rattle.crush_history.specs.HistoryText.{edits_text, rest_text, guard_text, call_text, digit_of, line_head, refusal_words, reply_text, line_text, entries_text}
 use Rattle.crush_laws.specs.Written.{IsNamed, IsNamedCall, HistoryLinesAreComments, WhatIsWrittenIsReadBack}
 
 -- no byte of the text is a line feed
@@ -133,7 +134,7 @@ call_in_line (Batch es) is = both_in_line (codes "begin ; ") (rest_text es) refl
 call_in_line (Guarded seen es) is =
     both_in_line (guard_text seen) (rest_text es) (three_in_line (codes "begin at ") (decimal seen) (codes " ; ") refl (number_in_line seen) refl) (both_in_line (edits_text es) (codes "commit") (edits_in_line es is) refl)
 
--- REPLIES have one line feed, at their end
+-- REPLIES, and lines
 abbrev EndsLine : List ℕ → Type 0
 EndsLine text = (rest : List ℕ) → are_comments true (text ++ rest) ≡ are_comments false rest
 
@@ -166,27 +167,24 @@ refusal_in_line NoRoom = refl
 refusal_in_line SumTooLarge = refl
 refusal_in_line ClassBound = refl
 
-refusal_ends : (r : Refusal) → EndsLine (refusal_text r)
-refusal_ends r = ends (refusal_name r ++ codes " " ++ decimal (refusal_error r)) (codes "\n") (three_in_line (refusal_name r) (codes " ") (decimal (refusal_error r)) (refusal_in_line r) refl (number_in_line (refusal_error r))) line_feed
+refusal_words_in_line : (r : Refusal) → IsInLine (refusal_words r)
+refusal_words_in_line r = three_in_line (refusal_name r) (codes " ") (decimal (refusal_error r)) (refusal_in_line r) refl (number_in_line (refusal_error r))
 
 digit_of_in_line : (b : Bool) → IsInLine (digit_of b)
 digit_of_in_line true = refl
 digit_of_in_line false = refl
 
-reply_ends : (r : Reply) → EndsLine (line_end r)
-unfolding line_end
-reply_ends (Done d) =
-    ends (codes " = done changed " ++ digit_of d.changed ++ codes " made " ++ decimal d.made) (codes "\n")
-    (both_in_line (codes " = done changed " ++ digit_of d.changed ++ codes " made ") (decimal d.made) (three_in_line (codes " = done changed ") (digit_of d.changed) (codes " made ") refl (digit_of_in_line d.changed) refl) (number_in_line d.made))
-    line_feed
-reply_ends (Dones d) =
-    ends (codes " = dones " ++ decimal d.edits ++ codes " changed " ++ decimal d.changed ++ codes " made " ++ decimal d.made) (codes "\n")
-    (both_in_line (codes " = dones " ++ decimal d.edits ++ codes " changed " ++ decimal d.changed ++ codes " made ") (decimal d.made)
-    (five_in_line (codes " = dones ") (decimal d.edits) (codes " changed ") (decimal d.changed) (codes " made ") refl (number_in_line d.edits) refl (number_in_line d.changed) refl) (number_in_line d.made))
-    line_feed
-reply_ends (Refused r) = ends (codes " = refused ") (refusal_text r) refl (refusal_ends r)
-reply_ends (Stale n) = ends (codes " = refused Stale 11 changes " ++ decimal n) (codes "\n") (both_in_line (codes " = refused Stale 11 changes ") (decimal n) refl (number_in_line n)) line_feed
-reply_ends (BatchRefused i r) = ends (refused_at_text i) (refusal_text r) (three_in_line (codes " = refused at ") (decimal i) (codes " ") refl (number_in_line i) refl) (refusal_ends r)
+reply_in_line : (r : Reply) → IsInLine (reply_text r)
+unfolding reply_text
+reply_in_line (Done d) =
+    both_in_line (codes "done changed " ++ digit_of d.changed ++ codes " made ") (decimal d.made)
+    (three_in_line (codes "done changed ") (digit_of d.changed) (codes " made ") refl (digit_of_in_line d.changed) refl) (number_in_line d.made)
+reply_in_line (Dones d) =
+    both_in_line (codes "dones " ++ decimal d.edits ++ codes " changed " ++ decimal d.changed ++ codes " made ") (decimal d.made)
+    (five_in_line (codes "dones ") (decimal d.edits) (codes " changed ") (decimal d.changed) (codes " made ") refl (number_in_line d.edits) refl (number_in_line d.changed) refl) (number_in_line d.made)
+reply_in_line (Refused r) = both_in_line (codes "refused ") (refusal_words r) refl (refusal_words_in_line r)
+reply_in_line (BatchRefused i r) = both_in_line (codes "refused at " ++ decimal i ++ codes " ") (refusal_words r) (three_in_line (codes "refused at ") (decimal i) (codes " ") refl (number_in_line i) refl) (refusal_words_in_line r)
+reply_in_line (Stale n) = both_in_line (codes "refused Stale 11 changes ") (decimal n) refl (number_in_line n)
 
 -- LINES of a history are comment lines
 abbrev IsLine : List ℕ → Type 0
@@ -195,9 +193,11 @@ IsLine text = (rest : List ℕ) → are_comments false (text ++ rest) ≡ are_co
 line_is_comment : (number : ℕ) (operator : List ℕ) (c : Call) (r : Reply) → IsInLine operator → IsNamedCall c → IsLine (line_text number operator c r)
 unfolding line_head
 line_is_comment number operator c r h is rest =
-    ends (codes " " ++ decimal number ++ codes " " ++ operator ++ codes " ") (call_text c ++ line_end r)
+    ends (codes " " ++ decimal number ++ codes " " ++ operator ++ codes " " ++ (call_text c ++ codes " = " ++ reply_text r)) (codes "\n")
+    (both_in_line (codes " " ++ decimal number ++ codes " " ++ operator ++ codes " ") (call_text c ++ codes " = " ++ reply_text r)
     (five_in_line (codes " ") (decimal number) (codes " ") operator (codes " ") refl (number_in_line number) refl h refl)
-    (ends (call_text c) (line_end r) (call_in_line c is) (reply_ends r)) rest
+    (three_in_line (call_text c) (codes " = ") (reply_text r) (call_in_line c is) refl (reply_in_line r)))
+    line_feed rest
 
 operator_in_line : (names : List (List ℕ)) (i : ℕ) → All IsName names → IsInLine (slice_index_or names i [])
 operator_in_line [] i h = refl

@@ -18,7 +18,7 @@ use Rattle.crush_edits.specs.declared.edit.Placing.TheVariants.{Insert, CreateOr
 use Rattle.crush_text.specs.Document.{IsMapText}
 use Rattle.crush_history.specs.declared.call.Call.{Call}
 use Rattle.crush_history.specs.declared.call.Call.TheVariants.{One}
-use Rattle.crush_history.specs.HistoryText.{edit_text}
+use Rattle.crush_edits.specs.EditText.{edit_text}
 use Rattle.crush_history.specs.History.{Counted, EntryData, counted_after, edit_outcome, entry_on, is_change, later, turn, turns_from, untouched}
 use Rattle.crush_script.specs.Command.{command, end_at, name_at, one_name_at, operator}
 use Rattle.crush_script.specs.Lines.{begins_section, length_to_section, line_words, lines, map_part, section_line, section_part, without_comment, words_between_blanks}

@@ -2,8 +2,8 @@
 use Rattle.std.specs.Prelude.{ℕ, ◌==◌, Bool, true, List, [], ◌∷◌, ◌++◌, if◌then◌else◌, codes, decimal, flat_map, length}
 use Rattle.crush_model.specs.Table.{Row}
 use Rattle.crush_edits.specs.declared.edit.Edit.{Edit}
+use Rattle.crush_edits.specs.EditText.{edit_text}
 use Rattle.crush_edits.specs.Setting.{SettingData}
-use Rattle.crush_history.specs.HistoryText.{edit_text}
 use Rattle.crush_history.specs.Ceph.{ceph_heading}
 use Rattle.crush_ceph.specs.CephText.{ceph_text}
 use Rattle.crush_since.specs.Aside.{aside_text}

@@ -11,12 +11,13 @@ ghost use Rattle.crush_plan.specs.PlanText.{ceph_plan_text, commented, mark, pla
 use crate::plan::Plan;
 use crush_ceph::ceph_text;
 use crush_edits::Edit;
-use crush_history::{push_ceph_heading, write_edit};
+use crush_history::push_ceph_heading;
 use crush_map::CrushMap;
 use crush_since::{Counts, push_aside, push_stays};
 use crush_units::put_all;
 use itoa::Buffer;
 use std::alloc::{AllocError, Global};
+use std::io::Write;
 
 /// Returns the text of a plan as a script: the line `# N commands`, and a line for each edit. If
 /// differences remain, the line `# N differences stay` follows, and then a comment line for each
@@ -80,8 +81,7 @@ fn push_edits(edits: &[Edit], text: &mut Vec<u8>) -> Result<(), AllocError>
 fn push_line(edit: &Edit, text: &mut Vec<u8>) -> Result<(), AllocError>
     ensures { OnOk result (text.new.items ≡ text.old.items ++ script_line edit.now) }
 {
-    write_edit(edit, text).map_err(|_| AllocError)?;
-    text.extend_from_slice(b"\n")
+    write!(text, "{edit}\n").map_err(|_| AllocError)
 }
 
 /// Appends comment lines with the differences that remain. If no differences remain, appends

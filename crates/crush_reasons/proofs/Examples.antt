@@ -14,7 +14,7 @@ use Rattle.crush_history.specs.declared.call.Call.TheVariants.{One, Batch, Guard
 use Rattle.crush_history.specs.declared.call.Reply.{Reply}
 use Rattle.crush_history.specs.declared.call.Reply.TheVariants.{Done, Dones, Refused, BatchRefused, Stale}
 use Rattle.crush_history.specs.History.{EntryData}
-use Rattle.crush_history.specs.HistoryText.{line_head, line_end}
+use Rattle.crush_history.specs.HistoryText.{line_head, reply_text}
 use Rattle.crush_print.specs.MapText.{root_numbers}
 use Rattle.crush_print.specs.Tree.{step_at, steps_at, tree_rows, unplaced_numbers}
 use Rattle.crush_print.proofs.Examples.{example, setting}
@@ -104,7 +104,7 @@ explained : explained_text setting example (codes "a" ∷ []) 1 (
     ∷ entry (Batch (Remove (codes "osd.1") ∷ Remove (codes "h1") ∷ Remove (codes "default") ∷ [])) (BatchRefused 2 NotEmpty)
     ∷ [])
     ≡ codes "# 1 a rm default = refused NotEmpty 39\n  default holds 2 items: move or remove them first\n# 3 a begin at 0 ; rm x ; commit = refused Stale 11 changes 1\n  the map has changed since: look at it again, and name the number of changes that is told\n# 4 a rm h1 = refused NotEmpty 39\n  h1 holds 1 item: move or remove it first\n# 5 a begin ; rm osd.1 ; rm h1 ; rm default ; commit = refused at 2 NotEmpty 39\n  rm default: default holds 1 item: move or remove it first\n"
-unfolding explained_behind line_head line_end items_said table_after_edits digits
+unfolding explained_behind line_head reply_text items_said table_after_edits digits
 explained = refl
 
 -- names that differ by a missing letter, by an extra letter, by another letter, or in upper and lower case; and names that aren't similar

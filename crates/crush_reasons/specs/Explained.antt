@@ -11,7 +11,8 @@ use Rattle.crush_history.specs.declared.call.Call.TheVariants.{One, Batch, Guard
 use Rattle.crush_history.specs.declared.call.Reply.{Reply}
 use Rattle.crush_history.specs.declared.call.Reply.TheVariants.{Refused, BatchRefused, Stale}
 use Rattle.crush_history.specs.History.{EntryData}
-use Rattle.crush_history.specs.HistoryText.{edit_text, entry_text}
+use Rattle.crush_edits.specs.EditText.{edit_text}
+use Rattle.crush_history.specs.HistoryText.{entry_text}
 use Rattle.crush_history.specs.Refused.{is_refused}
 use Rattle.crush_reasons.specs.EditsLeft.{HeadData, entry_head, head_in}
 use Rattle.crush_reasons.specs.Named.{edit_reason}

@@ -6,7 +6,7 @@ ghost use Rattle.crush_model.specs.Table.{Row};
 ghost use Rattle.crush_history.specs.Entries.{AreOf};
 ghost use Rattle.crush_history.specs.HistoryText.{names_of, line_text};
 ghost use Rattle.crush_history.specs.Script.{scripts_data};
-ghost use Rattle.crush_history.specs.HistoryText.{edit_text};
+ghost use Rattle.crush_edits.specs.EditText.{edit_text};
 ghost use Rattle.crush_reasons.specs.Explained.{AreExplained, batched_reason, call_reason, explained_behind, explained_job, explained_line, explained_text, first_reason, refused_reason, so_far, stale_reason, too_high};
 ghost use Rattle.crush_reasons.specs.EditsLeft.{head_data, head_in};
 ghost use Rattle.crush_reasons.specs.Shown.{reason_line};
@@ -20,29 +20,34 @@ use crate::replay::{make_edits, make_entry};
 use crate::sentences::{STALE, refusal_sentence, reply_sentence};
 use crate::words::push_all;
 use crush_edits::{Edit, Refusal};
-use crush_history::{
-    Call, Entry, Reply, Script, is_refused, operator_name, write_edit, write_entry,
-};
+use crush_history::{Call, Entry, Line, Reply, Script, is_refused, operator_name};
 use crush_map::CrushMap;
 use itoa::Buffer;
 use std::alloc::{AllocError, Global};
+use std::io::Write;
 
 fn push_edit(edit: &Edit, text: &mut Vec<u8>) -> Result<(), AllocError>
     ensures { OnOk result (text.new.items ≡ text.old.items ++ edit_text edit.now) }
 {
-    write_edit(edit, text).map_err(|_| AllocError)
+    write!(text, "{edit}").map_err(|_| AllocError)
 }
 
 fn push_entry(
     number: u32,
-    operator: &[u8],
+    operator: &str,
     entry: &Entry,
     text: &mut Vec<u8>,
 ) -> Result<(), AllocError>
     ensures { OnOk result (text.new.items ≡ text.old.items
         ++ line_text number operator.now entry.now.call entry.now.reply) }
 {
-    write_entry(number, operator, &entry.call, entry.reply, text).map_err(|_| AllocError)
+    let line = Line {
+        number,
+        operator,
+        call: &entry.call,
+        reply: entry.reply,
+    };
+    write!(text, "{line}\n").map_err(|_| AllocError)
 }
 
 fn from_edit(index: usize, edits: &[Edit]) -> &[Edit]
@@ -72,7 +77,7 @@ fn before_edit(index: usize, edits: &[Edit]) -> &[Edit]
 #[derive(Clone, Copy)]
 struct EntryHead<'a> {
     number: u32,
-    operator: &'a [u8],
+    operator: &'a str,
     place: Option<EditPlace<'a>>,
     looks: bool,
 }

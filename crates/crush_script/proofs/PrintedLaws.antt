@@ -25,7 +25,7 @@ use Rattle.crush_history.specs.Said.{device_named, IsSaid}
 use Rattle.crush_script.specs.Words.{equals_at, pair_of}
 use Rattle.crush_script.specs.Command.{name_at, weight_at, end_at, with_pair, with_pairs, location_at, placing_at, located_at, one_name_at, two_names_at, name_and_weight_at, edit_at, command}
 use Rattle.crush_edits.specs.Keyword.{keyword_of}
-use Rattle.crush_history.specs.HistoryText.{edit_text, pairs_text, one_name}
+use Rattle.crush_edits.specs.EditText.{edit_text, pairs_text, one_name}
 use Rattle.crush_script.specs.Printed.{PrintedIsRead}
 use Rattle.crush_script.proofs.Pairs.{pair_added}
 use Rattle.crush_script.proofs.PrintedWords.{is_word_byte, IsWord, AreWords, joined, line_words-joined, both, never}

@@ -18,7 +18,8 @@ use Rattle.crush_text.specs.Document.{IsMapText}
 use Rattle.crush_history.specs.declared.call.Call.{Call}
 use Rattle.crush_history.specs.declared.call.Call.TheVariants.{One, Batch, Guarded}
 use Rattle.crush_history.specs.Script.{ScriptData, call_count}
-use Rattle.crush_history.specs.HistoryText.{edit_text, names_of}
+use Rattle.crush_edits.specs.EditText.{edit_text}
+use Rattle.crush_history.specs.HistoryText.{names_of}
 use Rattle.crush_script.specs.declared.sections.BegunBatch.{BegunBatch}
 use Rattle.crush_script.specs.Command.{name_at, one_name_at, end_at, begin_at, command, operator}
 use Rattle.crush_script.specs.Lines.{lines, words_between_blanks, begins_section, length_to_section, map_part, section_part, section_line}

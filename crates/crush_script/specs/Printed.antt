@@ -4,7 +4,7 @@ use Rattle.crush_edits.specs.declared.edit.Edit.{Edit}
 use Rattle.crush_script.specs.declared.command.Command.TheVariants as says
 use Rattle.crush_script.specs.Lines.{line_words}
 use Rattle.crush_script.specs.Command.{command}
-use Rattle.crush_history.specs.HistoryText.{edit_text}
+use Rattle.crush_edits.specs.EditText.{edit_text}
 use Rattle.crush_history.specs.Said.{IsSaid}
 
 -- PRINTED IS READ: each edit that a command can express is printed as a line that is parsed as the same edit

@@ -8,7 +8,8 @@ use Rattle.crush_text.specs.Document.{IsMapText}
 use Rattle.crush_history.specs.declared.call.Call.{Call}
 use Rattle.crush_history.specs.declared.call.Call.TheVariants.{One, Batch, Guarded}
 use Rattle.crush_history.specs.Script.{ScriptData, call_count}
-use Rattle.crush_history.specs.HistoryText.{edit_text, names_of}
+use Rattle.crush_edits.specs.EditText.{edit_text}
+use Rattle.crush_history.specs.HistoryText.{names_of}
 use Rattle.crush_script.specs.Lines.{length_to_section}
 use Rattle.crush_history.specs.Said.{IsSaid}
 use Rattle.crush_script.specs.Job.{IsJob, JobData}

@@ -3,7 +3,7 @@
 
 use crush_ceph::{ceph_text, redo_edit};
 use crush_edits::Edit;
-use crush_history::{Call, Script, has_dash, push_pairs};
+use crush_history::{Call, Script, has_dash};
 use crush_map::{CrushMap, Hashing};
 use crush_script::{Job, read_job};
 use std::alloc::Global;
@@ -98,21 +98,6 @@ fn a_word_that_begins_with_a_dash_is_found(rt: HostRuntime) {
     };
     drop(job);
     assert!(rt; found);
-}
-
-#[test]
-fn pairs_of_a_location_follow_spaces(rt: HostRuntime) {
-    let job = job_of(&rt, b"move h1 rack=r1 root=default\n");
-    let mut text = Vec::new(rt.alloc());
-    text.extend_from_slice(b"move h1").expect(&rt, "no memory");
-    match edits_of(job.scripts.as_slice()) {
-        [Edit::Move { at, .. }] => push_pairs(at.pairs(), &mut text).expect(&rt, "no memory"),
-        _ => {}
-    }
-    let is_told = text.as_slice() == b"move h1 rack=r1 root=default".as_slice();
-    drop(text);
-    drop(job);
-    assert!(rt; is_told);
 }
 
 #[test]

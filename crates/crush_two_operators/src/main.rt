@@ -15,7 +15,7 @@ use at_once::edit_at_once;
 use crush_editor::Closed;
 use crush_edits::Edit;
 use crush_gauge::Reading;
-use crush_history::{Call, Entry, Script, is_change, write_entry};
+use crush_history::{Call, Entry, Line, Script, is_change};
 use crush_map::Hashing;
 use crush_print::{WeightForm, write_map};
 use crush_script::{Job, read_job};
@@ -54,8 +54,8 @@ fn main(rt: HostRuntime) -> anyhow::Result<()> {
         WeightForm::Rounded,
         &mut rt.stdout(),
     )?;
-    print_part(&rt, history.as_slice(), 0, b"first")?;
-    print_part(&rt, history.as_slice(), 1, b"second")?;
+    print_part(&rt, history.as_slice(), 0, "first")?;
+    print_part(&rt, history.as_slice(), 1, "second")?;
     print_reading(&rt, last)?;
     print_changes(&rt, followed.history.as_slice())
 }
@@ -75,13 +75,19 @@ fn print_part(
     rt: &HostRuntime,
     history: &[Entry],
     operator: usize,
-    name: &[u8],
+    name: &str,
 ) -> anyhow::Result<()> {
     let mut number = 0u32;
     for entry in history {
         if entry.operator == operator {
             number = number.saturating_add(1);
-            write_entry(number, name, &entry.call, entry.reply, &mut rt.stdout())?;
+            let line = Line {
+                number,
+                operator: name,
+                call: &entry.call,
+                reply: entry.reply,
+            };
+            println!(rt; "{line}")?;
         }
     }
     Ok(())
@@ -94,13 +100,13 @@ fn print_changes(rt: &HostRuntime, history: &[Entry]) -> anyhow::Result<()> {
     for entry in history {
         if is_change(entry.reply) {
             number = number.saturating_add(1);
-            write_entry(
+            let line = Line {
                 number,
-                b"either",
-                &entry.call,
-                entry.reply,
-                &mut rt.stdout(),
-            )?;
+                operator: "either",
+                call: &entry.call,
+                reply: entry.reply,
+            };
+            println!(rt; "{line}")?;
         }
     }
     Ok(())

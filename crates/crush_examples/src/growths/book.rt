@@ -9,10 +9,11 @@ use crate::growths::job::Parts;
 use crate::growths::map::{fewest_requests, is_written, text_of};
 use anyhow::{Context, ensure};
 use crush_editor::{Book, MapGauge, Started, SubmitFault};
-use crush_history::{Call, Entry, Script, write_entry};
+use crush_history::{Call, Entry, Line, Script};
 use crush_map::CrushMap;
 use crush_units::limits::MOST_OPERATORS;
 use std::alloc::{Allocator, Global};
+use std::io::Write;
 
 /// Commits the calls of all scripts to a book of the map. Returns the least number of requests for
 /// memory that such a run makes. Fails if the book's map and history, when they are printed, aren't
@@ -140,13 +141,13 @@ fn write_lines(history: &[Entry], scripts: &[Script], text: &mut Vec<u8>) -> any
     for entry in history {
         let script = scripts.get(entry.operator).context("no such operator")?;
         number = number.saturating_add(1);
-        write_entry(
+        let line = Line {
             number,
-            script.name.as_bytes(),
-            &entry.call,
-            entry.reply,
-            text,
-        )?;
+            operator: script.name.as_str(),
+            call: &entry.call,
+            reply: entry.reply,
+        };
+        write!(text, "{line}\n")?;
     }
     Ok(())
 }

@@ -2,11 +2,12 @@
 //! operations that report that memory ran out.
 
 use anyhow::ensure;
-use crush_history::{Call, Reply, Script, is_change, make_call, write_entry};
+use crush_history::{Call, Line, Reply, Script, is_change, make_call};
 use crush_map::{CrushMap, Hashing};
 use crush_print::{WeightForm, write_map};
 use crush_text::{TextFaultKind, read_map_in};
 use std::alloc::{Allocator, Global};
+use std::io::Write;
 
 /// Makes the calls of all scripts. Returns the least number of requests for memory that such a run
 /// makes. Fails if the printed map, followed by the lines of the history, isn't `output`.
@@ -72,7 +73,13 @@ fn make_calls<A: Allocator + Clone>(
             if is_change(reply) {
                 changes = changes.saturating_add(1);
             }
-            write_entry(number, script.name.as_bytes(), call, reply, &mut lines)?;
+            let line = Line {
+                number,
+                operator: script.name.as_str(),
+                call,
+                reply,
+            };
+            write!(lines, "{line}\n")?;
         }
     }
     Ok(lines)

@@ -6,11 +6,12 @@ ghost use Rattle.crush_run_tests.specs.Seats.{AreAll};
 use super::{opened, started_with, submit_by};
 use crate::maps::PLAIN;
 use crush_editor::{Closed, Desk, Editor, Seat, Started};
-use crush_history::{Entry, Script, write_entry};
+use crush_history::{Entry, Line, Script};
 use crush_map::Hashing;
 use crush_print::{WeightForm, write_map};
 use crush_script::{Job, read_job};
 use std::alloc::Global;
+use std::io::Write;
 use std::marker::Brand;
 use std::process::Abort;
 use std::sync::Wait;
@@ -140,26 +141,24 @@ fn put_history(out: &mut Vec<u8>, history: &[Entry]) -> bool {
     let mut number = 0u32;
     for entry in history {
         number = number.saturating_add(1);
-        if write_entry(
+        let line = Line {
             number,
-            name_of(entry.operator),
-            &entry.call,
-            entry.reply,
-            out,
-        )
-        .is_err()
-        {
+            operator: name_of(entry.operator),
+            call: &entry.call,
+            reply: entry.reply,
+        };
+        if write!(out, "{line}\n").is_err() {
             return false;
         }
     }
     true
 }
 
-fn name_of(operator: usize) -> &'static [u8] {
+fn name_of(operator: usize) -> &'static str {
     match operator {
-        0 => b"a",
-        1 => b"b",
-        2 => b"c",
-        _ => b"?",
+        0 => "a",
+        1 => "b",
+        2 => "c",
+        _ => "?",
     }
 }

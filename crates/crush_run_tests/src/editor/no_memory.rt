@@ -8,7 +8,7 @@ use super::{assert_reads, opened, read_map, started, submit_by, weigh_two, weigh
 use crate::maps::PLAIN;
 use crush_editor::{Desk, Editor, Seat, Started};
 use crush_edits::Setting;
-use crush_history::{Call, Reply, write_entry};
+use crush_history::{Call, Line, Reply};
 use crush_map::{CrushMap, Done};
 use std::alloc::Global;
 use std::marker::Brand;
@@ -154,16 +154,22 @@ fn write_line(rt: &(impl Abort + AllocGlobal), times: u32) {
         changed: true,
         made: 0,
     });
-    let mut text = Vec::with_capacity(rt.alloc(), 100).expect(rt, "no memory");
+    let line = Line {
+        number: 1,
+        operator: "a",
+        call: &call,
+        reply,
+    };
+    let mut text = String::with_capacity(rt.alloc(), 100).expect(rt, "no memory");
     let mut written = true;
     for _ in 0..times {
         text.clear();
-        written = written && write_entry(1, b"a", &call, reply, &mut text).is_ok();
+        written = written && write!(text, "{line}\n").is_ok();
     }
     drop(call);
     assert!(rt;
         written
-            && text.as_slice()
+            && text.as_bytes()
                 == b"# 1 a reweight osd.0 2.00000 = done changed 1 made 0\n".as_slice()
     );
 }

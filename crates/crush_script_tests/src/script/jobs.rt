@@ -2,7 +2,7 @@
 
 use crate::script::{PLAIN_EXAMPLE_MAP, is_no_job, job_of, joined};
 use crush_edits::{Edit, Keyword, Placing};
-use crush_history::{Call, Script, make_call, write_entry};
+use crush_history::{Call, Line, Script, make_call};
 use crush_map::CrushMap;
 use crush_script::{BadLine, Due, Form, Job, JobFault, Misfit, line_feeds, map_part, placed_word};
 use std::alloc::Global;
@@ -52,14 +52,19 @@ fn lines_of(
     rt: &(impl Abort + AllocGlobal),
     map: &mut CrushMap<Global>,
     script: &Script,
-) -> Vec<u8> {
-    let mut lines = Vec::new(rt.alloc());
+) -> String {
+    let mut lines = String::new(rt.alloc());
     let mut number = 0u32;
     for call in script.calls.as_slice() {
         let reply = make_call(map, 0, call).expect(rt, "no memory");
         number = number.saturating_add(1);
-        let name = script.name.as_bytes();
-        write_entry(number, name, call, reply, &mut lines).expect(rt, "no line");
+        let line = Line {
+            number,
+            operator: script.name.as_str(),
+            call,
+            reply,
+        };
+        write!(lines, "{line}\n").expect(rt, "no line");
     }
     lines
 }
@@ -70,7 +75,7 @@ fn are_answered(
     scripts: &[Script],
 ) -> bool {
     match scripts {
-        [script] => lines_of(rt, map, script).as_slice() == HISTORY,
+        [script] => lines_of(rt, map, script).as_bytes() == HISTORY,
         _ => false,
     }
 }

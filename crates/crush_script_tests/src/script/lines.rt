@@ -2,7 +2,7 @@
 //! lines.
 
 use crush_edits::{Done, Dones, Edit, Refusal};
-use crush_history::{Call, Edits, Reply, write_edit, write_entry};
+use crush_history::{Call, Edits, Line, Reply};
 use crush_units::{Name, Weight};
 use std::process::Abort;
 
@@ -27,14 +27,21 @@ fn copied(rt: &(impl Abort + AllocGlobal), call: Call) -> Call {
 fn has_line(
     rt: &impl AllocGlobal,
     call: &Call,
-    of: (u32, &[u8]),
+    of: (u32, &str),
     reply: Reply,
     line: &[u8],
 ) -> bool {
     let (number, operator) = of;
-    let mut out = Vec::new(rt.alloc());
-    let written = write_entry(number, operator, call, reply, &mut out);
-    written.is_ok() && out.as_slice() == line
+    let shown = Line {
+        number,
+        operator,
+        call,
+        reply,
+    };
+    match format!(in rt.alloc(); "{shown}\n") {
+        Ok(text) => text.as_bytes() == line,
+        Err(_) => false,
+    }
 }
 
 fn is_single(rt: &impl AllocGlobal, call: &Call) -> bool {
@@ -45,14 +52,14 @@ fn is_single(rt: &impl AllocGlobal, call: &Call) -> bool {
     let refused = Reply::Refused(Refusal::NotPlaced);
     let line = b"# 4 b reweight osd.0 0.33299 = done changed 0 made 2\n";
     let last = b"# 65536 op-1 reweight osd.0 0.33299 = refused NotPlaced 2\n";
-    has_line(rt, call, (4, b"b"), done, line) && has_line(rt, call, (65536, b"op-1"), refused, last)
+    has_line(rt, call, (4, "b"), done, line) && has_line(rt, call, (65536, "op-1"), refused, last)
 }
 
 /// Tests the line of a batch that has one edit and is refused with the reply of a single edit.
 fn is_batch(rt: &impl AllocGlobal, call: &Call) -> bool {
     let refused = Reply::Refused(Refusal::Loop);
     let line = b"# 1 a begin ; reweight osd.2 1.00000 ; commit = refused Loop 40\n";
-    has_line(rt, call, (1, b"a"), refused, line)
+    has_line(rt, call, (1, "a"), refused, line)
 }
 
 /// Tests the line of an empty batch that has the reply of a batch of many edits.
@@ -63,7 +70,7 @@ fn is_empty_batch(rt: &impl AllocGlobal, call: &Call) -> bool {
         made: 4096,
     });
     let line = b"# 65536 b begin ; commit = dones 65536 changed 12 made 4096\n";
-    has_line(rt, call, (65536, b"b"), done, line)
+    has_line(rt, call, (65536, "b"), done, line)
 }
 
 #[test]
@@ -82,9 +89,7 @@ fn copies_of_calls_are_lines(rt: HostRuntime) {
 #[test]
 fn an_edit_is_written_as_a_command(rt: HostRuntime) {
     let edit = reweight(&rt, b"osd.0", 21823);
-    let mut out = Vec::new(rt.alloc());
-    let is_written = write_edit(&edit, &mut out).is_ok();
+    let text = format!(in rt.alloc(); "{edit}").expect(&rt, "no memory");
     drop(edit);
-    assert!(rt; is_written);
-    assert!(rt; out.as_slice() == b"reweight osd.0 0.33299".as_slice());
+    assert!(rt; text.as_bytes() == b"reweight osd.0 0.33299".as_slice());
 }

@@ -1,4 +1,4 @@
-use Rattle.crush_json.specs.PlanDocument.{pair_word}
+use Rattle.crush_edits.specs.EditText.{pair_word}
 use Rattle.crush_json.specs.Tokens.{tokens_of}
 use Rattle.serde_json.specs.Data.{string}
 use Rattle.std.proofs.Common.{take, ◌++◌, ◌≡◌}

@@ -1,5 +1,6 @@
 use Rattle.crush_json.proofs.Listed.{array_done, mapped}
-use Rattle.crush_json.specs.PlanDocument.{pair_values, pair_word}
+use Rattle.crush_edits.specs.EditText.{pair_word}
+use Rattle.crush_json.specs.PlanDocument.{pair_values}
 use Rattle.json.specs.Token.{Token}
 use Rattle.serde_json.specs.Data.{string}
 use Rattle.std.proofs.Common.{List, ap, ◌++◌, ◌∙◌}

@@ -1,5 +1,0 @@
-use Rattle.crush_history.proofs.Writing.{three_parts}
-use Rattle.crush_history.proofs.history.write_refused_at.Goals as goal
-
-pub returns-clause-writes : goal.returns-clause-writes
-returns-clause-writes g c = let h = rw (three_parts, c.as_slice.ensures, c.as_bytes-index.ensures.value, c.format.ensures.text, c.as_slice-2.ensures) at c.put_all.ensures.writes in h
