@@ -14,7 +14,7 @@ from sources import COMMAND_LINE, PAGES, ROWS, TOP, WORDS_OF_TEXTS
 from sources import contracts, crate_files, fields_of_records, known_words, page_of, quoted, sections_of, tables, variants
 
 # Where the sentences of these enums stand, by the words that their definitions begin with; RULES.md has the same.
-SENTENCES = "crush_reasons/specs/Sentences.antt"
+SENTENCES = "crush_reasons/specs/Sentences.antt", "crush_edits/specs/Refusal.antt"
 SAID = {("job",): "Faults of a job", ("refusal", "stale"): "Refusals"}
 # A fault of the text that a job has, whose sentence is the text's.
 NO_SENTENCE = {"Text"}
@@ -37,18 +37,18 @@ def rule_faults():
 
 def sentence_faults():
     """Which faults and refusals have no sentence, or another one in RULES.md."""
-    specs, sections = (TOP / "crates" / SENTENCES).read_text(), sections_of("RULES.md")
-    said = re.findall(r'(?m)^(\w+)_sentence (?:\(?\w+\.(\w+)[^=\n]*)?= codes "(.*)"$', specs)
+    specs, sections = "\n".join((TOP / "crates" / name).read_text() for name in SENTENCES), sections_of("RULES.md")
+    said = re.findall(r'(?m)^(\w+)_sentence (?:\(?(?:\w+\.)?(\w+)[^=\n]*)?= codes "(.*)"$', specs)
     for word, title in SAID.items():
         wanted = {name or other.capitalize(): sentence for other, name, sentence in said if other in word}
         for head, rows in tables(sections.get(title, "")):
             told = {quoted(row[head.index(title.split(" ")[0].rstrip("s"))])[0]: row[head.index("Sentence")].strip("`") for row in rows}
             for name in sorted(wanted | told):
                 if name not in NO_SENTENCE and wanted.get(name) != told.get(name):
-                    yield f"{title} has another sentence of {name} than {SENTENCES}"
+                    yield f"{title} has another sentence of {name} than {' and '.join(SENTENCES)}"
         for name in variants(*ROWS[title]):
             if name not in wanted and name not in NO_SENTENCE:
-                yield f"{SENTENCES} has no sentence for {name}"
+                yield f"{' and '.join(SENTENCES)}: no sentence for {name}"
 
 
 def run_sentence_faults():

@@ -27,6 +27,30 @@ refusal_name NoRoom = codes "NoRoom"
 refusal_name SumTooLarge = codes "SumTooLarge"
 refusal_name ClassBound = codes "ClassBound"
 
+-- the sentence that says why an edit is refused
+abbrev pub refusal_sentence : Refusal → List ℕ
+refusal_sentence BadName = codes "the location names a bucket as the device is named"
+refusal_sentence BadLocation = codes "a location names each type and each bucket once, and not the type of devices"
+refusal_sentence NoSuchType = codes "the map has no type of this name"
+refusal_sentence NoPlace = codes "a location is wanted: a TYPE=BUCKET, or several"
+refusal_sentence WeightTooLarge = codes "a device weighs at most 32767.99998"
+refusal_sentence NoSuchItem = codes "the map has no item of this name"
+refusal_sentence NameTaken = codes "an item has this name, or the device has another one"
+refusal_sentence AlreadyPlaced = codes "the device stands in a bucket: set and create-or-move put it into another"
+refusal_sentence NotPlaced = codes "the device stands in no bucket: add puts it into one"
+refusal_sentence NotADevice = codes "the item is a bucket: reweight-subtree sets the weights below it"
+refusal_sentence NotABucket = codes "the item is a device, where a bucket is wanted"
+refusal_sentence WrongType = codes "the bucket is of another type, or a new one would be of the type of devices"
+refusal_sentence Loop = codes "a bucket cannot come below itself"
+refusal_sentence Nested = codes "the buckets are one, or one of them is below the other"
+refusal_sentence NotEmpty = codes "the bucket holds items: move or remove them first"
+refusal_sentence InUse = codes "a rule takes the bucket"
+refusal_sentence NotDirectory = codes "the item is a device: only a bucket gets another name"
+refusal_sentence AlreadyRenamed = codes "the first name is gone and the second is there, as if it had been done before"
+refusal_sentence NoRoom = codes "a map has at most 4096 buckets and 65536 devices"
+refusal_sentence SumTooLarge = codes "a bucket weighs at most 65535.99998, and all devices 134217727.99998"
+refusal_sentence ClassBound = codes "the device has another class: rm-device-class takes it away"
+
 -- the number of a refusal: if several hold for an edit, the one with the least number is reported
 abbrev pub refusal_number : Refusal → ℕ
 refusal_number BadName = 1

@@ -1,7 +1,7 @@
 //! The results of edits and batches: what was done, or why nothing was done.
 
 ghost use Rattle.std.specs.Prelude.{◌≡◌};
-ghost use Rattle.crush_edits.specs.Refusal.{refusal_name, refusal_number, refusal_error};
+ghost use Rattle.crush_edits.specs.Refusal.{refusal_name, refusal_sentence, refusal_number, refusal_error};
 
 use std::alloc::AllocError;
 use std::fmt::{self, Display, Formatter};
@@ -95,6 +95,46 @@ impl Refusal {
         }
     }
 
+    /// Returns a sentence that says why the edit is refused, without a name.
+    pub fn sentence(self) -> &'static str
+        ensures { result.now ≡ refusal_sentence self }
+    {
+        match self {
+            Refusal::BadName => "the location names a bucket as the device is named",
+            Refusal::BadLocation => {
+                "a location names each type and each bucket once, and not the type of devices"
+            }
+            Refusal::NoSuchType => "the map has no type of this name",
+            Refusal::NoPlace => "a location is wanted: a TYPE=BUCKET, or several",
+            Refusal::WeightTooLarge => "a device weighs at most 32767.99998",
+            Refusal::NoSuchItem => "the map has no item of this name",
+            Refusal::NameTaken => "an item has this name, or the device has another one",
+            Refusal::AlreadyPlaced => {
+                "the device stands in a bucket: set and create-or-move put it into another"
+            }
+            Refusal::NotPlaced => "the device stands in no bucket: add puts it into one",
+            Refusal::NotADevice =>
+                "the item is a bucket: reweight-subtree sets the weights below it",
+            Refusal::NotABucket => "the item is a device, where a bucket is wanted",
+            Refusal::WrongType => {
+                "the bucket is of another type, or a new one would be of the type of devices"
+            }
+            Refusal::Loop => "a bucket cannot come below itself",
+            Refusal::Nested => "the buckets are one, or one of them is below the other",
+            Refusal::NotEmpty => "the bucket holds items: move or remove them first",
+            Refusal::InUse => "a rule takes the bucket",
+            Refusal::NotDirectory => "the item is a device: only a bucket gets another name",
+            Refusal::AlreadyRenamed => {
+                "the first name is gone and the second is there, as if it had been done before"
+            }
+            Refusal::NoRoom => "a map has at most 4096 buckets and 65536 devices",
+            Refusal::SumTooLarge => {
+                "a bucket weighs at most 65535.99998, and all devices 134217727.99998"
+            }
+            Refusal::ClassBound => "the device has another class: rm-device-class takes it away",
+        }
+    }
+
     /// Returns the number of the refusal: the position of its variant, from 1 to 21.
     pub fn number(self) -> u8
         ensures { result ≡ refusal_number self }
@@ -151,14 +191,15 @@ impl Refusal {
     }
 }
 
+/// Prints the sentence of the refusal.
 impl Display for Refusal {
     ghost use Rattle.std.specs.Prelude.{Some};
-    ghost use Rattle.crush_edits.specs.Refusal.{refusal_name};
+    ghost use Rattle.crush_edits.specs.Refusal.{refusal_sentence};
 
-    ghost output = { λ refusal. Some (refusal_name refusal) };
+    ghost output = { λ refusal. Some (refusal_sentence refusal) };
 
     fn fmt<W: fmt::Write>(&self, f: &mut Formatter<W>) -> fmt::Result {
-        f.write_str(self.name())
+        f.write_str(self.sentence())
     }
 }
 

@@ -19,7 +19,8 @@ use Rattle.crush_reasons.specs.Named.{edit_reason}
 use Rattle.crush_reasons.specs.Place.{OriginData}
 use Rattle.crush_reasons.specs.Replay.{history_edits, table_after_edits, table_after_entry}
 use Rattle.crush_reasons.specs.Shown.{reason_line}
-use Rattle.crush_reasons.specs.Sentences.{refusal_sentence, reply_sentence, stale_sentence}
+use Rattle.crush_edits.specs.Refusal.{refusal_sentence}
+use Rattle.crush_reasons.specs.Sentences.{reply_sentence, stale_sentence}
 
 -- the reason for a refused edit of a batch, without the edit's place: the edit's command, and the reason for the edit alone
 abbrev pub refused_reason : Bool → SettingData → List Row → Edit → Refusal → List ℕ

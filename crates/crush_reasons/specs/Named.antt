@@ -8,7 +8,7 @@ use Rattle.crush_edits.specs.declared.refusal.Refusal.TheVariants as refusal
 use Rattle.crush_edits.specs.Setting.{SettingData}
 use Rattle.crush_edits.specs.Stops.{bucket_named}
 use Rattle.crush_apply.specs.Culprit.{culprit}
-use Rattle.crush_reasons.specs.Sentences.{refusal_sentence}
+use Rattle.crush_edits.specs.Refusal.{refusal_sentence}
 use Rattle.crush_reasons.specs.Way.{absent_reason, bound_said, class_named, held_count, held_said, holder_name, location_of, loop_reason, moved_name, placed_said, taken_reason, taking_rule, type_reason}
 
 -- THE WORDS AFTER THE NAME, if they depend only on the refusal; none for a refusal that isn't about an item, and for a refusal whose reason depends on the map

@@ -2,8 +2,7 @@
 use Rattle.std.specs.Prelude.{ℕ, List, [], codes}
 use Rattle.crush_history.specs.declared.call.Reply.{Reply}
 use Rattle.crush_history.specs.declared.call.Reply.TheVariants.{Done, Dones, Refused, BatchRefused, Stale}
-use Rattle.crush_edits.specs.declared.refusal.Refusal.{Refusal}
-use Rattle.crush_edits.specs.declared.refusal.Refusal.TheVariants as refusal
+use Rattle.crush_edits.specs.Refusal.{refusal_sentence}
 use Rattle.crush_script.specs.declared.fault.JobFault.{JobFault}
 use Rattle.crush_script.specs.declared.fault.JobFault.TheVariants as job
 
@@ -18,30 +17,6 @@ job_sentence (job.Text fault) = []
 job_sentence job.OutOfMemory = codes "there is no memory for the job"
 job_sentence job.TooLong = codes "a job has at most 16777216 bytes"
 job_sentence (job.TooManyCalls number) = codes "a job has at most 65536 commands and batches"
-
--- REFUSALS
-abbrev pub refusal_sentence : Refusal → List ℕ
-refusal_sentence refusal.BadName = codes "the location names a bucket as the device is named"
-refusal_sentence refusal.BadLocation = codes "a location names each type and each bucket once, and not the type of devices"
-refusal_sentence refusal.NoSuchType = codes "the map has no type of this name"
-refusal_sentence refusal.NoPlace = codes "a location is wanted: a TYPE=BUCKET, or several"
-refusal_sentence refusal.WeightTooLarge = codes "a device weighs at most 32767.99998"
-refusal_sentence refusal.NoSuchItem = codes "the map has no item of this name"
-refusal_sentence refusal.NameTaken = codes "an item has this name, or the device has another one"
-refusal_sentence refusal.AlreadyPlaced = codes "the device stands in a bucket: set and create-or-move put it into another"
-refusal_sentence refusal.NotPlaced = codes "the device stands in no bucket: add puts it into one"
-refusal_sentence refusal.NotADevice = codes "the item is a bucket: reweight-subtree sets the weights below it"
-refusal_sentence refusal.NotABucket = codes "the item is a device, where a bucket is wanted"
-refusal_sentence refusal.WrongType = codes "the bucket is of another type, or a new one would be of the type of devices"
-refusal_sentence refusal.Loop = codes "a bucket cannot come below itself"
-refusal_sentence refusal.Nested = codes "the buckets are one, or one of them is below the other"
-refusal_sentence refusal.NotEmpty = codes "the bucket holds items: move or remove them first"
-refusal_sentence refusal.InUse = codes "a rule takes the bucket"
-refusal_sentence refusal.NotDirectory = codes "the item is a device: only a bucket gets another name"
-refusal_sentence refusal.AlreadyRenamed = codes "the first name is gone and the second is there, as if it had been done before"
-refusal_sentence refusal.NoRoom = codes "a map has at most 4096 buckets and 65536 devices"
-refusal_sentence refusal.SumTooLarge = codes "a bucket weighs at most 65535.99998, and all devices 134217727.99998"
-refusal_sentence refusal.ClassBound = codes "the device has another class: rm-device-class takes it away"
 
 -- the sentence for a guarded batch that was refused because the map has changed
 abbrev pub stale_sentence : List ℕ

@@ -17,7 +17,7 @@ use crate::locates::{JobLines, Locates, Nowhere};
 use crate::named::push_edit_reason;
 use crate::near::MOST_LOOKS;
 use crate::replay::{make_edits, make_entry};
-use crate::sentences::{STALE, refusal_sentence, reply_sentence};
+use crate::sentences::{STALE, reply_sentence};
 use crate::words::push_all;
 use crush_edits::{Edit, Refusal};
 use crush_history::{Call, Entry, Line, Reply, Script, is_refused, operator_name};
@@ -110,7 +110,7 @@ fn push_first(
         ≡ text.old.items ++ first_reason map.now.setting t (head_data head.now) edits.now refusal) }
 {
     match edits {
-        [] => text.extend_from_slice(refusal_sentence(refusal).as_bytes()),
+        [] => text.extend_from_slice(refusal.sentence().as_bytes()),
         [edit, ..] => {
             push_place(&head.place, text)?;
             push_refused(alloc, head.looks, map, edit, refusal, text)

@@ -4,9 +4,8 @@ ghost use Rattle.std.specs.Prelude.{◌≡◌, ◌++◌, List, None, OnOk, Some,
 ghost use Rattle.crush_model.specs.Stands.{Stands};
 ghost use Rattle.crush_model.specs.Table.{Row};
 ghost use Rattle.crush_reasons.specs.Named.{edit_reason, named_or, reason_of, said_by, said_of, said_of_class};
-ghost use Rattle.crush_reasons.specs.Sentences.{refusal_sentence};
+ghost use Rattle.crush_edits.specs.Refusal.{refusal_sentence};
 
-use crate::sentences::refusal_sentence;
 use crate::way::{
     class_named, holder_name, moved_name, push_absent, push_bound, push_holding, push_loop,
     push_placed, push_taken, push_type, taking_rule,
@@ -71,7 +70,7 @@ fn push_said(
         ++ named_or name.now (said_by edit.now refusal) (refusal_sentence refusal)) }
 {
     let Some(said) = said_by(edit, refusal) else {
-        return text.extend_from_slice(refusal_sentence(refusal).as_bytes());
+        return text.extend_from_slice(refusal.sentence().as_bytes());
     };
     text.extend_from_slice(name)?;
     text.extend_from_slice(said.as_bytes())
