@@ -17,6 +17,7 @@ ghost use Rattle.crush_editor.specs.Seat.{seen_of, reads};
 ghost use mathlib.Core.List.{IsPrefix};
 
 use crate::law::{MapBookSeat, MapGauge, MapNote, Reader};
+use crate::open_fault::OpenFault;
 use crate::opening::{KeptOpening, WithoutSnapshot};
 use crush_history::{Call, Entry, Reply, is_change, make_call};
 use crush_map::CrushMap;
@@ -35,6 +36,16 @@ pub enum SubmitFault {
     /// Memory could not be allocated, and the history isn't full.
     #[error("out of memory")]
     OutOfMemory,
+}
+
+/// Why a call that was moved into an editor or a book wasn't made. It gives the call back.
+#[derive(Debug, Drop, Error)]
+#[error("{fault}")]
+pub struct Unsubmitted {
+    /// Why the call wasn't made.
+    pub fault: SubmitFault,
+    /// The call.
+    pub call: Call,
 }
 
 /// A map, with the history of the calls that were made on it since its opening. The book's maps are
@@ -70,18 +81,18 @@ impl<A: Allocator + Clone> Book<A> {
     /// a gauge that was created for this map: with this seat the book publishes each change, so
     /// that threads can read it without a lock. The method copies the map once. If memory runs out,
     /// the error gives the map back.
-    pub fn new(map: CrushMap<A>, seat: MapBookSeat, alloc: Global) -> Result<Book<A>, CrushMap<A>>
+    pub fn new(alloc: Global, map: CrushMap<A>, seat: MapBookSeat) -> Result<Book<A>, OpenFault<A>>
         requires { seat.view ≡ BookSees (known map []) }
         ensures opening { IfOk result (λ b. b.opening ≡ map) }
         ensures map { IfOk result (λ b. IsSameMap b.map map) }
         ensures stands { IfOk result (λ b. StandsAsBefore b.opening b.map) }
         ensures history { IfOk result (λ b. b.history ≡ []) }
         ensures table { IfOk result (λ b. b.table ≡ seat.table) }
-        ensures err { OnErr result (result ≡ Err map) }
+        ensures err { IfErr result (λ fault. fault.map ≡ map) }
     {
         map.forest().recall_invariant();
         let Ok(copy) = map.try_copy() else {
-            return Err(map);
+            return Err(OpenFault { map });
         };
         Ok(Book {
             opening: map,
@@ -96,9 +107,9 @@ impl<A: Allocator + Clone> Book<A> {
 impl<A: Allocator> Book<A, WithoutSnapshot> {
     /// Creates a book as [`Book::new`] does, but without a copy of the map.
     pub(crate) fn without_opening(
+        alloc: Global,
         map: CrushMap<A>,
         seat: MapBookSeat,
-        alloc: Global,
     ) -> Book<A, WithoutSnapshot>
         requires { seat.view ≡ BookSees (known map []) }
         ensures opening { result.opening ≡ map }
@@ -168,7 +179,7 @@ impl<A: Allocator + Clone, O: KeptOpening> Book<A, O> {
         };
         match self.commit_copied(gauge, k, copy) {
             Ok(reply) => Ok(reply),
-            Err((fault, _copy)) => Err(fault),
+            Err(Unsubmitted { fault, .. }) => Err(fault),
         }
     }
 
@@ -179,7 +190,7 @@ impl<A: Allocator + Clone, O: KeptOpening> Book<A, O> {
         gauge: &MapGauge,
         k: usize,
         call: Call,
-    ) -> Result<Reply, (SubmitFault, Call)>
+    ) -> Result<Reply, Unsubmitted>
         requires operator { k < MOST_OPERATORS }
         requires gauge { self.old.table ≡ gauge.now.table.shared.table_id }
         ensures made { IfOk result
@@ -188,21 +199,30 @@ impl<A: Allocator + Clone, O: KeptOpening> Book<A, O> {
             self.new.history ≡ self.old.history ++ entry k call r ∷ []) }
         ensures room { OnOk result (length self.old.history < MOST_ENTRIES) }
         ensures full { IfErr result (λ e.
-            (e.0 ≡ SubmitFault.Full) ↔ (length self.old.history ≡ MOST_ENTRIES)) }
-        ensures back { IfErr result (λ e. e.1 ≡ call) }
+            (e.fault ≡ SubmitFault.Full) ↔ (length self.old.history ≡ MOST_ENTRIES)) }
+        ensures back { IfErr result (λ e. e.call ≡ call) }
         ensures unchanged { OnErr result (self.new ≡ self.old) }
         ensures opening { self.new.opening ≡ self.old.opening }
         ensures table { self.new.table ≡ self.old.table }
     {
         let entries = self.history.len();
         if entries == MOST_ENTRIES {
-            return Err((SubmitFault::Full, call));
+            return Err(Unsubmitted {
+                fault: SubmitFault::Full,
+                call,
+            });
         }
         if self.history.reserve(1).is_err() {
-            return Err((SubmitFault::OutOfMemory, call));
+            return Err(Unsubmitted {
+                fault: SubmitFault::OutOfMemory,
+                call,
+            });
         }
         let Ok(reply) = make_call(&mut self.map, self.changes, &call) else {
-            return Err((SubmitFault::OutOfMemory, call));
+            return Err(Unsubmitted {
+                fault: SubmitFault::OutOfMemory,
+                call,
+            });
         };
         let changes = self.changes + change_of(reply);
         let weight = self.map.total();
@@ -247,7 +267,7 @@ impl<A: Allocator + Clone, O: KeptOpening> Book<A, O> {
         reader: &mut Reader,
         k: usize,
         call: Call,
-    ) -> Result<Reply, (SubmitFault, Call)>
+    ) -> Result<Reply, Unsubmitted>
         requires operator { k < MOST_OPERATORS }
         requires gauge { self.old.table ≡ gauge.now.table.shared.table_id }
         requires reader { (reader.old.table ≡ self.old.table)
@@ -258,8 +278,8 @@ impl<A: Allocator + Clone, O: KeptOpening> Book<A, O> {
             self.new.history ≡ self.old.history ++ entry k call r ∷ []) }
         ensures room { OnOk result (length self.old.history < MOST_ENTRIES) }
         ensures full { IfErr result (λ e.
-            (e.0 ≡ SubmitFault.Full) ↔ (length self.old.history ≡ MOST_ENTRIES)) }
-        ensures back { IfErr result (λ e. e.1 ≡ call) }
+            (e.fault ≡ SubmitFault.Full) ↔ (length self.old.history ≡ MOST_ENTRIES)) }
+        ensures back { IfErr result (λ e. e.call ≡ call) }
         ensures unchanged { OnErr result (self.new ≡ self.old) }
         ensures opening { self.new.opening ≡ self.old.opening }
         ensures table { self.new.table ≡ self.old.table }

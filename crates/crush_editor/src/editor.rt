@@ -15,10 +15,11 @@ ghost use Rattle.crush_editor.specs.History.{weight_from, OpensGauge};
 ghost use Rattle.crush_editor.specs.Book.{IsSameMap, MakesAll, StandsAsBefore};
 ghost use Rattle.crush_editor.specs.Seat.{Answered, Guards, Sees, InOrder, IsHistoryOfSeats, seat_data, reads};
 
-use crate::book::{Book, Closed, SubmitFault};
+use crate::book::{Book, Closed, SubmitFault, Unsubmitted};
 use crate::law::{MapBookSeat, MapGauge, Reader};
 use crate::lock_free_reader::{LockFreeReader, Note};
 use crate::locked::{Desk, Locked, Seat};
+use crate::open_fault::OpenFault;
 use crate::opening::{KeptOpening, WithoutSnapshot};
 use crate::ready::Ready;
 use crate::state_lock::StateLock;
@@ -78,17 +79,21 @@ impl<A: Allocator + Clone> Started<A> {
     /// Creates the gauge, the book, and a reader for each operator; there are 1 to 16 operators.
     /// The method copies the map once, so that [`Editor::close`] can return the opening map. If
     /// memory runs out, the error gives the map back.
-    pub fn new(map: CrushMap<A>, operators: usize, alloc: Global) -> Result<Started<A>, CrushMap<A>>
+    pub fn new(
+        alloc: Global,
+        map: CrushMap<A>,
+        operators: usize,
+    ) -> Result<Started<A>, OpenFault<A>>
         requires some { 0 < operators }
         requires few { operators ≤ MOST_OPERATORS }
         ensures opening { IfOk result (λ s. s.opening ≡ map) }
         ensures operators { IfOk result (λ s. s.parts ≡ operators) }
-        ensures err { OnErr result (result ≡ Err map) }
+        ensures err { IfErr result (λ fault. fault.map ≡ map) }
     {
         let Ok((gauge, seat, readers)) = make_gauge::<Brand, A>(&map, operators, alloc) else {
-            return Err(map);
+            return Err(OpenFault { map });
         };
-        let book = Book::new(map, seat, alloc)?;
+        let book = Book::new(alloc, map, seat)?;
         Ok(Started {
             gauge,
             book,
@@ -102,20 +107,20 @@ impl<A: Allocator> Started<A, WithoutSnapshot> {
     /// Does what [`Started::new`] does, but without a copy of the map. Calls change the map itself,
     /// and [`Editor::close`] returns no opening. If memory runs out, the error gives the map back.
     pub fn without_opening(
+        alloc: Global,
         map: CrushMap<A>,
         operators: usize,
-        alloc: Global,
-    ) -> Result<Started<A, WithoutSnapshot>, CrushMap<A>>
+    ) -> Result<Started<A, WithoutSnapshot>, OpenFault<A>>
         requires some { 0 < operators }
         requires few { operators ≤ MOST_OPERATORS }
         ensures opening { IfOk result (λ s. s.opening ≡ map) }
         ensures operators { IfOk result (λ s. s.parts ≡ operators) }
-        ensures err { OnErr result (result ≡ Err map) }
+        ensures err { IfErr result (λ fault. fault.map ≡ map) }
     {
         let Ok((gauge, seat, readers)) = make_gauge::<Brand, A>(&map, operators, alloc) else {
-            return Err(map);
+            return Err(OpenFault { map });
         };
-        let book = Book::without_opening(map, seat, alloc);
+        let book = Book::without_opening(alloc, map, seat);
         let parts = operators as u64;
         Ok(Started {
             gauge,
@@ -236,7 +241,7 @@ impl<N: Desk, O: KeptOpening> Editor<N, O> {
         };
         match self.submit_copied(rt, alloc, seat, copy) {
             Ok(reply) => Ok(reply),
-            Err((fault, _copy)) => Err(fault),
+            Err(Unsubmitted { fault, .. }) => Err(fault),
         }
     }
 
@@ -248,18 +253,21 @@ impl<N: Desk, O: KeptOpening> Editor<N, O> {
         alloc: Global,
         seat: &mut Seat<N>,
         call: Call,
-    ) -> Result<Reply, (SubmitFault, Call)>
+    ) -> Result<Reply, Unsubmitted>
         ensures ok { IfOk result (λ r. Answered N.opening seat.old call r seat.new) }
         ensures guarded { IfOk result (λ r. Guards N.opening seat.old call r seat.new) }
         ensures err { OnErr result (Sees N.opening seat.old seat.new) }
         ensures full { IfErr result (λ e.
-            (e.0 ≡ SubmitFault.Full) ↔ (length seat.new.seen ≡ MOST_ENTRIES)) }
-        ensures back { IfErr result (λ e. e.1 ≡ call) }
+            (e.fault ≡ SubmitFault.Full) ↔ (length seat.new.seen ≡ MOST_ENTRIES)) }
+        ensures back { IfErr result (λ e. e.call ≡ call) }
         ensures few { length seat.new.seen ≤ MOST_ENTRIES }
         ensures more { OnOk result (length seat.old.seen < MOST_ENTRIES) }
     {
         let Ok(ready) = Ready::new(alloc, &mut seat.slips, &call) else {
-            return Err((self.refuse(rt, seat), call));
+            return Err(Unsubmitted {
+                fault: self.refuse(rt, seat),
+                call,
+            });
         };
         let operator = seat.operator;
         let gauge = self.lock_free_reader.gauge();
@@ -328,9 +336,9 @@ impl<N: Desk> Editor<N> {
     /// Creates the editor with the name `N`, and a seat for each operator. The seat at index k,
     /// from 0, is that of operator k. If memory runs out, the error gives the opening map back.
     pub fn open(
-        started: Started,
         alloc: Global,
-    ) -> Result<(Editor<N>, Vec<Seat<N>>), CrushMap<Global>>
+        started: Started,
+    ) -> Result<(Editor<N>, Vec<Seat<N>>), OpenFault<Global>>
         requires gauge { started.table ≡ N.gauge }
         requires opening { started.opening ≡ N.opening }
         requires name { started.name ≡ N.name }
@@ -338,11 +346,13 @@ impl<N: Desk> Editor<N> {
         ensures count { IfOk result (λ r. vec_len r.1 ≡ N.parts) }
         ensures seats { IfOk result (λ r. (k : ℕ) → k < vec_len r.1
             → slice_index_or r.1.items k (seat_data 0 [] []) ≡ seat_data k [] []) }
-        ensures err { OnErr result (result ≡ Err started.opening) }
+        ensures err { IfErr result (λ fault. fault.map ≡ started.opening) }
     {
-        match Editor::<N, CrushMap<Global>>::begin(started, alloc) {
+        match Editor::<N, CrushMap<Global>>::begin(alloc, started) {
             Ok(opened) => Ok(opened),
-            Err(book) => Err(book.into_opening()),
+            Err(book) => Err(OpenFault {
+                map: book.into_opening(),
+            }),
         }
     }
 }
@@ -350,9 +360,9 @@ impl<N: Desk> Editor<N> {
 impl<N: Desk> Editor<N, WithoutSnapshot> {
     /// Creates an editor as [`Editor::open`] does, but the editor keeps no copy of its opening map.
     pub fn open_unkept(
-        started: Started<Global, WithoutSnapshot>,
         alloc: Global,
-    ) -> Result<(Editor<N, WithoutSnapshot>, Vec<Seat<N>>), CrushMap<Global>>
+        started: Started<Global, WithoutSnapshot>,
+    ) -> Result<(Editor<N, WithoutSnapshot>, Vec<Seat<N>>), OpenFault<Global>>
         requires gauge { started.table ≡ N.gauge }
         requires opening { started.opening ≡ N.opening }
         requires name { started.name ≡ N.name }
@@ -360,11 +370,13 @@ impl<N: Desk> Editor<N, WithoutSnapshot> {
         ensures count { IfOk result (λ r. vec_len r.1 ≡ N.parts) }
         ensures seats { IfOk result (λ r. (k : ℕ) → k < vec_len r.1
             → slice_index_or r.1.items k (seat_data 0 [] []) ≡ seat_data k [] []) }
-        ensures err { OnErr result (result ≡ Err started.opening) }
+        ensures err { IfErr result (λ fault. fault.map ≡ started.opening) }
     {
-        match Editor::<N, WithoutSnapshot>::begin(started, alloc) {
+        match Editor::<N, WithoutSnapshot>::begin(alloc, started) {
             Ok(opened) => Ok(opened),
-            Err(book) => Err(book.into_map()),
+            Err(book) => Err(OpenFault {
+                map: book.into_map(),
+            }),
         }
     }
 }
@@ -373,8 +385,8 @@ impl<N: Desk, O: KeptOpening> Editor<N, O> {
     /// Creates the editor and its seats from a book whose history is empty. If memory runs out, the
     /// error gives the book back.
     fn begin(
-        started: Started<Global, O>,
         alloc: Global,
+        started: Started<Global, O>,
     ) -> Result<(Editor<N, O>, Vec<Seat<N>>), Book<Global, O>>
         requires gauge { started.table ≡ N.gauge }
         requires opening { started.opening ≡ N.opening }

@@ -12,13 +12,15 @@ mod editor;
 mod law;
 mod lock_free_reader;
 mod locked;
+mod open_fault;
 mod opening;
 mod ready;
 mod state_lock;
 
-pub use book::{Book, Closed, SubmitFault};
+pub use book::{Book, Closed, SubmitFault, Unsubmitted};
 pub use editor::{Editor, Started};
 pub use law::{MapBookSeat, MapGauge};
 pub use lock_free_reader::{LockFreeReader, Note};
 pub use locked::{Desk, Seat};
+pub use open_fault::OpenFault;
 pub use opening::{KeptOpening, WithoutSnapshot};

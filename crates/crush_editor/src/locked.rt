@@ -8,7 +8,7 @@ ghost use Rattle.crush_gauge.specs.Held.{held};
 ghost use Rattle.crush_editor.specs.History.{entry, IsLegalFrom};
 ghost use Rattle.crush_editor.specs.Seat.{reads, seen_of};
 
-use crate::book::{Book, SubmitFault};
+use crate::book::{Book, SubmitFault, Unsubmitted};
 use crate::law::{MapGauge, Reader};
 use crate::opening::KeptOpening;
 use crush_history::{Call, Reply, Slip};
@@ -101,7 +101,7 @@ impl<N: Desk, O: KeptOpening> Locked<N, O> {
         ledger_share: &mut Share<N>,
         k: usize,
         call: Call,
-    ) -> Result<Reply, (SubmitFault, Call)>
+    ) -> Result<Reply, Unsubmitted>
         requires operator { k < MOST_OPERATORS }
         requires gauge { gauge.now.table.shared.table_id ≡ N.gauge }
         requires reader { (reader.old.table ≡ N.gauge)
@@ -114,8 +114,8 @@ impl<N: Desk, O: KeptOpening> Locked<N, O> {
         ensures unchanged { OnErr result ((self.new ≡ self.old) × (ledger_share.new ≡ ledger_share.old)) }
         ensures room { OnOk result (length self.old.history < MOST_ENTRIES) }
         ensures full { IfErr result (λ e.
-            (e.0 ≡ SubmitFault.Full) ↔ (length self.old.history ≡ MOST_ENTRIES)) }
-        ensures back { IfErr result (λ e. e.1 ≡ call) }
+            (e.fault ≡ SubmitFault.Full) ↔ (length self.old.history ≡ MOST_ENTRIES)) }
+        ensures back { IfErr result (λ e. e.call ≡ call) }
         ensures table { self.old.table ≡ N.gauge }
         ensures opening { self.old.opening ≡ N.opening }
         ensures few { length self.new.history ≤ MOST_ENTRIES }

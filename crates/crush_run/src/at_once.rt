@@ -42,7 +42,7 @@ pub fn run_at_once<G: Gate + Sync, R: Threads + Wait + Sync>(
     ensures few { IfOk result (λ c. length c.history.items ≤ MOST_ENTRIES) }
     ensures fault { IfErr result IsAtOnceFault }
 {
-    match Started::without_opening(map, scripts.len(), alloc) {
+    match Started::without_opening(alloc, map, scripts.len()) {
         Ok(started) => operate::<Brand, G, R>(rt, alloc, gate, started, scripts),
         Err(_) => Err(RunFault::Memory),
     }
@@ -66,7 +66,7 @@ fn operate<N: Desk + Send + Sync, G: Gate + Sync, R: Threads + Wait + Sync>(
     ensures few { IfOk result (λ c. length c.history.items ≤ MOST_ENTRIES) }
     ensures fault { IfErr result IsAtOnceFault }
 {
-    let Ok((editor, seats)) = Editor::<N, WithoutSnapshot>::open_unkept(started, alloc) else {
+    let Ok((editor, seats)) = Editor::<N, WithoutSnapshot>::open_unkept(alloc, started) else {
         return Err(RunFault::Memory);
     };
     let crew = Crew {

@@ -77,7 +77,7 @@ pub(crate) fn run_in_turn<G: Gate, R: Wait>(
     ensures few { IfOk result (λ c. length c.history.items ≤ MOST_ENTRIES) }
     ensures fault { IfErr result (λ fault. fault ≡ RunFault.Memory) }
 {
-    let Ok(started) = Started::without_opening(map, 1, alloc) else {
+    let Ok(started) = Started::without_opening(alloc, map, 1) else {
         return Err(RunFault::Memory);
     };
     let (gauge, mut book) = started.into_book();

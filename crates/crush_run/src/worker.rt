@@ -5,7 +5,7 @@ ghost use Rattle.std.specs.Prelude.{◌≡◌, []};
 ghost use Rattle.crush_run.specs.Script.{HasRun};
 
 use crate::gate::Gate;
-use crush_editor::{Desk, Editor, Seat, SubmitFault, WithoutSnapshot};
+use crush_editor::{Desk, Editor, Seat, SubmitFault, Unsubmitted, WithoutSnapshot};
 use crush_history::Call;
 use std::alloc::Global;
 use std::snapshot::Snapshot;
@@ -63,7 +63,7 @@ impl<'s, N: Desk, G: Gate, R: Wait> Crew<'s, N, G, R> {
             self.gate.after(self.rt, operator, number);
             match outcome {
                 Ok(_reply) => number += 1,
-                Err((fault, _call)) => {
+                Err(Unsubmitted { fault, .. }) => {
                     return Finished {
                         seat,
                         fault: Some(fault),

@@ -8,7 +8,7 @@ ghost use Rattle.crush_units.specs.declared.limits.TheConstants.{MOST_OPERATORS}
 ghost use Rattle.crush_run_tests.specs.Seats.{AreAll};
 
 use crate::maps::PLAIN;
-use crush_editor::{Desk, Editor, LockFreeReader, Note, Seat, Started, SubmitFault};
+use crush_editor::{Desk, Editor, LockFreeReader, Note, OpenFault, Seat, Started, SubmitFault};
 use crush_edits::Edit;
 use crush_gauge::Reading;
 use crush_history::{Call, Reply};
@@ -41,9 +41,9 @@ fn started_with(rt: &(impl Abort + AllocGlobal), map: CrushMap<Global>, operator
     requires few { operators ≤ MOST_OPERATORS }
     ensures { result.parts ≡ operators }
 {
-    match Started::new(map, operators, rt.alloc()) {
+    match Started::new(rt.alloc(), map, operators) {
         Ok(started) => started,
-        Err(map) => {
+        Err(OpenFault { map }) => {
             drop(map);
             panic!(rt; "no memory")
         }
@@ -57,9 +57,9 @@ fn opened<N: Desk>(rt: &(impl Abort + AllocGlobal), started: Started) -> (Editor
     requires parts { started.parts ≡ N.parts }
     ensures { AreAll N.parts result.1.items }
 {
-    match Editor::<N>::open(started, rt.alloc()) {
+    match Editor::<N>::open(rt.alloc(), started) {
         Ok(opened) => opened,
-        Err(map) => {
+        Err(OpenFault { map }) => {
             drop(map);
             panic!(rt; "no memory")
         }

@@ -40,7 +40,7 @@ pub fn edit_at_once<R: Threads + Wait + Sync>(
     // counts the calls of all seats). So `work_together` is generic over `N`. The code passes the
     // placeholder type `Brand` for `N`, and proofs/at_once/edit_at_once/Invariants.antt says that
     // in this call the gauge, the opening map and the ledger of `N` are those of `started`.
-    let started = Started::new(map, 2, alloc).ok().context("out of memory")?;
+    let started = Started::new(alloc, map, 2).ok().context("out of memory")?;
     work_together::<Brand, R, Call>(rt, alloc, started, first, second)
 }
 

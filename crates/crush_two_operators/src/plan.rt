@@ -37,7 +37,7 @@ pub fn follow_at_once<R: Threads + Wait + Sync>(
     ensures all { IfOk result (λ c. MakesAll map c.map c.history.items) }
     ensures plan { IfOk result (λ c. IsFollowed plan.now c.history.items) }
 {
-    let started = Started::new(map, 2, alloc).ok().context("out of memory")?;
+    let started = Started::new(alloc, map, 2).ok().context("out of memory")?;
     let (closed, _last) = work_together::<Brand, R, Edit>(rt, alloc, started, plan, plan)?;
     Ok(closed)
 }

@@ -62,7 +62,7 @@ pub(crate) fn work_together<N: Desk + Send + Sync, R: Threads + Wait + Sync, W: 
 {
     // The editor has a seat for each operator. An operator needs its seat for each call and each
     // reading.
-    let (editor, mut seats) = Editor::<N>::open(started, alloc)
+    let (editor, mut seats) = Editor::<N>::open(alloc, started)
         .ok()
         .context("out of memory")?;
     let two = seats.pop().context("no seat")?;

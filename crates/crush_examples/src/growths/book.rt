@@ -8,7 +8,7 @@ ghost use Rattle.crush_units.specs.declared.limits.TheConstants.{MOST_OPERATORS}
 use crate::growths::job::Parts;
 use crate::growths::map::{fewest_requests, is_written, text_of};
 use anyhow::{Context, ensure};
-use crush_editor::{Book, MapGauge, Started, SubmitFault};
+use crush_editor::{Book, MapGauge, OpenFault, Started, SubmitFault};
 use crush_history::{Call, Entry, Line, Script};
 use crush_map::CrushMap;
 use crush_units::limits::MOST_OPERATORS;
@@ -49,9 +49,9 @@ fn open_again<A: Allocator + Clone>(
 ) -> anyhow::Result<(MapGauge, Book<A>)>
     ensures { IfOk result (λ opened. opened.1.table ≡ opened.0.table.shared.table_id) }
 {
-    match Started::new(map, 1, alloc) {
+    match Started::new(alloc, map, 1) {
         Ok(started) => Ok(started.into_book()),
-        Err(map) => {
+        Err(OpenFault { map }) => {
             *answers = answers.saturating_add(1);
             open_returned(alloc, map, printed)
         }
@@ -70,7 +70,7 @@ fn open_returned<A: Allocator + Clone>(
         is_written(alloc, &map, &[], printed)?,
         "another map came back"
     );
-    let started = Started::new(map, 1, alloc).ok().context("no memory")?;
+    let started = Started::new(alloc, map, 1).ok().context("no memory")?;
     Ok(started.into_book())
 }
 

@@ -5,7 +5,7 @@ ghost use Rattle.std.specs.Prelude.{◌≡◌};
 
 use super::weight_two;
 use crate::maps::PLAIN;
-use crush_editor::{Closed, Desk, Editor, Started, WithoutSnapshot};
+use crush_editor::{Closed, Desk, Editor, OpenFault, Started, WithoutSnapshot};
 use crush_history::Call;
 use crush_text::read_map;
 use std::alloc::Global;
@@ -17,9 +17,9 @@ fn started_unkept(rt: &(impl Abort + AllocGlobal)) -> Started<Global, WithoutSna
     ensures { result.parts ≡ 1 }
 {
     let (map, _) = read_map(rt.alloc(), PLAIN).expect(rt, "no map");
-    match Started::without_opening(map, 1, rt.alloc()) {
+    match Started::without_opening(rt.alloc(), map, 1) {
         Ok(started) => started,
-        Err(map) => {
+        Err(OpenFault { map }) => {
             drop(map);
             panic!(rt; "no memory")
         }
@@ -56,7 +56,7 @@ fn one_operator<N: Desk>(
     requires name { started.name ≡ N.name }
     requires parts { (started.parts ≡ N.parts) × (started.parts ≡ 1) }
 {
-    match Editor::<N, WithoutSnapshot>::open_unkept(started, rt.alloc()) {
+    match Editor::<N, WithoutSnapshot>::open_unkept(rt.alloc(), started) {
         Ok((editor, mut seats)) => {
             let mut seat = seats.pop().expect(rt, "no seat");
             let call = Call::One(weight_two(rt, b"osd.0"));
@@ -69,7 +69,7 @@ fn one_operator<N: Desk>(
             assert!(rt; answered);
             assert_eq!(rt; slips, 1);
         }
-        Err(map) => {
+        Err(OpenFault { map }) => {
             drop(map);
             panic!(rt; "no memory")
         }
