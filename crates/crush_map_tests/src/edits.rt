@@ -3,7 +3,7 @@
 use crush_edits::*;
 use crush_units::limits::MOST_PAIRS;
 use crush_units::{DeviceId, Name, Weight};
-use std::alloc::Global;
+use std::alloc::{AllocGlobal, Global};
 use std::process::Abort;
 
 fn assert_leads_to_a_host(rt: &impl Abort, at: &Location) {
@@ -151,13 +151,41 @@ fn refusals(rt: HostRuntime) {
 }
 
 #[test]
-fn faults_name_the_refusal(rt: HostRuntime) {
+fn faults_say_why(rt: HostRuntime) {
     let edit = EditFault::Refused(Refusal::ClassBound);
     let batch = BatchFault::Refused(1, Refusal::Loop);
     let told = format!(in rt.alloc(); "{edit}; {batch}").expect(&rt, "memory");
-    let text = "the edit is refused: ClassBound; edit 1 is refused: Loop";
+    let text =
+        "the edit is refused: the device has another class: rm-device-class takes it away; edit 1 is refused: a bucket cannot come below itself";
     assert_eq!(rt; told.as_str(), text);
     drop(told);
+}
+
+fn assert_printed(rt: &(impl Abort + AllocGlobal), edit: &Edit, text: &str) {
+    let printed = format!(in rt.alloc(); "{edit}").expect(rt, "memory");
+    assert_eq!(rt; printed.as_str(), text);
+    drop(printed);
+}
+
+#[test]
+fn edits_are_printed_as_commands(rt: HostRuntime) {
+    let edits = placing_edits(&rt, rt.alloc());
+    let [add, choose, set] = &edits;
+    assert_printed(&rt, add, "add osd.3 1.00000 host=h1");
+    assert_printed(&rt, choose, "create-or-move osd.3 1.00000 host=h1");
+    assert_printed(&rt, set, "set osd.3 1.00000 host=h1");
+    drop(edits);
+}
+
+#[test]
+fn words_of_commands(rt: HostRuntime) {
+    let set = Keyword::Place(Placing::Update);
+    assert_eq!(rt; Keyword::read(b"set"), Some(set));
+    assert_eq!(rt; Keyword::read(b"remove"), Some(Keyword::Rm));
+    assert_eq!(rt; Keyword::read(b"begin"), None);
+    assert_eq!(rt; set.word(), "set");
+    assert_eq!(rt; Placing::Insert.word(), "add");
+    assert_eq!(rt; Keyword::Reweight.form(), "reweight NAME WEIGHT");
 }
 
 #[test]
