@@ -1,4 +1,4 @@
-//! The law of Ceph's commands.
+//! The law about the commands of Ceph that `ceph_text` returns: they do the same as the edits.
 
 ghost use Rattle.crush_ceph.specs.LawCommands.{CommandsDoTheEdits, CommandsDoTheSteps};
 

@@ -45,9 +45,8 @@ fn commands_text(alloc: Global, steps: &[CephStep]) -> Result<Vec<u8>, AllocErro
 /// Returns the edits as Ceph's own commands, as lines for a shell. `opening` is the map before the
 /// first edit. Fails if memory runs out.
 ///
-/// The first line is `# N commands`. Then come N lines, one for each command. Each of them has
-/// `ceph osd crush `, and the words of the edit as in a history line, but with weights in exact
-/// form.
+/// The first line is `# N commands`. N lines follow, one for each command. Each of them has `ceph
+/// osd crush `, and the words of the edit as in a history line, but with weights in exact form.
 ///
 /// - An `add-bucket` and the `move` of the same bucket right after it are one command. Several
 ///   `rm-device-class` in a row are one command, and so are several `set-device-class` of the same

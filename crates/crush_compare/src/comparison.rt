@@ -37,8 +37,8 @@ pub struct Comparison<'a, A: Allocator, B: Allocator> {
     pub new: Items<'a, B>,
     /// If the items are matched by their ids, the pairs are in the order of the ids: buckets from
     /// -1 downward, and then devices upward. If the items are matched by their names, first come
-    /// the pairs with an item of the new map, in the order of the new map's tree. Then come the
-    /// pairs of the items that only the old map has, in the order of the old map's tree.
+    /// the pairs with an item of the new map, in the order of the new map's tree. After them come
+    /// the pairs of the items that only the old map has, in the order of the old map's tree.
     pub pairs: Vec<Pair>,
 }
 

@@ -37,8 +37,8 @@ pub(crate) struct MapAlone<'a, A: Allocator> {
 ///
 /// `before` is the map before the run, and `after` the map after the run, in which the operators of
 /// `scripts` made the calls of `entries`. Only the names of the scripts are used. The lines of the
-/// items of `before` come first, in the order of its tree. Then come the lines of new items, by
-/// their names. An `Err` says that memory ran out.
+/// items of `before` come first, in the order of its tree. The lines of new items follow, sorted by
+/// name. An `Err` says that memory ran out.
 ///
 /// Each item of `before` is looked up once in each other map by its id, in logarithmic time. New
 /// items are looked up by their names.
@@ -147,7 +147,8 @@ fn conflict_lines<A: Allocator>(
     Ok(lines)
 }
 
-/// Appends the lines of the items of the map before the run.
+/// Appends a line for each item of the map before the run of which a change is lost, in the order
+/// of this map's tree.
 fn push_old_lines<'a, A: Allocator>(
     alloc: Global,
     naming: &Naming<'_, 'a, A>,
@@ -170,7 +171,8 @@ fn push_old_lines<'a, A: Allocator>(
     Ok(())
 }
 
-/// Appends the lines of the new items of these names, each name once.
+/// Appends a line for each new item with one of these names of which a change is lost. Equal names
+/// that follow one another count once.
 fn push_new_lines<'a, A: Allocator>(
     alloc: Global,
     naming: &Naming<'_, 'a, A>,

@@ -29,8 +29,8 @@ pub fn run_growths(rt: &HostRuntime, records: &[u8]) -> anyhow::Result<()> {
     Ok(())
 }
 
-/// Runs a job several times. Each run refuses another one of the job's requests for memory. Fails
-/// if fewer runs report that memory ran out than the job's map makes requests.
+/// Runs a job several times. Each run refuses a different one of the job's requests for memory.
+/// Fails if fewer runs report that memory ran out than the job's map makes requests.
 fn run_record(rt: &HostRuntime, parts: &Parts, maker: Maker) -> anyhow::Result<()> {
     let memory = Refusing::new(rt.alloc());
     let (told, fewest) = run_each(rt.alloc(), &memory, parts, maker)?;

@@ -58,7 +58,7 @@ pub struct History<'a> {
     pub entries: &'a [Entry],
 }
 
-/// Returns the notes on a run's history. First come the lines of the refused calls. Then come the
+/// Returns the notes on a run's history. The lines of the refused calls come first, and then the
 /// notes on the map's text: a line for each bucket whose weight in the text isn't the sum of the
 /// weights of the devices below it.
 ///

@@ -126,7 +126,7 @@ fn first_at(uses: &[FirstUse<'_>], class: &str) -> Option<usize> {
 }
 
 /// Returns the position of the first device that has the same class as this device in the wanted
-/// map. Returns `None` if this device gets no other class.
+/// map. Returns `None` if the class of this device doesn't change.
 fn first_use_of<B: Allocator>(
     wanted: &ItemTable<'_, B>,
     uses: &[FirstUse<'_>],

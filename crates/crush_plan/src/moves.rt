@@ -117,7 +117,7 @@ fn move_device<A: Allocator + Clone, B: Allocator>(
 }
 
 /// Moves the item of this name into the bucket of the map that has the same name as `parent`, which
-/// is a bucket of the wanted map. Does nothing if that bucket already holds the item.
+/// is a bucket of the wanted map. If that bucket already holds the item, nothing changes.
 fn move_below<A: Allocator + Clone, B: Allocator>(
     draft: &mut Draft<A>,
     goal: &PlanGoal<'_, A, B>,

@@ -29,7 +29,8 @@ pub enum Due {
     End,
 }
 
-/// The first word of a line that is missing or doesn't have the form that the line requires.
+/// The place in a line at which the first fault of its words is: a word is missing there, or the
+/// word there isn't what the line requires.
 #[derive(Clone, Copy, Debug, PartialEq, Eq)]
 pub struct Misfit {
     /// The index of the word in its line. The word of the command has index 0.

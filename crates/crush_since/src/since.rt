@@ -54,12 +54,12 @@ pub(crate) use tally::{is_made, is_reclassed, is_reweighed};
 pub(crate) use words::{alg_bytes, push_counts, push_totals, push_with_class, weight_of};
 pub use words::{class_bytes, type_bytes};
 
-/// Writes what has changed from the old map to the new map. First comes a line for each item that
-/// differs: the buckets by id from -1 downward, and then the devices by ascending id. Then there
-/// may be a line that says that the tunables differ, and a line that says that the types differ.
-/// Then come the lines about rules and the lines about classes. The last two lines have the total
-/// weight of each map, and for each kind of difference the number of items that have it. If memory
-/// runs out, nothing is written.
+/// Writes what has changed from the old map to the new map. The output begins with a line for each
+/// item that differs: the buckets by id from -1 downward, and then the devices by ascending id.
+/// After these lines there may be a line that says that the tunables differ, and a line that says
+/// that the types differ. The lines about rules and the lines about classes follow. The last two
+/// lines have the total weight of each map, and for each kind of difference the number of items
+/// that have it. If memory runs out, nothing is written.
 pub fn write_since<A: Allocator, B: Allocator, W: Write>(
     alloc: Global,
     old: &CrushMap<A>,

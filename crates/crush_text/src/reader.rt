@@ -41,9 +41,10 @@ struct MapReader<'a, A: Allocator> {
 
 /// Reads the text of a map in the form that `crushtool` prints, and returns the map.
 ///
-/// The second value is a number of buckets: those for which, as items of other buckets, the text
-/// gives a weight that isn't the sum of the devices below them. In the map such a bucket has the
-/// sum instead.
+/// The second value is the number of buckets for which the text gives a wrong weight. The text
+/// gives the weight of a bucket in the line in which another bucket lists it as an item. The weight
+/// is wrong if it isn't the sum of the weights of the devices below the bucket. In the map the
+/// bucket has this sum instead.
 ///
 /// If the text isn't a map, the call fails with the text's first fault. If memory runs out before a
 /// fault is found, it fails with `OutOfMemory`. Three parts of Ceph's grammar are not supported,

@@ -23,7 +23,8 @@ pub fn names_are_set()
 {}
 
 /// Giving an item a class changes the table, unless the item already has this class. Removing its
-/// class changes the table, unless the item has no class. The map's setting still fits the table.
+/// class changes the table, unless the item has no class. If the map's setting fits the table
+/// before, it fits the table afterwards.
 pub fn classes_are_set()
     ensures changes { ClassChanges }
     ensures fits { ClassFits }

@@ -19,9 +19,10 @@ pub enum Maker {
 }
 
 /// Runs a job repeatedly, until a run ends in which no request was refused. Each run refuses the
-/// request after the one that the run before refused. Returns the number of runs in which an
-/// operation reported that memory ran out, and a lower bound for the requests of a run. If a list
-/// can use a smaller block after a refusal, no operation reports that memory ran out.
+/// request after the one that the run before refused. Returns two numbers: how many runs had an
+/// operation that reported that memory ran out, and how many requests for memory a run makes at
+/// least ([`fewest_requests`]). If a list can use a smaller block after a refusal, no operation
+/// reports that memory ran out.
 pub fn run_each(
     alloc: Global,
     memory: &Refusing<Global>,

@@ -24,13 +24,13 @@ use rules::push_rules;
 use std::alloc::{AllocError, Allocator, Global};
 
 /// Returns what differs between a map and the wanted map: a line of text for each difference,
-/// without its line feed. The items of the two maps are matched by their names. First comes a line for each item of the wanted map that the map
-/// doesn't have or that differs in the map, in the order of the wanted map's tree. Then comes a
-/// line for each item that only the map has, in the order of the map's tree. Then there may be a
-/// line that says that the tunables differ, a line that says that the types differ, and a line that
-/// says that the rules differ. Two kinds of differences are not listed: different ids, and weights
-/// of a device that are at most one unit (1/65536 TiB) apart. The call fails only if memory runs
-/// out.
+/// without its line feed. The items of the two maps are matched by their names. The list begins
+/// with a line for each item of the wanted map that the map doesn't have or that differs in the
+/// map, in the order of the wanted map's tree. A line for each item that only the map has follows,
+/// in the order of the map's tree. After these lines there may be a line that says that the
+/// tunables differ, a line that says that the types differ, and a line that says that the rules
+/// differ. Two kinds of differences are not listed: different ids, and weights of a device that are
+/// at most one unit (1/65536 TiB) apart. The call fails only if memory runs out.
 pub fn stays<A: Allocator, B: Allocator>(
     alloc: Global,
     map: &CrushMap<A>,

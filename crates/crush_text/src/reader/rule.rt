@@ -163,7 +163,9 @@ fn read_size(reader: &mut Reader<'_>, size: &[u8]) -> Result<Option<u32>, TextFa
     Ok(Some(number))
 }
 
-/// Returns the optional part that was left out just before the next step or the closing brace.
+/// Returns the optional part of the text that could still follow after what was read of the rule:
+/// the class of a last step that takes a bucket without a class, or the sizes that the head doesn't
+/// have if there is no step yet. Messages name this part beside `step` and `}`.
 fn left_by(rule: &Rule) -> Optional
     ensures { result ≡ left_by rule.now }
 {
@@ -183,8 +185,10 @@ fn left_by_step(step: &Step) -> Optional
     }
 }
 
-/// Returns the optional part that was left out at the end of a rule's head: both pool sizes, the
-/// largest size, or nothing. `least` and `most` are the sizes that the head has.
+/// Returns the optional part that may still follow before the first step of a rule: `min_size` and
+/// `max_size` if the rule has neither, `max_size` if it has only `min_size`, and nothing if it has
+/// `max_size`. `least` and `most` are the numbers after `min_size` and `max_size`, if the rule has
+/// them.
 fn left_sizes(least: Option<u32>, most: Option<u32>) -> Optional
     ensures { result ≡ left_after None least most }
 {
