@@ -440,7 +440,7 @@ def written_text(written, text):
     weights of buckets that aren't the sums: each a name, the word that was written, and the sum."""
     text = "" if text.startswith("%") else text.partition("\n%")[0] + "\n" * ("\n%" in text)
     alone = "\r" in text and "\n" not in text
-    returns = "the text has carriage returns and no line feed: a comment goes on to its end\n" if alone else ""
+    returns = "the text has carriage returns but no line feeds, so its first comment never ends\n" if alone else ""
     return returns + "".join(f"{name}: {word} was written, the sum is {text_of(sum)}\n" for name, word, sum in written)
 
 
@@ -512,15 +512,15 @@ def taking_rule(map, name):
 def sentence_of(words, kind, is_itself, count, near):
     """The sentence of a refusal, with the words for which something of the map stands."""
     if kind == "NotADevice" and words[0].endswith("device-class"):
-        return "NAME is a bucket: a class is a device's"
+        return "NAME is a bucket: only devices have a class"
     if kind == "WrongType" and words[0] == "add-bucket":
         return "NAME is the type of devices"
     if kind == "Loop" and is_itself:
-        return "NAME cannot come into itself"
+        return "NAME can't be moved into itself"
     if kind == "NotEmpty" and count == 1:
         return "NAME holds 1 item: move or remove it first"
     if kind == "NoSuchItem" and near:
-        return "NAME isn't there: is it NEAR?"
+        return "NAME doesn't exist: did you mean NEAR?"
     return OF_NAMES.get(kind, OF_REFUSALS[kind])
 
 
@@ -562,7 +562,7 @@ def call_reason(map, call, line, heads, looks):
     seen, count = re.search(r" begin at (\d+) ", line), re.search(r" changes (\d+)$", line)
     told = line.split(" ", 3)[3].rpartition(" = refused ")[0]
     if kind == "Stale":
-        return (f"{seen[1]} counts the changes of this run: so far there were {count[1]}" if int(count[1]) < int(seen[1])
+        return (f"{seen[1]} changes of this run were expected, but there have been {count[1]}" if int(count[1]) < int(seen[1])
                 else OF_REFUSALS[kind])
     if at:
         edit = told.split(" ; ")[1 + int(at)]

@@ -29,7 +29,7 @@ MISSING, FORBIDDEN = "No such file or directory (os error 2)", "Permission denie
 FOLDER, BROKEN = "Is a directory (os error 21)", "Input/output error (os error 5)"
 FULL = "No space left on device (os error 28)"
 UNWRITTEN = (
-    f"{WRITE}\n  standard output took less than the whole, or did not store it: what stands there isn't to be used\n"
+    f"{WRITE}\n  the output couldn't be written or stored completely: don't use it\n"
     f"  standard output: {FULL}"
 )
 ADJUSTED = "type 1 host\nhost a { id -1 alg straw2 }\nhost b { id -2 alg straw2 item a weight 1 }\n"

@@ -100,11 +100,11 @@ def version_faults():
         yield f"the newest version of CHANGELOG.md isn't {version}"
     if shutil.which("rt"):
         told = subprocess.run(["rt", "version"], capture_output=True, text=True, check=True).stdout.strip()
-        if toolchain != told:
-            yield f"--version tells of the toolchain {toolchain}, and rt version of {told}"
-        line = re.search(r"logic \w+", told).group(0)
-        if f"`{line}`" not in (TOP / "docs/dev/PROVED.md").read_text():
-            yield f"PROVED.md doesn't name the toolchain's {line}"
+        logic = re.search(r"logic \w+", told).group(0)
+        if toolchain != f"rattle {logic}":
+            yield f"--version names the toolchain {toolchain}, and rt version prints {told}"
+        if f"`{logic}`" not in (TOP / "docs/dev/PROVED.md").read_text():
+            yield f"PROVED.md doesn't name the toolchain's {logic}"
 
 
 def made_faults():

@@ -100,38 +100,39 @@ impl Refusal {
         ensures { result.now ≡ refusal_sentence self }
     {
         match self {
-            Refusal::BadName => "the location names a bucket as the device is named",
+            Refusal::BadName => "the location uses the device's own name for a bucket",
             Refusal::BadLocation => {
-                "a location names each type and each bucket once, and not the type of devices"
+                "a location names each type and each bucket at most once, and never the type of devices"
             }
-            Refusal::NoSuchType => "the map has no type of this name",
-            Refusal::NoPlace => "a location is wanted: a TYPE=BUCKET, or several",
+            Refusal::NoSuchType => "the map has no type with this name",
+            Refusal::NoPlace => "a location is required: one or more TYPE=BUCKET",
             Refusal::WeightTooLarge => "a device weighs at most 32767.99998",
-            Refusal::NoSuchItem => "the map has no item of this name",
-            Refusal::NameTaken => "an item has this name, or the device has another one",
+            Refusal::NoSuchItem => "the map has no item with this name",
+            Refusal::NameTaken => "another item has this name, or the device has a different name",
             Refusal::AlreadyPlaced => {
-                "the device stands in a bucket: set and create-or-move put it into another"
+                "the device is already in a bucket: use set or create-or-move to move it"
             }
-            Refusal::NotPlaced => "the device stands in no bucket: add puts it into one",
+            Refusal::NotPlaced => "the device is in no bucket: use add to place it",
             Refusal::NotADevice =>
                 "the item is a bucket: reweight-subtree sets the weights below it",
-            Refusal::NotABucket => "the item is a device, where a bucket is wanted",
+            Refusal::NotABucket => "the item is a device, but a bucket is required",
             Refusal::WrongType => {
-                "the bucket is of another type, or a new one would be of the type of devices"
+                "the bucket has a different type, or a new bucket would have the type of devices"
             }
-            Refusal::Loop => "a bucket cannot come below itself",
-            Refusal::Nested => "the buckets are one, or one of them is below the other",
-            Refusal::NotEmpty => "the bucket holds items: move or remove them first",
+            Refusal::Loop => "a bucket can't be moved below itself",
+            Refusal::Nested => "the two buckets are the same, or one of them is below the other",
+            Refusal::NotEmpty => "the bucket isn't empty: move or remove its items first",
             Refusal::InUse => "a rule takes the bucket",
-            Refusal::NotDirectory => "the item is a device: only a bucket gets another name",
+            Refusal::NotDirectory => "the item is a device: only buckets can be renamed",
             Refusal::AlreadyRenamed => {
-                "the first name is gone and the second is there, as if it had been done before"
+                "already done: the old name is gone, and the new name exists"
             }
             Refusal::NoRoom => "a map has at most 4096 buckets and 65536 devices",
             Refusal::SumTooLarge => {
-                "a bucket weighs at most 65535.99998, and all devices 134217727.99998"
+                "the total weight is too large: at most 65535.99998 for a bucket and 134217727.99998 for all devices"
             }
-            Refusal::ClassBound => "the device has another class: rm-device-class takes it away",
+            Refusal::ClassBound =>
+                "the device has a different class: remove it first with rm-device-class",
         }
     }
 

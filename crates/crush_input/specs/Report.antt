@@ -101,7 +101,7 @@ report_line w (Err f) = run_fault w f
 
 -- the reason that memory ran out
 abbrev pub memory_reason : List ℕ
-memory_reason = codes "  there is less memory than the job wants\n"
+memory_reason = codes "  not enough memory for the job\n"
 
 -- the reason if the file of the second map is too long
 abbrev pub long_reason : SecondMap → List ℕ
@@ -110,8 +110,8 @@ long_reason second.To = codes "  the file of --to has at most 16777216 bytes\n"
 
 -- the reason if the file of the second map can't be opened or read
 abbrev pub unread_reason : SecondMap → List ℕ
-unread_reason second.Since = codes "  the file of --since is to be there, and to be read to its end\n"
-unread_reason second.To = codes "  the file of --to is to be there, and to be read to its end\n"
+unread_reason second.Since = codes "  the file of --since can't be opened or can't be read to its end\n"
+unread_reason second.To = codes "  the file of --to can't be opened or can't be read to its end\n"
 
 -- the reason for a fault of the second map; nothing for a flaw of its text, whose reason is in the notes
 abbrev pub second_map_reason : SecondMap → SecondMapFault → List ℕ
@@ -122,17 +122,17 @@ second_map_reason which unread.Read = unread_reason which
 -- the reason why a run failed; nothing if the notes of the run have it
 abbrev pub fault_reason : RunFault → List ℕ
 fault_reason (run.Job f) = if lacks_memory f then memory_reason else []
-fault_reason run.Read = codes "  each file, or standard input, is to be there, and to be read to its end\n"
-fault_reason run.Write = codes "  standard output took less than the whole, or did not store it: what stands there isn't to be used\n"
+fault_reason run.Read = codes "  a file, or standard input, can't be opened or can't be read to its end\n"
+fault_reason run.Write = codes "  the output couldn't be written or stored completely: don't use it\n"
 fault_reason run.Memory = memory_reason
-fault_reason run.Thread = codes "  the system started no thread for an operator: --in-turn wants none\n"
+fault_reason run.Thread = codes "  the system couldn't start a thread for an operator: try --in-turn\n"
 fault_reason (run.Refused count) = []
 fault_reason (run.Made count) = []
 fault_reason (run.Conflicts count) = []
 fault_reason (run.Differs count) = []
-fault_reason run.NoItem = codes "  --under wants the name of an item of the map after the scripts\n"
-fault_reason run.NoType = codes "  --down-to wants the name of a type of the map\n"
-fault_reason run.NoClass = codes "  --class wants the class of a device of the map after the scripts\n"
+fault_reason run.NoItem = codes "  --under needs the name of an item of the map after the scripts\n"
+fault_reason run.NoType = codes "  --down-to needs the name of a type of the map\n"
+fault_reason run.NoClass = codes "  --class needs a class that at least one device has\n"
 fault_reason (run.SecondMap which f) = second_map_reason which f
 
 -- the reason for the result of a run; nothing if the run succeeded

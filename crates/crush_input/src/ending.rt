@@ -20,12 +20,12 @@ use std::io::Write;
 
 const OUT_OF_MEMORY: &[u8] = b"crushedit: out of memory\n";
 
-const MEMORY_REASON: &[u8] = b"  there is less memory than the job wants\n";
+const MEMORY_REASON: &[u8] = b"  not enough memory for the job\n";
 
 /// The reason that is printed if writing to standard output failed, or if the output couldn't be
 /// stored.
 const WRITE_REASON: &[u8] =
-    b"  standard output took less than the whole, or did not store it: what stands there isn't to be used\n";
+    b"  the output couldn't be written or stored completely: don't use it\n";
 
 fn write_line_fault<E: Write>(number: usize, name: &str, err: &mut E) -> Result<(), WriteFault>
     ensures { Writes result (E.contents err.old) (E.contents err.new)
@@ -277,8 +277,8 @@ fn unread_reason(which: SecondMap) -> &'static [u8]
     ensures { result.now ≡ unread_reason which }
 {
     match which {
-        SecondMap::Since => b"  the file of --since is to be there, and to be read to its end\n",
-        SecondMap::To => b"  the file of --to is to be there, and to be read to its end\n",
+        SecondMap::Since => b"  the file of --since can't be opened or can't be read to its end\n",
+        SecondMap::To => b"  the file of --to can't be opened or can't be read to its end\n",
     }
 }
 
@@ -302,19 +302,17 @@ fn fault_reason(fault: RunFault) -> &'static [u8]
         RunFault::Job(fault) if fault.lacks_memory() => MEMORY_REASON,
         RunFault::Job(_) => b"",
         RunFault::Read => {
-            b"  each file, or standard input, is to be there, and to be read to its end\n"
+            b"  a file, or standard input, can't be opened or can't be read to its end\n"
         }
         RunFault::Write => WRITE_REASON,
         RunFault::Memory => MEMORY_REASON,
         RunFault::Thread =>
-            b"  the system started no thread for an operator: --in-turn wants none\n",
+            b"  the system couldn't start a thread for an operator: try --in-turn\n",
         RunFault::Refused(_) | RunFault::Made(_) | RunFault::Conflicts(_) | RunFault::Differs(_) =>
             b"",
-        RunFault::NoItem => b"  --under wants the name of an item of the map after the scripts\n",
-        RunFault::NoType => b"  --down-to wants the name of a type of the map\n",
-        RunFault::NoClass => {
-            b"  --class wants the class of a device of the map after the scripts\n"
-        }
+        RunFault::NoItem => b"  --under needs the name of an item of the map after the scripts\n",
+        RunFault::NoType => b"  --down-to needs the name of a type of the map\n",
+        RunFault::NoClass => { b"  --class needs a class that at least one device has\n" }
         RunFault::SecondMap(which, fault) => second_map_reason(which, fault),
     }
 }

@@ -67,7 +67,7 @@ all_named id rows = unwrap_or (all_of id rows) []
 
 -- why words can be refused although each of them is right: some of them can't be given together, for the reason in the line `why`, or there are more than MOST_SCRIPTS scripts
 abbrev pub IsConflict : List Row → Text → Type 0
-IsConflict rows why = AreApart rows why ⊎ ((MOST_SCRIPTS < length (all_named (codes "script") rows)) × (why ≡ codes "error: at most 16 times --script\n"))
+IsConflict rows why = AreApart rows why ⊎ ((MOST_SCRIPTS < length (all_named (codes "script") rows)) × (why ≡ codes "error: --script can be used at most 16 times\n"))
 
 -- the mode is the one that the parsed words ask for. Each field says whether its flag is given, except that `history` says whether `--no-history` isn't given. No flag asks for conflicts
 pub record IsModeOf (rows : List Row) (mode : Mode) : Type 0 where

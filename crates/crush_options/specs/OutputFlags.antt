@@ -117,17 +117,17 @@ exact_of_other flags = flags.exact && ((flags.tree || is_some flags.since || fla
 -- WORDS THAT CAN'T BE GIVEN TOGETHER: the error line of the first of these conditions that is true; none if no condition is true, so that the words can be given together
 abbrev pub complaint : OutputFlagsData → Option Text
 complaint flags =
-    if ask_for_two flags then Some (codes "error: at most one of --tree, --since, --as-ceph and --to, but --tree with --since and --to with --as-ceph\n") else (
-    if ask_for_tree_of_names flags then Some (codes "error: --tree with --since doesn't go with --by-name\n") else (
-    if have_names_alone flags then Some (codes "error: --by-name goes with --since and --to\n") else (
-    if have_part_alone flags then Some (codes "error: --under goes with --tree, --since and --to\n") else (
-    if have_type_alone flags then Some (codes "error: --down-to goes with --tree\n") else (
-    if have_class_alone flags then Some (codes "error: --class goes with --tree\n") else (
-    if json_of_class flags then Some (codes "error: --json doesn't go with --class\n") else (
-    if json_of_lines flags then Some (codes "error: --json doesn't go with --as-ceph\n") else (
-    if json_of_names flags then Some (codes "error: --json and --since don't go with --by-name\n") else (
-    if json_of_levels flags then Some (codes "error: --json and --since don't go with --down-to\n") else (
-    if exact_of_other flags then Some (codes "error: --exact goes with the text of the map alone\n") else None))))))))))
+    if ask_for_two flags then Some (codes "error: use only one of --tree, --since, --as-ceph and --to, or --tree with --since, or --to with --as-ceph\n") else (
+    if ask_for_tree_of_names flags then Some (codes "error: --tree with --since can't be used with --by-name\n") else (
+    if have_names_alone flags then Some (codes "error: --by-name needs --since or --to\n") else (
+    if have_part_alone flags then Some (codes "error: --under needs --tree, --since or --to\n") else (
+    if have_type_alone flags then Some (codes "error: --down-to needs --tree\n") else (
+    if have_class_alone flags then Some (codes "error: --class needs --tree\n") else (
+    if json_of_class flags then Some (codes "error: --json can't be used with --class\n") else (
+    if json_of_lines flags then Some (codes "error: --json can't be used with --as-ceph\n") else (
+    if json_of_names flags then Some (codes "error: --json with --since can't be used with --by-name\n") else (
+    if json_of_levels flags then Some (codes "error: --json with --since can't be used with --down-to\n") else (
+    if exact_of_other flags then Some (codes "error: --exact can be used only when the text of the map is printed\n") else None))))))))))
 
 -- WHAT IS PRINTED: the parsed words are exactly those that ask to print this, and they can be given together
 pub record IsOutputSpec (rows : List Row) (json exact : Bool) (output_spec : OutputSpec) : Type 0 where

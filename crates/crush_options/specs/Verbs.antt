@@ -198,8 +198,8 @@ shows_without_dry_run w = not w.dry_run && ((w.tree || w.json || w.exit_code) ||
 -- why the words of `apply` are refused although each of them is right; none if they can be given together
 abbrev pub apply_complaint : VerbData → Option Text
 apply_complaint w =
-    if w.dry_run && is_some w.output then Some (codes "error: --output doesn't go with --dry-run\n") else (
-    if shows_without_dry_run w then Some (codes "error: --tree, --json, --under, --down-to and --exit-code go with --dry-run\n") else None)
+    if w.dry_run && is_some w.output then Some (codes "error: --output can't be used with --dry-run\n") else (
+    if shows_without_dry_run w then Some (codes "error: --tree, --json, --under, --down-to and --exit-code need --dry-run\n") else None)
 
 -- the same for each verb; only `apply` has such rules
 abbrev pub own_complaint : Verb → VerbData → Option Text

@@ -20,7 +20,7 @@ const ABOUT: &str =
 
 /// The version of the program, followed by the version of the toolchain that checked the proofs, as
 /// `rt version` prints it.
-const VERSION: &str = "0.2.0 (rattle-kit-13f logic dac8208d650f15bf)";
+const VERSION: &str = "0.2.0 (rattle logic dac8208d650f15bf)";
 
 /// The part of the help after the list of flags. `tools/manual.py` makes the manual page from the
 /// help. The lines of the help have at most 80 columns, which leaves 55 columns for the text about
@@ -158,27 +158,27 @@ Examples:
 ";
 
 const TWO_PRINTED: &str =
-    "error: at most one of --tree, --since, --as-ceph and --to, but --tree with --since and --to with --as-ceph\n";
+    "error: use only one of --tree, --since, --as-ceph and --to, or --tree with --since, or --to with --as-ceph\n";
 
-const TREE_OF_NAMES: &str = "error: --tree with --since doesn't go with --by-name\n";
+const TREE_OF_NAMES: &str = "error: --tree with --since can't be used with --by-name\n";
 
-const NAMES_ALONE: &str = "error: --by-name goes with --since and --to\n";
+const NAMES_ALONE: &str = "error: --by-name needs --since or --to\n";
 
-const PART_ALONE: &str = "error: --under goes with --tree, --since and --to\n";
+const PART_ALONE: &str = "error: --under needs --tree, --since or --to\n";
 
-const TYPE_ALONE: &str = "error: --down-to goes with --tree\n";
+const TYPE_ALONE: &str = "error: --down-to needs --tree\n";
 
-const CLASS_ALONE: &str = "error: --class goes with --tree\n";
+const CLASS_ALONE: &str = "error: --class needs --tree\n";
 
-const JSON_CLASS: &str = "error: --json doesn't go with --class\n";
+const JSON_CLASS: &str = "error: --json can't be used with --class\n";
 
-const JSON_LINES: &str = "error: --json doesn't go with --as-ceph\n";
+const JSON_LINES: &str = "error: --json can't be used with --as-ceph\n";
 
-const JSON_NAMES: &str = "error: --json and --since don't go with --by-name\n";
+const JSON_NAMES: &str = "error: --json with --since can't be used with --by-name\n";
 
-const JSON_LEVELS: &str = "error: --json and --since don't go with --down-to\n";
+const JSON_LEVELS: &str = "error: --json with --since can't be used with --down-to\n";
 
-const EXACT_OTHER: &str = "error: --exact goes with the text of the map alone\n";
+const EXACT_OTHER: &str = "error: --exact can be used only when the text of the map is printed\n";
 
 /// The text about verbs that follows the error for a second file on a plain command line.
 const VERBS: &str = "
@@ -192,7 +192,7 @@ Commands that take several files:
 /// The most files with scripts on one command line: as many as a job may have operators.
 const MOST_SCRIPTS: usize = 16;
 
-const MANY_SCRIPTS: &str = "error: at most 16 times --script\n";
+const MANY_SCRIPTS: &str = "error: --script can be used at most 16 times\n";
 
 /// A flag `--NAME`, without a value.
 pub(crate) fn flag<'a>(alloc: Global, name: &'a str, help: &'a str) -> Arg<'a>

@@ -13,10 +13,10 @@ use std::alloc::{AllocError, Global};
 
 const TWO_DASHES: &str = "error: only one file can be -, which is standard input\n";
 
-const DRY_OUTPUT: &str = "error: --output doesn't go with --dry-run\n";
+const DRY_OUTPUT: &str = "error: --output can't be used with --dry-run\n";
 
 const WITHOUT_DRY_RUN: &str =
-    "error: --tree, --json, --under, --down-to and --exit-code go with --dry-run\n";
+    "error: --tree, --json, --under, --down-to and --exit-code need --dry-run\n";
 
 /// What the parser found on a verb's command line. A flag that the verb doesn't have is false, and
 /// an option or an argument that the verb doesn't have has no value.

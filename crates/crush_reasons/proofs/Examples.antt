@@ -103,7 +103,7 @@ explained : explained_text setting example (codes "a" ∷ []) 1 (
     ∷ entry (One (Remove (codes "h1"))) (Refused NotEmpty)
     ∷ entry (Batch (Remove (codes "osd.1") ∷ Remove (codes "h1") ∷ Remove (codes "default") ∷ [])) (BatchRefused 2 NotEmpty)
     ∷ [])
-    ≡ codes "# 1 a rm default = refused NotEmpty 39\n  default holds 2 items: move or remove them first\n# 3 a begin at 0 ; rm x ; commit = refused Stale 11 changes 1\n  the map has changed since: look at it again, and name the number of changes that is told\n# 4 a rm h1 = refused NotEmpty 39\n  h1 holds 1 item: move or remove it first\n# 5 a begin ; rm osd.1 ; rm h1 ; rm default ; commit = refused at 2 NotEmpty 39\n  rm default: default holds 1 item: move or remove it first\n"
+    ≡ codes "# 1 a rm default = refused NotEmpty 39\n  default holds 2 items: move or remove them first\n# 3 a begin at 0 ; rm x ; commit = refused Stale 11 changes 1\n  the map has changed in the meantime: look at it again, and use the new number of changes\n# 4 a rm h1 = refused NotEmpty 39\n  h1 holds 1 item: move or remove it first\n# 5 a begin ; rm osd.1 ; rm h1 ; rm default ; commit = refused at 2 NotEmpty 39\n  rm default: default holds 1 item: move or remove it first\n"
 unfolding explained_behind line_head reply_text items_said table_after_edits digits
 explained = refl
 
@@ -115,36 +115,36 @@ far : (is_near (codes "h9") (codes "h12") ≡ false) × (is_near (codes "ab") (c
 far = (refl, refl, refl)
 
 -- two names are similar, and the reason suggests the first of them in the order of the tree; and a name to which no name is similar
-two_near : edit_reason true setting example (Remove (codes "h9")) NoSuchItem ≡ codes "h9 isn't there: is it h1?"
+two_near : edit_reason true setting example (Remove (codes "h9")) NoSuchItem ≡ codes "h9 doesn't exist: did you mean h1?"
 unfolding tree_rows step_at steps_at root_numbers unplaced_numbers
 two_near = refl
 
-none_near : edit_reason true setting example (Remove (codes "rack1")) NoSuchItem ≡ codes "rack1 isn't there"
+none_near : edit_reason true setting example (Remove (codes "rack1")) NoSuchItem ≡ codes "rack1 doesn't exist"
 unfolding tree_rows step_at steps_at root_numbers unplaced_numbers
 none_near = refl
 
 -- the map isn't searched for a similar name
-not_looked : edit_reason false setting example (Remove (codes "h9")) NoSuchItem ≡ codes "h9 isn't there"
+not_looked : edit_reason false setting example (Remove (codes "h9")) NoSuchItem ≡ codes "h9 doesn't exist"
 not_looked = refl
 
 -- reasons that say what the map has at the name for which an edit was refused
 taken : edit_reason true ruled example (Remove (codes "default")) InUse ≡ codes "the rule fast takes default"
 taken = refl
 
-placed : edit_reason true setting example (Place Insert 0 (codes "osd.0") 65536 (pair (codes "host") (codes "h2") ∷ [])) AlreadyPlaced ≡ codes "osd.0 stands in h1: set and create-or-move put it into another"
+placed : edit_reason true setting example (Place Insert 0 (codes "osd.0") 65536 (pair (codes "host") (codes "h2") ∷ [])) AlreadyPlaced ≡ codes "osd.0 is already in h1: use set or create-or-move to move it"
 placed = refl
 
-below : edit_reason true setting example (Move (codes "default") (pair (codes "host") (codes "h1") ∷ [])) Loop ≡ codes "h1 stands below default: a bucket cannot come below itself"
+below : edit_reason true setting example (Move (codes "default") (pair (codes "host") (codes "h1") ∷ [])) Loop ≡ codes "h1 is below default: a bucket can't be moved below itself"
 below = refl
 
-itself : edit_reason true setting example (Move (codes "h1") (pair (codes "host") (codes "h1") ∷ [])) Loop ≡ codes "h1 cannot come into itself"
+itself : edit_reason true setting example (Move (codes "h1") (pair (codes "host") (codes "h1") ∷ [])) Loop ≡ codes "h1 can't be moved into itself"
 itself = refl
 
 other_type : edit_reason true setting example (Move (codes "h1") (pair (codes "rack") (codes "default") ∷ [])) WrongType ≡ codes "default is of type root, not rack"
 other_type = refl
 
 twice : edit_reason true setting example (Move (codes "h1") (pair (codes "host") (codes "h2") ∷ pair (codes "host") (codes "h3") ∷ [])) BadLocation
-    ≡ codes "host: a location names each type and each bucket once, and not the type of devices"
+    ≡ codes "host: a location names each type and each bucket at most once, and never the type of devices"
 twice = refl
 
 -- a type that isn't declared, which comes after a tab on the second line

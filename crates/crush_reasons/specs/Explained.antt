@@ -36,7 +36,7 @@ batched_reason s t head es index r = first_reason s (table_after_edits s t (take
 
 -- the reason for a guarded batch that names another number of changes than there were. If it names more changes, the reason says what the number counts. Otherwise the reason says how to go on
 unfoldable pub so_far : ℕ → List ℕ
-so_far count = codes " counts the changes of this run: so far there were " ++ decimal count
+so_far count = codes " changes of this run were expected, but there have been " ++ decimal count
 
 abbrev pub too_high : ℕ → ℕ → List ℕ
 too_high seen count = decimal seen ++ so_far count

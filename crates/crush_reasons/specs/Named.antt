@@ -13,22 +13,22 @@ use Rattle.crush_reasons.specs.Way.{absent_reason, bound_said, class_named, held
 
 -- THE WORDS AFTER THE NAME, if they depend only on the refusal; none for a refusal that isn't about an item, and for a refusal whose reason depends on the map
 abbrev pub said_of : Refusal → Option (List ℕ)
-said_of refusal.BadName = Some (codes " is the device, and a bucket of the location")
-said_of refusal.BadLocation = Some (codes ": a location names each type and each bucket once, and not the type of devices")
-said_of refusal.NoSuchType = Some (codes " is no type of the map")
-said_of refusal.NoPlace = Some (codes " wants a location: a TYPE=BUCKET, or several")
-said_of refusal.NameTaken = Some (codes ": an item has this name, or the device has another one")
-said_of refusal.NotPlaced = Some (codes " stands in no bucket: add puts it into one")
+said_of refusal.BadName = Some (codes " is the device's own name, and the location uses it for a bucket")
+said_of refusal.BadLocation = Some (codes ": a location names each type and each bucket at most once, and never the type of devices")
+said_of refusal.NoSuchType = Some (codes " is not a type of the map")
+said_of refusal.NoPlace = Some (codes " needs a location: one or more TYPE=BUCKET")
+said_of refusal.NameTaken = Some (codes ": another item has this name, or the device has a different name")
+said_of refusal.NotPlaced = Some (codes " is in no bucket: use add to place it")
 said_of refusal.NotADevice = Some (codes " is a bucket: reweight-subtree sets the weights below it")
-said_of refusal.NotABucket = Some (codes " is a device, where a bucket is wanted")
-said_of refusal.Nested = Some (codes " and the other bucket are one, or one of them is below the other")
-said_of refusal.NotDirectory = Some (codes " is a device: only a bucket gets another name")
-said_of refusal.AlreadyRenamed = Some (codes " is there and the first name is gone, as if it had been done before")
+said_of refusal.NotABucket = Some (codes " is a device, but a bucket is required")
+said_of refusal.Nested = Some (codes " and the other bucket are the same, or one of them is below the other")
+said_of refusal.NotDirectory = Some (codes " is a device: only buckets can be renamed")
+said_of refusal.AlreadyRenamed = Some (codes " exists and the old name is gone: already done")
 said_of r = None
 
 -- the same words for an edit of a class, because only a device can have a class
 abbrev pub said_of_class : Refusal → Option (List ℕ)
-said_of_class refusal.NotADevice = Some (codes " is a bucket: a class is a device's")
+said_of_class refusal.NotADevice = Some (codes " is a bucket: only devices have a class")
 said_of_class r = said_of r
 
 abbrev pub said_by : Edit → Refusal → Option (List ℕ)

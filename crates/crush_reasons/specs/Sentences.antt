@@ -14,13 +14,13 @@ job_sentence (job.OpenBatch number) = codes "this batch is not ended: add `commi
 job_sentence (job.TooManyOperators number) = codes "a job has at most 16 operators"
 job_sentence (job.DuplicateOperator number) = codes "another operator above has this name"
 job_sentence (job.Text fault) = []
-job_sentence job.OutOfMemory = codes "there is no memory for the job"
+job_sentence job.OutOfMemory = codes "not enough memory for the job"
 job_sentence job.TooLong = codes "a job has at most 16777216 bytes"
 job_sentence (job.TooManyCalls number) = codes "a job has at most 65536 commands and batches"
 
 -- the sentence for a guarded batch that was refused because the map has changed
 abbrev pub stale_sentence : List ℕ
-stale_sentence = codes "the map has changed since: look at it again, and name the number of changes that is told"
+stale_sentence = codes "the map has changed in the meantime: look at it again, and use the new number of changes"
 
 -- the sentence for a reply that is a refusal; an empty text for any other reply
 abbrev pub reply_sentence : Reply → List ℕ

@@ -14,10 +14,10 @@ use Rattle.crush_reasons.specs.Near.{near_if}
 -- the reason for a name that the map doesn't have. If a similar name was searched for and found, the reason suggests it
 abbrev pub near_asked : Option (List ℕ) → List ℕ
 near_asked None = []
-near_asked (Some near) = codes ": is it " ++ near ++ codes "?"
+near_asked (Some near) = codes ": did you mean " ++ near ++ codes "?"
 
 abbrev pub asked_reason : List ℕ → Option (List ℕ) → List ℕ
-asked_reason n near = n ++ codes " isn't there" ++ near_asked near
+asked_reason n near = n ++ codes " doesn't exist" ++ near_asked near
 
 abbrev pub absent_reason : Bool → List Row → List ℕ → List ℕ
 absent_reason looks t n = asked_reason n (near_if looks t n)
@@ -48,23 +48,23 @@ abbrev pub holder_name : List Row → List ℕ → Option (List ℕ)
 holder_name t n = option_and_then (λ b. name_of t (Bucket b)) (option_and_then (parent_of t) (id_named t n))
 
 abbrev pub placed_said : Option (List ℕ) → List ℕ
-placed_said None = codes " stands in a bucket: set and create-or-move put it into another"
-placed_said (Some holder) = codes " stands in " ++ holder ++ codes ": set and create-or-move put it into another"
+placed_said None = codes " is already in a bucket: use set or create-or-move to move it"
+placed_said (Some holder) = codes " is already in " ++ holder ++ codes ": use set or create-or-move to move it"
 
 -- the class of a device
 abbrev pub class_named : List Row → List ℕ → Option (List ℕ)
 class_named t n = option_and_then (class_of t) (id_named t n)
 
 abbrev pub bound_said : Option (List ℕ) → List ℕ
-bound_said None = codes " has another class: rm-device-class takes it away"
-bound_said (Some class) = codes " has the class " ++ class ++ codes ": rm-device-class takes it away"
+bound_said None = codes " has a different class: remove it first with rm-device-class"
+bound_said (Some class) = codes " has the class " ++ class ++ codes ": remove it first with rm-device-class"
 
 -- THE LOCATION OF A MOVE ends in the bucket that is moved, or in a bucket below it
 abbrev pub below_reason : List ℕ → List ℕ → List ℕ
-below_reason n end = end ++ codes " stands below " ++ n ++ codes ": a bucket cannot come below itself"
+below_reason n end = end ++ codes " is below " ++ n ++ codes ": a bucket can't be moved below itself"
 
 abbrev pub loop_reason : List ℕ → List ℕ → List ℕ
-loop_reason n end = if bytes_eq n end then n ++ codes " cannot come into itself" else below_reason n end
+loop_reason n end = if bytes_eq n end then n ++ codes " can't be moved into itself" else below_reason n end
 
 -- the bucket's type isn't the type that the pair with the bucket's name has
 abbrev pub type_of_item : SettingData → List Row → List ℕ → List ℕ

@@ -52,7 +52,7 @@ abbrev pub has_returns_alone : List ℕ → Bool
 has_returns_alone bytes = line_feeds bytes == 0 && list_any (λ b. b == 13) bytes
 
 abbrev pub returns_text : List ℕ → List ℕ
-returns_text bytes = if has_returns_alone bytes then codes "the text has carriage returns and no line feed: a comment goes on to its end\n" else []
+returns_text bytes = if has_returns_alone bytes then codes "the text has carriage returns but no line feeds, so its first comment never ends\n" else []
 
 -- the lines for written weights: one for each `item NAME weight W` between braces of a map's text in which NAME is a bucket, and W is a weight that isn't the bucket's weight in the table
 abbrev pub weights_text : List Row → List ℕ → List ℕ

@@ -145,7 +145,7 @@ fn push_so_far(count: u32, text: &mut Vec<u8>) -> Result<(), AllocError>
     let mut buffer = Buffer::new();
     push_all(
         &[
-            b" counts the changes of this run: so far there were ".as_slice(),
+            b" changes of this run were expected, but there have been ".as_slice(),
             buffer.format(count).as_bytes(),
         ],
         text,

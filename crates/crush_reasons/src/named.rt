@@ -21,21 +21,27 @@ fn said_of(refusal: Refusal) -> Option<&'static str>
     ensures { MatchOption result (said_of refusal ≡ None) (λ said. said_of refusal ≡ Some said.now) }
 {
     match refusal {
-        Refusal::BadName => Some(" is the device, and a bucket of the location"),
+        Refusal::BadName => Some(
+            " is the device's own name, and the location uses it for a bucket",
+        ),
         Refusal::BadLocation => {
-            Some(": a location names each type and each bucket once, and not the type of devices")
+            Some(
+                ": a location names each type and each bucket at most once, and never the type of devices",
+            )
         }
-        Refusal::NoSuchType => Some(" is no type of the map"),
-        Refusal::NoPlace => Some(" wants a location: a TYPE=BUCKET, or several"),
-        Refusal::NameTaken => Some(": an item has this name, or the device has another one"),
-        Refusal::NotPlaced => Some(" stands in no bucket: add puts it into one"),
+        Refusal::NoSuchType => Some(" is not a type of the map"),
+        Refusal::NoPlace => Some(" needs a location: one or more TYPE=BUCKET"),
+        Refusal::NameTaken => Some(
+            ": another item has this name, or the device has a different name",
+        ),
+        Refusal::NotPlaced => Some(" is in no bucket: use add to place it"),
         Refusal::NotADevice => Some(" is a bucket: reweight-subtree sets the weights below it"),
-        Refusal::NotABucket => Some(" is a device, where a bucket is wanted"),
-        Refusal::Nested => Some(" and the other bucket are one, or one of them is below the other"),
-        Refusal::NotDirectory => Some(" is a device: only a bucket gets another name"),
-        Refusal::AlreadyRenamed => {
-            Some(" is there and the first name is gone, as if it had been done before")
-        }
+        Refusal::NotABucket => Some(" is a device, but a bucket is required"),
+        Refusal::Nested => Some(
+            " and the other bucket are the same, or one of them is below the other",
+        ),
+        Refusal::NotDirectory => Some(" is a device: only buckets can be renamed"),
+        Refusal::AlreadyRenamed => { Some(" exists and the old name is gone: already done") }
         _ => None,
     }
 }
@@ -45,7 +51,7 @@ fn said_of_class(refusal: Refusal) -> Option<&'static str>
         (λ said. said_of_class refusal ≡ Some said.now) }
 {
     match refusal {
-        Refusal::NotADevice => Some(" is a bucket: a class is a device's"),
+        Refusal::NotADevice => Some(" is a bucket: only devices have a class"),
         _ => said_of(refusal),
     }
 }

@@ -8,7 +8,7 @@ use crush_script::JobFault;
 
 /// The sentence for a guarded batch that was refused because the map has changed.
 pub(crate) const STALE: &str =
-    "the map has changed since: look at it again, and name the number of changes that is told";
+    "the map has changed in the meantime: look at it again, and use the new number of changes";
 
 /// Returns the sentence for a fault of a job. For a fault of the map's text, returns an empty text,
 /// because that sentence depends on the map's text.
@@ -24,7 +24,7 @@ pub fn job_sentence(fault: JobFault) -> &'static str
         JobFault::TooManyOperators(_) => "a job has at most 16 operators",
         JobFault::DuplicateOperator(_) => "another operator above has this name",
         JobFault::Text(_) => "",
-        JobFault::OutOfMemory => "there is no memory for the job",
+        JobFault::OutOfMemory => "not enough memory for the job",
         JobFault::TooLong => "a job has at most 16777216 bytes",
         JobFault::TooManyCalls(_) => "a job has at most 65536 commands and batches",
     }

@@ -26,7 +26,11 @@ fn push_near(near: Option<&str>, text: &mut Vec<u8>) -> Result<(), AllocError>
         return Ok(());
     };
     push_all(
-        &[b": is it ".as_slice(), near.as_bytes(), b"?".as_slice()],
+        &[
+            b": did you mean ".as_slice(),
+            near.as_bytes(),
+            b"?".as_slice(),
+        ],
         text,
     )
 }
@@ -36,7 +40,7 @@ fn push_asked(name: &[u8], near: Option<&str>, text: &mut Vec<u8>) -> Result<(),
         ++ asked_reason name.now (option_map (λ near. near.now) near.entry)) }
 {
     text.extend_from_slice(name)?;
-    text.extend_from_slice(b" isn't there")?;
+    text.extend_from_slice(b" doesn't exist")?;
     push_near(near, text)
 }
 
@@ -192,7 +196,7 @@ pub(crate) fn push_placed(
         return push_all(
             &[
                 name,
-                b" stands in a bucket: set and create-or-move put it into another".as_slice(),
+                b" is already in a bucket: use set or create-or-move to move it".as_slice(),
             ],
             text,
         );
@@ -200,9 +204,9 @@ pub(crate) fn push_placed(
     push_all(
         &[
             name,
-            b" stands in ".as_slice(),
+            b" is already in ".as_slice(),
             holder.as_bytes(),
-            b": set and create-or-move put it into another".as_slice(),
+            b": use set or create-or-move to move it".as_slice(),
         ],
         text,
     )
@@ -227,7 +231,7 @@ pub(crate) fn push_bound(
         return push_all(
             &[
                 name,
-                b" has another class: rm-device-class takes it away".as_slice(),
+                b" has a different class: remove it first with rm-device-class".as_slice(),
             ],
             text,
         );
@@ -237,7 +241,7 @@ pub(crate) fn push_bound(
             name,
             b" has the class ".as_slice(),
             class.as_bytes(),
-            b": rm-device-class takes it away".as_slice(),
+            b": remove it first with rm-device-class".as_slice(),
         ],
         text,
     )
@@ -256,16 +260,16 @@ fn push_below(name: &[u8], end: &[u8], text: &mut Vec<u8>) -> Result<(), AllocEr
     ensures { OnOk result (text.new.items ≡ text.old.items ++ below_reason name.now end.now) }
 {
     text.extend_from_slice(end)?;
-    text.extend_from_slice(b" stands below ")?;
+    text.extend_from_slice(b" is below ")?;
     text.extend_from_slice(name)?;
-    push_bytes(b": a bucket cannot come below itself", text)
+    push_bytes(b": a bucket can't be moved below itself", text)
 }
 
 pub(crate) fn push_loop(name: &[u8], end: &[u8], text: &mut Vec<u8>) -> Result<(), AllocError>
     ensures { OnOk result (text.new.items ≡ text.old.items ++ loop_reason name.now end.now) }
 {
     if name == end {
-        push_all(&[name, b" cannot come into itself".as_slice()], text)
+        push_all(&[name, b" can't be moved into itself".as_slice()], text)
     } else {
         push_below(name, end, text)
     }

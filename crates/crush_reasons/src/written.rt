@@ -234,7 +234,7 @@ fn push_returns(bytes: &[u8], text: &mut Vec<u8>) -> Result<(), AllocError>
         return Ok(());
     }
     text.extend_from_slice(
-        b"the text has carriage returns and no line feed: a comment goes on to its end\n",
+        b"the text has carriage returns but no line feeds, so its first comment never ends\n",
     )
 }
 

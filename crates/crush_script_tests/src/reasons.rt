@@ -522,7 +522,7 @@ const RULED_MADE: &[u8] =
     b"# 3 commands\nceph osd crush add osd.1 1.000000 host=h1\nceph osd crush set osd.1 2.000000 host=h2\nceph osd crush move h2 root=default\n";
 
 const RULED_TOLD: &[u8] =
-    b"# 3 a rm h3 = refused NoSuchItem 2\n  h3 isn't there: is it h1?\n# 4 a rm h1 = refused NotEmpty 39\n  h1 holds 1 item: move or remove it first\n# 6 a rm default = refused NotEmpty 39\n  default holds 2 items: move or remove them first\n# 7 a rm spare = refused InUse 16\n  the rule fast takes spare\n# 8 a move default host=h2 = refused Loop 40\n  h2 stands below default: a bucket cannot come below itself\n# 9 a move h1 rack=spare = refused WrongType 22\n  spare is of type root, not rack\n# 10 a add osd.0 1.00000 host=h2 = refused AlreadyPlaced 17\n  osd.0 stands in h1: set and create-or-move put it into another\n# 11 a begin ; rename-bucket h1 h4 ; rm h1 ; commit = refused at 1 NoSuchItem 2\n  rm h1: h1 isn't there: is it h4?\n";
+    b"# 3 a rm h3 = refused NoSuchItem 2\n  h3 doesn't exist: did you mean h1?\n# 4 a rm h1 = refused NotEmpty 39\n  h1 holds 1 item: move or remove it first\n# 6 a rm default = refused NotEmpty 39\n  default holds 2 items: move or remove them first\n# 7 a rm spare = refused InUse 16\n  the rule fast takes spare\n# 8 a move default host=h2 = refused Loop 40\n  h2 is below default: a bucket can't be moved below itself\n# 9 a move h1 rack=spare = refused WrongType 22\n  spare is of type root, not rack\n# 10 a add osd.0 1.00000 host=h2 = refused AlreadyPlaced 17\n  osd.0 is already in h1: use set or create-or-move to move it\n# 11 a begin ; rename-bucket h1 h4 ; rm h1 ; commit = refused at 1 NoSuchItem 2\n  rm h1: h1 doesn't exist: did you mean h4?\n";
 
 #[test]
 fn each_is_told_of_the_map_before_it(rt: HostRuntime) {
@@ -548,13 +548,13 @@ const BATCHES: &[u8] =
     b"type 1 host\nhost h1 {\nid -1\nalg straw2\n}\n%operator a\n# one\nbegin\n\nadd-bucket h2 host\nadd osd.1000 1 rack=r1\ncommit\nrm h3\n%operator b\nrm h2\nbegin at 0\nrename-bucket h1 h5 # two\nrm h1\ncommit\n";
 
 const BATCHES_OF_A: &[u8] =
-    b"# 1 a begin ; add-bucket h2 host ; add osd.1000 1.00000 rack=r1 ; commit = refused at 1 NoSuchType 22\n  cmds:5: add osd.1000 1.00000 rack=r1: rack is no type of the map\n# 2 a rm h3 = refused NoSuchItem 2\n  h3 isn't there: is it h1?\n";
+    b"# 1 a begin ; add-bucket h2 host ; add osd.1000 1.00000 rack=r1 ; commit = refused at 1 NoSuchType 22\n  cmds:5: add osd.1000 1.00000 rack=r1: rack is not a type of the map\n# 2 a rm h3 = refused NoSuchItem 2\n  h3 doesn't exist: did you mean h1?\n";
 
 const BATCHES_OF_NO_FILE: &[u8] =
-    b"# 1 a begin ; add-bucket h2 host ; add osd.1000 1.00000 rack=r1 ; commit = refused at 1 NoSuchType 22\n  line 11: add osd.1000 1.00000 rack=r1: rack is no type of the map\n# 2 a rm h3 = refused NoSuchItem 2\n  h3 isn't there: is it h1?\n";
+    b"# 1 a begin ; add-bucket h2 host ; add osd.1000 1.00000 rack=r1 ; commit = refused at 1 NoSuchType 22\n  line 11: add osd.1000 1.00000 rack=r1: rack is not a type of the map\n# 2 a rm h3 = refused NoSuchItem 2\n  h3 doesn't exist: did you mean h1?\n";
 
 const BATCHES_OF_B: &[u8] =
-    b"# 1 b rm h2 = refused NoSuchItem 2\n  h2 isn't there: is it h1?\n# 2 b begin at 0 ; rename-bucket h1 h5 ; rm h1 ; commit = refused at 1 NoSuchItem 2\n  b.txt:4: rm h1: h1 isn't there: is it h5?\n";
+    b"# 1 b rm h2 = refused NoSuchItem 2\n  h2 doesn't exist: did you mean h1?\n# 2 b begin at 0 ; rename-bucket h1 h5 ; rm h1 ; commit = refused at 1 NoSuchItem 2\n  b.txt:4: rm h1: h1 doesn't exist: did you mean h5?\n";
 
 #[derive(Drop)]
 struct Whole<'a> {

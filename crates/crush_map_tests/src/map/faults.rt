@@ -16,7 +16,7 @@ fn assert_written<F: Display + Drop>(rt: &impl Abort, alloc: Global, fault: F, t
 fn what_is_told_of_a_fault(rt: HostRuntime) {
     let refused = EditFault::from(Refusal::NoSuchItem);
     let heavy = "a bucket or the whole map is too heavy with this item";
-    let named = "the edit is refused: the map has no item of this name";
+    let named = "the edit is refused: the map has no item with this name";
     assert_written(&rt, rt.alloc(), refused, named);
     assert_written(&rt, rt.alloc(), EditFault::OutOfMemory, "out of memory");
     assert_written(&rt, rt.alloc(), BuildFault::SumTooLarge, heavy);

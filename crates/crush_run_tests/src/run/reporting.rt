@@ -62,11 +62,11 @@ fn runs_that_were_not_done_are_told_with_reasons(rt: HostRuntime) {
         is_explained(
             &rt,
             &Err(RunFault::Thread),
-            b"crushedit: no thread\n  the system started no thread for an operator: --in-turn wants none\n"
+            b"crushedit: no thread\n  the system couldn't start a thread for an operator: try --in-turn\n"
         ) && is_explained(
             &rt,
             &Err(RunFault::Memory),
-            b"crushedit: out of memory\n  there is less memory than the job wants\n"
+            b"crushedit: out of memory\n  not enough memory for the job\n"
         )
     );
 }
