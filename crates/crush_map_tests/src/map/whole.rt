@@ -155,3 +155,12 @@ pub(super) fn assert_the_setting(rt: &impl Abort, setting: &Setting) {
     assert!(rt; setting.takes(bucket(rt, -1)));
     assert!(rt; !setting.takes(bucket(rt, -2)));
 }
+
+#[test]
+fn the_debug_text_of_a_map_has_its_counts(rt: HostRuntime) {
+    let map = whole_example_map(&rt, rt.alloc());
+    let text = format!(in rt.alloc(); "{map:?}").expect(&rt, "memory");
+    assert_eq!(rt; text.as_str(), "CrushMap { devices: 3, buckets: 3 }");
+    drop(text);
+    drop(map);
+}
