@@ -94,7 +94,7 @@ impl Edits {
     }
 
     /// Returns a copy of the batch, allocated with `alloc`, or an error if memory runs out.
-    pub(crate) fn try_copy(&self, alloc: Global) -> Result<Edits, AllocError>
+    pub fn try_copy(&self, alloc: Global) -> Result<Edits, AllocError>
         ensures { IfOk result (λ copy. copy ≡ self.now) }
     {
         let edits = copy_edits(alloc, self.edits.as_slice())?;

@@ -1,9 +1,10 @@
 //! The entries of a history, and which of them changed the map.
 
-ghost use Rattle.std.specs.Prelude.{◌≡◌, ◌<◌, ◌^◌, length};
+ghost use Rattle.std.specs.Prelude.{◌≡◌, ◌<◌, ◌^◌, length, IfOk};
 ghost use Rattle.crush_history.specs.History.{changes, is_change};
 
 use crate::call::{Call, Reply};
+use std::alloc::{AllocError, Global};
 
 /// One entry of a history: a call, its reply, and the operator that made the call.
 #[derive(Debug, Drop)]
@@ -24,6 +25,32 @@ pub struct Slip {
     pub call: Call,
     /// The reply to the call.
     pub reply: Reply,
+}
+
+impl Entry {
+    /// Returns a copy of the entry, allocated with `alloc`, or an error if memory runs out.
+    pub fn try_copy(&self, alloc: Global) -> Result<Entry, AllocError>
+        ensures { IfOk result (λ copy. copy ≡ self.now) }
+    {
+        Ok(Entry {
+            operator: self.operator,
+            call: self.call.try_copy(alloc)?,
+            reply: self.reply,
+        })
+    }
+}
+
+impl Slip {
+    /// Returns a copy of the call and its reply, allocated with `alloc`, or an error if memory runs
+    /// out.
+    pub fn try_copy(&self, alloc: Global) -> Result<Slip, AllocError>
+        ensures { IfOk result (λ copy. copy ≡ self.now) }
+    {
+        Ok(Slip {
+            call: self.call.try_copy(alloc)?,
+            reply: self.reply,
+        })
+    }
 }
 
 /// Whether the reply says that the call changed the map: its edit changed the map, or at least one

@@ -1,8 +1,11 @@
 //! The script of an operator.
 
+ghost use Rattle.std.specs.Prelude.{◌≡◌, IfOk};
+ghost use Rattle.crush_history.specs.Script.{script_data};
+
 use crate::call::Call;
 use crush_units::Name;
-use std::alloc::Global;
+use std::alloc::{AllocError, Global};
 
 /// The script of one operator: its name, and the calls that it makes, in order.
 #[derive(Debug, Drop)]
@@ -11,4 +14,27 @@ pub struct Script {
     pub name: Name<Global>,
     /// The calls, in the order in which the operator makes them.
     pub calls: Vec<Call>,
+}
+
+impl Script {
+    /// Returns a copy of the script, allocated with `alloc`, or an error if memory runs out.
+    pub fn try_copy(&self, alloc: Global) -> Result<Script, AllocError>
+        ensures { IfOk result (λ copy. script_data copy ≡ script_data self.now) }
+    {
+        let name = self.name.try_copy(alloc)?;
+        let calls = copy_calls(alloc, self.calls.as_slice())?;
+        Ok(Script { name, calls })
+    }
+}
+
+/// Copies the calls, in order, to a vector that is allocated with `alloc`.
+fn copy_calls(alloc: Global, calls: &[Call]) -> Result<Vec<Call>, AllocError>
+    ensures { IfOk result (λ copies. copies.items ≡ calls.now) }
+{
+    let mut copies = Vec::with_capacity(alloc, calls.len())?;
+    for call in calls {
+        let copy = call.try_copy(alloc)?;
+        copies.push(copy)?;
+    }
+    Ok(copies)
 }
