@@ -9,7 +9,7 @@ use Rattle.crush_units.specs.declared.limits.TheConstants.{LONGEST_JOB}
 use Rattle.crush_input.specs.declared.verb_maps.VerbMapFault.{VerbMapFault}
 use Rattle.crush_input.specs.declared.verb_maps.VerbMapFault.TheVariants as verb
 use Rattle.crush_input.specs.Input.{IsInput}
-use Rattle.crush_input.specs.VerbMaps.{AreNotesOfVerbMap, IsVerbMapFault, IsVerbTextFault, verb_flaw_notes, verb_map_notes}
+use Rattle.crush_input.specs.VerbMaps.{AreNotesOfVerbMap, CanBeShown, IsVerbMapFault, IsVerbTextFault, verb_flaw_notes, verb_map_notes}
 
 long_of_all : (bytes xs : List ℕ) → IsInput bytes xs → LONGEST_JOB < length bytes → LONGEST_JOB < length xs
 long_of_all bytes xs input h = dite (dec_le (length xs) LONGEST_JOB) (λ few. let same = ap length (input.whole few) in absurd (omega (arith, same, h, few))) (λ many. omega (arith, many))
@@ -57,3 +57,11 @@ verb_noted maps name shown bytes verb.Cut notes h is = is
 verb_noted maps name shown bytes verb.TooLong notes h is = is
 verb_noted maps name shown bytes verb.Read notes h is = absurd h
 verb_noted maps name shown bytes verb.Memory notes h is = is
+
+-- a fault of the bytes can be shown
+pub can_be_shown : (maps : MapForm) (bytes : List ℕ) (f : VerbMapFault) → IsVerbTextFault maps bytes f → CanBeShown f bytes
+can_be_shown maps bytes (verb.Text f) h = h.0
+can_be_shown maps bytes verb.Cut h = tt
+can_be_shown maps bytes verb.TooLong h = tt
+can_be_shown maps bytes verb.Read h = tt
+can_be_shown maps bytes verb.Memory h = tt

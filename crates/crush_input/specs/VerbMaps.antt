@@ -13,13 +13,15 @@ use Rattle.crush_text.specs.declared.fault.TextFaultKind.{TextFaultKind}
 use Rattle.crush_text.specs.declared.fault.TextFaultKind.TheVariants as text
 use Rattle.crush_reasons.specs.Fault.{fault_text, flaw_place_text}
 use Rattle.crush_script.specs.declared.fault.JobFault.TheVariants as job
-use Rattle.crush_script.specs.Lines.{line_feeds}
+use Rattle.crush_script.specs.Lines.{line_feeds, map_part}
 use Rattle.crush_options.specs.declared.parsed_options.MapForm.{MapForm}
 use Rattle.crush_options.specs.declared.parsed_options.MapForm.TheVariants as form
 use Rattle.crush_input.specs.declared.verb_maps.VerbMap.{VerbMap}
 use Rattle.crush_input.specs.declared.verb_maps.VerbMap.TheVariants as which
 use Rattle.crush_input.specs.declared.verb_maps.VerbMapFault.{VerbMapFault}
 use Rattle.crush_input.specs.declared.verb_maps.VerbMapFault.TheVariants as verb
+use Rattle.crush_input.specs.declared.fault.RunFault.{RunFault}
+use Rattle.crush_input.specs.declared.fault.RunFault.TheVariants as run
 use Rattle.crush_input.specs.Joined.{is_line_blank}
 use Rattle.crush_input.specs.Notes.{IsNoteOfUnreadFile}
 use Rattle.crush_input.specs.Origins.{whole_of}
@@ -72,6 +74,20 @@ pub record IsVerbMap (maps : MapForm) (bytes : List ℕ) : Type 0 where
   pub text : IsMapText bytes setting table adjusted
   pub whole : is_cut maps bytes ≡ false
 
+-- MAY BE A MAP: there are at most as many bytes as a job may have, no line begins with `%`, and the text is complete if it must be. So a job that begins with these bytes and is accepted shows that they are a map, as in `IsVerbMap`
+pub record MayBeVerbMap (maps : MapForm) (bytes : List ℕ) : Type 0 where
+  pub short : length bytes ≤ LONGEST_JOB
+  pub single : map_part bytes ≡ bytes
+  pub whole : is_cut maps bytes ≡ false
+
+-- whether a run that ends with this fault may have ended before it parsed its maps
+abbrev pub may_precede_maps : RunFault → Bool
+may_precede_maps (run.Job fault) = true
+may_precede_maps run.Read = true
+may_precede_maps run.Memory = true
+may_precede_maps (run.SecondMap map fault) = true
+may_precede_maps other = false
+
 -- the bytes count as cut: they are the text of a map that must be complete and isn't, or they have a flaw after whose place no line feed follows
 abbrev pub IsCutText : MapForm → List ℕ → Type 0
 IsCutText maps bytes =
@@ -119,6 +135,11 @@ abbrev pub verb_map_reason : VerbMapFault → List ℕ
 verb_map_reason verb.Cut = codes "  the text doesn't end with `# end crush map`: was it cut? If it is whole, add that line\n"
 verb_map_reason verb.TooLong = codes "  the file of a map has at most 16777216 bytes\n"
 verb_map_reason fault = []
+
+-- a flaw is in at most as many bytes as a job may have, so that its place has a line and a column; other faults have no place
+abbrev pub CanBeShown : VerbMapFault → List ℕ → Type 0
+CanBeShown (verb.Text fault) bytes = length bytes ≤ LONGEST_JOB
+CanBeShown fault bytes = Unit {0}
 
 -- the notes of a fault of these bytes
 abbrev pub verb_map_notes : List ℕ → List ℕ → VerbMapFault → List ℕ

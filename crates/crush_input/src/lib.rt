@@ -37,5 +37,8 @@ pub use notes::{History, check_strict, file_notes, history_notes};
 pub use origins::Origins;
 pub use output::{OldMap, OldTree, Output, Request, TargetMap, output_of};
 pub use summary::Summary;
-pub use verb_maps::{VerbMap, VerbMapFault, VerbMapRefusal, read_verb_map, report_verb_map};
+pub use verb_maps::{
+    VerbMap, VerbMapFault, VerbMapRefusal, check_verb_map, may_precede_maps, read_verb_map,
+    report_verb_map,
+};
 pub use words::Words;

@@ -1,12 +1,16 @@
 //! Reads the map files of a verb such as `diff` or `plan`. These files have no scripts, and some of
 //! them must be complete.
+//!
+//! A map is parsed once, by the run. [`read_verb_map`] only tests what a run doesn't test: whether
+//! the map is complete, and whether a line of it begins a script. If the run fails,
+//! [`check_verb_map`] says whether one of the maps is the reason.
 
 ghost use Rattle.std.specs.Prelude.{◌≡◌, ◌≤◌, ◌<◌, ◌^◌, ◌++◌, ℕ, List, [], Option, Some, IfErr, IfOk, IfSome, false, length, slice_index, true};
 ghost use Rattle.crush_text.specs.Flaw.{IsFlawOrOutOfMemory};
 ghost use Rattle.crush_units.specs.Writes.{Writes};
 ghost use Rattle.crush_input.specs.Input.{IsInput};
 ghost use Rattle.crush_input.specs.Notes.{AreNotesOfFile};
-ghost use Rattle.crush_input.specs.VerbMaps.{AreNotesOfVerbMap, IsVerbMap, IsVerbMapFault, IsVerbTextFault, begins_script, is_bad_word, is_cut, is_cut_at, is_text_byte, is_whole, map_prefix, text_length, verb_flaw_notes, verb_map_line, verb_map_notes, verb_map_reason, verb_map_status};
+ghost use Rattle.crush_input.specs.VerbMaps.{AreNotesOfVerbMap, CanBeShown, IsVerbMap, IsVerbMapFault, IsVerbTextFault, MayBeVerbMap, begins_script, is_bad_word, is_cut, is_cut_at, is_text_byte, is_whole, map_prefix, may_precede_maps, text_length, verb_flaw_notes, verb_map_line, verb_map_notes, verb_map_reason, verb_map_status};
 
 use crate::aborted::Aborted;
 use crate::ending::ReportOutcome;
@@ -17,7 +21,7 @@ use crate::job::drawn_hashing;
 use crate::joined::is_line_blank;
 use crush_options::MapForm;
 use crush_reasons::{Origin, fault_text, flaw_place_text};
-use crush_script::{JobFault, line_feeds};
+use crush_script::{JobFault, line_feeds, map_part};
 use crush_text::{TextFault, TextFaultKind, read_map_in};
 use crush_units::limits::LONGEST_JOB;
 use crush_units::{WriteFault, put, put_all};
@@ -226,7 +230,7 @@ fn notes_of(
     bytes: &[u8],
     fault: VerbMapFault,
 ) -> Result<Vec<u8>, AllocError>
-    requires { length bytes.now < 2 ^ 32 }
+    requires { CanBeShown fault bytes.now }
     ensures { IfOk result (λ notes. notes.items ≡ verb_map_notes shown.now bytes.now fault) }
 {
     if let VerbMapFault::Text(fault) = fault {
@@ -278,7 +282,7 @@ fn text_refusal(
     bytes: &[u8],
     fault: VerbMapFault,
 ) -> VerbMapRefusal
-    requires { length bytes.now < 2 ^ 32 }
+    requires { CanBeShown fault bytes.now }
     ensures map { result.map ≡ map }
     ensures fault { (maps : MapForm) → IsVerbTextFault maps bytes.now fault
         → IsVerbTextFault maps bytes.now result.fault }
@@ -291,16 +295,53 @@ fn text_refusal(
     }
 }
 
-/// Returns the bytes of a verb's map unchanged. If the verb can't use them, fails with the reason.
-fn checked_map<H: AllocGlobal + RandomSource>(
+/// Parses the text of a verb's map, and fails if the verb can't use it.
+///
+/// The text may have at most 16,777,216 bytes, it must be the text of a map without scripts, and it
+/// must be complete if `maps` says so. If the text has a fault or seems to be cut, the notes say
+/// where the fault is, and why it is one. They use the name `shown` for the file, or no name if
+/// `shown` is empty.
+///
+/// A caller of [`read_verb_map`] calls this function if the run on the maps fails. Its refusal then
+/// takes the place of the fault of the run.
+pub fn check_verb_map<H: AllocGlobal + RandomSource>(
+    rt: &H,
+    maps: MapForm,
+    map: VerbMap,
+    shown: &str,
+    bytes: &[u8],
+) -> Result<(), VerbMapRefusal>
+    ensures map { IfOk result (λ _. IsVerbMap maps bytes.now) }
+    ensures which { IfErr result (λ refusal. refusal.map ≡ map) }
+    ensures fault { IfErr result (λ refusal. IsVerbTextFault maps bytes.now refusal.fault) }
+    ensures noted { IfErr result (λ refusal. (name : List ℕ)
+        → AreNotesOfVerbMap name shown.now (Some bytes.now) refusal.fault refusal.notes.items) }
+{
+    match check_text(rt, maps, bytes) {
+        Ok(()) => Ok(()),
+        Err(fault) => Err(text_refusal(rt.alloc(), map, shown, bytes, fault)),
+    }
+}
+
+/// Whether these bytes may be a map that the verb can use: a run that parses them finds each fault
+/// that they have.
+fn may_be_map(maps: MapForm, bytes: &[u8]) -> bool
+    ensures yes { result ≡ true → MayBeVerbMap maps bytes.now }
+    ensures no { result ≡ false → IsVerbMap maps bytes.now → ⊥ }
+{
+    bytes.len() <= LONGEST_JOB && !is_cut(maps, bytes) && map_part(bytes).len() == bytes.len()
+}
+
+/// Returns the bytes of a verb's map unchanged. If it is certain without parsing that the verb can't
+/// use them, fails with the reason.
+fn screened_map<H: AllocGlobal + RandomSource>(
     rt: &H,
     maps: MapForm,
     map: VerbMap,
     shown: &str,
     bytes: Vec<u8>,
 ) -> Result<Vec<u8>, VerbMapRefusal>
-    requires { length bytes.items < 2 ^ 32 }
-    ensures map { IfOk result (λ kept. IsVerbMap maps kept.items) }
+    ensures map { IfOk result (λ kept. MayBeVerbMap maps kept.items) }
     ensures same { IfOk result (λ kept. kept.items ≡ bytes.items) }
     ensures which { IfErr result (λ refusal. refusal.map ≡ map) }
     ensures fault { IfErr result (λ refusal. IsVerbTextFault maps bytes.items refusal.fault) }
@@ -308,19 +349,26 @@ fn checked_map<H: AllocGlobal + RandomSource>(
         → AreNotesOfVerbMap name shown.now (Some bytes.items) refusal.fault refusal.notes.items) }
 {
     let text = bytes.as_slice();
-    match check_text(rt, maps, text) {
+    if may_be_map(maps, text) {
+        return Ok(bytes);
+    }
+    match check_verb_map(rt, maps, map, shown, text) {
         Ok(()) => Ok(bytes),
-        Err(fault) => Err(text_refusal(rt.alloc(), map, shown, text, fault)),
+        Err(refusal) => Err(refusal),
     }
 }
 
-/// Reads the file of a verb's map, and checks that its text is the text of a map without scripts.
-/// The text may have at most 16,777,216 bytes, and it must be complete if `maps` says so.
+/// Reads the file of a verb's map, and doesn't parse it. Whoever runs the verb on the map parses it
+/// anyway.
 ///
-/// Returns the bytes of the file. Fails if the file can't be opened or read, if its text has a
-/// fault, or if the text seems to be cut. The notes then say where the fault is, and why it is one.
-/// They use the name `shown` for the file, or no name if `shown` is empty. A note about a file that
-/// can't be read always has the file's name.
+/// Returns the bytes of the file. There are at most 16,777,216 bytes, no line of them begins with
+/// `%`, as the line before a script does, and they end as a complete map does if `maps` says so. If
+/// a run on these bytes succeeds, they are the text of a map. If it fails, [`check_verb_map`] says
+/// whether they have a fault.
+///
+/// Fails if the file can't be opened or read, or if its bytes aren't as above. In the second case
+/// the text is parsed, because the refusal says what is wrong with it, as that of
+/// [`check_verb_map`] does. A note about a file that can't be read always has the file's name.
 pub fn read_verb_map<H: AllocGlobal + RandomSource, F: Opens>(
     rt: &H,
     files: &F,
@@ -329,7 +377,7 @@ pub fn read_verb_map<H: AllocGlobal + RandomSource, F: Opens>(
     name: &str,
     shown: &str,
 ) -> Result<Vec<u8>, VerbMapRefusal>
-    ensures map { IfOk result (λ bytes. IsVerbMap maps bytes.items) }
+    ensures map { IfOk result (λ bytes. MayBeVerbMap maps bytes.items) }
     ensures bytes { IfOk result (λ bytes. IfSome (F.content files.now name.now)
         (IsInput bytes.items)) }
     ensures which { IfErr result (λ refusal. refusal.map ≡ map) }
@@ -339,9 +387,20 @@ pub fn read_verb_map<H: AllocGlobal + RandomSource, F: Opens>(
         (F.content files.now name.now) refusal.fault refusal.notes.items) }
 {
     match read_file(rt.alloc(), files, true, name) {
-        Ok(bytes) => checked_map(rt, maps, map, shown, bytes),
+        Ok(bytes) => screened_map(rt, maps, map, shown, bytes),
         Err(aborted) => Err(aborted_refusal(rt.alloc(), map, aborted)),
     }
+}
+
+/// Whether a run with this fault may have ended before it parsed all of its maps. It has written
+/// nothing then.
+pub fn may_precede_maps(fault: RunFault) -> bool
+    ensures { result ≡ may_precede_maps fault }
+{
+    matches!(
+        fault,
+        RunFault::Job(_) | RunFault::Read | RunFault::Memory | RunFault::SecondMap(_, _)
+    )
 }
 
 fn map_prefix(map: VerbMap) -> &'static [u8]

@@ -1,14 +1,17 @@
 //! The files that a run of the program opens. A command line with a verb may name standard input as
 //! a file, and some of its files are read before the run.
 
-use crush_input::Opens;
+use crush_input::{Opens, VerbMap};
 use std::fs::File;
 use std::io::{self, Read, Stdin};
 
-/// A file that was read before the run.
+/// The file of a verb's map, which was read before the run.
 #[derive(Drop)]
 pub(crate) struct Kept<'a> {
+    pub(crate) map: VerbMap,
     pub(crate) name: &'a str,
+    /// The name that notes about the map's text have for the file. Empty if they have no name.
+    pub(crate) shown: &'a str,
     pub(crate) bytes: Vec<u8>,
 }
 

@@ -11,8 +11,8 @@ mod standard_output;
 use crate::files::{Kept, ProgramFiles};
 use crate::standard_output::Remembering;
 use crush_input::{
-    VerbMap, VerbMapFault, VerbMapRefusal, Words, file_notes, read_verb_map, report,
-    report_options, report_verb_map,
+    VerbMap, VerbMapFault, VerbMapRefusal, Words, check_verb_map, file_notes, may_precede_maps,
+    read_verb_map, report, report_options, report_verb_map,
 };
 use crush_options::{MapForm, Options, OptionsFault, OutputSpec, options};
 use crush_run::{Ending, RunFault, run_options};
@@ -82,12 +82,17 @@ fn is_verb(options: &Options) -> bool {
     !matches!(options.maps, MapForm::Job)
 }
 
-/// If the command line has a verb, reads the maps of the verb, and checks that they are what the
-/// verb needs. With a plain command line, reads nothing, because the run itself then reads the
-/// files.
+/// If the command line has a verb, reads the maps of the verb. With a plain command line, reads
+/// nothing, because the run itself then reads the files.
+///
+/// The maps aren't parsed here, because the run parses them. If the run fails, [`check_maps`] finds
+/// the map that is the reason. Only if the run would wait for standard input first is the first map
+/// parsed at once: a person who types a script is told of a fault of the map before, and no byte of
+/// the input is used up.
 ///
 /// If the first map can't be read, returns no maps. The run then tries to read the map once more,
-/// and reports why that fails.
+/// and reports why that fails. If the other map is refused, a fault of the first map is reported
+/// before that of the other.
 fn read_maps<'a>(rt: &HostRuntime, options: &'a Options) -> Result<Vec<Kept<'a>>, VerbMapRefusal> {
     let mut kept = Vec::new(rt.alloc());
     let (true, Some(name)) = (is_verb(options), &options.file) else {
@@ -96,18 +101,53 @@ fn read_maps<'a>(rt: &HostRuntime, options: &'a Options) -> Result<Vec<Kept<'a>>
     let name = name.as_str();
     let shown = if options.scripts.is_empty() { "" } else { name };
     match read_map(rt, options, VerbMap::First, name, shown) {
-        Ok(map) => keep(rt, &mut kept, VerbMap::First, map)?,
+        Ok(map) => keep(rt, &mut kept, map)?,
         Err(refusal) if matches!(refusal.fault, VerbMapFault::Read) => return Ok(kept),
         Err(refusal) => return Err(refusal),
     }
+    if uses_input_later(options) {
+        check_maps(rt, options, kept.as_slice())?;
+    }
     match other_map(options) {
-        Some((map, other)) if other != name => {
-            let read = read_map(rt, options, map, other, other)?;
-            keep(rt, &mut kept, map, read)?;
-        }
+        Some((map, other)) if other != name => match read_map(rt, options, map, other, other) {
+            Ok(read) => keep(rt, &mut kept, read)?,
+            Err(refusal) => {
+                check_maps(rt, options, kept.as_slice())?;
+                return Err(refusal);
+            }
+        },
         _ => {}
     }
     Ok(kept)
+}
+
+/// Whether standard input is read after the first map: it is a script, or the other map.
+fn uses_input_later(options: &Options) -> bool {
+    for script in options.scripts.as_slice() {
+        if script.as_str() == "-" {
+            return true;
+        }
+    }
+    matches!(other_map(options), Some((_, "-")))
+}
+
+/// Parses the maps of a verb in the order in which they were read. Fails with the first map that
+/// the verb can't use.
+fn check_maps(
+    rt: &HostRuntime,
+    options: &Options,
+    kept: &[Kept<'_>],
+) -> Result<(), VerbMapRefusal> {
+    for file in kept {
+        check_verb_map(
+            rt,
+            options.maps,
+            file.map,
+            file.shown,
+            file.bytes.as_slice(),
+        )?;
+    }
+    Ok(())
 }
 
 fn read_map<'a>(
@@ -115,7 +155,7 @@ fn read_map<'a>(
     options: &Options,
     map: VerbMap,
     name: &'a str,
-    shown: &str,
+    shown: &'a str,
 ) -> Result<Kept<'a>, VerbMapRefusal> {
     let files = ProgramFiles {
         rt,
@@ -123,15 +163,20 @@ fn read_map<'a>(
         kept: &[],
     };
     let bytes = read_verb_map(rt, &files, options.maps, map, name, shown)?;
-    Ok(Kept { name, bytes })
+    Ok(Kept {
+        map,
+        name,
+        shown,
+        bytes,
+    })
 }
 
 fn keep<'a>(
     rt: &HostRuntime,
     kept: &mut Vec<Kept<'a>>,
-    map: VerbMap,
     file: Kept<'a>,
 ) -> Result<(), VerbMapRefusal> {
+    let map = file.map;
     match kept.push(file) {
         Ok(()) => Ok(()),
         Err(_) => Err(VerbMapRefusal {
@@ -175,8 +220,25 @@ fn run_to_stdout(
             Err(error) => report_unwritten(rt, options, words, STANDARD_OUTPUT, &error, notes),
         },
         Err(RunFault::Write) => report_write_fault(rt, options, &output, notes),
-        Err(fault) => report(words, &Err(fault), notes, &mut rt.stderr()).status,
+        Err(fault) => report_fault(rt, files, options, fault, notes),
     }
+}
+
+/// Reports why the run failed, and returns the exit status. If one of the verb's maps is the
+/// reason, or if it has a fault that the run didn't come to, reports the fault of this map instead.
+fn report_fault(
+    rt: &HostRuntime,
+    files: &ProgramFiles<'_>,
+    options: &Options,
+    fault: RunFault,
+    notes: &[u8],
+) -> u8 {
+    if may_precede_maps(fault) {
+        if let Err(refusal) = check_maps(rt, options, files.kept) {
+            return report_verb_map(&refusal, &mut rt.stderr()).status;
+        }
+    }
+    report(Words::of(options), &Err(fault), notes, &mut rt.stderr()).status
 }
 
 /// Reports that a write to standard output has failed, and returns the exit status. If standard
@@ -227,7 +289,7 @@ fn run_to_file(
         },
         // A write to a vector fails only if memory runs out.
         Err(RunFault::Write) => Err(RunFault::Memory),
-        Err(fault) => Err(fault),
+        Err(fault) => return report_fault(rt, files, options, fault, notes.as_slice()),
     };
     report(words, &outcome, notes.as_slice(), &mut rt.stderr()).status
 }

@@ -3,7 +3,10 @@
 
 use super::scripts::Shelf;
 use crate::maps::PLAIN;
-use crush_input::{VerbMap, VerbMapRefusal, file_notes, read_verb_map, report_verb_map};
+use crush_input::{
+    RunFault, SecondMap, SecondMapFault, VerbMap, VerbMapRefusal, check_verb_map, file_notes,
+    may_precede_maps, read_verb_map, report_verb_map,
+};
 use crush_options::MapForm;
 use std::io::ErrorKind;
 use std::random::RandomSource;
@@ -67,6 +70,33 @@ fn maps_that_may_be_cut_are_told(rt: HostRuntime) {
     let quoted = b"tunable a 1\n ## end crush map\n";
     assert!(rt; is_told(&rt, VerbMap::First, quoted, CUT, 1));
     assert!(rt; is_told(&rt, VerbMap::First, b"tunable a 1\ntunable b", CUT, 1));
+}
+
+#[test]
+fn flaws_are_told_by_the_check(rt: HostRuntime) {
+    let text = b"hots a {\n# end crush map\n";
+    let checked = check_verb_map(&rt, MapForm::WholeMap, VerbMap::Old, "m", text);
+    let Err(refusal) = checked else {
+        panic!(rt; "the map is accepted")
+    };
+    let mut err = Vec::new(rt.alloc());
+    let status = report_verb_map(&refusal, &mut err).status;
+    drop(refusal);
+    let flaw = b"crushedit: old: byte 0: UnknownType\n  m line 1, column 1\n";
+    assert!(rt; is_read(&rt, MapForm::WholeMap, text));
+    assert!(rt; check_verb_map(&rt, MapForm::WholeMap, VerbMap::First, "m", PLAIN).is_ok());
+    assert_eq!(rt; status, 1);
+    assert!(rt; err.as_slice().starts_with(flaw));
+}
+
+#[test]
+fn faults_that_may_precede_the_maps_are_known(rt: HostRuntime) {
+    let long = RunFault::SecondMap(SecondMap::To, SecondMapFault::TooLong);
+    assert!(rt; may_precede_maps(RunFault::Read));
+    assert!(rt; may_precede_maps(RunFault::Memory));
+    assert!(rt; may_precede_maps(long));
+    assert!(rt; !may_precede_maps(RunFault::Write));
+    assert!(rt; !may_precede_maps(RunFault::Refused(1)));
 }
 
 #[test]
