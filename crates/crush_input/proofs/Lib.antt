@@ -9,3 +9,5 @@ pub mod Reading
 pub mod ShownBytes
 pub mod Told
 pub mod VerbMaps
+pub mod BlankEnds
+pub mod FirstMaps

@@ -11,3 +11,4 @@ pub mod OptionsReport
 pub mod Report
 pub mod Words
 pub mod VerbMaps
+pub mod VerbMapLaws
