@@ -4,17 +4,17 @@
 
 For each map it prints processor seconds, the least of the repeats:
 
-- `since`: `--since` the map, of the map after two scripts
+- `since`: `--explain --since` the map, of the map after two scripts
 - `diff`: `diff` of the same two maps
-- `plain`: `--since` the map, of a job that has the map and the scripts
+- `plain`: `--explain --since` the map, of a job that has the map and the scripts
 - `dry run`: `apply --dry-run --last-wins` of the map and the scripts, which doesn't look for lost changes
 - `apply`: `apply` of the map and the scripts, which looks for lost changes
 - `last wins`: `apply --last-wins` of them
 
 The scripts give other weights to a thousand devices each, and none of the same device, so that no change is lost. A verb
-reads each of its maps twice: once to check it, and once in the run. The status is 1 where `diff` or the dry run takes more
-than two and a half times as long as the plain command beside it, or `apply` more than three times as long as with
-`--last-wins`.
+always explains, and it parses each of its maps once, as the plain command does. The status is 1 where `diff` or the dry run
+takes more than one and a quarter times as long as the plain command beside it, or `apply` more than five times as long as
+with `--last-wins`.
 """
 
 import argparse
@@ -62,7 +62,7 @@ def main():
             times = [
                 least([program, *words], os.devnull, options)
                 for words in (
-                    ["--since", "map", "new"], ["diff", "map", "new"], ["--since", "map", "job"],
+                    ["--explain", "--since", "map", "new"], ["diff", "map", "new"], ["--explain", "--since", "map", "job"],
                     ["apply", "--dry-run", "--last-wins", "map", "alice", "bob"], ["apply", "map", "alice", "bob"],
                     ["apply", "--last-wins", "map", "alice", "bob"],
                 )
@@ -70,7 +70,7 @@ def main():
             print(f"{name:<32}" + "".join(f"{'-' if time is None else f'{time:.3f}':>11}" for time in times), end="")
             since, diff, plain, dry, looking, last = times
             print(f"{'-' if None in times else f'{looking / last:.2f}':>17}", flush=True)
-            is_slow |= None in times or diff > 2.5 * since or dry > 2.5 * plain or looking > 3 * last
+            is_slow |= None in times or diff > 1.25 * since or dry > 1.25 * plain or looking > 5 * last
     sys.exit(is_slow)
 
 

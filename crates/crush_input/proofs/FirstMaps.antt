@@ -151,7 +151,7 @@ map_before_section needs bytes rest may begins has =
     let job : JobData = has.0 in
     let more : List ℕ = part_in (ends_line true bytes) (line_end bytes ++ rest) in
     let part : map_part (bytes ++ line_end bytes ++ rest) ≡ bytes ++ more =
-        ap map_part (append_assoc bytes (line_end bytes) rest) ∙ part_behind true bytes (line_end bytes ++ rest) (no_section_of_part bytes may.single) in
+    ap map_part (append_assoc bytes (line_end bytes) rest) ∙ part_behind true bytes (line_end bytes ++ rest) (no_section_of_part bytes may.single) in
     let text : IsMapText (bytes ++ more) job.setting job.table job.adjusted = subst (λ (z : List ℕ). IsMapText z job.setting job.table job.adjusted) part has.1.map in
     verb_map needs bytes job.setting job.table job.adjusted may (map_text_without_end bytes more job.setting job.table job.adjusted (blank_behind bytes rest begins) text)
 

@@ -1,4 +1,4 @@
--- The laws that the maps of a run that succeeds are maps that the verb can use.
+-- If a verb's run succeeds, then its files contain maps that the verb can use.
 use Rattle.std.specs.Prelude.{◌≡◌, ℕ, List, Option, Some}
 use Rattle.crush_map.specs.MapData.{MapData}
 use Rattle.crush_options.specs.declared.parsed_options.MapForm.{MapForm}
@@ -8,15 +8,15 @@ use Rattle.crush_input.specs.Input.{first_bytes, job_bytes}
 use Rattle.crush_input.specs.Options.{IsTextOf}
 use Rattle.crush_input.specs.VerbMaps.{IsVerbMap, MayBeVerbMap}
 
--- FIRST MAPS: bytes that may be a verb's map are followed by the scripts of the command line. If the result is a job, then the bytes are a map that the verb can use
+-- FIRST MAPS: take bytes that may be a verb's map, and append the scripts of the command line. If the result is a job, then the bytes are a map that the verb can use
 abbrev pub FirstMapsAreMaps : Type 0
 FirstMapsAreMaps = (maps : MapForm) (content : List ℕ → Option (List ℕ)) (options : Options) (input : Option (List ℕ)) (bytes all : List ℕ)
     → MayBeVerbMap maps bytes → first_bytes content options.file input ≡ Some bytes → job_bytes content options input ≡ Some all → HasJob all → IsVerbMap maps bytes
 
--- OTHER MAPS: if bytes that may be a verb's map are the text of the second map of a run, then they are a map that the verb can use
+-- OTHER MAPS: if bytes that may be a verb's map are the text of the second map of a run, then the bytes are a map that the verb can use
 abbrev pub OtherMapsAreMaps : Type 0
 OtherMapsAreMaps = (maps : MapForm) (map : MapData) (bytes : List ℕ) → MayBeVerbMap maps bytes → IsTextOf map bytes → IsVerbMap maps bytes
 
--- NO MAP IS LEFT OUT: each map that the verb can use is among the bytes that may be one
+-- NO MAP IS REFUSED WITHOUT PARSING: if bytes are a map that the verb can use, then they may be a verb's map
 abbrev pub VerbMapsMayBeMaps : Type 0
 VerbMapsMayBeMaps = (maps : MapForm) (bytes : List ℕ) → IsVerbMap maps bytes → MayBeVerbMap maps bytes

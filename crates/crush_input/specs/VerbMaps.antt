@@ -74,7 +74,7 @@ pub record IsVerbMap (maps : MapForm) (bytes : List ℕ) : Type 0 where
   pub text : IsMapText bytes setting table adjusted
   pub whole : is_cut maps bytes ≡ false
 
--- MAY BE A MAP: there are at most as many bytes as a job may have, no line begins with `%`, and the text is complete if it must be. So a job that begins with these bytes and is accepted shows that they are a map, as in `IsVerbMap`
+-- MAY BE A MAP: there are at most as many bytes as a job may have, no line begins with `%`, and the text is complete if it must be. `VerbMapLaws` says that such bytes are a map if a run on them succeeds
 pub record MayBeVerbMap (maps : MapForm) (bytes : List ℕ) : Type 0 where
   pub short : length bytes ≤ LONGEST_JOB
   pub single : map_part bytes ≡ bytes

@@ -363,8 +363,9 @@ fn screened_map<H: AllocGlobal + RandomSource>(
 ///
 /// Returns the bytes of the file. There are at most 16,777,216 bytes, no line of them begins with
 /// `%`, as the line before a script does, and they end as a complete map does if `maps` says so. If
-/// a run on these bytes succeeds, they are the text of a map. If it fails, [`check_verb_map`] says
-/// whether they have a fault.
+/// a run on these bytes succeeds, they are the text of a map, as the law
+/// [`maps_of_runs_are_verb_maps`](crate::maps_of_runs_are_verb_maps) says. If the run fails,
+/// [`check_verb_map`] says whether they have a fault.
 ///
 /// Fails if the file can't be opened or read, or if its bytes aren't as above. In the second case
 /// the text is parsed, because the refusal says what is wrong with it, as that of

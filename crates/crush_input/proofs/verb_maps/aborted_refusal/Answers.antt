@@ -1,4 +1,4 @@
-use Rattle.std.proofs.Common.{List, ℕ, refl, subst, sym, true}
+use Rattle.std.proofs.Common.{refl, subst, sym, true}
 use Rattle.crush_input.specs.Notes.{AreNotesOfFile}
 use Rattle.crush_input.specs.VerbMaps.{AreNotesOfVerbMap, IsVerbMapFault}
 use Rattle.crush_input.proofs.VerbMaps.{memory_is_fault}
