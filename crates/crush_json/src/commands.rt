@@ -1,6 +1,6 @@
 //! Writes edits as JSON values, in the form in which a Ceph monitor takes commands.
 
-ghost use Rattle.std.specs.Prelude.{◌≡◌, ◌++◌, codes, IfOk, OnOk, flat_map, string_bytes};
+ghost use Rattle.std.specs.Prelude.{◌≡◌, ◌++◌, OnOk, flat_map};
 ghost use Rattle.json.specs.Tree.{json_tokens};
 ghost use Rattle.serde_json.specs.Data.{string};
 ghost use Rattle.crush_edits.specs.EditText.{pair_word};
@@ -207,19 +207,6 @@ fn push_each_pair(alloc: Global, pairs: &[Pair], out: &mut Document) -> Result<(
 fn push_pair(alloc: Global, pair: &Pair, out: &mut Document) -> Result<(), AllocError>
     ensures { OnOk result (out.new ≡ out.old ++ tokens_of (string (pair_word pair.now))) }
 {
-    let word = pair_word(alloc, pair)?;
+    let word = format!(in alloc; "{pair}")?;
     out.push_text(word.as_str())
-}
-
-/// Returns the pair as text, in the form `TYPE=NAME`.
-fn pair_word(alloc: Global, pair: &Pair) -> Result<String, AllocError>
-    ensures { IfOk result (λ word. string_bytes word ≡ pair_word pair.now) }
-{
-    joined(alloc, pair.kind.as_str(), &pair.name)
-}
-
-fn joined(alloc: Global, kind: &str, name: &Name<Global>) -> Result<String, AllocError>
-    ensures { IfOk result (λ word. string_bytes word ≡ kind.now ++ codes "=" ++ name.now) }
-{
-    format!(in alloc; "{kind}={name}")
 }
