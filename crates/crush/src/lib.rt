@@ -27,12 +27,13 @@
 //! program with contracts of its own must also name these crates in `crates.txt`.
 #![tactic(auto)]
 
+pub mod compare;
+
 pub use crush_builder::BuildFault;
 pub use crush_builder::MapBuilder;
 pub use crush_builder::RuleFault;
 pub use crush_builder::RulePart;
 pub use crush_ceph::ceph_text;
-pub use crush_compare as compare;
 pub use crush_compare::Comparison;
 pub use crush_compare::Difference;
 pub use crush_compare::Report;
@@ -107,6 +108,7 @@ pub use crush_print::write_map;
 pub use crush_print::write_tree;
 pub use crush_print::write_tree_of_class;
 pub use crush_print::write_tree_part;
+pub use crush_reasons::Origin;
 pub use crush_reasons::explained_text;
 pub use crush_reasons::fault_text;
 pub use crush_reasons::written_text;
@@ -131,6 +133,7 @@ pub use crush_since::write_changes_of_class;
 pub use crush_since::write_since;
 pub use crush_since::write_since_by_name;
 pub use crush_since::write_since_by_name_part;
+pub use crush_text::Adjusted;
 pub use crush_text::Expected;
 pub use crush_text::TextFault;
 pub use crush_text::TextFaultKind;

@@ -97,8 +97,8 @@ fn edit_text<W: Write>(alloc: Global, text: &[u8], asked: &Edit, out: &mut W) ->
     ensures nothing { (f : DeclaredFault) → result ≡ Err (Fault.Edit f)
         → Keeps (W.contents out.old) (W.contents out.new) }
 {
-    // Parses the text. `_adjusted` is the number of buckets whose weight in the text isn't the sum
-    // of their items. The map has the sums.
+    // Parses the text. `_adjusted` counts the buckets whose weight in the text isn't the sum of
+    // their items. The map has the sums.
     let (mut map, _adjusted) = match read_map(alloc, text) {
         Ok(read) => read,
         Err(fault) => return Err(Fault::Text(fault)),

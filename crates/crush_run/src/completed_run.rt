@@ -4,6 +4,7 @@ use crush_history::{Entry, Script};
 use crush_input::{KeptText, LostChanges};
 use crush_map::CrushMap;
 use crush_plan::Plan;
+use crush_text::Adjusted;
 use std::alloc::Global;
 
 /// The results of a run's scripts. The checks, the output and the notes of the run are made from
@@ -12,7 +13,7 @@ use std::alloc::Global;
 pub(crate) struct CompletedRun<'a> {
     /// How many bucket weights in the map's text weren't the sum of the bucket's items, and were
     /// replaced by the sum.
-    pub(crate) adjusted: u32,
+    pub(crate) adjusted: Adjusted,
     /// A copy of the map as it was read, if the run needs it.
     pub(crate) opening: &'a Option<CrushMap<Global>>,
     /// The map after the scripts.

@@ -60,7 +60,7 @@ fn summary_of(completed: &CompletedRun<'_>, differs: bool) -> Summary
     ensures { result ≡ summed completed.now.adjusted differs completed.now.entries.now }
 {
     Summary {
-        adjusted: completed.adjusted,
+        adjusted: completed.adjusted.count(),
         calls: completed.entries.len() as u32,
         changes: count_changes(completed.entries),
         differs,

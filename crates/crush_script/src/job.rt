@@ -12,7 +12,7 @@ use crate::line::{cut_job, line_feeds};
 use crate::sections::{Sections, read_sections};
 use crush_history::Script;
 use crush_map::{CrushMap, Hashing};
-use crush_text::read_map_in;
+use crush_text::{Adjusted, read_map_in};
 use crush_units::limits::LONGEST_JOB;
 use std::alloc::Global;
 
@@ -21,9 +21,9 @@ use std::alloc::Global;
 pub struct Job {
     /// The map before any script has run.
     pub map: CrushMap<Global>,
-    /// How many buckets, as items of other buckets, have a weight in the text that isn't the sum of
-    /// the devices below them. In the map each of them has the sum instead.
-    pub adjusted: u32,
+    /// For how many buckets the text gives a weight that isn't the sum of the devices below them. In
+    /// the map each of them has the sum instead.
+    pub adjusted: Adjusted,
     /// One script for each section, in the order of the sections.
     pub scripts: Vec<Script>,
     /// For each script, the numbers of the lines that have its edits. Lines are counted from 1 in

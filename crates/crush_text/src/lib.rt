@@ -5,11 +5,13 @@
 //! of a text.
 #![tactic(auto)]
 
+mod adjusted;
 mod expected;
 mod fault;
 mod reader;
 mod statement_kind;
 
+pub use adjusted::Adjusted;
 pub use expected::{Expected, Keyword, Optional};
 pub use fault::{TextFault, TextFaultKind};
 pub use reader::{read_map, read_map_in};

@@ -22,6 +22,7 @@ mod tunable;
 mod type_line;
 mod word;
 
+use crate::adjusted::Adjusted;
 use crate::fault::TextFault;
 use crate::reader::fault_without_memory::fault_without_memory;
 use crush_builder::MapBuilder;
@@ -41,17 +42,15 @@ struct MapReader<'a, A: Allocator> {
 
 /// Reads the text of a map in the form that `crushtool` prints, and returns the map.
 ///
-/// The second value is the number of buckets for which the text gives a wrong weight. The text
-/// gives the weight of a bucket in the line in which another bucket lists it as an item. The weight
-/// is wrong if it isn't the sum of the weights of the devices below the bucket. In the map the
-/// bucket has this sum instead.
+/// The second value counts the buckets for which the text gives a weight that isn't the sum of the
+/// weights of the devices below the bucket. In the map each of them has this sum instead.
 ///
 /// If the text isn't a map, the call fails with the text's first fault. If memory runs out before a
 /// fault is found, it fails with `OutOfMemory`. Three parts of Ceph's grammar are not supported,
 /// and fail with [`TextFaultKind::LeftOut`]: weight sets (`choose_args`), the steps of MSR rules
 /// (`choosemsr`) and the positions of items (`pos`). docs/user/FORMATS.md describes the grammar,
 /// and docs/user/RULES.md lists the faults, each with its place.
-pub fn read_map(alloc: Global, text: &[u8]) -> Result<(CrushMap<Global>, u32), TextFault>
+pub fn read_map(alloc: Global, text: &[u8]) -> Result<(CrushMap<Global>, Adjusted), TextFault>
     ensures map { IfOk result (λ m. (t : List Row)
         × IsMapText text.now m.0.setting t m.1 × Stands m.0.forest t) }
     ensures spelled { (s : SettingData) (t : List Row) (n : ℕ) → IsMapText text.now s t n
@@ -72,7 +71,7 @@ pub fn read_map_in<A: Allocator + Clone>(
     hashing: Hashing,
     alloc: A,
     text: &[u8],
-) -> Result<(CrushMap<A>, u32), TextFault>
+) -> Result<(CrushMap<A>, Adjusted), TextFault>
     ensures map { IfOk result (λ m. (t : List Row)
         × IsMapText text.now m.0.setting t m.1 × Stands m.0.forest t) }
     ensures spelled { (s : SettingData) (t : List Row) (n : ℕ) → IsMapText text.now s t n
@@ -93,5 +92,5 @@ pub fn read_map_in<A: Allocator + Clone>(
     };
     reader.statements()?;
     let adjusted = reader.builder.adjusted();
-    Ok((reader.builder.finish(), adjusted))
+    Ok((reader.builder.finish(), Adjusted { buckets: adjusted }))
 }

@@ -15,7 +15,7 @@ fn holds_the_map(rt: &(impl Abort + AllocGlobal), size: usize) -> Result<bool, T
     let heap = LocalHeap::new(rt.alloc(), size).expect(rt, "no memory");
     match read_map_in(rt.alloc(), Hashing::plain(), &heap, PLAIN_EXAMPLE_MAP) {
         Ok((map, adjusted)) => {
-            let is_held = adjusted == 0 && is_plain_example_map(rt, &map);
+            let is_held = adjusted.count() == 0 && is_plain_example_map(rt, &map);
             drop(map);
             Ok(is_held)
         }

@@ -28,7 +28,7 @@ fn has_reweight(scripts: &[Script]) -> bool {
 fn is_read(job: &Job) -> bool {
     job.map.total() == 163840
         && job.map.counts().devices == 3
-        && job.adjusted == 0
+        && job.adjusted.count() == 0
         && has_reweight(job.scripts.as_slice())
 }
 

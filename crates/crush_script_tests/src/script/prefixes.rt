@@ -148,7 +148,7 @@ fn is_due(rt: &(impl Abort + AllocGlobal), prefix: &[u8], is_cut: bool) -> bool 
         Ok((map, adjusted)) => {
             let is_printed = has_the_statements(rt, &map, prefix);
             drop(map);
-            is_whole(prefix) && adjusted == 0 && is_printed
+            is_whole(prefix) && adjusted.count() == 0 && is_printed
         }
         Err(fault) => !is_whole(prefix) && is_at_the_end(fault, prefix, is_cut),
     }

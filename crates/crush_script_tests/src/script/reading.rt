@@ -30,7 +30,7 @@ fn the_plain_example_map_is_read_and_printed(rt: HostRuntime) {
     let text = text_of(&rt, &map);
     drop(map);
     assert!(rt; is_read);
-    assert_eq!(rt; adjusted, 0);
+    assert_eq!(rt; adjusted.count(), 0);
     assert!(rt; text.as_slice() == PLAIN_EXAMPLE_MAP);
 }
 
