@@ -215,7 +215,7 @@ def caller_faults():
             traits += re.findall(r"\w+", line)
         elif found := re.match(r"pub (?:enum|struct) (\w+)", line):
             name = found[1]
-            for trait, has in (("Error", "Fault" in name or name == "Refusal"), ("Display", name in {"Weight", "Name"} or name != "ById" and re.search("[a-z]Id$", name))):
+            for trait, has in (("Error", "Fault" in name or name == "Refusal"), ("Display", name in {"Weight", "Name", "Edit", "Call", "Reply", "Line", "Refusal"} or name != "ById" and re.search("[a-z]Id$", name))):
                 if has and trait not in traits and name not in {"ShadowId", "TypeId"}:
                     yield f"CALLING.md: {name} has no {trait}"
             traits = []
