@@ -23,6 +23,7 @@ use crush_history::{Call, Entry, Reply, is_change, make_call};
 use crush_map::CrushMap;
 use crush_units::limits::MOST_ENTRIES;
 use std::alloc::{Allocator, Global};
+use std::fmt;
 use std::marker::Model;
 use thiserror::Error;
 
@@ -58,6 +59,16 @@ pub struct Book<A: Allocator, O: KeptOpening = CrushMap<A>> {
     history: Vec<Entry>,
     changes: u32,
     seat: MapBookSeat,
+}
+
+/// Prints the number of entries, and how many devices and buckets the map has, as in
+/// `Book { entries: 1, map: CrushMap { devices: 3, buckets: 3 } }`.
+impl<A: Allocator, O: KeptOpening> fmt::Debug for Book<A, O> {
+    fn fmt<W: fmt::Write>(&self, f: &mut fmt::Formatter<W>) -> fmt::Result {
+        let entries = self.history.len();
+        let map = &self.map;
+        write!(f, "Book {{ entries: {entries}, map: {map:?} }}")
+    }
 }
 
 impl<A: Allocator, O: KeptOpening> Model for Book<A, O> {
@@ -412,6 +423,16 @@ pub struct Closed<A: Allocator, O: KeptOpening = CrushMap<A>> {
     pub map: CrushMap<A>,
     /// The entries of all answered calls, in the order in which the calls were made.
     pub history: Vec<Entry>,
+}
+
+/// Prints the number of entries, and how many devices and buckets the map has, as in
+/// `Closed { entries: 1, map: CrushMap { devices: 3, buckets: 3 } }`.
+impl<A: Allocator, O: KeptOpening> fmt::Debug for Closed<A, O> {
+    fn fmt<W: fmt::Write>(&self, f: &mut fmt::Formatter<W>) -> fmt::Result {
+        let entries = self.history.len();
+        let map = &self.map;
+        write!(f, "Closed {{ entries: {entries}, map: {map:?} }}")
+    }
 }
 
 /// Publishes the number of changes and the weight after the entry `joining`, with one atomic store.

@@ -27,6 +27,7 @@ use crush_gauge::Reading;
 use crush_history::{Call, Reply};
 use crush_map::CrushMap;
 use std::alloc::{AllocError, Allocator, Global};
+use std::fmt;
 use std::marker::{Brand, Model};
 use std::sync::Wait;
 use std::sync::ledger::Blank;
@@ -43,6 +44,14 @@ pub struct Started<A: Allocator = Global, O: KeptOpening = CrushMap<A>> {
     book: Book<A, O>,
     readers: Vec<Reader>,
     blank: Blank,
+}
+
+/// Prints the number of operators, as in `Started { operators: 2 }`.
+impl<A: Allocator, O: KeptOpening> fmt::Debug for Started<A, O> {
+    fn fmt<W: fmt::Write>(&self, f: &mut fmt::Formatter<W>) -> fmt::Result {
+        let operators = self.readers.len();
+        write!(f, "Started {{ operators: {operators} }}")
+    }
 }
 
 impl<A: Allocator, O: KeptOpening> Model for Started<A, O> {
@@ -205,6 +214,13 @@ fn new_gauge<M: GhostOpening>(
 pub struct Editor<N: Desk, O: KeptOpening = CrushMap<Global>> {
     lock_free_reader: LockFreeReader<N>,
     state_lock: StateLock<N, O>,
+}
+
+/// Prints `Editor { .. }`: what the lock protects can't be read without waiting.
+impl<N: Desk, O: KeptOpening> fmt::Debug for Editor<N, O> {
+    fn fmt<W: fmt::Write>(&self, f: &mut fmt::Formatter<W>) -> fmt::Result {
+        f.write_str("Editor { .. }")
+    }
 }
 
 impl<N: Desk, O: KeptOpening> Editor<N, O> {

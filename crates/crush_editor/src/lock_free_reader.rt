@@ -11,6 +11,7 @@ ghost use Rattle.crush_editor.specs.Seat.{Sees};
 use crate::law::{MapGauge, MapNote};
 use crate::locked::{Desk, Seat};
 use crush_gauge::Reading;
+use std::fmt;
 use std::marker::{Model, PhantomData};
 
 /// A note of what a seat has seen, for [`LockFreeReader::learn`] with another seat of the same
@@ -19,6 +20,13 @@ use std::marker::{Model, PhantomData};
 pub struct Note<N: Desk> {
     note: MapNote,
     of: PhantomData<N>,
+}
+
+/// Prints `Note { .. }`: what the seat has seen exists only in contracts.
+impl<N: Desk> fmt::Debug for Note<N> {
+    fn fmt<W: fmt::Write>(&self, f: &mut fmt::Formatter<W>) -> fmt::Result {
+        f.write_str("Note { .. }")
+    }
 }
 
 impl<N: Desk> Model for Note<N> {
@@ -42,6 +50,13 @@ pub struct LockFreeReader<N: Desk> {
     gauge: MapGauge,
     of: PhantomData<N>,
     ghost tied: { gauge.table.shared.table_id ≡ N.gauge },
+}
+
+/// Prints `LockFreeReader { .. }`: a reading needs a seat.
+impl<N: Desk> fmt::Debug for LockFreeReader<N> {
+    fn fmt<W: fmt::Write>(&self, f: &mut fmt::Formatter<W>) -> fmt::Result {
+        f.write_str("LockFreeReader { .. }")
+    }
 }
 
 impl<N: Desk> LockFreeReader<N> {

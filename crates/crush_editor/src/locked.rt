@@ -13,6 +13,7 @@ use crate::law::{MapGauge, Reader};
 use crate::opening::KeptOpening;
 use crush_history::{Call, Reply, Slip};
 use std::alloc::Global;
+use std::fmt;
 use std::marker::{Brand, Model};
 use std::sync::ledger;
 use std::sync::ledger::{Ledger, Share};
@@ -47,6 +48,16 @@ pub struct Seat<N: Desk> {
     pub(crate) slips: Vec<Slip>,
     pub(crate) reader: Reader,
     pub(crate) ledger_share: Share<N>,
+}
+
+/// Prints the operator's number and how many of its calls were answered, as in
+/// `Seat { operator: 0, slips: 1 }`.
+impl<N: Desk> fmt::Debug for Seat<N> {
+    fn fmt<W: fmt::Write>(&self, f: &mut fmt::Formatter<W>) -> fmt::Result {
+        let operator = self.operator;
+        let slips = self.slips.len();
+        write!(f, "Seat {{ operator: {operator}, slips: {slips} }}")
+    }
 }
 
 impl<N: Desk> Model for Seat<N> {

@@ -15,6 +15,7 @@ use crush_map::{CrushMap, Hashing};
 use crush_text::{Adjusted, read_map_in};
 use crush_units::limits::LONGEST_JOB;
 use std::alloc::Global;
+use std::fmt;
 
 /// A map, and the scripts of the operators that edit it.
 #[derive(Drop)]
@@ -29,6 +30,20 @@ pub struct Job {
     /// For each script, the numbers of the lines that have its edits. Lines are counted from 1 in
     /// the whole job.
     pub lines: Vec<Vec<u32>>,
+}
+
+/// Prints how many devices and buckets the map has, the number of adjusted weights, and the number
+/// of scripts, as in `Job { map: CrushMap { devices: 3, buckets: 3 }, adjusted: 0, scripts: 1 }`.
+impl fmt::Debug for Job {
+    fn fmt<W: fmt::Write>(&self, f: &mut fmt::Formatter<W>) -> fmt::Result {
+        let map = &self.map;
+        let adjusted = self.adjusted;
+        let scripts = self.scripts.len();
+        write!(
+            f,
+            "Job {{ map: {map:?}, adjusted: {adjusted}, scripts: {scripts} }}"
+        )
+    }
 }
 
 /// Reads a job: the text of a map, followed by the sections with the operators' scripts.
