@@ -43,7 +43,7 @@ OFFERED = {
     "crush_conflicts": {"lost_changes", "map_alone"},
     "crush_json": {"write_map_document", "write_plan_document", "write_since_document", "write_tree_document"},
     "crush_reasons": {"explained_text"},
-    "crush_plan": {"find_plan", "plan_text"},
+    "crush_plan": {"Plan::try_copy", "find_plan", "plan_text"},
     "crush_run": {"run_at_once"},
     "crush_editor": {
         "Book::opening", "LockFreeReader::learn", "LockFreeReader::note", "Editor::lock_free_reader", "Editor::learn", "Editor::note", "Seat::slips",

@@ -33,6 +33,45 @@ pub struct Plan {
     pub aside: Counts,
 }
 
+impl Plan {
+    /// Returns a copy of the plan, allocated with `alloc`, or an error if memory runs out.
+    pub fn try_copy(&self, alloc: Global) -> Result<Plan, AllocError>
+        ensures { IfOk result (λ copy. plan_data copy ≡ plan_data self.now) }
+    {
+        let edits = copy_edits(alloc, self.edits.as_slice())?;
+        let rest = copy_lines(alloc, self.rest.as_slice())?;
+        Ok(Plan {
+            edits,
+            rest,
+            aside: self.aside,
+        })
+    }
+}
+
+/// Copies the edits, in order, to a vector that is allocated with `alloc`.
+fn copy_edits(alloc: Global, edits: &[Edit]) -> Result<Vec<Edit>, AllocError>
+    ensures { IfOk result (λ copies. copies.items ≡ edits.now) }
+{
+    let mut copies = Vec::with_capacity(alloc, edits.len())?;
+    for edit in edits {
+        let copy = edit.try_copy(alloc)?;
+        copies.push(copy)?;
+    }
+    Ok(copies)
+}
+
+/// Copies the lines, in order, to a vector that is allocated with `alloc`.
+fn copy_lines(alloc: Global, lines: &[Vec<u8>]) -> Result<Vec<Vec<u8>>, AllocError>
+    ensures { IfOk result (λ copies. line_texts copies.items ≡ line_texts lines.now) }
+{
+    let mut copies = Vec::with_capacity(alloc, lines.len())?;
+    for line in lines {
+        let copy = Vec::from_slice(alloc, line.as_slice())?;
+        copies.push(copy)?;
+    }
+    Ok(copies)
+}
+
 /// Returns a plan that leads from a map toward the wanted map.
 ///
 /// `identity` says how the buckets of the two maps are matched. If `under` is a name, the plan
