@@ -120,8 +120,9 @@ impl Call {
     }
 }
 
-/// Copies the edits, in order, to a vector that is allocated with `alloc`.
-fn copy_edits(alloc: Global, edits: &[Edit]) -> Result<Vec<Edit>, AllocError>
+/// Returns copies of the edits, in order, in a vector that is allocated with `alloc`, or an error if
+/// memory runs out.
+pub fn copy_edits(alloc: Global, edits: &[Edit]) -> Result<Vec<Edit>, AllocError>
     ensures { IfOk result (λ copies. copies.items ≡ edits.now) }
 {
     let mut copies = Vec::with_capacity(alloc, edits.len())?;

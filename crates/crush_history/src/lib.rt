@@ -17,7 +17,7 @@ mod making;
 mod refused;
 mod script;
 
-pub use call::{Call, Edits, Reply};
+pub use call::{Call, Edits, Reply, copy_edits};
 pub use ceph::{has_dash, push_ceph_heading, push_ceph_line};
 pub use device::device_named;
 pub use display::Line;

@@ -14,6 +14,7 @@ use crate::goal::PlanGoal;
 use crate::identity::Identity;
 use crate::item_table::ItemTable;
 use crate::search::improve;
+use crush_history::copy_edits;
 use crush_map::{CrushMap, Edit};
 use crush_since::{Counts, count_aside, stays_part};
 use std::alloc::{AllocError, Allocator, Global};
@@ -46,18 +47,6 @@ impl Plan {
             aside: self.aside,
         })
     }
-}
-
-/// Copies the edits, in order, to a vector that is allocated with `alloc`.
-fn copy_edits(alloc: Global, edits: &[Edit]) -> Result<Vec<Edit>, AllocError>
-    ensures { IfOk result (λ copies. copies.items ≡ edits.now) }
-{
-    let mut copies = Vec::with_capacity(alloc, edits.len())?;
-    for edit in edits {
-        let copy = edit.try_copy(alloc)?;
-        copies.push(copy)?;
-    }
-    Ok(copies)
 }
 
 /// Copies the lines, in order, to a vector that is allocated with `alloc`.
