@@ -37,7 +37,7 @@ pub struct Job {
 impl fmt::Debug for Job {
     fn fmt<W: fmt::Write>(&self, f: &mut fmt::Formatter<W>) -> fmt::Result {
         let map = &self.map;
-        let adjusted = self.adjusted;
+        let adjusted = self.adjusted.count();
         let scripts = self.scripts.len();
         write!(
             f,
