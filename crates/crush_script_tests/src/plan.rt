@@ -99,6 +99,21 @@ fn a_type_is_found_by_its_name(rt: HostRuntime) {
 }
 
 #[test]
+fn a_copy_of_a_plan_is_printed_as_the_plan_is(rt: HostRuntime) {
+    let map = map_of_parts(&rt, REGION_9);
+    let wanted = map_of_parts(&rt, REGION_10);
+    let plan = find_plan(rt.alloc(), Identity::Ids, None, &map, &wanted).expect(&rt, "no memory");
+    drop(wanted);
+    drop(map);
+    let copy = plan.try_copy(rt.alloc()).expect(&rt, "no memory");
+    let text = plan_text(rt.alloc(), &plan).expect(&rt, "no memory");
+    drop(plan);
+    let text_of_copy = plan_text(rt.alloc(), &copy).expect(&rt, "no memory");
+    drop(copy);
+    assert!(rt; text_of_copy.as_slice() == text.as_slice());
+}
+
+#[test]
 fn other_ids_of_hosts_are_told_aside(rt: HostRuntime) {
     assert!(rt;
         is_planned(

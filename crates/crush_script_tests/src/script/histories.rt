@@ -5,8 +5,11 @@ ghost use Rattle.crush_history.specs.Entries.{AreOf};
 
 use super::{PLAIN_EXAMPLE_MAP, job_of, joined};
 use crate::histories::entries_of;
-use crush_history::{Entry, Script, history_text};
-use crush_script::Job;
+use crush_edits::{Edit, Refusal};
+use crush_history::{Call, Edits, Entry, Reply, Script, Slip, history_text};
+use crush_map::CrushMap;
+use crush_units::Name;
+use std::alloc::Global;
 use std::process::Abort;
 
 const SCRIPT: &[u8] = b"\
@@ -39,12 +42,16 @@ fn is_text(
     text.as_slice() == lines
 }
 
-fn is_run(rt: &(impl Abort + AllocGlobal), job: &mut Job, lines: &[u8]) -> bool {
-    let scripts = job.scripts.as_slice();
+fn is_run(
+    rt: &(impl Abort + AllocGlobal),
+    map: &mut CrushMap<Global>,
+    scripts: &[Script],
+    lines: &[u8],
+) -> bool {
     if scripts.len() != 1 {
         return false;
     }
-    let entries = entries_of(rt, &mut job.map, scripts, 0);
+    let entries = entries_of(rt, map, scripts, 0);
     let is = entries.len() < 100 && is_text(rt, scripts, entries.as_slice(), lines);
     drop(entries);
     is
@@ -54,7 +61,68 @@ fn is_run(rt: &(impl Abort + AllocGlobal), job: &mut Job, lines: &[u8]) -> bool 
 fn a_history_has_a_line_for_each_call(rt: HostRuntime) {
     let text = joined(&rt, &[PLAIN_EXAMPLE_MAP, SCRIPT]);
     let mut job = job_of(&rt, text.as_slice());
-    let is = is_run(&rt, &mut job, LINES);
+    let is = is_run(&rt, &mut job.map, job.scripts.as_slice(), LINES);
     drop(job);
     assert!(rt; is);
+}
+
+#[test]
+fn a_copy_of_a_script_makes_the_same_calls(rt: HostRuntime) {
+    let text = joined(&rt, &[PLAIN_EXAMPLE_MAP, SCRIPT]);
+    let mut job = job_of(&rt, text.as_slice());
+    let script = job.scripts.pop().expect(&rt, "no script");
+    let copy = script.try_copy(rt.alloc()).expect(&rt, "no memory");
+    drop(script);
+    let scripts = [copy];
+    let is = is_run(&rt, &mut job.map, scripts.as_slice(), LINES);
+    drop(scripts);
+    drop(job);
+    assert!(rt; is);
+}
+
+fn remove_x(rt: &(impl Abort + AllocGlobal)) -> Edit {
+    Edit::Remove {
+        name: Name::read(rt.alloc(), b"x").expect(rt, "no name"),
+    }
+}
+
+fn is_command(rt: &(impl Abort + AllocGlobal), call: &Call, command: &str) -> bool {
+    let text = format!(in rt.alloc(); "{call}").expect(rt, "no memory");
+    let is = text.as_str() == command;
+    drop(text);
+    is
+}
+
+#[test]
+fn an_entry_is_copied(rt: HostRuntime) {
+    let call = Call::One(remove_x(&rt));
+    let reply = Reply::Refused(Refusal::NoSuchItem);
+    let entry = Entry {
+        operator: 3,
+        call,
+        reply,
+    };
+    let copy = entry.try_copy(rt.alloc()).expect(&rt, "no memory");
+    drop(entry);
+    assert_eq!(rt; copy.operator, 3);
+    assert!(rt; is_command(&rt, &copy.call, "rm x"));
+    assert_eq!(rt; copy.reply, reply);
+    drop(copy);
+}
+
+#[test]
+fn a_slip_with_a_batch_is_copied(rt: HostRuntime) {
+    let mut edits = Vec::new(rt.alloc());
+    edits.push(remove_x(&rt)).expect(&rt, "no memory");
+    let call = Call::Guarded {
+        seen: 7,
+        edits: Edits::new(edits),
+    };
+    let reply = Reply::Stale(8);
+    let slip = Slip { call, reply };
+    let copy = slip.try_copy(rt.alloc()).expect(&rt, "no memory");
+    drop(slip);
+    assert!(rt; is_command(&rt, &copy.call, "begin at 7 ; rm x ; commit"));
+    assert_eq!(rt; copy.reply, reply);
+    drop(copy);
 }

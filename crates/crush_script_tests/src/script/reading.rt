@@ -1,6 +1,6 @@
 //! Tests how the plain example map is read and printed, and how faults are printed.
 
-use crate::script::{PLAIN_EXAMPLE_MAP, text_of};
+use crate::script::{PLAIN_EXAMPLE_MAP, job_of, joined, text_of};
 use crush_map::CrushMap;
 use crush_script::JobFault;
 use crush_text::{Expected, TextFault, TextFaultKind, read_map};
@@ -53,4 +53,19 @@ fn faults_are_told(rt: HostRuntime) {
     );
     assert!(rt; JobFault::Text(text).lacks_memory());
     assert!(rt; !line.lacks_memory());
+}
+
+#[test]
+fn the_debug_text_of_a_job_has_its_counts(rt: HostRuntime) {
+    let text = joined(
+        &rt,
+        &[PLAIN_EXAMPLE_MAP, b"%operator a\n%operator b\nrm x\n"],
+    );
+    let job = job_of(&rt, text.as_slice());
+    let shown = format!(in rt.alloc(); "{job:?}").expect(&rt, "no memory");
+    drop(job);
+    assert_eq!(rt;
+        shown.as_str(),
+        "Job { map: CrushMap { devices: 3, buckets: 3 }, adjusted: 0, scripts: 2 }",
+    );
 }
