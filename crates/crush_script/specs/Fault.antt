@@ -1,7 +1,9 @@
--- Which faults of a job say that memory ran out.
-use Rattle.std.specs.Prelude.{Bool, true, false}
+-- Which faults of a job say that memory ran out, and what a line requires a word to be.
+use Rattle.std.specs.Prelude.{ℕ, List, Bool, true, false, codes}
 use Rattle.crush_text.specs.declared.fault.TextFaultKind.{TextFaultKind}
 use Rattle.crush_text.specs.declared.fault.TextFaultKind.TheVariants as kinds
+use Rattle.crush_script.specs.declared.fault.Due.{Due}
+use Rattle.crush_script.specs.declared.fault.Due.TheVariants.{Device, Weight, Name, Pair, NoMorePairs, At, Changes, End}
 use Rattle.crush_script.specs.declared.fault.JobFault.{JobFault}
 use Rattle.crush_script.specs.declared.fault.JobFault.TheVariants.{Text, OutOfMemory}
 
@@ -15,3 +17,14 @@ abbrev pub lacks_memory : JobFault → Bool
 lacks_memory OutOfMemory = true
 lacks_memory (Text fault) = is_out_of_memory fault.kind
 lacks_memory fault = false
+
+-- what a line requires a word to be, as it is printed
+abbrev pub due_text : Due → List ℕ
+due_text Device = codes "the name of a device, osd.N"
+due_text Weight = codes "a weight"
+due_text Name = codes "a name"
+due_text Pair = codes "a pair TYPE=NAME or the end of the line"
+due_text NoMorePairs = codes "the end of the line, because a location has at most 16 pairs"
+due_text At = codes "`at` or the end of the line"
+due_text Changes = codes "a number from 0 to 65536"
+due_text End = codes "the end of the line"

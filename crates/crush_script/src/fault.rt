@@ -1,10 +1,12 @@
 //! The faults of a job.
 
-ghost use Rattle.std.specs.Prelude.{◌≡◌};
+ghost use Rattle.std.specs.Prelude.{◌≡◌, Some};
+ghost use Rattle.crush_script.specs.Fault.{due_text};
 
 use crate::command::LineFault;
 use crush_text::{TextFault, TextFaultKind};
 use std::alloc::AllocFailed;
+use std::fmt::{self, Display, Formatter};
 use thiserror::Error;
 
 /// What a line requires a word to be.
@@ -29,9 +31,35 @@ pub enum Due {
     End,
 }
 
+impl Due {
+    fn text(self) -> &'static str
+        ensures { result.now ≡ due_text self }
+    {
+        match self {
+            Due::Device => "the name of a device, osd.N",
+            Due::Weight => "a weight",
+            Due::Name => "a name",
+            Due::Pair => "a pair TYPE=NAME or the end of the line",
+            Due::NoMorePairs => "the end of the line, because a location has at most 16 pairs",
+            Due::At => "`at` or the end of the line",
+            Due::Changes => "a number from 0 to 65536",
+            Due::End => "the end of the line",
+        }
+    }
+}
+
+impl Display for Due {
+    ghost output = { λ due. Some (due_text due) };
+
+    fn fmt<W: fmt::Write>(&self, f: &mut Formatter<W>) -> fmt::Result {
+        f.write_str(self.text())
+    }
+}
+
 /// The place in a line at which the first fault of its words is: a word is missing there, or the
 /// word there isn't what the line requires.
-#[derive(Clone, Copy, Debug, PartialEq, Eq)]
+#[derive(Clone, Copy, Debug, PartialEq, Eq, Error)]
+#[error("word {word}: expected {due}")]
 pub struct Misfit {
     /// The index of the word in its line. The word of the command has index 0.
     pub word: usize,
@@ -40,17 +68,22 @@ pub struct Misfit {
 }
 
 /// Why a line isn't allowed at its place.
-#[derive(Clone, Copy, Debug, PartialEq, Eq)]
+#[derive(Clone, Copy, Debug, PartialEq, Eq, Error)]
 pub enum BadLine {
     /// A word is missing, or doesn't have the form that the line's command requires.
+    #[error("{0}")]
     Word(Misfit),
     /// The line begins with `%`, but its first word isn't `%operator`.
+    #[error("expected `%operator NAME`")]
     NoOperator,
     /// The line is a `begin` inside a batch.
+    #[error("`begin` inside a batch")]
     BatchOpen,
     /// The line is a `commit` outside a batch.
+    #[error("`commit` outside a batch")]
     NoBatch,
     /// The line is the 65,537th edit of a batch.
+    #[error("a batch has at most 65536 edits")]
     BatchFull,
 }
 
@@ -59,7 +92,7 @@ pub enum BadLine {
 pub enum JobFault {
     /// The line doesn't have the form of its command or of `%operator NAME`. Or it is a `begin`
     /// inside a batch, a `commit` outside a batch, or the 65,537th edit of a batch.
-    #[error("line {line}: BadLine")]
+    #[error("line {line}: BadLine: {why}")]
     BadLine {
         /// The number of the line.
         line: usize,

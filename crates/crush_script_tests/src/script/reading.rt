@@ -2,7 +2,7 @@
 
 use crate::script::{PLAIN_EXAMPLE_MAP, job_of, joined, text_of};
 use crush_map::CrushMap;
-use crush_script::JobFault;
+use crush_script::{BadLine, Due, JobFault, Misfit};
 use crush_text::{Expected, TextFault, TextFaultKind, read_map};
 use std::alloc::Global;
 
@@ -34,6 +34,10 @@ fn the_plain_example_map_is_read_and_printed(rt: HostRuntime) {
     assert!(rt; text.as_slice() == PLAIN_EXAMPLE_MAP);
 }
 
+fn bad_line(why: BadLine) -> JobFault {
+    JobFault::BadLine { line: 3, why }
+}
+
 #[test]
 fn faults_are_told(rt: HostRuntime) {
     let kind = TextFaultKind::OutOfMemory;
@@ -43,13 +47,23 @@ fn faults_are_told(rt: HostRuntime) {
         expected: Expected::Memory,
     };
     let line = JobFault::NoSuchCommand(3);
+    let word = bad_line(BadLine::Word(Misfit {
+        word: 2,
+        due: Due::Weight,
+    }));
+    let batch = bad_line(BadLine::NoBatch);
     let whole = JobFault::TooLong;
     let told = format!(in rt.alloc(); "{text}, {line}, {whole}").expect(&rt, "no memory");
+    let words = format!(in rt.alloc(); "{word}, {batch}").expect(&rt, "no memory");
     assert_eq!(rt; kind.number(), 16);
     assert_eq!(rt; kind.name(), "OutOfMemory");
     assert_eq!(rt;
         told.as_str(),
         "byte 102: OutOfMemory, line 3: NoSuchCommand, TooLong"
+    );
+    assert_eq!(rt;
+        words.as_str(),
+        "line 3: BadLine: word 2: expected a weight, line 3: BadLine: `commit` outside a batch"
     );
     assert!(rt; JobFault::Text(text).lacks_memory());
     assert!(rt; !line.lacks_memory());
