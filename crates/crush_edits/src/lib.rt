@@ -10,6 +10,7 @@ mod edit;
 mod keyword;
 pub mod law;
 mod location;
+mod place;
 mod refusal;
 mod rule;
 mod setting;

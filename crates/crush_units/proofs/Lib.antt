@@ -9,3 +9,4 @@ pub mod Appending
 pub mod Forms
 pub mod Printed
 pub mod Split
+pub mod OsdNames

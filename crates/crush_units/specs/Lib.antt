@@ -1,6 +1,7 @@
 pub mod Id
 pub mod Alg
 pub mod Name
+pub mod OsdName
 pub mod Text
 pub mod Weight
 pub mod ExactWeight

@@ -16,6 +16,8 @@ use std::hash::{Hash, Hasher};
 use std::marker::Model;
 use thiserror::Error;
 
+mod osd;
+
 /// The error of [`Name::read`]: why the bytes weren't read as a name.
 #[derive(Clone, Copy, Debug, PartialEq, Eq, Error)]
 pub enum NameFault {

@@ -29,7 +29,7 @@ impl Model for Short {
 }
 
 impl Short {
-    fn new(bytes: &[u8]) -> Short
+    pub(crate) fn new(bytes: &[u8]) -> Short
         requires { length bytes.now ≤ LONGEST_SHORT_NAME }
         ensures { result ≡ bytes.now }
     {

@@ -1,0 +1,26 @@
+//! Edits that place a device whose name is `osd.N`, where N is its id.
+
+ghost use Rattle.std.specs.Prelude.{◌≡◌};
+ghost use Rattle.crush_units.specs.OsdName.{osd_name};
+ghost use Rattle.crush_edits.specs.declared.edit.Edit.TheVariants.{Place};
+
+use crate::edit::{Edit, Placing};
+use crate::location::Location;
+use crush_units::{DeviceId, Weight};
+
+impl Edit {
+    /// Returns the edit [`Edit::Place`] for the device with this id. The device's name in the edit
+    /// is [`DeviceId::osd_name`]. So the command that this edit is printed as is parsed as the same
+    /// edit. Memory isn't allocated.
+    pub fn place(how: Placing, device: DeviceId, weight: Weight, at: Location) -> Edit
+        ensures { result ≡ Place how device (osd_name device) weight at }
+    {
+        Edit::Place {
+            how,
+            device,
+            name: device.osd_name(),
+            weight,
+            at,
+        }
+    }
+}
