@@ -7,6 +7,7 @@ pub mod FirstMisfits
 pub mod MapTexts
 pub mod Oks
 pub mod Pairs
+pub mod PlacedLaws
 pub mod PrintedLaws
 pub mod PrintedWords
 pub mod Said

@@ -1,6 +1,12 @@
 -- Laws of edits: a printed edit is read as the same edit, and each edit that is read can be printed.
-use Rattle.std.specs.Prelude.{◌≡◌, ℕ, List, Ok}
+use Rattle.std.specs.Prelude.{◌≡◌, ◌<◌, ◌^◌, ℕ, List, Ok}
+use Rattle.crush_units.specs.OsdName.{osd_name}
+use Rattle.crush_units.specs.declared.limits.TheConstants.{DEVICE_IDS}
+use Rattle.crush_edits.specs.Pushed.{IsLocation}
+use Rattle.crush_edits.specs.declared.location.Pair.{Pair}
+use Rattle.crush_edits.specs.declared.edit.Placing.{Placing}
 use Rattle.crush_edits.specs.declared.edit.Edit.{Edit}
+use Rattle.crush_edits.specs.declared.edit.Edit.TheVariants.{Place}
 use Rattle.crush_script.specs.declared.command.Command.TheVariants as says
 use Rattle.crush_script.specs.Lines.{line_words}
 use Rattle.crush_script.specs.Command.{command}
@@ -14,3 +20,7 @@ PrintedIsRead = (e : Edit) → IsSaid e → command (line_words (edit_text e)) �
 -- READ IS SAID: each edit that is parsed from a line is an edit that a command can express, so its printed line is parsed as the same edit
 abbrev pub ReadIsSaid : Type 0
 ReadIsSaid = (words : List (List ℕ)) (e : Edit) → command words ≡ Ok (says.Edit e) → IsSaid e
+
+-- PLACED IS READ: if an edit places a device by the name `osd.N`, where N is the device's id, then the edit is printed as a line that is parsed as the same edit
+abbrev pub PlacedIsRead : Type 0
+PlacedIsRead = (how : Placing) (d w : ℕ) (at : List Pair) → d < DEVICE_IDS → w < 2 ^ 32 → IsLocation at → command (line_words (edit_text (Place how d (osd_name d) w at))) ≡ Ok (says.Edit (Place how d (osd_name d) w at))

@@ -3,7 +3,7 @@
 //! that does nothing at run time.
 
 ghost use Rattle.crush_script.specs.FirstMisfit.{MisfitsOfCommands, MisfitsOfOperators};
-ghost use Rattle.crush_script.specs.Printed.{PrintedIsRead, ReadIsSaid};
+ghost use Rattle.crush_script.specs.Printed.{PlacedIsRead, PrintedIsRead, ReadIsSaid};
 ghost use Rattle.crush_script.specs.ScriptsText.{JobsAreReadBack, MapTextsHaveNoSection, ReadScriptsAreSuch};
 
 /// States that if an edit is printed as in a history, then the printed line is read back as the
@@ -12,6 +12,12 @@ ghost use Rattle.crush_script.specs.ScriptsText.{JobsAreReadBack, MapTextsHaveNo
 pub fn printed_is_read()
     ensures printed { PrintedIsRead }
     ensures read { ReadIsSaid }
+{}
+
+/// States that each edit that [`crush_edits::Edit::place`] can return is printed as a line that is
+/// read back as the same edit. The edit has the name `osd.N` for the device with the id N.
+pub fn placed_is_read()
+    ensures { PlacedIsRead }
 {}
 
 /// States that if scripts are printed as sections after a map's text, then the result is read back

@@ -18,5 +18,5 @@ mod word;
 pub use fault::{BadLine, Due, JobFault, Misfit};
 pub use job::{Job, read_job};
 pub use keyword::Form;
-pub use law::{misfits_are_first, printed_is_read, scripts_are_read_back};
+pub use law::{misfits_are_first, placed_is_read, printed_is_read, scripts_are_read_back};
 pub use line::{PlacedWord, line_feeds, map_part, placed_word};
