@@ -21,7 +21,7 @@ from sources import PROGRAMS, TOP  # noqa: E402
 # tell it, the tests by which a caller meets what a call requires, and what contracts of others name.
 OFFERED = {
     "crush_units": {"LONGEST_SHORT_NAME", "Weight::exact_text", "is_name_byte"},
-    "crush_edits": {"Keyword::form"},
+    "crush_edits": {"Edit::place", "Keyword::form"},
     "crush_nodes": {"Node::has_room"},
     "crush_index": {"Hashing::keyed"},
     "crush_builder": {"MapBuilder::is_idle", "MapBuilder::is_begun", "MapBuilder::is_numbered", "MapBuilder::is_filling"},
