@@ -14,6 +14,7 @@ pub mod Others
 pub mod PutLaws
 pub mod Puts
 pub mod Routes
+pub mod SameEdits
 pub mod SettingLaws
 pub mod Stops
 pub mod Tails

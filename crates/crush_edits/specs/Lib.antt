@@ -25,6 +25,8 @@ pub mod Pushed
 pub mod Put
 pub mod Refusal
 pub mod RulesTold
+pub mod SameEdit
+pub mod SamePairs
 pub mod Setting
 pub mod SettingSeen
 pub mod Stops

@@ -27,7 +27,7 @@ pub enum Placing {
 /// The fields `name`, `a`, `b` and `from` are names of items, `to` is the new name of a bucket,
 /// `kind` is the name of a type, and `class` is the name of a class. `weight` is the weight of a
 /// device, and `at` is the location where an item is to be put.
-#[derive(Debug, Drop)]
+#[derive(Debug, PartialEq, Eq, Drop)]
 pub enum Edit {
     /// Puts a device into the bucket that the location leads to, with this weight. If its id is new,
     /// the edit creates the device. `how` says what the edit does with a device that is already in

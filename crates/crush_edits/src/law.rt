@@ -5,3 +5,4 @@ pub mod order;
 pub mod others;
 pub mod put;
 pub mod route;
+pub mod same;

@@ -1,8 +1,11 @@
 //! Locations: where an edit is to put an item.
 
 ghost use Rattle.std.specs.Prelude.{◌≡◌, ◌≤◌, [], ◌∷◌, ◌++◌, length, IfOk, IfErr, OnOk, OnErr};
+ghost use Rattle.std.specs.Cmp.Rules.{comparing};
+ghost use Rattle.std.proofs.Common.{rules};
 ghost use Rattle.crush_units.specs.Name.{IsName};
 ghost use Rattle.crush_edits.specs.Pushed.{IsLocation, CanPush, IsLocationFault, location_fault_number};
+ghost use Rattle.crush_edits.specs.SamePairs.{same_pairs};
 
 use crush_units::limits::MOST_PAIRS;
 use crush_units::{Name, NameFault, is_name};
@@ -11,7 +14,7 @@ use std::marker::Model;
 use thiserror::Error;
 
 /// The name of a type and the name of a bucket, such as `host=h1` in a command.
-#[derive(Debug, Drop)]
+#[derive(Debug, PartialEq, Eq, Drop)]
 pub struct Pair {
     /// The name of the bucket's type, for example `host`.
     pub kind: Name<Global>,
@@ -43,6 +46,20 @@ impl Model for Location {
     ghost view = { λ location. location.pairs.items };
 
     ghost invariant = { λ location. IsLocation location.pairs.items };
+}
+
+impl PartialEq for Location {
+    ghost eq = { same_pairs };
+
+    ghost laws = { Prim.search (comparing, rules) };
+
+    fn eq(&self, other: &Location) -> bool {
+        self.pairs == other.pairs
+    }
+}
+
+impl Eq for Location {
+    ghost laws = { Prim.search (comparing, rules) };
 }
 
 /// Why a pair isn't added to a location, which is then unchanged.
