@@ -49,30 +49,12 @@ fn at_h1(rt: &impl Abort, alloc: Global) -> Location {
 }
 
 fn placing_edits(rt: &impl Abort, alloc: Global) -> [Edit; 3] {
-    let device = DeviceId::new(3).expect(rt, "a device");
+    let device = DeviceId::new(7).expect(rt, "a device");
     let weight = Weight::from_units(65536);
     [
-        Edit::Place {
-            how: Placing::Insert,
-            device,
-            name: name(rt, alloc, "osd.3"),
-            weight,
-            at: at_h1(rt, alloc),
-        },
-        Edit::Place {
-            how: Placing::CreateOrMove,
-            device,
-            name: name(rt, alloc, "osd.3"),
-            weight,
-            at: at_h1(rt, alloc),
-        },
-        Edit::Place {
-            how: Placing::Update,
-            device,
-            name: name(rt, alloc, "osd.3"),
-            weight,
-            at: at_h1(rt, alloc),
-        },
+        Edit::place(Placing::Insert, device, weight, at_h1(rt, alloc)),
+        Edit::place(Placing::CreateOrMove, device, weight, at_h1(rt, alloc)),
+        Edit::place(Placing::Update, device, weight, at_h1(rt, alloc)),
     ]
 }
 
@@ -171,9 +153,9 @@ fn assert_printed(rt: &(impl Abort + AllocGlobal), edit: &Edit, text: &str) {
 fn edits_are_printed_as_commands(rt: HostRuntime) {
     let edits = placing_edits(&rt, rt.alloc());
     let [add, choose, set] = &edits;
-    assert_printed(&rt, add, "add osd.3 1.00000 host=h1");
-    assert_printed(&rt, choose, "create-or-move osd.3 1.00000 host=h1");
-    assert_printed(&rt, set, "set osd.3 1.00000 host=h1");
+    assert_printed(&rt, add, "add osd.7 1.00000 host=h1");
+    assert_printed(&rt, choose, "create-or-move osd.7 1.00000 host=h1");
+    assert_printed(&rt, set, "set osd.7 1.00000 host=h1");
     drop(edits);
 }
 

@@ -3,7 +3,7 @@
 
 use crush_units::limits::*;
 use crush_units::*;
-use std::alloc::{AllocGlobal, Allocator};
+use std::alloc::{AllocGlobal, Allocator, Global};
 use std::collections::HashSet;
 use std::fmt::Display;
 use std::process::Abort;
@@ -70,6 +70,20 @@ fn device_ids(rt: HostRuntime) {
     assert_eq!(rt; last, DeviceId::new(2147483647));
     assert!(rt; last.is_some());
     assert_eq!(rt; DeviceId::from_number(2147483648), None);
+}
+
+fn assert_osd_name(rt: &impl Abort, number: i32, text: &str) {
+    let id = DeviceId::new(number).expect(rt, text);
+    let name: Name<Global> = id.osd_name();
+    assert_eq!(rt; name.as_str(), text);
+    drop(name);
+}
+
+#[test]
+fn osd_names(rt: HostRuntime) {
+    assert_osd_name(&rt, 0, "osd.0");
+    assert_osd_name(&rt, 7, "osd.7");
+    assert_osd_name(&rt, 2147483647, "osd.2147483647");
 }
 
 fn bucket_number(number: i32) -> Option<(i32, u32)> {

@@ -50,11 +50,6 @@ fn device(rt: &impl Abort, number: i32) -> DeviceId {
     DeviceId::new(number).expect(rt, "a device")
 }
 
-fn device_name(rt: &impl Abort, alloc: Global, number: i32) -> Name<Global> {
-    let text = format!(in alloc; "osd.{number}").expect(rt, "memory");
-    name(rt, alloc, text.as_str())
-}
-
 fn location(rt: &impl Abort, alloc: Global, pairs: Pairs) -> Location {
     let mut at = Location::new(alloc);
     for (kind, bucket) in pairs {
@@ -66,27 +61,24 @@ fn location(rt: &impl Abort, alloc: Global, pairs: Pairs) -> Location {
 
 pub(super) fn edit(rt: &impl Abort, alloc: Global, asked: Asked) -> Edit {
     match asked {
-        Asked::Add(number, units, pairs) => Edit::Place {
-            how: Placing::Insert,
-            device: device(rt, number),
-            name: device_name(rt, alloc, number),
-            weight: Weight::from_units(units),
-            at: location(rt, alloc, pairs),
-        },
-        Asked::CreateOrMove(number, units, pairs) => Edit::Place {
-            how: Placing::CreateOrMove,
-            device: device(rt, number),
-            name: device_name(rt, alloc, number),
-            weight: Weight::from_units(units),
-            at: location(rt, alloc, pairs),
-        },
-        Asked::Set(number, units, pairs) => Edit::Place {
-            how: Placing::Update,
-            device: device(rt, number),
-            name: device_name(rt, alloc, number),
-            weight: Weight::from_units(units),
-            at: location(rt, alloc, pairs),
-        },
+        Asked::Add(number, units, pairs) => Edit::place(
+            Placing::Insert,
+            device(rt, number),
+            Weight::from_units(units),
+            location(rt, alloc, pairs),
+        ),
+        Asked::CreateOrMove(number, units, pairs) => Edit::place(
+            Placing::CreateOrMove,
+            device(rt, number),
+            Weight::from_units(units),
+            location(rt, alloc, pairs),
+        ),
+        Asked::Set(number, units, pairs) => Edit::place(
+            Placing::Update,
+            device(rt, number),
+            Weight::from_units(units),
+            location(rt, alloc, pairs),
+        ),
         Asked::Move(item, pairs) => Edit::Move {
             name: name(rt, alloc, item),
             at: location(rt, alloc, pairs),
