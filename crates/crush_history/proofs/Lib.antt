@@ -7,3 +7,4 @@ pub mod Made
 pub mod Unchanged
 pub mod Examples
 pub mod Pushed
+pub mod SameCalls

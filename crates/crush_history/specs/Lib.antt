@@ -7,3 +7,5 @@ pub mod Turns
 pub mod LawRun
 pub mod Ceph
 pub mod Said
+pub mod SameEdits
+pub mod SameCalls

@@ -2,6 +2,7 @@
 
 ghost use Rattle.std.specs.Prelude.{◌≡◌, ◌≤◌, ◌<◌, ◌++◌, ◌∷◌, [], length, nat_lt, IfOk, OnOk};
 ghost use Rattle.crush_units.specs.declared.limits.TheConstants.{MOST_EDITS};
+ghost use Rattle.crush_history.specs.SameEdits.{same_edits, same_edits_equiv};
 
 use crush_edits::{Done, Dones, Edit, Refusal};
 use crush_units::limits::MOST_EDITS;
@@ -26,8 +27,24 @@ impl Model for Edits {
     ghost invariant = { λ batch. length batch.edits.items ≤ MOST_EDITS };
 }
 
+impl PartialEq for Edits {
+    ghost use Rattle.std.specs.Cmp.{partial_equiv_from_equiv};
+
+    ghost eq = { same_edits };
+
+    ghost laws = { partial_equiv_from_equiv same_edits_equiv };
+
+    fn eq(&self, other: &Edits) -> bool {
+        self.edits == other.edits
+    }
+}
+
+impl Eq for Edits {
+    ghost laws = { same_edits_equiv };
+}
+
 /// One call of an operator: an edit or a batch, which is applied completely or not at all.
-#[derive(Debug, Drop)]
+#[derive(Debug, PartialEq, Eq, Drop)]
 pub enum Call {
     /// One edit.
     One(Edit),

@@ -7,7 +7,7 @@ use crate::call::{Call, Reply};
 use std::alloc::{AllocError, Global};
 
 /// One entry of a history: a call, its reply, and the operator that made the call.
-#[derive(Debug, Drop)]
+#[derive(Debug, PartialEq, Eq, Drop)]
 pub struct Entry {
     /// The operator's index: the position of its script among the job's scripts, from 0.
     pub operator: usize,
@@ -19,7 +19,7 @@ pub struct Entry {
 
 /// A call and its reply, as the operator that made the call stores them: an [`Entry`] without the
 /// operator's index.
-#[derive(Debug, Drop)]
+#[derive(Debug, PartialEq, Eq, Drop)]
 pub struct Slip {
     /// The call that the operator made.
     pub call: Call,

@@ -23,7 +23,7 @@ pub use device::device_named;
 pub use display::Line;
 pub use entry::{Entry, Slip, count_changes, is_change};
 pub use history::{history_text, operator_name};
-pub use law::{runs_keep_lawful, same_count_is_same_table, turns_are_history};
+pub use law::{equal_is_same, runs_keep_lawful, same_count_is_same_table, turns_are_history};
 pub use making::make_call;
 pub use refused::{count_refused, is_refused, refused_text};
 pub use script::Script;

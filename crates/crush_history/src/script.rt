@@ -8,7 +8,7 @@ use crush_units::Name;
 use std::alloc::{AllocError, Global};
 
 /// The script of one operator: its name, and the calls that it makes, in order.
-#[derive(Debug, Drop)]
+#[derive(Debug, PartialEq, Eq, Drop)]
 pub struct Script {
     /// The operator's name, which the lines of a history show.
     pub name: Name<Global>,
