@@ -159,6 +159,27 @@ fn two_operators<N: Desk>(rt: &(impl Abort + AllocGlobal + Wait), started: Start
     assert_eq!(rt; last.slips().len(), 0);
 }
 
+#[test]
+fn the_debug_text_of_a_seat_has_its_operator(rt: HostRuntime) {
+    shown::<Brand>(&rt, started(&rt, 2));
+}
+
+fn shown<N: Desk>(rt: &(impl Abort + AllocGlobal + Wait), started: Started)
+    requires gauge { started.table ≡ N.gauge }
+    requires opening { started.opening ≡ N.opening }
+    requires name { started.name ≡ N.name }
+    requires parts { started.parts ≡ N.parts }
+{
+    let (editor, mut seats) = opened::<N>(rt, started);
+    let mut seat = seats.pop().expect(rt, "no seat");
+    weigh_two(rt, &editor, &mut seat, b"osd.0");
+    let text = format!(in rt.alloc(); "{editor:?}, {seat:?}").expect(rt, "no memory");
+    assert_eq!(rt;
+        text.as_str(),
+        "Editor { .. }, Seat { operator: 1, slips: 1 }"
+    );
+}
+
 /// Passes a note of the first seat to the second one, and returns a note of the second seat.
 ///
 /// A reading always loads the newest numbers, with or without a note. So no output of a test shows
