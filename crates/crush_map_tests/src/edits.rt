@@ -1,4 +1,4 @@
-//! Tests locations up to their greatest length, and copies of each kind of edit.
+//! Tests locations up to their greatest length, copies of each kind of edit, and `==`.
 
 use crush_edits::*;
 use crush_units::limits::MOST_PAIRS;
@@ -101,6 +101,7 @@ fn other_edits(rt: &impl Abort, alloc: Global) -> [Edit; 9] {
 fn assert_copied(rt: &impl Abort, alloc: Global, edits: &[Edit]) {
     for edit in edits {
         let copy = edit.try_copy(alloc).expect(rt, "memory");
+        assert_eq!(rt; copy, *edit);
         drop(copy);
     }
 }
@@ -113,6 +114,51 @@ fn copies(rt: HostRuntime) {
     let others = other_edits(&rt, rt.alloc());
     assert_copied(&rt, rt.alloc(), &others);
     drop(others);
+}
+
+#[test]
+fn locations_are_equal_if_their_pairs_are(rt: HostRuntime) {
+    let at = at_h1(&rt, rt.alloc());
+    let mut other = at_h1(&rt, rt.alloc());
+    assert_eq!(rt; at, other);
+    other.push(b"host", b"h2").expect(&rt, "a pair");
+    assert_ne!(rt; at, other);
+    drop(other);
+    drop(at);
+}
+
+fn set_osd(rt: &impl Abort, alloc: Global, name_text: &str, units: u32, host: &str) -> Edit {
+    let mut at = Location::new(alloc);
+    at.push(b"host", host.as_bytes()).expect(rt, "a pair");
+    Edit::Place {
+        how: Placing::Update,
+        device: DeviceId::new(3).expect(rt, "a device"),
+        name: name(rt, alloc, name_text),
+        weight: Weight::from_units(units),
+        at,
+    }
+}
+
+fn assert_differs(rt: &impl Abort, edit: &Edit, other: Edit) {
+    assert_ne!(rt; *edit, other);
+    drop(other);
+}
+
+#[test]
+fn edits_are_equal_if_each_field_is(rt: HostRuntime) {
+    let [add, choose, set] = placing_edits(&rt, rt.alloc());
+    let same = set_osd(&rt, rt.alloc(), "osd.3", 65536, "h1");
+    assert_eq!(rt; set, same);
+    drop(same);
+    assert_differs(&rt, &set, add);
+    assert_differs(&rt, &set, choose);
+    let other = set_osd(&rt, rt.alloc(), "osd.4", 65536, "h1");
+    assert_differs(&rt, &set, other);
+    let other = set_osd(&rt, rt.alloc(), "osd.3", 65537, "h1");
+    assert_differs(&rt, &set, other);
+    let other = set_osd(&rt, rt.alloc(), "osd.3", 65536, "h2");
+    assert_differs(&rt, &set, other);
+    drop(set);
 }
 
 fn assert_name_and_numbers(rt: &impl Abort, refusal: Refusal, name: &str, number: u8, error: u8) {
