@@ -72,6 +72,7 @@ fn a_copy_of_a_script_makes_the_same_calls(rt: HostRuntime) {
     let mut job = job_of(&rt, text.as_slice());
     let script = job.scripts.pop().expect(&rt, "no script");
     let copy = script.try_copy(rt.alloc()).expect(&rt, "no memory");
+    assert_eq!(rt; copy, script);
     drop(script);
     let scripts = [copy];
     let is = is_run(&rt, &mut job.map, scripts.as_slice(), LINES);
@@ -103,11 +104,31 @@ fn an_entry_is_copied(rt: HostRuntime) {
         reply,
     };
     let copy = entry.try_copy(rt.alloc()).expect(&rt, "no memory");
+    assert_eq!(rt; copy, entry);
     drop(entry);
     assert_eq!(rt; copy.operator, 3);
     assert!(rt; is_command(&rt, &copy.call, "rm x"));
     assert_eq!(rt; copy.reply, reply);
     drop(copy);
+}
+
+#[test]
+fn entries_are_equal_if_each_field_is(rt: HostRuntime) {
+    let call = Call::One(remove_x(&rt));
+    let reply = Reply::Refused(Refusal::NoSuchItem);
+    let entry = Entry {
+        operator: 3,
+        call,
+        reply,
+    };
+    let mut other = entry.try_copy(rt.alloc()).expect(&rt, "no memory");
+    other.operator = 4;
+    assert_ne!(rt; entry, other);
+    other.operator = 3;
+    other.reply = Reply::Refused(Refusal::NotEmpty);
+    assert_ne!(rt; entry, other);
+    drop(other);
+    drop(entry);
 }
 
 #[test]
