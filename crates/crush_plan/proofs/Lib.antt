@@ -1,3 +1,4 @@
 pub mod Among
 pub mod Going
 pub mod InTurn
+pub mod SamePlans

@@ -4,3 +4,4 @@ pub mod Leads
 pub mod Part
 pub mod Plan
 pub mod PlanText
+pub mod SamePlan

@@ -16,6 +16,7 @@ mod goal;
 mod identity;
 mod item_table;
 mod items;
+mod law;
 mod moves;
 mod plan;
 mod removals;
@@ -27,5 +28,6 @@ mod way;
 mod weights;
 
 pub use identity::Identity;
+pub use law::equal_is_same;
 pub use plan::{Plan, find_plan};
 pub use text::{ceph_plan_text, plan_text};

@@ -20,7 +20,7 @@ use crush_since::{Counts, count_aside, stays_part};
 use std::alloc::{AllocError, Allocator, Global};
 
 /// Edits that lead from one map to another map, and the differences that remain after the edits.
-#[derive(Debug, Drop)]
+#[derive(Debug, PartialEq, Eq, Drop)]
 pub struct Plan {
     /// The edits, in the order in which they have to be applied. No edit is refused, and each edit
     /// changes the map to which the edits before it have led.

@@ -106,6 +106,7 @@ fn a_copy_of_a_plan_is_printed_as_the_plan_is(rt: HostRuntime) {
     drop(wanted);
     drop(map);
     let copy = plan.try_copy(rt.alloc()).expect(&rt, "no memory");
+    assert_eq!(rt; copy, plan);
     let text = plan_text(rt.alloc(), &plan).expect(&rt, "no memory");
     drop(plan);
     let text_of_copy = plan_text(rt.alloc(), &copy).expect(&rt, "no memory");
