@@ -132,7 +132,7 @@ fn set_osd(rt: &impl Abort, alloc: Global, name_text: &str, units: u32, host: &s
     at.push(b"host", host.as_bytes()).expect(rt, "a pair");
     Edit::Place {
         how: Placing::Update,
-        device: DeviceId::new(3).expect(rt, "a device"),
+        device: DeviceId::new(7).expect(rt, "a device"),
         name: name(rt, alloc, name_text),
         weight: Weight::from_units(units),
         at,
@@ -147,16 +147,16 @@ fn assert_differs(rt: &impl Abort, edit: &Edit, other: Edit) {
 #[test]
 fn edits_are_equal_if_each_field_is(rt: HostRuntime) {
     let [add, choose, set] = placing_edits(&rt, rt.alloc());
-    let same = set_osd(&rt, rt.alloc(), "osd.3", 65536, "h1");
+    let same = set_osd(&rt, rt.alloc(), "osd.7", 65536, "h1");
     assert_eq!(rt; set, same);
     drop(same);
     assert_differs(&rt, &set, add);
     assert_differs(&rt, &set, choose);
     let other = set_osd(&rt, rt.alloc(), "osd.4", 65536, "h1");
     assert_differs(&rt, &set, other);
-    let other = set_osd(&rt, rt.alloc(), "osd.3", 65537, "h1");
+    let other = set_osd(&rt, rt.alloc(), "osd.7", 65537, "h1");
     assert_differs(&rt, &set, other);
-    let other = set_osd(&rt, rt.alloc(), "osd.3", 65536, "h2");
+    let other = set_osd(&rt, rt.alloc(), "osd.7", 65536, "h2");
     assert_differs(&rt, &set, other);
     drop(set);
 }
