@@ -27,6 +27,7 @@ pub mod LeftOut
 pub mod OneOfBoth
 pub mod Planned
 pub mod PrintedAgain
+pub mod Quoted
 pub mod Read
 pub mod ReadBack
 pub mod ReadLines

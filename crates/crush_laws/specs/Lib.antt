@@ -5,6 +5,7 @@ pub mod Final
 pub mod MapOrFlaw
 pub mod Meaning
 pub mod Planned
+pub mod Quoted
 pub mod ReadingBack
 pub mod Spells
 pub mod Written
