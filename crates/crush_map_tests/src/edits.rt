@@ -1,8 +1,8 @@
-//! Tests locations up to their greatest length, copies of each kind of edit, and `==`.
+//! Tests locations up to their greatest length, copies of each kind of edit, `==`, and settings.
 
 use crush_edits::*;
 use crush_units::limits::MOST_PAIRS;
-use crush_units::{DeviceId, Name, Weight};
+use crush_units::{DeviceId, Name, TypeId, Weight};
 use std::alloc::{AllocGlobal, Global};
 use std::process::Abort;
 
@@ -220,4 +220,34 @@ fn words_of_commands(rt: HostRuntime) {
 fn reserved_names(rt: HostRuntime) {
     assert!(rt; is_reserved(b"tunable"));
     assert!(rt; !is_reserved(b"host"));
+}
+
+fn assert_host(rt: &impl Abort, setting: &Setting) {
+    let kind = setting.kind_name(TypeId::new(1)).expect(rt, "a type");
+    assert_eq!(rt; kind.as_str(), "host");
+    assert!(rt; setting.kind_name(TypeId::new(2)).is_none());
+}
+
+#[test]
+fn a_setting_has_the_types_tunables_and_rules_that_were_added(rt: HostRuntime) {
+    let mut setting = Setting::new(rt.alloc());
+    let host = name(&rt, rt.alloc(), "host");
+    setting
+        .push_kind(TypeId::new(1), host)
+        .expect(&rt, "memory");
+    let tries = name(&rt, rt.alloc(), "choose_total_tries");
+    setting.push_tunable(tries, 50).expect(&rt, "memory");
+    let rule = KeptRule {
+        name: name(&rt, rt.alloc(), "data"),
+        id: 0,
+        kind: name(&rt, rt.alloc(), "replicated"),
+        min_size: None,
+        max_size: None,
+        steps: Vec::new(rt.alloc()),
+    };
+    setting.push_rule(rule).expect(&rt, "memory");
+    assert_host(&rt, &setting);
+    assert_eq!(rt; setting.tunables().len(), 1);
+    assert_eq!(rt; setting.rules().len(), 1);
+    drop(setting);
 }
