@@ -188,3 +188,13 @@ pub(super) fn node_with(
     hold(&mut node, child).expect(rt, "room");
     node
 }
+
+#[test]
+fn a_bucket_stores_the_sum_of_its_items(rt: HostRuntime) {
+    let host = Item::Host(2, "h1");
+    let device = Item::Device(0, "osd.0", 65536);
+    let node = holding(&rt, rt.alloc(), host, device).expect(&rt, "a bucket");
+    assert_eq!(rt; node.weight(), Weight::from_units(65536));
+    assert!(rt; node.stores_sums());
+    drop(node);
+}
