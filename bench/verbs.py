@@ -13,7 +13,7 @@ For each map it prints processor seconds, the least of the repeats:
 
 The scripts give other weights to a thousand devices each, and none of the same device, so that no change is lost. A verb
 always explains, and it parses each of its maps once, as the plain command does. The status is 1 where `diff` or the dry run
-takes more than one and a quarter times as long as the plain command beside it, or `apply` more than five times as long as
+takes more than one and a quarter times as long as the plain command beside it, or `apply` more than three times as long as
 with `--last-wins`.
 """
 
@@ -70,7 +70,7 @@ def main():
             print(f"{name:<32}" + "".join(f"{'-' if time is None else f'{time:.3f}':>11}" for time in times), end="")
             since, diff, plain, dry, looking, last = times
             print(f"{'-' if None in times else f'{looking / last:.2f}':>17}", flush=True)
-            is_slow |= None in times or diff > 1.25 * since or dry > 1.25 * plain or looking > 5 * last
+            is_slow |= None in times or diff > 1.25 * since or dry > 1.25 * plain or looking > 3 * last
     sys.exit(is_slow)
 
 
