@@ -108,7 +108,8 @@ impl Refusal {
             Refusal::NoPlace => "a location is required: one or more TYPE=BUCKET",
             Refusal::WeightTooLarge => "a device weighs at most 32767.99998",
             Refusal::NoSuchItem => "the map has no item with this name",
-            Refusal::NameTaken => "another item has this name, or the device has a different name",
+            Refusal::NameTaken =>
+                "an item already has this name, or the device with this id has a different name",
             Refusal::AlreadyPlaced => {
                 "the device is already in a bucket: use set or create-or-move to move it"
             }
@@ -117,7 +118,7 @@ impl Refusal {
                 "the item is a bucket: reweight-subtree sets the weights below it",
             Refusal::NotABucket => "the item is a device, but a bucket is required",
             Refusal::WrongType => {
-                "the bucket has a different type, or a new bucket would have the type of devices"
+                "the bucket doesn't have the type that the location gives it, or a new bucket would have the type of devices"
             }
             Refusal::Loop => "a bucket can't be moved below itself",
             Refusal::Nested => "the two buckets are the same, or one of them is below the other",
@@ -125,14 +126,14 @@ impl Refusal {
             Refusal::InUse => "a rule takes the bucket",
             Refusal::NotDirectory => "the item is a device: only buckets can be renamed",
             Refusal::AlreadyRenamed => {
-                "already done: the old name is gone, and the new name exists"
+                "no item has the old name, and an item has the new name: was it renamed before?"
             }
             Refusal::NoRoom => "a map has at most 4096 buckets and 65536 devices",
             Refusal::SumTooLarge => {
                 "the total weight is too large: at most 65535.99998 for a bucket and 134217727.99998 for all devices"
             }
             Refusal::ClassBound =>
-                "the device has a different class: remove it first with rm-device-class",
+                "the device has a different class: remove this class first with rm-device-class",
         }
     }
 

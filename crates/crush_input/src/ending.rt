@@ -310,7 +310,8 @@ fn fault_reason(fault: RunFault) -> &'static [u8]
             b"  the system couldn't start a thread for an operator: try --in-turn\n",
         RunFault::Refused(_) | RunFault::Made(_) | RunFault::Conflicts(_) | RunFault::Differs(_) =>
             b"",
-        RunFault::NoItem => b"  --under needs the name of an item of the map after the scripts\n",
+        RunFault::NoItem =>
+            b"  --under needs the name of an item that the map has after the scripts\n",
         RunFault::NoType => b"  --down-to needs the name of a type of the map\n",
         RunFault::NoClass => { b"  --class needs a class that at least one device has\n" }
         RunFault::SecondMap(which, fault) => second_map_reason(which, fault),

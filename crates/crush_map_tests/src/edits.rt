@@ -184,7 +184,7 @@ fn faults_say_why(rt: HostRuntime) {
     let batch = BatchFault::Refused(1, Refusal::Loop);
     let told = format!(in rt.alloc(); "{edit}; {batch}").expect(&rt, "memory");
     let text =
-        "the edit is refused: the device has a different class: remove it first with rm-device-class; edit 1 is refused: a bucket can't be moved below itself";
+        "the edit is refused: the device has a different class: remove this class first with rm-device-class; edit 1 is refused: a bucket can't be moved below itself";
     assert_eq!(rt; told.as_str(), text);
     drop(told);
 }

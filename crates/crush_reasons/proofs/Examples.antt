@@ -103,7 +103,7 @@ explained : explained_text setting example (codes "a" ∷ []) 1 (
     ∷ entry (One (Remove (codes "h1"))) (Refused NotEmpty)
     ∷ entry (Batch (Remove (codes "osd.1") ∷ Remove (codes "h1") ∷ Remove (codes "default") ∷ [])) (BatchRefused 2 NotEmpty)
     ∷ [])
-    ≡ codes "# 1 a rm default = refused NotEmpty 39\n  default holds 2 items: move or remove them first\n# 3 a begin at 0 ; rm x ; commit = refused Stale 11 changes 1\n  the map has changed in the meantime: look at it again, and use the new number of changes\n# 4 a rm h1 = refused NotEmpty 39\n  h1 holds 1 item: move or remove it first\n# 5 a begin ; rm osd.1 ; rm h1 ; rm default ; commit = refused at 2 NotEmpty 39\n  rm default: default holds 1 item: move or remove it first\n"
+    ≡ codes "# 1 a rm default = refused NotEmpty 39\n  default holds 2 items: move or remove them first\n# 3 a begin at 0 ; rm x ; commit = refused Stale 11 changes 1\n  the map has changed in the meantime: look at it again, and write `begin at` with the new number of changes\n# 4 a rm h1 = refused NotEmpty 39\n  h1 holds 1 item: move or remove it first\n# 5 a begin ; rm osd.1 ; rm h1 ; rm default ; commit = refused at 2 NotEmpty 39\n  rm default: default holds 1 item: move or remove it first\n"
 unfolding explained_behind line_head reply_text items_said table_after_edits digits
 explained = refl
 

@@ -17,13 +17,13 @@ said_of refusal.BadName = Some (codes " is the device's own name, and the locati
 said_of refusal.BadLocation = Some (codes ": a location names each type and each bucket at most once, and never the type of devices")
 said_of refusal.NoSuchType = Some (codes " is not a type of the map")
 said_of refusal.NoPlace = Some (codes " needs a location: one or more TYPE=BUCKET")
-said_of refusal.NameTaken = Some (codes ": another item has this name, or the device has a different name")
+said_of refusal.NameTaken = Some (codes ": an item already has this name, or the device with this id has a different name")
 said_of refusal.NotPlaced = Some (codes " is in no bucket: use add to place it")
 said_of refusal.NotADevice = Some (codes " is a bucket: reweight-subtree sets the weights below it")
 said_of refusal.NotABucket = Some (codes " is a device, but a bucket is required")
 said_of refusal.Nested = Some (codes " and the other bucket are the same, or one of them is below the other")
 said_of refusal.NotDirectory = Some (codes " is a device: only buckets can be renamed")
-said_of refusal.AlreadyRenamed = Some (codes " exists and the old name is gone: already done")
+said_of refusal.AlreadyRenamed = Some (codes " exists and no item has the old name: was it renamed before?")
 said_of r = None
 
 -- the same words for an edit of a class, because only a device can have a class

@@ -20,7 +20,7 @@ job_sentence (job.TooManyCalls number) = codes "a job has at most 65536 commands
 
 -- the sentence for a guarded batch that was refused because the map has changed
 abbrev pub stale_sentence : List ℕ
-stale_sentence = codes "the map has changed in the meantime: look at it again, and use the new number of changes"
+stale_sentence = codes "the map has changed in the meantime: look at it again, and write `begin at` with the new number of changes"
 
 -- the sentence for a reply that is a refusal; an empty text for any other reply
 abbrev pub reply_sentence : Reply → List ℕ

@@ -56,8 +56,8 @@ abbrev pub class_named : List Row → List ℕ → Option (List ℕ)
 class_named t n = option_and_then (class_of t) (id_named t n)
 
 abbrev pub bound_said : Option (List ℕ) → List ℕ
-bound_said None = codes " has a different class: remove it first with rm-device-class"
-bound_said (Some class) = codes " has the class " ++ class ++ codes ": remove it first with rm-device-class"
+bound_said None = codes " has a different class: remove this class first with rm-device-class"
+bound_said (Some class) = codes " has the class " ++ class ++ codes ": remove this class first with rm-device-class"
 
 -- THE LOCATION OF A MOVE ends in the bucket that is moved, or in a bucket below it
 abbrev pub below_reason : List ℕ → List ℕ → List ℕ

@@ -32,7 +32,7 @@ fn said_of(refusal: Refusal) -> Option<&'static str>
         Refusal::NoSuchType => Some(" is not a type of the map"),
         Refusal::NoPlace => Some(" needs a location: one or more TYPE=BUCKET"),
         Refusal::NameTaken => Some(
-            ": another item has this name, or the device has a different name",
+            ": an item already has this name, or the device with this id has a different name",
         ),
         Refusal::NotPlaced => Some(" is in no bucket: use add to place it"),
         Refusal::NotADevice => Some(" is a bucket: reweight-subtree sets the weights below it"),
@@ -41,7 +41,9 @@ fn said_of(refusal: Refusal) -> Option<&'static str>
             " and the other bucket are the same, or one of them is below the other",
         ),
         Refusal::NotDirectory => Some(" is a device: only buckets can be renamed"),
-        Refusal::AlreadyRenamed => { Some(" exists and the old name is gone: already done") }
+        Refusal::AlreadyRenamed => {
+            Some(" exists and no item has the old name: was it renamed before?")
+        }
         _ => None,
     }
 }

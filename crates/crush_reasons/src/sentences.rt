@@ -8,7 +8,7 @@ use crush_script::JobFault;
 
 /// The sentence for a guarded batch that was refused because the map has changed.
 pub(crate) const STALE: &str =
-    "the map has changed in the meantime: look at it again, and use the new number of changes";
+    "the map has changed in the meantime: look at it again, and write `begin at` with the new number of changes";
 
 /// Returns the sentence for a fault of a job. For a fault of the map's text, returns an empty text,
 /// because that sentence depends on the map's text.

@@ -231,7 +231,7 @@ pub(crate) fn push_bound(
         return push_all(
             &[
                 name,
-                b" has a different class: remove it first with rm-device-class".as_slice(),
+                b" has a different class: remove this class first with rm-device-class".as_slice(),
             ],
             text,
         );
@@ -241,7 +241,7 @@ pub(crate) fn push_bound(
             name,
             b" has the class ".as_slice(),
             class.as_bytes(),
-            b": remove it first with rm-device-class".as_slice(),
+            b": remove this class first with rm-device-class".as_slice(),
         ],
         text,
     )
