@@ -39,7 +39,8 @@ pub enum SubmitFault {
     OutOfMemory,
 }
 
-/// Why a call that was moved into an editor or a book wasn't made. It gives the call back.
+/// The error of a call that couldn't be made. It gives back the call, which was moved into the
+/// editor or the book. `{}` prints why the call wasn't made.
 #[derive(Debug, Drop, Error)]
 #[error("{fault}")]
 pub struct Unsubmitted {

@@ -350,7 +350,7 @@ impl<N: Desk, O: KeptOpening> Editor<N, O> {
 
 impl<N: Desk> Editor<N> {
     /// Creates the editor with the name `N`, and a seat for each operator. The seat at index k,
-    /// from 0, is that of operator k. If memory runs out, the error gives the opening map back.
+    /// from 0, is that of operator k. If memory runs out, the error gives back the opening map.
     pub fn open(
         alloc: Global,
         started: Started,

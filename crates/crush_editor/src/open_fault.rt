@@ -7,7 +7,8 @@ use std::alloc::{Allocator, Global};
 use std::error::Error;
 use std::fmt;
 
-/// Memory for a book or an editor ran out. It gives back the map that the editor was to edit.
+/// The error of a call that had no memory for a book or an editor. It gives back the map that the
+/// call was given. `{}` prints `out of memory`, and `{:?}` prints `OpenFault`.
 #[derive(Drop)]
 pub struct OpenFault<A: Allocator = Global> {
     /// The map, unchanged.

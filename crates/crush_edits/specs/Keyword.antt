@@ -1,4 +1,4 @@
--- The words of the commands that say edits, and the forms of these commands.
+-- The words and the forms of the commands that stand for edits.
 use Rattle.std.specs.Prelude.{ℕ, List, ◌||◌, Option, Some, None, codes, bytes_eq, if◌then◌else◌}
 use Rattle.crush_edits.specs.declared.edit.Edit.{Edit}
 use Rattle.crush_edits.specs.declared.edit.Edit.TheVariants.{Place, Move, Swap, Reweight, ReweightSubtree, Remove, AddBucket, Rename, SetClass, RemoveClass}
@@ -60,7 +60,7 @@ keyword_form key.RenameBucket = codes "rename-bucket FROM TO"
 keyword_form key.SetDeviceClass = codes "set-device-class CLASS NAME"
 keyword_form key.RmDeviceClass = codes "rm-device-class NAME"
 
--- the command that says an edit
+-- the command with which a script writes an edit
 abbrev pub edit_keyword : Edit → Keyword
 edit_keyword (Place how device name weight at) = key.Place how
 edit_keyword (Move name at) = key.Move

@@ -1,4 +1,4 @@
--- The edits with a location: Insert, CreateOrMove, Update and Move.
+-- The edits with a location: Place, in each of its three ways, and Move.
 use Rattle.std.specs.Prelude.{ℕ, List, [], ◌∷◌, ◌++◌, None, Bool, not, if◌then◌else◌, length, unwrap_or}
 use Rattle.crush_units.specs.declared.id.ItemId.{ItemId}
 use Rattle.crush_units.specs.declared.id.ItemId.TheVariants.{Device}

@@ -3,7 +3,7 @@ use Rattle.std.specs.Prelude.{ℕ, List, codes}
 use Rattle.crush_edits.specs.declared.refusal.Refusal.{Refusal}
 use Rattle.crush_edits.specs.declared.refusal.Refusal.TheVariants.{BadName, BadLocation, NoSuchType, NoPlace, WeightTooLarge, NoSuchItem, NameTaken, AlreadyPlaced, NotPlaced, NotADevice, NotABucket, WrongType, Loop, Nested, NotEmpty, InUse, NotDirectory, AlreadyRenamed, NoRoom, SumTooLarge, ClassBound}
 
--- the name of a refusal, as it is printed
+-- the name of a refusal, as a line of a history has it
 abbrev pub refusal_name : Refusal → List ℕ
 refusal_name BadName = codes "BadName"
 refusal_name BadLocation = codes "BadLocation"
@@ -38,7 +38,7 @@ refusal_sentence NoSuchItem = codes "the map has no item with this name"
 refusal_sentence NameTaken = codes "an item already has this name, or the device with this id has a different name"
 refusal_sentence AlreadyPlaced = codes "the device is already in a bucket: use set or create-or-move to move it"
 refusal_sentence NotPlaced = codes "the device is in no bucket: use add to place it"
-refusal_sentence NotADevice = codes "the item is a bucket: reweight-subtree sets the weights below it"
+refusal_sentence NotADevice = codes "the item is a bucket, but a device is required"
 refusal_sentence NotABucket = codes "the item is a device, but a bucket is required"
 refusal_sentence WrongType = codes "the bucket doesn't have the type that the location gives it, or a new bucket would have the type of devices"
 refusal_sentence Loop = codes "a bucket can't be moved below itself"

@@ -12,12 +12,13 @@ use std::alloc::{AllocError, Global};
 pub enum Placing {
     /// The edit is refused: the device must not be in a bucket yet (`add`, `insert_item`).
     Insert,
-    /// The device keeps its own weight; a device that is in no bucket gets the weight `weight`. If
-    /// the location's bucket of the lowest type already holds the device, nothing changes
-    /// (`create-or-move`, `create_or_move_item`).
+    /// A device that is in another bucket is moved to the location, and keeps its own weight. A
+    /// device that is in no bucket is put there with the weight `weight`. If the location's bucket
+    /// of the lowest type already holds the device, nothing changes (`create-or-move`,
+    /// `create_or_move_item`).
     CreateOrMove,
-    /// The device gets the weight `weight`. If the location's bucket of the lowest type already
-    /// holds the device, only its weight is set (`set`, `update_item`).
+    /// The device is moved to the location, unless the location's bucket of the lowest type already
+    /// holds the device. In both cases the device gets the weight `weight` (`set`, `update_item`).
     Update,
 }
 
@@ -29,9 +30,10 @@ pub enum Placing {
 /// device, and `at` is the location where an item is to be put.
 #[derive(Debug, PartialEq, Eq, Drop)]
 pub enum Edit {
-    /// Puts a device into the bucket that the location leads to, with this weight. If its id is new,
-    /// the edit creates the device. `how` says what the edit does with a device that is already in
-    /// a bucket (`add`, `create-or-move` or `set`).
+    /// Puts a device into the bucket that the location leads to. If the id is new, the edit creates
+    /// the device. `how` says what happens to a device that is already in a bucket, and which weight
+    /// the device gets (`add`, `create-or-move` or `set`). [`Edit::place`] makes an edit whose name
+    /// belongs to its id, so that its command is parsed as the same edit.
     Place {
         how: Placing,
         device: DeviceId,

@@ -1,12 +1,11 @@
-//! The words of the commands that say edits, and the forms of these commands.
+//! The words and the forms of the commands that stand for edits.
 
 ghost use Rattle.std.specs.Prelude.{◌≡◌, Some};
 ghost use Rattle.crush_edits.specs.Keyword.{edit_keyword, keyword_form, keyword_of, keyword_word, placing_form, placing_word};
 
 use crate::edit::{Edit, Placing};
-use std::fmt;
 
-/// The command that says an edit.
+/// A command of a script that stands for one edit.
 #[derive(Clone, Copy, Debug, PartialEq, Eq)]
 pub enum Keyword {
     /// `add`, `create-or-move` or `set`.
@@ -129,17 +128,9 @@ impl Keyword {
     }
 }
 
-impl fmt::Display for Keyword {
-    ghost output = { λ keyword. Some (keyword_word keyword) };
-
-    fn fmt<W: fmt::Write>(&self, f: &mut fmt::Formatter<W>) -> fmt::Result {
-        f.write_str(self.word())
-    }
-}
-
 impl Edit {
-    /// Returns the command that says this edit.
-    pub(crate) fn keyword(&self) -> Keyword
+    /// Returns the command with which a script writes this edit.
+    pub fn keyword(&self) -> Keyword
         ensures { result ≡ edit_keyword self.now }
     {
         match self {

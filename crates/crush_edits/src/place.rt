@@ -10,8 +10,8 @@ use crush_units::{DeviceId, Weight};
 
 impl Edit {
     /// Returns the edit [`Edit::Place`] for the device with this id. The device's name in the edit
-    /// is [`DeviceId::osd_name`]. So the command that this edit is printed as is parsed as the same
-    /// edit. Memory isn't allocated.
+    /// is [`DeviceId::osd_name`]. If this edit is printed as a command, the command is parsed as the
+    /// same edit. The call allocates no memory.
     pub fn place(how: Placing, device: DeviceId, weight: Weight, at: Location) -> Edit
         ensures { result ≡ Place how device (osd_name device) weight at }
     {

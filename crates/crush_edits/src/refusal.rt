@@ -95,7 +95,7 @@ impl Refusal {
         }
     }
 
-    /// Returns a sentence that says why the edit is refused, without a name.
+    /// Returns a sentence that says why the edit is refused. The sentence names no item.
     pub fn sentence(self) -> &'static str
         ensures { result.now ≡ refusal_sentence self }
     {
@@ -114,8 +114,7 @@ impl Refusal {
                 "the device is already in a bucket: use set or create-or-move to move it"
             }
             Refusal::NotPlaced => "the device is in no bucket: use add to place it",
-            Refusal::NotADevice =>
-                "the item is a bucket: reweight-subtree sets the weights below it",
+            Refusal::NotADevice => "the item is a bucket, but a device is required",
             Refusal::NotABucket => "the item is a device, but a bucket is required",
             Refusal::WrongType => {
                 "the bucket doesn't have the type that the location gives it, or a new bucket would have the type of devices"

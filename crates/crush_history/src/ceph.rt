@@ -1,10 +1,11 @@
 //! Prints an edit as the command of Ceph that makes the same change.
 
 ghost use Rattle.std.specs.Prelude.{◌≡◌, ◌++◌, OnOk, codes, flat_map};
-ghost use Rattle.crush_edits.specs.EditText.{edit_text, pairs_text};
+ghost use Rattle.crush_edits.specs.EditText.{pairs_text};
 ghost use Rattle.crush_history.specs.Ceph.{assent, ceph_head, ceph_heading, ceph_line, ceph_words, has_dash, has_dashed_type, is_dashed, name_and_exact};
 
-use crush_edits::{Edit, Location, Pair};
+use crate::push::push_edit;
+use crush_edits::{Edit, Keyword, Location, Pair};
 use crush_units::{Name, Weight, put_all};
 use itoa::Buffer;
 use std::alloc::{AllocError, Global};
@@ -78,9 +79,16 @@ fn push_words(edit: &Edit, text: &mut Vec<u8>) -> Result<(), AllocError>
             at,
             ..
         } => push_placing(how.word().as_bytes(), name, *weight, at, text),
-        Edit::Reweight { name, weight } => push_weighing(b"reweight", name, *weight, text),
+        Edit::Reweight { name, weight } => {
+            push_weighing(Keyword::Reweight.word().as_bytes(), name, *weight, text)
+        }
         Edit::ReweightSubtree { name, weight } => {
-            push_weighing(b"reweight-subtree", name, *weight, text)
+            push_weighing(
+                Keyword::ReweightSubtree.word().as_bytes(),
+                name,
+                *weight,
+                text,
+            )
         }
         Edit::Move { .. }
         | Edit::Swap { .. }
@@ -90,12 +98,6 @@ fn push_words(edit: &Edit, text: &mut Vec<u8>) -> Result<(), AllocError>
         | Edit::SetClass { .. }
         | Edit::RemoveClass { .. } => push_edit(edit, text),
     }
-}
-
-fn push_edit(edit: &Edit, text: &mut Vec<u8>) -> Result<(), AllocError>
-    ensures { OnOk result (text.new.items ≡ text.old.items ++ edit_text edit.now) }
-{
-    write!(text, "{edit}").map_err(|_| AllocError)
 }
 
 /// Appends a command that puts a device at a location: the command's first word, the device's name,

@@ -7,12 +7,11 @@ ghost use Rattle.crush_history.specs.Refused.{is_refused, refusals, refused_line
 ghost use Rattle.crush_history.specs.Script.{scripts_data};
 
 use crate::call::Reply;
-use crate::display::Line;
 use crate::entry::Entry;
 use crate::history::operator_name;
+use crate::push::push_entry;
 use crate::script::Script;
 use std::alloc::{AllocError, Global};
-use std::io::Write;
 
 /// Whether the reply refuses an edit or a batch, or says that a guarded batch is stale.
 pub fn is_refused(reply: Reply) -> bool
@@ -54,13 +53,7 @@ fn push_refused(
     if !is_refused(entry.reply) {
         return Ok(());
     }
-    let line = Line {
-        number,
-        operator,
-        call: &entry.call,
-        reply: entry.reply,
-    };
-    write!(text, "{line}\n").map_err(|_| AllocError)
+    push_entry(number, operator, entry, text)
 }
 
 /// Returns the lines of the entries that were refused or stale, numbered as in the whole history.

@@ -15,9 +15,8 @@ ghost use Rattle.crush_units.specs.declared.limits.TheConstants.{MOST_ENTRIES};
 use crate::ending::write_made;
 use crate::fault::RunFault;
 use crush_edits::Edit;
-use crush_history::{Call, Entry, Line, Reply, Script, operator_name};
+use crush_history::{Call, Entry, Reply, Script, operator_name, push_entry};
 use std::alloc::{AllocError, Global};
-use std::io::Write;
 
 fn is_add_bucket(edit: &Edit) -> bool
     ensures { result ≡ is_add_bucket edit.now }
@@ -107,13 +106,7 @@ fn push_made(
     if !makes_more(entry) {
         return Ok(());
     }
-    let line = Line {
-        number,
-        operator,
-        call: &entry.call,
-        reply: entry.reply,
-    };
-    write!(text, "{line}\n").map_err(|_| AllocError)
+    push_entry(number, operator, entry, text)
 }
 
 /// Returns the history lines of the calls that created more buckets than they have `add-bucket`

@@ -9,8 +9,8 @@ mod apply;
 mod map;
 
 pub use crush_edits::{
-    BatchFault, Done, Dones, Edit, EditFault, KeptRule, KeptStep, Keyword, Location, LocationFault,
-    Pair, Placing, Refusal, Rule, Setting, Step, is_reserved,
+    BatchFault, Done, Dones, Edit, EditFault, KeptRule, KeptStep, Location, LocationFault, Pair,
+    Placing, Refusal, Rule, Setting, Step, is_reserved,
 };
 pub use crush_hierarchy::Hashing;
 pub use crush_tree::Counts;

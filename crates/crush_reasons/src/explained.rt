@@ -4,9 +4,8 @@ ghost use Rattle.std.specs.Prelude.{◌≡◌, ◌<◌, ◌^◌, ◌++◌, List,
 ghost use Rattle.crush_model.specs.Stands.{Stands};
 ghost use Rattle.crush_model.specs.Table.{Row};
 ghost use Rattle.crush_history.specs.Entries.{AreOf};
-ghost use Rattle.crush_history.specs.HistoryText.{names_of, line_text};
+ghost use Rattle.crush_history.specs.HistoryText.{names_of};
 ghost use Rattle.crush_history.specs.Script.{scripts_data};
-ghost use Rattle.crush_edits.specs.EditText.{edit_text};
 ghost use Rattle.crush_reasons.specs.Explained.{AreExplained, batched_reason, call_reason, explained_behind, explained_job, explained_line, explained_text, first_reason, refused_reason, so_far, stale_reason, too_high};
 ghost use Rattle.crush_reasons.specs.EditsLeft.{head_data, head_in};
 ghost use Rattle.crush_reasons.specs.Shown.{reason_line};
@@ -20,35 +19,10 @@ use crate::replay::{make_edits, make_entry};
 use crate::sentences::{STALE, reply_sentence};
 use crate::words::push_all;
 use crush_edits::{Edit, Refusal};
-use crush_history::{Call, Entry, Line, Reply, Script, is_refused, operator_name};
+use crush_history::{Call, Entry, Reply, Script, is_refused, operator_name, push_edit, push_entry};
 use crush_map::CrushMap;
 use itoa::Buffer;
 use std::alloc::{AllocError, Global};
-use std::io::Write;
-
-fn push_edit(edit: &Edit, text: &mut Vec<u8>) -> Result<(), AllocError>
-    ensures { OnOk result (text.new.items ≡ text.old.items ++ edit_text edit.now) }
-{
-    write!(text, "{edit}").map_err(|_| AllocError)
-}
-
-fn push_entry(
-    number: u32,
-    operator: &str,
-    entry: &Entry,
-    text: &mut Vec<u8>,
-) -> Result<(), AllocError>
-    ensures { OnOk result (text.new.items ≡ text.old.items
-        ++ line_text number operator.now entry.now.call entry.now.reply) }
-{
-    let line = Line {
-        number,
-        operator,
-        call: &entry.call,
-        reply: entry.reply,
-    };
-    write!(text, "{line}\n").map_err(|_| AllocError)
-}
 
 fn from_edit(index: usize, edits: &[Edit]) -> &[Edit]
     ensures { result.now ≡ drop index edits.now }
