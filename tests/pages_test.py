@@ -8,7 +8,7 @@ is that of the repository: the lines after `$ ` are the commands, and the lines 
 block of bash that is followed by "It prints:" and a block of text is run in the same way. A line of two dots, perhaps
 with words after them, stands for any lines. A block of Python, whose first line is a comment with its name, is a file of
 that name there. Blocks that call `make` aren't run. README's table of statuses has the line of each command of ENDS in
-the row of its status. Then it is looked whether README's script makes its map and tells of it in one order of operators,
+the row of its status. Then it is looked whether README's script makes its map of what it has shown the changes of,
 maps that `crushtool` printed differ at most by the order of their buckets when they are printed here, `make try` shows
 what changes, bash completes what is typed (completed.py), and each link of the archive's pages leads to a file of the archive. Prints a line for each block and each of these, and
 ends with status 1 where one prints something else, or isn't so.
@@ -139,11 +139,11 @@ def order_faults(folder, environment):
         yield "README.md: no map is printed in another order of its buckets"
 
 
-def shown_in_turn(_program, _folder):
-    """README's script runs its job more than once, at once each time in another order."""
+def shown_is_made(_program, _folder):
+    """README's script shows what the same map and commands change from which it then makes the new map."""
     script = re.search(r"(?ms)^```sh\n(.*?)^```$", (TOP / "README.md").read_text())[1]
-    runs = re.findall(r"(?m)^crushedit .*$", script)
-    return len(runs) > 1 and all(" --in-turn " in run for run in runs)
+    runs = re.findall(r"(?m)^crushedit apply (--dry-run|-o new\.txt) (.*?) *#", script)
+    return [how for how, _ in runs] == ["--dry-run", "-o new.txt"] and runs[0][1] == runs[1][1]
 
 
 def maps_are_linked(_program, _folder):
@@ -201,7 +201,7 @@ def main():
         faults = list(archive_faults(program, os.path.join(folder, "archive")))
         print("\n".join([*faults, f"archive_faults: {len(faults)}"]))
         failed |= bool(faults)
-        for test in (shown_in_turn, maps_are_linked, tried_is_short):
+        for test in (shown_is_made, maps_are_linked, tried_is_short):
             is_so = test(program, os.path.join(folder, "archive"))
             print(f"{test.__name__}: {'so' if is_so else 'NOT so'}")
             failed |= not is_so

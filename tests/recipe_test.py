@@ -515,20 +515,35 @@ class Exact(Trial):
 class Page(Trial):
     """The script of README.md, by itself."""
 
-    def test_script(self):
+    def run_script(self):
+        """Runs the script, and returns its status and what it has printed."""
         readme = HERE.parent / "README.md"
         blocks = re.findall(r"(?ms)^```sh\n(.*?)^```$", readme.read_text() if readme.exists() else "")
         if not blocks:
             self.skipTest("README.md isn't there")
-        where = {"cwd": str(self.here), "stdout": subprocess.PIPE, "stderr": subprocess.STDOUT,
-                 "env": {**self.environment, "PATH": "{}:{}".format(self.tools, os.environ["PATH"])}}
-        ended = subprocess.run(["bash", "-c", blocks[0]], **where)
-        self.assertEqual(ended.returncode, 0, ended.stdout.decode())
-        self.assertRegex(ended.stdout.decode(), "setcrushmap -i .*42")
+        ended = subprocess.run(["bash", "-c", blocks[0]], cwd=str(self.here), stdout=subprocess.PIPE, stderr=subprocess.STDOUT,
+                               env={**self.environment, "PATH": "{}:{}".format(self.tools, os.environ["PATH"])})
+        return ended.returncode, ended.stdout.decode()
+
+    def test_script(self):
+        status, printed = self.run_script()
+        self.assertEqual(status, 0, printed)
+        self.assertIn("osd.2 (2): weight 0.50000 to 1.00000\n", printed)
+        self.assertIn("# 1 alice reweight osd.2 1.00000 = done changed 1 made 0\n", printed)
+        self.assertRegex(printed, "setcrushmap -i .*42")
+        made, = self.here.glob("*/new.bin")
+        self.assertIn("\titem osd.2 weight 1.00000\n", made.read_text())
         kept, = self.here.glob("*/map.bin")
         self.put("cluster", "# end crush map\n")
-        self.assertNotEqual(subprocess.run(["bash", "-c", blocks[0]], **where).returncode, 0)
+        self.assertNotEqual(self.run_script()[0], 0)
         self.assertEqual(kept.read_text(), MAP, "the kept map is overwritten")
+
+    def test_script_of_a_cut_map(self):
+        self.put("cluster", MAP.replace("# end crush map\n", ""))
+        status, printed = self.run_script()
+        self.assertNotEqual(status, 0, printed)
+        self.assertIn("crushedit: cut\n", printed)
+        self.assertNotIn("setcrushmap", printed)
 
 
 def main():
