@@ -1,8 +1,9 @@
 #!/usr/bin/env python3
 """Writes the manual page man/crushedit.1 from the help in crates/crush_options/src/command_line.rt and verbs.rt.
 
-BEGIN comes first. The help's paragraphs, lists of two columns and samples become those of the page. The help of each verb
-is a section of its own. END follows them. With --check nothing is written, and the status is 1 if the page has other bytes.
+BEGIN comes first, with the help's examples of verbs. The help's paragraphs, lists of two columns and samples become those of
+the page. The help of each verb is a section of its own. END follows them. With --check nothing is written, and the status is
+1 if the page has other bytes.
 """
 import pathlib
 import re
@@ -19,21 +20,9 @@ BEGIN = r""".PP
 .B crushedit
 edits the text of a CRUSH map, and never contacts a cluster.
 Use one of the verbs, which have safe defaults:
-.PP
-.RS
-.nf
-# prints what the commands in the file add.txt change
-crushedit apply \-\-dry\-run map.txt add.txt
-# writes the map after these commands to the file new.txt
-crushedit apply \-o new.txt map.txt add.txt
-# prints the commands that lead from one map to another
-crushedit plan map.txt wanted.txt
-.fi
-.RE
-.PP
+{examples}.PP
 The section VERBS describes the verbs.
 A command line without a verb is for programs, and for tasks that no verb does.
-Its input is a job, which may be in one file.
 """
 # What else an operator must know who doesn't have the other pages at hand.
 END = r""".SH "FROM A CLUSTER AND BACK"
@@ -230,7 +219,8 @@ def verbs():
 
 def page():
     source = SOURCE.read_text()
-    version, about = constant(source, "VERSION"), constant(source, "ABOUT")
+    version = constant(source, "VERSION")
+    about, verb_list, verb_text, examples, _ = constant(source, "ABOUT").split("\n\n")
     file = re.search(r'Arg::new\(alloc, "([A-Z]+)"\).*?\.help\("([^"]+)"\)', source, re.S)
     options = words_of(source)
     synopsis = ""
@@ -238,16 +228,17 @@ def page():
         word = f"{head.split(',')[0]} {head.split()[-1]}" if "," in head else head
         synopsis += f'.RB [ "{marked(word)}" ]{".." if head == SCRIPT else ""}\n'
     with_verbs = "".join(f"{verb.synopsis()}.br\n" for verb in verbs())
-    first, *rest = constant(source, "MORE").strip("\n").split("\n\nCommands")
+    begin = BEGIN.format(examples=block(examples.removeprefix("Examples:\n")))
+    job, rest = constant(source, "MORE").strip("\n").split("\n\nCommands")
     return (
         f'.TH CRUSHEDIT 1 "" "crushedit {version.split()[0]}" "User Commands"\n'
         f".SH NAME\ncrushedit \\- {plain(about[0].lower() + about[1:])}\n"
         f".SH SYNOPSIS\n{with_verbs}.B crushedit\n{synopsis}.RI [ {file.group(1)} ]\n"
-        f".SH DESCRIPTION\n{BEGIN}{''.join(block(text) for text in first.split(chr(10) * 2))}"
-        f"{''.join(verb.section() for verb in verbs())}"
-        f".SH OPTIONS\n{item(file.group(1), file.group(2) + '.')}"
+        f".SH DESCRIPTION\n{begin}{''.join(block(text) for text in job.split(chr(10) * 2))}"
+        f"{block(verb_list)}{block(verb_text)}{''.join(verb.section() for verb in verbs())}"
+        f".SH OPTIONS\nA command line without a verb has these options:\n{item(file.group(1), file.group(2) + '.')}"
         f"{''.join(item(head, text + '.') for head, text in options)}"
-        f"{''.join(block(text) for text in ('Commands' + rest[0]).split(chr(10) * 2))}{END}"
+        f"{''.join(block(text) for text in ('Commands' + rest).split(chr(10) * 2))}{END}"
     )
 
 

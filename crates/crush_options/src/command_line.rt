@@ -15,21 +15,46 @@ use clap::{Arg, ArgAction, ArgMatches, Command, Error};
 use std::alloc::{AllocError, Global};
 use std::convert::AsStr;
 
-const ABOUT: &str =
-    "Edits the hierarchy of a Ceph CRUSH map offline, by commands of ceph osd crush";
+/// The part of the help before the usage line of the plain command line: the sentence that says what
+/// the program does, the verbs and examples. `tools/manual.py` makes the manual page from the help.
+const ABOUT: &str = "\
+Edits the hierarchy of a Ceph CRUSH map offline, by commands of ceph osd crush
 
-/// The version of the program, followed by the version of the toolchain that checked the proofs, as
-/// `rt version` prints it.
+Verbs:
+    apply MAP SCRIPT ..   applies scripts to a map, and prints the new map
+    diff OLD NEW          prints what has changed from one map to another
+    plan MAP WANTED       prints the commands that lead from one map to another
+    tree MAP              prints the tree of a map
+
+A verb is the first word of its command line. Each verb has safe defaults: for
+example, `apply` prints nothing if a command is refused. MAP, OLD, NEW and
+WANTED are files with the text of a map, as `crushtool -d` prints it. A SCRIPT
+is a file with one command on each line, such as `reweight osd.2 1.0`. The
+section `Commands` lists the commands. `crushedit VERB --help` explains a verb
+and its options.
+
+Examples:
+    # prints what the commands in the file add.txt change
+    crushedit apply --dry-run map.txt add.txt
+    # writes the map after these commands to the file new.txt
+    crushedit apply -o new.txt map.txt add.txt
+    # prints the commands that lead from one map to another
+    crushedit plan map.txt wanted.txt
+
+A command line without a verb is for programs, and for tasks that no verb does:";
+
+/// The version of the program, followed by the logic of the toolchain that checked the proofs.
+/// `rt version` prints this logic too.
 const VERSION: &str = "0.2.0 (rattle logic dac8208d650f15bf)";
 
-/// The part of the help after the list of flags. `tools/manual.py` makes the manual page from the
-/// help. The lines of the help have at most 80 columns, which leaves 55 columns for the text about
-/// a flag.
+/// The part of the help after the list of flags. The lines of the help have at most 80 columns,
+/// which leaves 55 columns for the text about a flag.
 const MORE: &str = "\
-A job is the text of a CRUSH map, as `crushtool -d` prints it, followed by the
-scripts of up to 16 operators. A script begins with a line `%operator NAME`, and
-has one command on each line. The line `%operator NAME` is needed for one
-operator, too. `#` begins a comment.
+The input of a command line without a verb is a job. A job is the text of a
+CRUSH map, as `crushtool -d` prints it, followed by the scripts of up to 16
+operators. A script begins with a line `%operator NAME`, and has one command on
+each line. The line `%operator NAME` is needed for one operator, too. `#` begins
+a comment.
 
     .. the map's text ..
     %operator alice
@@ -38,7 +63,10 @@ operator, too. `#` begins a comment.
 
 The scripts of several operators run at the same time. With `--in-turn` they run
 one after the other, in the order of the job, so that the output is the same
-each time. A FILE `-` is a file of that name.
+each time.
+
+A FILE `-` is a file of that name. If a FILE has the name of a verb, write its
+folder too: `./apply`.
 
 `-s` appends a script that is in a file of its own. If the script doesn't begin
 with a line `%operator NAME`, its operator is named like the file, up to the
@@ -47,43 +75,35 @@ first point.
 Every run that makes a map should have the options `--in-turn`, `--strict`,
 `--no-make` and `--explain`. The verb `apply` has them all.
 
-Verbs:
-    apply MAP SCRIPT ..   prints the map after scripts, or nothing at all
-    diff OLD NEW          prints what has changed from one map to another
-    plan MAP WANTED       prints the commands that lead from one map to another
-    tree MAP              prints the tree of a map
-
-A verb is the first word of its command line. Each has safe defaults, takes maps
-and scripts as files of their own, and has a help: `crushedit apply --help`.
-A FILE that is called like a verb has to be given with its folder: `./apply`.
-
 Commands, those of `ceph osd crush`:
     add osd.N WEIGHT PAIR ..             adds a device that no bucket holds
     set osd.N WEIGHT PAIR ..             puts a device there with this weight
-    create-or-move osd.N WEIGHT PAIR ..  the same; a placed one keeps its weight
+    create-or-move osd.N WEIGHT PAIR ..  as set; a placed one keeps its weight
     move NAME PAIR ..                    moves an item, and all that is below it
     swap-bucket NAME NAME                swaps two buckets' names and items
     reweight NAME WEIGHT                 sets the weight of a device
-    reweight-subtree NAME WEIGHT         sets that of each device below NAME
+    reweight-subtree NAME WEIGHT         sets the weight of devices below NAME
     rm NAME, remove NAME                 removes a device, or an empty bucket
     add-bucket NAME TYPE                 creates an empty bucket, as a root
     rename-bucket NAME NAME              gives a bucket another name
     set-device-class CLASS NAME          gives a class to a device without one
     rm-device-class NAME                 takes away the class of a device
-    begin, commit                        all commands between are made, or none
-    begin at N                           the same, if N calls changed the map
+    begin, commit                        applies all commands between, or none
+    begin at N                           as begin, if N calls changed the map
 
 The word `osd.N` is the device whose id is N. WEIGHT is in TiB, from 0 to
-32767.99998. A PAIR is TYPE=BUCKET, and up to 16 pairs are a location. Going up
-from the lowest type, the first bucket that is in the map receives the item. The
-buckets of the pairs below it are created. The pairs above it have no effect,
+32767.99998. A PAIR is TYPE=BUCKET, and a location consists of up to 16 pairs.
+The item is put into the bucket of the lowest type. If the map doesn't have this
+bucket, it is created in the bucket of the next higher type, and so on, up to
+the first bucket that the map has. The pairs above that bucket have no effect,
 but they have to name types of the map. A device is placed if a bucket holds it.
-A call is a command outside of batches, or a batch: what is between `begin` and
-`commit`.
+A call is a command outside of batches, or a batch. A batch consists of the
+commands between `begin` and `commit`.
 
 Output:
-Standard output gets the map after the scripts. After the map comes a comment
-line for each call, with its reply, in the order in which they were made:
+A run without a verb prints the map after the scripts. After the map, it prints
+a comment line for each call, with the reply to the call, in the order in which
+the calls were made:
 
     # 1 alice reweight osd.2 1.00000 = done changed 1 made 0
     # 2 alice reweight h2 1.00000 = refused NotADevice 22
@@ -96,32 +116,35 @@ same.
 In place of the map, `--tree` prints its tree. `--since MAP` prints what has
 changed since the map in the file MAP. `--as-ceph` prints commands for a shell,
 which make the same changes in a cluster. `--to MAP` prints the commands that
-lead to the map in the file MAP, and what differs even then, because no command
-changes it. At most one of the four may be given, except for two pairs: `--tree`
-with `--since` prints a tree of what has changed, and `--to` with `--as-ceph`
-prints its commands for a shell.
+lead to the map in the file MAP. It also prints the differences that remain
+then, because no command removes them. At most one of the four may be given,
+except for two pairs: `--tree` with `--since` prints a tree of what has changed,
+and `--to` with `--as-ceph` prints its commands for a shell.
 
 `--since` compares items by their ids, and `--to` does so first. For the maps of
-two clusters `--by-name` compares them by their names alone.
+two clusters `--by-name` compares them by their names alone. `--by-name` can't
+be given with both `--tree` and `--since`.
 
 With `--tree`, `--since` or `--to`, `--under NAME` prints only what concerns the
 item NAME and the items below it. With `--tree`, `--down-to TYPE` prints nothing
 below buckets of this type, and `--class CLASS` counts only the devices of this
-class. `--by-name` doesn't go with a tree of what has changed.
-`--json` prints one JSON document in place of everything else. It doesn't go
-with `--as-ceph` or `--class`, nor with `--since` by name or down to a type.
+class.
 
-`-o FILE` replaces FILE by the output when the run is done. At each time FILE
+`--json` prints one JSON document in place of everything else. It can't be given
+with `--as-ceph` or `--class`. With `--since`, it can't be given with
+`--by-name` or `--down-to` either.
+
+`-o FILE` replaces FILE by the output when the run is done. At each moment FILE
 has its old bytes or all the new ones, even if the program is killed. If the
 status isn't 0 or 6, FILE stays as it is. `-o -` is standard output.
 
 `--exact` prints the weights of the map's text with six digits after the point,
-so that `crushtool -c` and this program read the same weights. It goes with the
-text of the map alone.
+so that `crushtool -c` and this program read the same weights. It can be given
+only if the text of the map is printed.
 
-With `--exit-code` the status is 6 in place of 0 if a command changed the map;
-with `--since`, if an item or a setting is reported; with `--to`, if a command
-or a difference is.
+With `--exit-code` the status is 6 in place of 0 if a command changed the map.
+If `--since` is also given, the status is 6 if an item or a setting is reported.
+If `--to` is also given, it is 6 if a command or a difference is reported.
 
 Standard error:
     crushedit: cut           a verb's map doesn't end with `# end crush map`
@@ -134,10 +157,13 @@ Standard error:
     crushedit: no type TYPE  --down-to: the map has no such type
     crushedit: no class NAME  --class: no device of the map has this class
 
-Below `refused`, `made`, `conflicts` and `differs` come the lines of these
-calls, items and differences. With `--explain`, or if standard error is a
-terminal, more lines follow. They say where an error in the input is, and what
-is expected there. For each refused call they have its line and the reason.
+The comment lines of these N calls follow after `refused N` and after `made N`.
+A line for each item follows after `conflicts N`, and a line for each difference
+after `differs N`.
+
+With a verb, with `--explain`, or if standard error is a terminal, more lines
+follow. They say where an error in the input is, and what is expected there. For
+each refused call, they have the comment line of the call, and the reason.
 
 Exit status:
     0    the job was run; without --strict, commands may have been refused
@@ -148,13 +174,11 @@ Exit status:
     5    --strict, --no-make or lost changes ended the run; nothing was printed
     6    with --exit-code: something changed or differs
 
-Examples:
-    # what the script in the file alice changes in the map
-    crushedit apply --dry-run map alice
-    # the new map
-    crushedit apply -o new map alice
-    # the commands that lead from the map to another one
-    crushedit plan --strict map wanted
+Examples without a verb:
+    # prints the map after the scripts of a job, and the replies
+    crushedit --in-turn --strict --no-make --explain job.txt
+    # prints commands for a shell, which make the same changes in a cluster
+    crushedit --in-turn --strict --no-make --explain --as-ceph job.txt
 ";
 
 const TWO_PRINTED: &str =

@@ -36,16 +36,17 @@ const TREE_ABOUT: &str = "Prints the tree of a map";
 
 const APPLY_MORE: &str = "\
 MAP is the text of a CRUSH map, as `crushtool -d` prints it. Each SCRIPT has one
-command on each line. Its operator is named like its file, up to the first
-point, unless the script begins with a line `%operator NAME`. The scripts run
-one after the other.
+command on each line, and `crushedit --help` lists the commands. The operator of
+a script is named like its file, up to the first point, unless the script begins
+with a line `%operator NAME`. The scripts run one after the other.
 
 `apply` prints the new map, with exact weights. It prints nothing, and says why,
 if a command is refused, if a command other than `add-bucket` would create a
 bucket, if MAP doesn't end with `# end crush map`, or if a change of one
 operator would be lost by the script of another.
 
-With `--dry-run`, it prints what the scripts would change, and their history.
+With `--dry-run`, it prints what the scripts would change, and a line with the
+reply to each command or batch.
 
 Short for: crushedit --in-turn --strict --no-make --no-history --explain --exact
            -s SCRIPT .. MAP
@@ -67,8 +68,8 @@ Example:
 
 const PLAN_MORE: &str = "\
 MAP and WANTED are texts of CRUSH maps, as `crushtool -d` prints them. Both have
-to end with `# end crush map`. After the commands come the differences that no
-command removes. With `--strict`, such a difference is an error (status 5).
+to end with `# end crush map`. The differences that no command removes follow
+after the commands. With `--strict`, such a difference is an error (status 5).
 
 Short for: crushedit --no-history --explain --to WANTED MAP
 
