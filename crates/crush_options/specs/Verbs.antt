@@ -246,7 +246,7 @@ pub record HasShortFault (verb : Verb) (words : List Text) (fault : OptionsFault
   pub read : AreVerbWords verb (matches_of (app_of_verb verb) words) given
   pub told : IsShortFault (verb_complaint verb given) (words_of_verb verb given) fault
 
--- the fault for the words after a verb: out of memory, an error of a word or the help, or a fault although each word is right, as above
+-- the fault for the words after a verb: out of memory; the fault for an error in a word, or for a word that asks for the help; or a fault although each word is right, as above
 abbrev pub IsFaultOfVerb : Verb → List Text → OptionsFault → Type 0
 IsFaultOfVerb verb words fault = (fault ≡ Memory) ⊎ (HasFault (fault_of (app_of_verb verb) words) fault ⊎ HasShortFault verb words fault)
 

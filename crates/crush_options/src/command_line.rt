@@ -359,7 +359,7 @@ pub(crate) fn refused(alloc: Global, text: &str) -> OptionsFault
     }
 }
 
-/// The words of a command line that decide what is printed.
+/// The flags and options of a command line that say what is printed.
 #[derive(Clone, Copy)]
 struct OutputFlags<'a> {
     tree: bool,
@@ -434,7 +434,8 @@ fn exact_of_other(flags: OutputFlags<'_>) -> bool
     flags.exact && (other || flags.json)
 }
 
-/// Returns the error line if some of these words can't be given together, and `None` if they can.
+/// Returns the error line if some of these flags and options can't be given together, and `None` if
+/// they can.
 fn complaint(flags: OutputFlags<'_>) -> Option<&'static str>
     ensures { option_map (λ text. text.now) result ≡ complaint (flags_data flags.entry) }
 {
@@ -474,7 +475,7 @@ fn copy_of(alloc: Global, name: Option<&str>) -> Result<Option<String>, AllocErr
     }
 }
 
-/// Returns which part of a tree to print, as these words ask.
+/// Returns the part of a tree that these words select.
 fn part_by(alloc: Global, flags: OutputFlags<'_>) -> Result<TreePartSpec, AllocError>
     ensures under { IfOk result (λ part. name_text part.under ≡ (flags_data flags.entry).under) }
     ensures down_to { IfOk result (λ part. name_text part.down_to
@@ -602,7 +603,7 @@ fn output_of(alloc: Global, matches: &ArgMatches<'_>) -> Result<Option<String>, 
     copy_of(alloc, matches.get_str("output"))
 }
 
-/// Returns how the job is run. The plain command line never looks for conflicts.
+/// Returns how the job is run. A run of a plain command line never looks for conflicts.
 fn mode_of(matches: &ArgMatches<'_>, json: bool, exact: bool) -> Mode
     requires json { IsFlag (one_of (codes "json") (rows_of (found_of matches.now))) json }
     requires exact { IsFlag (one_of (codes "exact") (rows_of (found_of matches.now))) exact }
@@ -657,8 +658,8 @@ pub(crate) fn fault_of(alloc: Global, error: &Error) -> OptionsFault
     }
 }
 
-/// If the fault is the error for a second file, adds a text about the verbs, because one of them
-/// may be meant. Returns any other fault unchanged.
+/// If the fault is the error for a second file, appends a text about the verbs, because the user
+/// may have forgotten a verb. Returns any other fault unchanged.
 fn with_verbs(fault: OptionsFault) -> OptionsFault
     ensures { (kind : ErrorKind) → IsFaultOf kind fault → IsFaultOf kind result }
 {
@@ -669,16 +670,16 @@ fn with_verbs(fault: OptionsFault) -> OptionsFault
     }
 }
 
-/// Returns the same fault as [`fault_of`]. If the error is for a second file, adds a text about the
-/// verbs.
+/// Returns the same fault as [`fault_of`]. If the error is for a second file, the text about the
+/// verbs follows after the error's text.
 fn plain_fault_of(alloc: Global, error: &Error) -> OptionsFault
     ensures { IsFaultOf (kind_of error.now) result }
 {
     with_verbs(fault_of(alloc, error))
 }
 
-/// Whether this is the text of an error of `clap` for a word that is neither an option nor the
-/// first file.
+/// Whether `clap` gives this text to the error for a second file, that is, for a second word that
+/// isn't an option.
 fn is_of_second_file(text: &str) -> bool {
     text.starts_with("error: unexpected argument '")
         && !text.starts_with("error: unexpected argument '-")
@@ -696,7 +697,7 @@ fn told_verbs(mut text: String) -> OptionsFault
     }
 }
 
-/// Reads the words of a plain command line, which doesn't begin with a verb.
+/// Parses the words of a plain command line, which doesn't begin with a verb.
 pub(crate) fn plain_options<S: AsStr>(alloc: Global, words: &[S]) -> Result<Options, OptionsFault>
     ensures parsed { IfOk result (AreOptionsOf (map S.text words.now)) }
     ensures fault { IfErr result (IsFaultIn (map S.text words.now)) }

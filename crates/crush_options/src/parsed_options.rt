@@ -20,20 +20,22 @@ pub struct Mode {
     /// Whether the status is 6 instead of 0 if there is a change or a difference to report
     /// (`--exit-code`).
     pub exit_code: bool,
-    /// Whether standard error gets places and reasons, which follow its first line (`--explain`).
+    /// Whether standard error also says where an error is, and why, after its first line
+    /// (`--explain`).
     pub explain: bool,
     /// Whether standard output is one JSON document (`--json`).
     pub json: bool,
     /// Whether the text of the map is printed with weights in exact form, with six digits after the
     /// point (`--exact`). The flag can be given only if the text of the map is printed.
     pub exact: bool,
-    /// Whether a run prints nothing if a change that the script of one operator makes alone is lost
-    /// by the script of another. The plain command line never asks for this.
+    /// Whether a run prints nothing if a change of one operator is lost. A change is lost if the
+    /// operator's script makes it when the script runs alone, but the map after all scripts doesn't
+    /// have it. A plain command line never asks for this.
     pub conflicts: bool,
 }
 
-/// What the files of a run must contain: the file with which the run begins, and the file of
-/// another map.
+/// What the files of a run must contain. These files are the file of the job or the map with which
+/// the run begins, and the file of another map, if the run reads one.
 #[derive(Clone, Copy, Debug, PartialEq, Eq)]
 pub enum MapForm {
     /// The first file is a job, so scripts may follow the text of its map. The text of another map
