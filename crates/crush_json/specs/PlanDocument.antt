@@ -5,9 +5,8 @@ use Rattle.crush_units.specs.ExactWeight.{exact_text}
 use Rattle.crush_edits.specs.declared.location.Pair.{Pair}
 use Rattle.crush_edits.specs.declared.edit.Edit.{Edit}
 use Rattle.crush_edits.specs.declared.edit.Edit.TheVariants.{Place, Move, Swap, Reweight, ReweightSubtree, Remove, AddBucket, Rename, SetClass, RemoveClass}
-use Rattle.crush_edits.specs.declared.edit.Placing.{Placing}
-use Rattle.crush_edits.specs.declared.edit.Placing.TheVariants.{Insert, CreateOrMove, Update}
 use Rattle.crush_edits.specs.EditText.{pair_word}
+use Rattle.crush_edits.specs.Keyword.{edit_keyword, keyword_word}
 use Rattle.json.specs.Json as json
 use Rattle.json.specs.Print.{print}
 use Rattle.json.specs.Tree.{json_tokens}
@@ -33,59 +32,57 @@ pair_values at = map (λ p. string (pair_word p)) at
 abbrev pub one_name : List ℕ → Data
 one_name name = list (string name ∷ [])
 
--- COMMANDS as values. Each of the following definitions is for a command with other arguments
+-- COMMANDS as values. Each of the following definitions is for commands with other arguments. The first argument of each definition is the words of the command
 unfoldable pub placing : List ℕ → ℕ → ℕ → List Pair → json.Json
 placing prefix device w at =
     json.object (told (codes "args") (list (pair_values at)) (told (codes "id") (natural device) (text (codes "prefix") prefix (weight w))))
 
-unfoldable pub moving : List ℕ → List Pair → json.Json
-moving name at =
-    json.object (told (codes "args") (list (pair_values at)) (text (codes "name") name (text (codes "prefix") (codes "osd crush move") json.no_members)))
+unfoldable pub moving : List ℕ → List ℕ → List Pair → json.Json
+moving prefix name at = json.object (told (codes "args") (list (pair_values at)) (text (codes "name") name (text (codes "prefix") prefix json.no_members)))
 
-unfoldable pub swapping : List ℕ → List ℕ → json.Json
-swapping a b =
-    json.object (text (codes "dest") b (text (codes "prefix") (codes "osd crush swap-bucket") (text (codes "source") a
+unfoldable pub swapping : List ℕ → List ℕ → List ℕ → json.Json
+swapping prefix a b =
+    json.object (text (codes "dest") b (text (codes "prefix") prefix (text (codes "source") a
     (told (codes "yes_i_really_mean_it") (boolean true) json.no_members))))
 
 unfoldable pub weighing : List ℕ → List ℕ → ℕ → json.Json
 weighing prefix name w = json.object (text (codes "name") name (text (codes "prefix") prefix (weight w)))
 
-unfoldable pub removing : List ℕ → json.Json
-removing name = json.object (text (codes "name") name (text (codes "prefix") (codes "osd crush rm") json.no_members))
+unfoldable pub removing : List ℕ → List ℕ → json.Json
+removing prefix name = json.object (text (codes "name") name (text (codes "prefix") prefix json.no_members))
 
-unfoldable pub adding : List ℕ → List ℕ → json.Json
-adding name kind =
-    json.object (text (codes "name") name (text (codes "prefix") (codes "osd crush add-bucket") (text (codes "type") kind json.no_members)))
+unfoldable pub adding : List ℕ → List ℕ → List ℕ → json.Json
+adding prefix name kind = json.object (text (codes "name") name (text (codes "prefix") prefix (text (codes "type") kind json.no_members)))
 
-unfoldable pub renaming : List ℕ → List ℕ → json.Json
-renaming from to =
-    json.object (text (codes "dstname") to (text (codes "prefix") (codes "osd crush rename-bucket") (text (codes "srcname") from json.no_members)))
+unfoldable pub renaming : List ℕ → List ℕ → List ℕ → json.Json
+renaming prefix from to = json.object (text (codes "dstname") to (text (codes "prefix") prefix (text (codes "srcname") from json.no_members)))
 
-unfoldable pub classing : List ℕ → List ℕ → json.Json
-classing name class =
-    json.object (text (codes "class") class (told (codes "ids") (one_name name) (text (codes "prefix") (codes "osd crush set-device-class") json.no_members)))
+unfoldable pub classing : List ℕ → List ℕ → List ℕ → json.Json
+classing prefix name class = json.object (text (codes "class") class (told (codes "ids") (one_name name) (text (codes "prefix") prefix json.no_members)))
 
-unfoldable pub declassing : List ℕ → json.Json
-declassing name = json.object (told (codes "ids") (one_name name) (text (codes "prefix") (codes "osd crush rm-device-class") json.no_members))
+unfoldable pub declassing : List ℕ → List ℕ → json.Json
+declassing prefix name = json.object (told (codes "ids") (one_name name) (text (codes "prefix") prefix json.no_members))
 
--- the words of the command that places a device
-abbrev pub placing_prefix : Placing → List ℕ
-placing_prefix Insert = codes "osd crush add"
-placing_prefix CreateOrMove = codes "osd crush create-or-move"
-placing_prefix Update = codes "osd crush set"
+-- an edit as the value for a command with these words
+abbrev pub prefixed : List ℕ → Edit → json.Json
+prefixed prefix (Place how device name w at) = placing prefix device w at
+prefixed prefix (Move name at) = moving prefix name at
+prefixed prefix (Swap a b) = swapping prefix a b
+prefixed prefix (Reweight name w) = weighing prefix name w
+prefixed prefix (ReweightSubtree name w) = weighing prefix name w
+prefixed prefix (Remove name) = removing prefix name
+prefixed prefix (AddBucket name kind) = adding prefix name kind
+prefixed prefix (Rename from to) = renaming prefix from to
+prefixed prefix (SetClass name class) = classing prefix name class
+prefixed prefix (RemoveClass name) = declassing prefix name
+
+-- the words of the command for an edit: `osd crush `, and the word that the edit's command has in a script
+abbrev pub command_words : Edit → List ℕ
+command_words e = codes "osd crush " ++ keyword_word (edit_keyword e)
 
 -- AN EDIT as the value for its command
 abbrev pub command : Edit → json.Json
-command (Place how device name w at) = placing (placing_prefix how) device w at
-command (Move name at) = moving name at
-command (Swap a b) = swapping a b
-command (Reweight name w) = weighing (codes "osd crush reweight") name w
-command (ReweightSubtree name w) = weighing (codes "osd crush reweight-subtree") name w
-command (Remove name) = removing name
-command (AddBucket name kind) = adding name kind
-command (Rename from to) = renaming from to
-command (SetClass name class) = classing name class
-command (RemoveClass name) = declassing name
+command e = prefixed (command_words e) e
 
 -- values as the items of an array
 abbrev pub all_of : List json.Json → json.Items

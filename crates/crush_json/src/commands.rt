@@ -4,12 +4,12 @@ ghost use Rattle.std.specs.Prelude.{◌≡◌, ◌++◌, OnOk, flat_map};
 ghost use Rattle.json.specs.Tree.{json_tokens};
 ghost use Rattle.serde_json.specs.Data.{string};
 ghost use Rattle.crush_edits.specs.EditText.{pair_word};
-ghost use Rattle.crush_json.specs.PlanDocument.{adding, classing, command, declassing, moving, one_name, pair_values, placing, placing_prefix, removing, renaming, swapping, weighing};
+ghost use Rattle.crush_json.specs.PlanDocument.{adding, classing, command, declassing, moving, one_name, pair_values, placing, prefixed, removing, renaming, swapping, weighing};
 ghost use Rattle.crush_json.specs.Tokens.{tokens_of};
 ghost use Rattle.crush_json.specs.Values.{list};
 
 use crate::document::Document;
-use crush_map::{Edit, Location, Pair, Placing};
+use crush_map::{Edit, Location, Pair};
 use crush_units::{DeviceId, Name, Weight};
 use std::alloc::{AllocError, Global};
 
@@ -17,37 +17,36 @@ use std::alloc::{AllocError, Global};
 pub(crate) fn push_command(alloc: Global, edit: &Edit, out: &mut Document) -> Result<(), AllocError>
     ensures { OnOk result (out.new ≡ out.old ++ json_tokens (command edit.now)) }
 {
+    let keyword = edit.keyword();
+    let prefix = format!(in alloc; "osd crush {keyword}")?;
+    push_prefixed(alloc, prefix.as_str(), edit, out)
+}
+
+/// Writes the edit as a command whose words are `prefix`.
+fn push_prefixed(
+    alloc: Global,
+    prefix: &str,
+    edit: &Edit,
+    out: &mut Document,
+) -> Result<(), AllocError>
+    ensures { OnOk result (out.new ≡ out.old ++ json_tokens (prefixed prefix.now edit.now)) }
+{
     match edit {
         Edit::Place {
-            how,
             device,
             weight,
             at,
             ..
-        } => push_placing(alloc, placing_prefix(*how), *device, *weight, at, out),
-        Edit::Move { name, at } => push_moving(alloc, name, at, out),
-        Edit::Swap { a, b } => push_swapping(a, b, out),
-        Edit::Reweight { name, weight } => {
-            push_weighing("osd crush reweight", name, *weight, out)
-        }
-        Edit::ReweightSubtree { name, weight } => {
-            push_weighing("osd crush reweight-subtree", name, *weight, out)
-        }
-        Edit::Remove { name } => push_removing(name, out),
-        Edit::AddBucket { name, kind } => push_adding(name, kind, out),
-        Edit::Rename { from, to } => push_renaming(from, to, out),
-        Edit::SetClass { name, class } => push_classing(name, class, out),
-        Edit::RemoveClass { name } => push_declassing(name, out),
-    }
-}
-
-fn placing_prefix(how: Placing) -> &'static str
-    ensures { result.now ≡ placing_prefix how }
-{
-    match how {
-        Placing::Insert => "osd crush add",
-        Placing::CreateOrMove => "osd crush create-or-move",
-        Placing::Update => "osd crush set",
+        } => push_placing(alloc, prefix, *device, *weight, at, out),
+        Edit::Move { name, at } => push_moving(alloc, prefix, name, at, out),
+        Edit::Swap { a, b } => push_swapping(prefix, a, b, out),
+        Edit::Reweight { name, weight } => push_weighing(prefix, name, *weight, out),
+        Edit::ReweightSubtree { name, weight } => push_weighing(prefix, name, *weight, out),
+        Edit::Remove { name } => push_removing(prefix, name, out),
+        Edit::AddBucket { name, kind } => push_adding(prefix, name, kind, out),
+        Edit::Rename { from, to } => push_renaming(prefix, from, to, out),
+        Edit::SetClass { name, class } => push_classing(prefix, name, class, out),
+        Edit::RemoveClass { name } => push_declassing(prefix, name, out),
     }
 }
 
@@ -73,28 +72,34 @@ fn push_placing(
 
 fn push_moving(
     alloc: Global,
+    prefix: &str,
     name: &Name<Global>,
     at: &Location,
     out: &mut Document,
 ) -> Result<(), AllocError>
-    ensures { OnOk result (out.new ≡ out.old ++ json_tokens (moving name.now at.now)) }
+    ensures { OnOk result (out.new ≡ out.old ++ json_tokens (moving prefix.now name.now at.now)) }
 {
     out.begin_object()?;
     out.key("args")?;
     push_pairs(alloc, at.pairs(), out)?;
     out.text("name", name.as_str())?;
-    out.text("prefix", "osd crush move")?;
+    out.text("prefix", prefix)?;
     out.end_object()
 }
 
 /// Writes a swap of two buckets. The command always has `yes_i_really_mean_it`, even if the two
 /// buckets are in the same bucket.
-fn push_swapping(a: &Name<Global>, b: &Name<Global>, out: &mut Document) -> Result<(), AllocError>
-    ensures { OnOk result (out.new ≡ out.old ++ json_tokens (swapping a.now b.now)) }
+fn push_swapping(
+    prefix: &str,
+    a: &Name<Global>,
+    b: &Name<Global>,
+    out: &mut Document,
+) -> Result<(), AllocError>
+    ensures { OnOk result (out.new ≡ out.old ++ json_tokens (swapping prefix.now a.now b.now)) }
 {
     out.begin_object()?;
     out.text("dest", b.as_str())?;
-    out.text("prefix", "osd crush swap-bucket")?;
+    out.text("prefix", prefix)?;
     out.text("source", a.as_str())?;
     out.truth("yes_i_really_mean_it", true)?;
     out.end_object()
@@ -116,65 +121,68 @@ fn push_weighing(
     out.end_object()
 }
 
-fn push_removing(name: &Name<Global>, out: &mut Document) -> Result<(), AllocError>
-    ensures { OnOk result (out.new ≡ out.old ++ json_tokens (removing name.now)) }
+fn push_removing(prefix: &str, name: &Name<Global>, out: &mut Document) -> Result<(), AllocError>
+    ensures { OnOk result (out.new ≡ out.old ++ json_tokens (removing prefix.now name.now)) }
 {
     out.begin_object()?;
     out.text("name", name.as_str())?;
-    out.text("prefix", "osd crush rm")?;
+    out.text("prefix", prefix)?;
     out.end_object()
 }
 
 fn push_adding(
+    prefix: &str,
     name: &Name<Global>,
     kind: &Name<Global>,
     out: &mut Document,
 ) -> Result<(), AllocError>
-    ensures { OnOk result (out.new ≡ out.old ++ json_tokens (adding name.now kind.now)) }
+    ensures { OnOk result (out.new ≡ out.old ++ json_tokens (adding prefix.now name.now kind.now)) }
 {
     out.begin_object()?;
     out.text("name", name.as_str())?;
-    out.text("prefix", "osd crush add-bucket")?;
+    out.text("prefix", prefix)?;
     out.text("type", kind.as_str())?;
     out.end_object()
 }
 
 fn push_renaming(
+    prefix: &str,
     from: &Name<Global>,
     to: &Name<Global>,
     out: &mut Document,
 ) -> Result<(), AllocError>
-    ensures { OnOk result (out.new ≡ out.old ++ json_tokens (renaming from.now to.now)) }
+    ensures { OnOk result (out.new ≡ out.old ++ json_tokens (renaming prefix.now from.now to.now)) }
 {
     out.begin_object()?;
     out.text("dstname", to.as_str())?;
-    out.text("prefix", "osd crush rename-bucket")?;
+    out.text("prefix", prefix)?;
     out.text("srcname", from.as_str())?;
     out.end_object()
 }
 
 fn push_classing(
+    prefix: &str,
     name: &Name<Global>,
     class: &Name<Global>,
     out: &mut Document,
 ) -> Result<(), AllocError>
-    ensures { OnOk result (out.new ≡ out.old ++ json_tokens (classing name.now class.now)) }
+    ensures { OnOk result (out.new ≡ out.old ++ json_tokens (classing prefix.now name.now class.now)) }
 {
     out.begin_object()?;
     out.text("class", class.as_str())?;
     out.key("ids")?;
     push_one_name(name, out)?;
-    out.text("prefix", "osd crush set-device-class")?;
+    out.text("prefix", prefix)?;
     out.end_object()
 }
 
-fn push_declassing(name: &Name<Global>, out: &mut Document) -> Result<(), AllocError>
-    ensures { OnOk result (out.new ≡ out.old ++ json_tokens (declassing name.now)) }
+fn push_declassing(prefix: &str, name: &Name<Global>, out: &mut Document) -> Result<(), AllocError>
+    ensures { OnOk result (out.new ≡ out.old ++ json_tokens (declassing prefix.now name.now)) }
 {
     out.begin_object()?;
     out.key("ids")?;
     push_one_name(name, out)?;
-    out.text("prefix", "osd crush rm-device-class")?;
+    out.text("prefix", prefix)?;
     out.end_object()
 }
 

@@ -17,8 +17,8 @@ returns c =
     let class : List Token = member_tokens (codes "class") (string c.as_str.result.now) in
     let ids_key : List Token = key (codes "ids") ∷ [] in
     let ids : List Token = tokens_of (one_name c.args.name.now) in
-    let prefix : List Token = member_tokens (codes "prefix") (string (codes "osd crush set-device-class")) in
+    let prefix : List Token = member_tokens (codes "prefix") (string c.args.prefix.now) in
     let closes : List Token = end_object ∷ [] in
-    as_told r c.args.out.now c.end_object.new.self (opens ++ (class ++ (ids_key ++ (ids ++ (prefix ++ closes))))) (json_tokens (classing c.args.name.now c.args.class.now))
+    as_told r c.args.out.now c.end_object.new.self (opens ++ (class ++ (ids_key ++ (ids ++ (prefix ++ closes))))) (json_tokens (classing c.args.prefix.now c.args.name.now c.args.class.now))
     (then r c.args.out.now c.begin_object.new.self c.end_object.new.self opens (class ++ (ids_key ++ (ids ++ (prefix ++ closes)))) c.in_ok-begin_object.ensures (then r c.begin_object.new.self c.text.new.self c.end_object.new.self class (ids_key ++ (ids ++ (prefix ++ closes))) c.in_ok-text.ensures (then r c.text.new.self c.key.new.self c.end_object.new.self ids_key (ids ++ (prefix ++ closes)) c.in_ok-key.ensures (then r c.key.new.self c.push_one_name.new.out c.end_object.new.self ids (prefix ++ closes) c.in_ok-push_one_name.ensures (then r c.push_one_name.new.out c.text-2.new.self c.end_object.new.self prefix closes c.in_ok-text-2.ensures c.end_object.ensures)))))
-    (λ i. json_tokens (json.object (text (codes "class") (c.as_str.ensures.value i) (told (codes "ids") (one_name c.args.name.now) (text (codes "prefix") (codes "osd crush set-device-class") json.no_members)))))
+    (λ i. json_tokens (json.object (text (codes "class") (c.as_str.ensures.value i) (told (codes "ids") (one_name c.args.name.now) (text (codes "prefix") c.args.prefix.now json.no_members)))))

@@ -18,8 +18,8 @@ returns c =
     let args_key : List Token = key (codes "args") ∷ [] in
     let pairs : List Token = tokens_of (list (pair_values c.pairs.result.now)) in
     let name : List Token = member_tokens (codes "name") (string c.as_str.result.now) in
-    let prefix : List Token = member_tokens (codes "prefix") (string (codes "osd crush move")) in
+    let prefix : List Token = member_tokens (codes "prefix") (string c.args.prefix.now) in
     let closes : List Token = end_object ∷ [] in
-    as_told r c.args.out.now c.end_object.new.self (opens ++ (args_key ++ (pairs ++ (name ++ (prefix ++ closes))))) (json_tokens (moving c.args.name.now c.args.at.now))
+    as_told r c.args.out.now c.end_object.new.self (opens ++ (args_key ++ (pairs ++ (name ++ (prefix ++ closes))))) (json_tokens (moving c.args.prefix.now c.args.name.now c.args.at.now))
     (then r c.args.out.now c.begin_object.new.self c.end_object.new.self opens (args_key ++ (pairs ++ (name ++ (prefix ++ closes)))) c.in_ok-begin_object.ensures (then r c.begin_object.new.self c.key.new.self c.end_object.new.self args_key (pairs ++ (name ++ (prefix ++ closes))) c.in_ok-key.ensures (then r c.key.new.self c.push_pairs.new.out c.end_object.new.self pairs (name ++ (prefix ++ closes)) c.in_ok-push_pairs.ensures (then r c.push_pairs.new.out c.text.new.self c.end_object.new.self name (prefix ++ closes) c.in_ok-text.ensures (then r c.text.new.self c.text-2.new.self c.end_object.new.self prefix closes c.in_ok-text-2.ensures c.end_object.ensures)))))
-    (λ i. json_tokens (json.object (told (codes "args") (list (pair_values (c.pairs.ensures.value i))) (text (codes "name") (c.as_str.ensures.value i) (text (codes "prefix") (codes "osd crush move") json.no_members)))))
+    (λ i. json_tokens (json.object (told (codes "args") (list (pair_values (c.pairs.ensures.value i))) (text (codes "name") (c.as_str.ensures.value i) (text (codes "prefix") c.args.prefix.now json.no_members)))))

@@ -15,8 +15,8 @@ returns c =
     let r = c.end_object.result in
     let opens : List Token = begin_object ∷ [] in
     let name : List Token = member_tokens (codes "name") (string c.as_str.result.now) in
-    let prefix : List Token = member_tokens (codes "prefix") (string (codes "osd crush rm")) in
+    let prefix : List Token = member_tokens (codes "prefix") (string c.args.prefix.now) in
     let closes : List Token = end_object ∷ [] in
-    as_told r c.args.out.now c.end_object.new.self (opens ++ (name ++ (prefix ++ closes))) (json_tokens (removing c.args.name.now))
+    as_told r c.args.out.now c.end_object.new.self (opens ++ (name ++ (prefix ++ closes))) (json_tokens (removing c.args.prefix.now c.args.name.now))
     (then r c.args.out.now c.begin_object.new.self c.end_object.new.self opens (name ++ (prefix ++ closes)) c.in_ok-begin_object.ensures (then r c.begin_object.new.self c.text.new.self c.end_object.new.self name (prefix ++ closes) c.in_ok-text.ensures (then r c.text.new.self c.text-2.new.self c.end_object.new.self prefix closes c.in_ok-text-2.ensures c.end_object.ensures)))
-    (λ i. json_tokens (json.object (text (codes "name") (c.as_str.ensures.value i) (text (codes "prefix") (codes "osd crush rm") json.no_members))))
+    (λ i. json_tokens (json.object (text (codes "name") (c.as_str.ensures.value i) (text (codes "prefix") c.args.prefix.now json.no_members))))

@@ -1,8 +1,7 @@
-use Rattle.std.proofs.Common.{sym}
-use Rattle.crush_json.proofs.commands.push_command.Goals as goal
+use Rattle.crush_json.proofs.commands.push_prefixed.Goals as goal
 
 pub returns-in-Place : goal.returns-in-Place
-returns-in-Place c = rw (c.in-Place.is, sym c.placing_prefix.ensures) c.push_placing.ensures
+returns-in-Place c = rw c.in-Place.is c.push_placing.ensures
 
 pub returns-in-Move : goal.returns-in-Move
 returns-in-Move c = rw c.in-Move.is c.push_moving.ensures
