@@ -1,5 +1,6 @@
 -- What the lines of lost changes promise.
-use Rattle.std.specs.Prelude.{◌≡◌, ℕ, false, List, [], None, All}
+use Rattle.std.specs.Prelude.{◌≡◌, ℕ, ◌==◌, false, List, [], None, All}
+use Rattle.std.specs.List.{count_by}
 use Rattle.crush_model.specs.Table.{Row}
 use Rattle.crush_edits.specs.Setting.{SettingData}
 use Rattle.crush_items.specs.Tree.{WalkStepData, tree_rows}
@@ -12,7 +13,17 @@ use Rattle.crush_conflicts.specs.NewItems.{each_once}
 abbrev pub NothingLost : List Row → CaseData → Type 0
 NothingLost t c = All (λ x. is_some_aspect (lost_of t c x) ≡ false) c.alone
 
--- NO LINE, NO LOSS: if the text of the conflicts is empty, then each change that a script makes alone is in the table after the run: of each item of the table before the run, and of each new item
+-- NO LOSS: each change that a script makes alone is in the table z after the run: of each item of the table t before the run, and of each new item that has one of these names
+abbrev pub NoLoss : List Row → List OperatorData → List Row → List (List ℕ) → Type 0
+NoLoss t os z names =
+    All (λ (step : WalkStepData). NothingLost t (old_case t os z step)) (tree_rows t) × All (λ (n : List ℕ). NothingLost t (new_case t os z n)) (each_once None names)
+
+-- NO LINE, NO LOSS: if the text of the conflicts is empty, then no change is lost
 abbrev pub NoLineNoLoss : Type 0
-NoLineNoLoss = (s : SettingData) (t : List Row) (os : List OperatorData) (z : List Row) (c : AreConflicts s t os z [])
-    → All (λ (step : WalkStepData). NothingLost t (old_case t os z step)) (tree_rows t) × All (λ (n : List ℕ). NothingLost t (new_case t os z n)) (each_once None c.names)
+NoLineNoLoss = (s : SettingData) (t : List Row) (os : List OperatorData) (z : List Row) (c : AreConflicts s t os z []) → NoLoss t os z c.names
+
+-- COUNT 0, NO LOSS: if the text of the conflicts has no line feed, then no change is lost
+abbrev pub CountZeroNoLoss : Type 0
+CountZeroNoLoss =
+    (s : SettingData) (t : List Row) (os : List OperatorData) (z : List Row) (text : List ℕ) (c : AreConflicts s t os z text)
+    → count_by (λ b. b == 10) text ≡ 0 → NoLoss t os z c.names

@@ -3,9 +3,9 @@
 ghost use Rattle.std.specs.Prelude.{◌≡◌};
 ghost use Rattle.crush_conflicts.specs.Aspects.{is_some_aspect, no_aspects, of_both, of_either, of_first_alone, only_presence};
 
-/// A set of aspects of an item. The aspects are that the map has the item, and the item's type,
-/// place, weight, name and class. Each field says whether the set has the aspect of the field's
-/// name.
+/// A set of aspects of an item. An aspect is one thing that a map says about an item: that it
+/// exists, its type, place, weight, name or class. Each field says whether the set has the aspect
+/// of the field's name.
 #[derive(Clone, Copy, Debug, PartialEq, Eq)]
 pub(crate) struct Aspects {
     /// That the map has the item.

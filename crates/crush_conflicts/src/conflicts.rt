@@ -147,8 +147,8 @@ fn conflict_lines<A: Allocator>(
     Ok(lines)
 }
 
-/// Appends a line for each item of the map before the run of which a change is lost, in the order
-/// of this map's tree.
+/// Appends a line for each item that the map had before the run and that has a lost change, in the
+/// order of this map's tree.
 fn push_old_lines<'a, A: Allocator>(
     alloc: Global,
     naming: &Naming<'_, 'a, A>,
@@ -171,8 +171,8 @@ fn push_old_lines<'a, A: Allocator>(
     Ok(())
 }
 
-/// Appends a line for each new item with one of these names of which a change is lost. Equal names
-/// that follow one another count once.
+/// Appends a line for each new item that has one of these names and a lost change. Equal names that
+/// follow one another count once.
 fn push_new_lines<'a, A: Allocator>(
     alloc: Global,
     naming: &Naming<'_, 'a, A>,

@@ -19,4 +19,4 @@ mod values;
 
 pub use alone::map_alone;
 pub use conflicts::lost_changes;
-pub use law::no_line_means_no_loss;
+pub use law::{count_zero_means_no_loss, no_line_means_no_loss};

@@ -37,7 +37,7 @@ IsDescribed d (expect.Statement late or) w = BeginsBucket d w
 IsDescribed d expect.StepWord w = IsOneOf (named expect.StepWord) (codes "set_..") × (starts_with nat_eq w (codes "set_") ≡ true)
 IsDescribed d e w = ⊥
 
--- each word that the sentence names may follow the words before the flaw, except where the map, the bucket or the rule already has as many as it may have of what the word begins
+-- each word that the sentence names may follow the words before the flaw, unless the word begins a further thing of which the map, the bucket or the rule already has the allowed number
 abbrev pub NamedWordsMayFollow : Type 0
 NamedWordsMayFollow = (bytes : List ℕ) (f : TextFault) (x : IsMapFlaw bytes f) (w : List ℕ) → IsOneOf (named f.expected) w → MayFollow x.so_far w ⊎ FaultyNext TooMany x.so_far w
 
