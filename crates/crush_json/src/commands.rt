@@ -17,8 +17,8 @@ use std::alloc::{AllocError, Global};
 pub(crate) fn push_command(alloc: Global, edit: &Edit, out: &mut Document) -> Result<(), AllocError>
     ensures { OnOk result (out.new ≡ out.old ++ json_tokens (command edit.now)) }
 {
-    let keyword = edit.keyword();
-    let prefix = format!(in alloc; "osd crush {keyword}")?;
+    let word = edit.keyword().word();
+    let prefix = format!(in alloc; "osd crush {word}")?;
     push_prefixed(alloc, prefix.as_str(), edit, out)
 }
 
