@@ -32,7 +32,7 @@ OFFERED = {
     "crush_map": {
         "CrushMap::culprit", "CrushMap::class_of", "CrushMap::contains", "CrushMap::kind_of", "CrushMap::weight_of_class",
     },
-    "crush_history": {"Edits::try_copy", "Entry::try_copy", "Script::try_copy", "Slip::try_copy"},
+    "crush_history": {"Edits::try_copy", "Entry::try_copy", "Script::try_copy", "Slip::try_copy", "write_entry"},
     "crush_items": {"ById::find", "Item::class_ids", "Item::seen", "Item::view", "Items::by_id", "Items::class_ids", "Items::of", "Items::run", "Items::seen"},
     "crush_compare": {"Comparison::after", "Comparison::before", "Comparison::by_ids", "Comparison::by_names", "Comparison::by_names_part", "Comparison::difference"},
     "crush_print": {"buckets", "devices", "TreePart::whole", "WalkStep::view", "walk", "walk_below", "walk_part", "class_weights", "write_tree"},

@@ -2,7 +2,7 @@
 
 use crate::script::{PLAIN_EXAMPLE_MAP, is_no_job, job_of, joined};
 use crush_edits::{Edit, Keyword, Placing};
-use crush_history::{Call, Line, Script, make_call};
+use crush_history::{Call, Script, make_call, write_entry};
 use crush_map::CrushMap;
 use crush_script::{BadLine, Due, Form, Job, JobFault, Misfit, line_feeds, map_part, placed_word};
 use std::alloc::Global;
@@ -52,19 +52,14 @@ fn lines_of(
     rt: &(impl Abort + AllocGlobal),
     map: &mut CrushMap<Global>,
     script: &Script,
-) -> String {
-    let mut lines = String::new(rt.alloc());
+) -> Vec<u8> {
+    let mut lines = Vec::new(rt.alloc());
     let mut number = 0u32;
     for call in script.calls.as_slice() {
         let reply = make_call(map, 0, call).expect(rt, "no memory");
         number = number.saturating_add(1);
-        let line = Line {
-            number,
-            operator: script.name.as_str(),
-            call,
-            reply,
-        };
-        write!(lines, "{line}\n").expect(rt, "no line");
+        let operator = script.name.as_str();
+        write_entry(rt.alloc(), number, operator, call, reply, &mut lines).expect(rt, "no line");
     }
     lines
 }
@@ -75,7 +70,7 @@ fn are_answered(
     scripts: &[Script],
 ) -> bool {
     match scripts {
-        [script] => lines_of(rt, map, script).as_bytes() == HISTORY,
+        [script] => lines_of(rt, map, script).as_slice() == HISTORY,
         _ => false,
     }
 }
