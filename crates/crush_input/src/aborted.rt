@@ -6,6 +6,7 @@ use crate::fault::RunFault;
 use crate::origins::Origins;
 use crush_script::Job;
 use std::alloc::Global;
+use thiserror::Error;
 
 /// What is stored of a job's text, from which notes about the text can be written later.
 #[derive(Drop)]
@@ -29,8 +30,9 @@ pub struct ParsedJob<'a> {
     pub text: KeptText<'a>,
 }
 
-/// Why a run stopped before its scripts ran.
-#[derive(Debug, Drop)]
+/// Why a run stopped before its scripts ran. `{}` prints the fault, without the notes.
+#[derive(Debug, Drop, Error)]
+#[error("{fault}")]
 pub struct Aborted {
     pub fault: RunFault,
     /// The lines that follow the first line on standard error.

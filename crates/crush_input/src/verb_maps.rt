@@ -73,8 +73,9 @@ pub enum VerbMapFault {
     Memory,
 }
 
-/// A verb's map that could not be used, and why.
-#[derive(Debug, Drop)]
+/// A verb's map that could not be used, and why. `{}` prints the fault, without the notes.
+#[derive(Debug, Drop, Error)]
+#[error("{fault}")]
 pub struct VerbMapRefusal {
     pub map: VerbMap,
     pub fault: VerbMapFault,
@@ -295,7 +296,8 @@ fn text_refusal(
     }
 }
 
-/// Parses the text of a verb's map, and fails if the verb can't use it.
+/// Parses the text of a verb's map, and fails if the verb can't use it. It also fails if memory runs
+/// out.
 ///
 /// The text may have at most 16,777,216 bytes, it must be the text of a map without scripts, and it
 /// must be complete if `maps` says so. If the text has a fault or seems to be cut, the notes say
@@ -358,8 +360,7 @@ fn screened_map<H: AllocGlobal + RandomSource>(
     }
 }
 
-/// Reads the file of a verb's map, and doesn't parse it. Whoever runs the verb on the map parses it
-/// anyway.
+/// Reads the file of a verb's map, and doesn't parse it. The run of the verb parses the map anyway.
 ///
 /// Returns the bytes of the file. There are at most 16,777,216 bytes, no line of them begins with
 /// `%`, as the line before a script does, and they end as a complete map does if `maps` says so. If
@@ -368,7 +369,7 @@ fn screened_map<H: AllocGlobal + RandomSource>(
 /// [`check_verb_map`] says whether they have a fault.
 ///
 /// Fails if the file can't be opened or read, or if its bytes aren't as above. In the second case
-/// the text is parsed, because the refusal says what is wrong with it, as that of
+/// the text is parsed, because the refusal says what is wrong with it, as a refusal of
 /// [`check_verb_map`] does. A note about a file that can't be read always has the file's name.
 pub fn read_verb_map<H: AllocGlobal + RandomSource, F: Opens>(
     rt: &H,
@@ -393,8 +394,8 @@ pub fn read_verb_map<H: AllocGlobal + RandomSource, F: Opens>(
     }
 }
 
-/// Whether a run with this fault may have ended before it parsed all of its maps. It has written
-/// nothing then.
+/// Whether a run with this fault may have ended before it parsed all of its maps. Such a run has
+/// written nothing.
 pub fn may_precede_maps(fault: RunFault) -> bool
     ensures { result ≡ may_precede_maps fault }
 {

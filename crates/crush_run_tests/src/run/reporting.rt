@@ -2,12 +2,13 @@
 //! requested.
 
 use crate::run::is_listed;
-use crush_input::{Words, report, report_options};
+use crush_input::{Aborted, VerbMap, VerbMapFault, VerbMapRefusal, Words, report, report_options};
 use crush_options::OptionsFault;
 use crush_run::{RunFault, Summary};
 use crush_script::JobFault;
 use crush_units::WriteFault;
 use std::alloc::AllocError;
+use std::fmt::Display;
 use std::io::{self, ErrorKind, Write};
 use std::process::Abort;
 
@@ -19,6 +20,27 @@ fn reports_what_no_run_here_comes_to(rt: HostRuntime) {
     assert!(rt; is_listed(&rt, &of_job, line, 4));
     assert_eq!(rt; RunFault::from(WriteFault::OutOfMemory), RunFault::Memory);
     assert_eq!(rt; RunFault::from(AllocError), RunFault::Memory);
+}
+
+fn assert_written<F: Display + Drop>(rt: &(impl Abort + AllocGlobal), fault: F, text: &str) {
+    let told = format!(in rt.alloc(); "{fault}").expect(rt, "no memory");
+    assert_eq!(rt; told.as_str(), text);
+    drop(told);
+}
+
+#[test]
+fn the_text_of_a_refusal_is_the_text_of_its_fault(rt: HostRuntime) {
+    let refusal = VerbMapRefusal {
+        map: VerbMap::Old,
+        fault: VerbMapFault::TooLong,
+        notes: Vec::new(rt.alloc()),
+    };
+    assert_written(&rt, refusal, "TooLong");
+    let aborted = Aborted {
+        fault: RunFault::Read,
+        notes: Vec::new(rt.alloc()),
+    };
+    assert_written(&rt, aborted, "read fault");
 }
 
 #[test]
