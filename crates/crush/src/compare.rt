@@ -1,4 +1,5 @@
 //! How a comparison of two maps matches their items. These types aren't in the root of the crate,
-//! because another type with the name `Identity` is there, for plans.
+//! because other types with the names `Identity` and `Pair` are there: `Identity` for plans, and
+//! `Pair` for the pairs of a location.
 
-pub use crush_compare::{Devices, Identity};
+pub use crush_compare::{Devices, Identity, Pair};
