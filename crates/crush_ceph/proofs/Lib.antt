@@ -3,4 +3,7 @@ pub mod Stepping
 pub mod Seen
 pub mod Pushed
 pub mod LawCommands
+pub mod LineWords
+pub mod SaidLines
+pub mod LawLines
 pub mod Examples

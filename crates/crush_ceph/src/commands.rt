@@ -79,7 +79,7 @@ fn joins_next(steps: &[CephStep], index: usize) -> bool
     }
 }
 
-/// Returns how many of the steps, from the first step on, the first command does.
+/// Returns the number of steps that the first command does.
 pub(crate) fn first_command(steps: &[CephStep]) -> usize
     requires { 0 < length steps.now }
     ensures some { 0 < result }

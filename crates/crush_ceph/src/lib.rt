@@ -1,8 +1,8 @@
 //! Prints edits as Ceph's own commands.
 //!
-//! [`ceph_text`] takes the map before the first edit. It returns the number of commands, and a line
-//! for each command. Where one command of Ceph can do several edits that follow one another, the
-//! edits have one line together.
+//! [`ceph_text`] takes a list of edits, and the map before the first edit. It returns the number of
+//! commands, and a line for each command. If one command of Ceph can do several edits that follow
+//! one another, these edits have one line together.
 #![tactic(auto)]
 
 mod commands;
@@ -12,5 +12,5 @@ mod steps;
 mod text;
 
 pub use for_ceph::redo_edit;
-pub use law::commands_do_the_edits;
+pub use law::{commands_do_the_edits, lines_mean_the_edits};
 pub use text::ceph_text;

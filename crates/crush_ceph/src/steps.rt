@@ -45,9 +45,9 @@ fn push_edit(
     Ok(())
 }
 
-/// Appends the edit, and then applies it to the map. `is_due` says whether the edit before it leaves
-/// an old name. If this edit doesn't leave one, too, `reweight-all` comes before it. Returns whether
-/// this edit leaves an old name.
+/// Appends the step of an edit, and then applies the edit to the map. `is_due` says whether the
+/// previous edit leaves an old name. If the previous edit leaves an old name and this edit doesn't,
+/// first appends `reweight-all`. Returns whether this edit leaves an old name.
 fn push_step(
     alloc: Global,
     map: &mut CrushMap<Global>,

@@ -45,17 +45,19 @@ fn commands_text(alloc: Global, steps: &[CephStep]) -> Result<Vec<u8>, AllocErro
 /// Returns the edits as Ceph's own commands, as lines for a shell. `opening` is the map before the
 /// first edit. Fails if memory runs out.
 ///
-/// The first line is `# N commands`. N lines follow, one for each command. Each of them has `ceph
-/// osd crush `, and the words of the edit as in a history line, but with weights in exact form.
+/// The first line is `# N commands`. N lines follow, one for each command. Each of these lines has
+/// the words `ceph osd crush`, and then the words of the edit as in a history line, but with weights
+/// in exact form. If a name among these words begins with `-`, the line has `--` before the words of
+/// the edit, because Ceph would otherwise read the name as an option.
 ///
-/// - An `add-bucket` and the `move` of the same bucket right after it are one command. Several
-///   `rm-device-class` in a row are one command, and so are several `set-device-class` of the same
-///   class.
+/// - An `add-bucket` and the `move` of the same bucket directly after it are printed as one command.
+///   Several `rm-device-class` in a row are printed as one command, and so are several
+///   `set-device-class` with the same class in a row.
 /// - If no bucket holds the device of a `set`, then the `set` is printed as an `add`.
-/// - After a `rename-bucket` of a bucket that a rule takes with a class, or after the last of
-///   several such edits in a row, comes the command `reweight-all`.
-/// - A swap ends in ` --yes-i-really-mean-it`, because Ceph requires this option if the two buckets
-///   aren't in the same bucket.
+/// - The command `reweight-all` follows a `rename-bucket` of a bucket that a rule takes with a
+///   class. After several such edits in a row, `reweight-all` follows only the last of them.
+/// - The line of a `swap-bucket` ends in ` --yes-i-really-mean-it`, because Ceph requires this option
+///   if the two buckets aren't in the same bucket.
 pub fn ceph_text(
     alloc: Global,
     opening: CrushMap<Global>,
