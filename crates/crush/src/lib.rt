@@ -72,6 +72,7 @@ pub use crush_editor::{
 pub use crush_gauge::{Gauge, Reading};
 pub use crush_history::{
     Call, Edits, Entry, Line, Reply, Script, Slip, history_text, is_change, is_refused, make_call,
+    write_entry,
 };
 
 // Jobs, and the reasons of faults and refusals.
