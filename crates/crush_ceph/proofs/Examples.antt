@@ -84,6 +84,11 @@ reads_classes_taken : edits_of_line (codes "ceph osd crush rm-device-class osd.0
 unfolding edits_of_line words_of_line keyword_of
 reads_classes_taken = refl
 
+-- the word `all` isn't the name of one device
+reads_no_wildcard : edits_of_line (codes "ceph osd crush rm-device-class all\n") ≡ None
+unfolding edits_of_line words_of_line keyword_of
+reads_no_wildcard = refl
+
 -- a device with a weight, and a swap with its option
 reads_device : edits_of_line (codes "ceph osd crush add osd.3 1.000000 host=h1\n") ≡ Some (Place Insert 3 (codes "osd.3") 65536 (host (codes "h1") ∷ []) ∷ [])
 unfolding edits_of_line words_of_line keyword_of

@@ -1,5 +1,5 @@
 -- What the line of a command says: its words, and the edits that they mean.
-use Rattle.std.proofs.Common.{◌≡◌, ℕ, ◌<◌, ◌^◌, ◌||◌, Bool, true, false, List, [], ◌∷◌, ◌++◌, Option, Some, length, map, refl, sym, ap, subst, ◌∙◌, arith, append_assoc}
+use Rattle.std.proofs.Common.{◌≡◌, ℕ, ◌<◌, ◌^◌, ◌||◌, Bool, true, false, List, [], ◌∷◌, ◌++◌, Option, Some, None, length, map, refl, sym, ap, subst, ◌∙◌, arith, append_assoc}
 use Rattle.std.specs.Prelude.{All, bytes_eq, codes, flat_map, if◌then◌else◌, option_and_then, option_map}
 use Rattle.std.specs.List.{list_all, list_any}
 use Rattle.std.proofs.lemmas.Bool.{false≢true}
@@ -19,7 +19,7 @@ use Rattle.crush_history.specs.Ceph.{assent, ceph_words, has_dash, has_dashed_ty
 use Rattle.crush_history.specs.Said.{IsSaid, device_named}
 use Rattle.crush_ceph.specs.Commands.{command_line, has_option, joins, more_words, moves}
 use Rattle.crush_ceph.specs.LawCommands.{edits_done}
-use Rattle.crush_ceph.specs.LawLines.{IsSaidStep, LineMeansEdits}
+use Rattle.crush_ceph.specs.LawLines.{IsForCeph, IsSaidStep, LineMeansEdits}
 use Rattle.crush_ceph.specs.LineEdits.{assent_word, edits_of_line, edits_said, is_option, moved_to, placing_said, weighing_said, weight_said, without_options, words_of_line}
 use Rattle.crush_ceph.specs.declared.steps.CephStep.{CephStep}
 use Rattle.crush_ceph.specs.declared.steps.CephStep.TheVariants.{Does, ReweightAll}
@@ -134,39 +134,41 @@ weighed edit first n w name small some bytes plain command text no_assent dash r
     command (reads ∙ ap (λ (u : ℕ). Some (edit n u ∷ [])) (exact_cut_again w small))
 
 -- all of them
-single : (e : Edit) → IsSaid e → IsSaidBy (Does e ∷ [])
+single : (e : Edit) → IsSaid e → IsForCeph e → IsSaidBy (Does e ∷ [])
 unfolding keyword_of
-single (Place Insert d n w at) is = placed Insert d n w at is (omega arith) refl refl refl refl
-single (Place CreateOrMove d n w at) is = placed CreateOrMove d n w at is (omega arith) refl refl refl refl
-single (Place Update d n w at) is = placed Update d n w at is (omega arith) refl refl refl refl
-single (Move n at) is =
+single (Place Insert d n w at) is asked = placed Insert d n w at is (omega arith) refl refl refl refl
+single (Place CreateOrMove d n w at) is asked = placed CreateOrMove d n w at is (omega arith) refl refl refl refl
+single (Place Update d n w at) is asked = placed Update d n w at is (omega arith) refl refl refl refl
+single (Move n at) is asked =
     let are = of_location at is.1 in
     alone (Move n at) (codes "move") (n ∷ map pair_word at) (omega arith) refl (name_word n is.0, are.words)
     (append_assoc (one_name (codes "move") n) (pairs_text at) (codes "\n") ∙ one_spelled (codes "move") n (pairs_text at ++ codes "\n")
     ∙ ap (λ (r : List ℕ). codes "move" ++ spelled (n ∷ []) r) (pairs_spelled at (codes "\n")))
     (λ h. let parts = neither (is_dashed n) (has_dashed_type at) h in plain_more n (map pair_word at) (not_option n parts.0) (are.plain parts.1))
     refl (ap (option_map (λ (l : List Pair). Move n l ∷ [])) are.reads)
-single (Swap a b) is =
+single (Swap a b) is asked =
     alone (Swap a b) (codes "swap-bucket") (a ∷ b ∷ assent_word ∷ []) (omega arith) refl
     (name_word a is.0, (name_word b is.1, (record { some = omega arith; bytes = refl }, tt)))
     (two_spelled (codes "swap-bucket") a b (spelled (assent_word ∷ []) (codes "\n")))
     (λ h. let parts = neither (is_dashed a) (is_dashed b) h in plain_more a (b ∷ assent_word ∷ []) (not_option a parts.0) (plain_more b (assent_word ∷ []) (not_option b parts.1) refl))
     refl refl
-single (Reweight n w) is = weighed (λ (x : List ℕ) (u : ℕ). Reweight x u) (codes "reweight") n w is.0 is.1 (omega arith) refl refl refl refl refl refl refl
-single (ReweightSubtree n w) is = weighed (λ (x : List ℕ) (u : ℕ). ReweightSubtree x u) (codes "reweight-subtree") n w is.0 is.1 (omega arith) refl refl refl refl refl refl refl
-single (Remove n) is =
+single (Reweight n w) is asked = weighed (λ (x : List ℕ) (u : ℕ). Reweight x u) (codes "reweight") n w is.0 is.1 (omega arith) refl refl refl refl refl refl refl
+single (ReweightSubtree n w) is asked = weighed (λ (x : List ℕ) (u : ℕ). ReweightSubtree x u) (codes "reweight-subtree") n w is.0 is.1 (omega arith) refl refl refl refl refl refl refl
+single (Remove n) is asked =
     alone (Remove n) (codes "rm") (n ∷ []) (omega arith) refl (name_word n is, tt) (one_spelled (codes "rm") n (codes "\n")) (λ h. plain_one n h) refl refl
-single (AddBucket n kind) is =
+single (AddBucket n kind) is asked =
     alone (AddBucket n kind) (codes "add-bucket") (n ∷ kind ∷ []) (omega arith) refl (name_word n is.0, (name_word kind is.1, tt))
     (two_spelled (codes "add-bucket") n kind (codes "\n")) (λ h. plain_two n kind h) refl refl
-single (Rename from to) is =
+single (Rename from to) is asked =
     alone (Rename from to) (codes "rename-bucket") (from ∷ to ∷ []) (omega arith) refl (name_word from is.0, (name_word to is.1, tt))
     (two_spelled (codes "rename-bucket") from to (codes "\n")) (λ h. plain_two from to h) refl refl
-single (SetClass n class) is =
+single (SetClass n class) is asked =
     alone (SetClass n class) (codes "set-device-class") (class ∷ n ∷ []) (omega arith) refl (name_word class is.1, (name_word n is.0, tt))
-    (two_spelled (codes "set-device-class") class n (codes "\n")) (λ h. plain_two class n h) refl refl
-single (RemoveClass n) is =
-    alone (RemoveClass n) (codes "rm-device-class") (n ∷ []) (omega arith) refl (name_word n is, tt) (one_spelled (codes "rm-device-class") n (codes "\n")) (λ h. plain_one n h) refl refl
+    (two_spelled (codes "set-device-class") class n (codes "\n")) (λ h. plain_two class n h) refl
+    (ap (λ (b : Bool). if b then None else Some (SetClass n class ∷ [])) asked)
+single (RemoveClass n) is asked =
+    alone (RemoveClass n) (codes "rm-device-class") (n ∷ []) (omega arith) refl (name_word n is, tt) (one_spelled (codes "rm-device-class") n (codes "\n")) (λ h. plain_one n h) refl
+    (ap (λ (b : Bool). if b then None else Some (RemoveClass n ∷ [])) asked)
 
 -- A COMMAND OF SEVERAL STEPS: each step joins the one before it
 abbrev pub IsChain : List CephStep → Type 0
@@ -270,7 +272,7 @@ is_said (ReweightAll ∷ []) some chain all = record {
   says = refl;
 }
 is_said (ReweightAll ∷ next ∷ more) some chain all = absurd (false≢true chain.0)
-is_said (Does e ∷ []) some chain all = single e (All-head IsSaidStep (Does e) [] all).0
+is_said (Does e ∷ []) some chain all = let is = All-head IsSaidStep (Does e) [] all in single e is.0 is.1
 is_said (Does (AddBucket n kind) ∷ Does (Move m at) ∷ []) some chain all =
     let is = All-head IsSaidStep (Does (AddBucket n kind)) (Does (Move m at) ∷ []) all in
     let moved = All-head IsSaidStep (Does (Move m at)) [] (All-tail IsSaidStep (Does (AddBucket n kind)) (Does (Move m at) ∷ []) all) in
@@ -281,7 +283,9 @@ is_said (Does (RemoveClass n) ∷ next ∷ more) some chain all =
     joined (RemoveClass n) next more (codes "rm-device-class") (n ∷ rest.names) (omega arith) refl (name_word n is.0, rest.are)
     (ap (λ (r : List ℕ). one_name (codes "rm-device-class") n ++ r) rest.text ∙ one_spelled (codes "rm-device-class") n (spelled rest.names (codes "\n")))
     (λ h. let parts = neither (is_dashed n) (list_any has_option (next ∷ more)) h in plain_more n rest.names (not_option n parts.0) (rest.plain parts.1))
-    refl (ap (λ (es : List Edit). Some (RemoveClass n ∷ es)) (sym rest.done))
+    refl
+    (ap (λ (b : Bool). if b then None else Some (RemoveClass n ∷ map (λ (x : List ℕ). RemoveClass x) rest.names)) is.1
+    ∙ ap (λ (es : List Edit). Some (RemoveClass n ∷ es)) (sym rest.done))
 is_said (Does (SetClass n class) ∷ next ∷ more) some chain all =
     let is = All-head IsSaidStep (Does (SetClass n class)) (next ∷ more) all in
     let rest = given n class (next ∷ more) chain (All-tail IsSaidStep (Does (SetClass n class)) (next ∷ more) all) in
@@ -291,7 +295,9 @@ is_said (Does (SetClass n class) ∷ next ∷ more) some chain all =
     let parts = neither (is_dashed class || is_dashed n) (list_any has_option (next ∷ more)) h in
     let both = neither (is_dashed class) (is_dashed n) parts.0 in
     plain_more class (n ∷ rest.names) (not_option class both.0) (plain_more n rest.names (not_option n both.1) (rest.plain parts.1)))
-    refl (ap (λ (es : List Edit). Some (SetClass n class ∷ es)) (sym rest.done))
+    refl
+    (ap (λ (b : Bool). if b then None else Some (SetClass n class ∷ map (λ (x : List ℕ). SetClass x class) rest.names)) is.1
+    ∙ ap (λ (es : List Edit). Some (SetClass n class ∷ es)) (sym rest.done))
 is_said (Does (AddBucket n kind) ∷ Does (Move m at) ∷ ReweightAll ∷ more) some chain all = absurd (false≢true chain.1.0)
 is_said (Does (AddBucket n kind) ∷ Does (Move m at) ∷ Does e ∷ more) some chain all = absurd (false≢true chain.1.0)
 is_said (Does e ∷ ReweightAll ∷ more) some chain all = absurd (false≢true chain.0)

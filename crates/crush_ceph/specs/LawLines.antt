@@ -1,25 +1,27 @@
 -- The law of the lines of Ceph's commands: each line means the edits of its command, and all lines together mean all edits.
-use Rattle.std.specs.Prelude.{◌≡◌, ℕ, ◌<◌, List, [], ◌∷◌, ◌++◌, All, Option, Some, flat_map, length, map, option_and_then, option_map}
+use Rattle.std.specs.Prelude.{◌≡◌, ℕ, ◌<◌, false, List, [], ◌∷◌, ◌++◌, All, Option, Some, flat_map, length, map, option_and_then, option_map}
 use Rattle.crush_model.specs.Table.{Row}
 use Rattle.crush_edits.specs.declared.edit.Edit.{Edit}
-use Rattle.crush_edits.specs.declared.edit.Edit.TheVariants.{Move}
+use Rattle.crush_edits.specs.declared.edit.Edit.TheVariants.{Move, RemoveClass, SetClass}
 use Rattle.crush_edits.specs.Setting.{SettingData}
 use Rattle.crush_history.specs.Said.{IsSaid}
 use Rattle.crush_ceph.specs.Commands.{command_line, cut}
 use Rattle.crush_ceph.specs.LawCommands.{edits_done, edits_for_ceph}
-use Rattle.crush_ceph.specs.LineEdits.{edits_of_line}
+use Rattle.crush_ceph.specs.LineEdits.{edits_of_line, is_all_devices}
 use Rattle.crush_ceph.specs.Steps.{ceph_steps}
 use Rattle.crush_ceph.specs.declared.steps.CephStep.{CephStep}
 use Rattle.crush_ceph.specs.declared.steps.CephStep.TheVariants.{Does, ReweightAll}
 
--- if the edit is a `move`, its location has a pair. Any other `move` is refused (`NoPlace`)
-abbrev pub IsLocated : Edit → Type 0
-IsLocated (Move name at) = 0 < length at
-IsLocated e = Unit {0}
+-- what Ceph requires of an edit beyond the forms of its words. The location of a `move` has a pair (any other `move` is refused with `NoPlace`). A device whose class is set or removed isn't called `all` or `any`, which Ceph reads as all devices
+abbrev pub IsForCeph : Edit → Type 0
+IsForCeph (Move name at) = 0 < length at
+IsForCeph (SetClass name class) = is_all_devices name ≡ false
+IsForCeph (RemoveClass name) = is_all_devices name ≡ false
+IsForCeph e = Unit {0}
 
--- an edit that a line can say: a command of a script can express it, and a `move` has a location
+-- an edit that a line can say: a command of a script can express it, and it is as Ceph requires
 abbrev pub IsSaidEdit : Edit → Type 0
-IsSaidEdit e = IsSaid e × IsLocated e
+IsSaidEdit e = IsSaid e × IsForCeph e
 
 -- a step that a line can say
 abbrev pub IsSaidStep : CephStep → Type 0

@@ -17,7 +17,7 @@ use Rattle.crush_history.specs.Said.{device_named}
 abbrev pub ends_word : ℕ → Bool
 ends_word b = b == 32 || b == 10
 
--- the words of a line: its longest runs of bytes that are neither spaces nor line feeds
+-- the words of a line: its longest runs of bytes that are neither spaces nor line feeds. Printed words have no bytes that a shell changes
 unfoldable pub words_of_line : List ℕ → List (List ℕ)
 words_of_line line = filter (λ (word : List ℕ). nat_lt 0 (length word)) (slice_split ends_word line)
 
@@ -25,11 +25,11 @@ words_of_line line = filter (λ (word : List ℕ). nat_lt 0 (length word)) (slic
 abbrev pub assent_word : List ℕ
 assent_word = codes "--yes-i-really-mean-it"
 
--- whether Ceph would read the word as an option that none of these commands has
+-- whether a word is an option other than the assent. Ceph reads each word that begins with `-` as an option
 abbrev pub is_option : List ℕ → Bool
 is_option word = is_dashed word && not (bytes_eq word assent_word)
 
--- the words of a command without the word `--` before them. Ceph reads no options after `--`. Without `--`, none of the words may be one
+-- the words of a command, without the word `--` if it is before them. After `--`, Ceph reads no word as an option. Without `--`, there are no words if one of them is an option
 abbrev pub without_options : List (List ℕ) → Option (List (List ℕ))
 without_options [] = None
 without_options (word ∷ words) = if bytes_eq word (codes "--") then Some words else if list_any is_option (word ∷ words) then None else Some (word ∷ words)
@@ -94,14 +94,18 @@ abbrev pub renaming_said : List (List ℕ) → Option (List Edit)
 renaming_said (from ∷ to ∷ []) = Some (Rename from to ∷ [])
 renaming_said words = None
 
+-- whether Ceph reads the first word in place of a device as all devices
+abbrev pub is_all_devices : List ℕ → Bool
+is_all_devices word = bytes_eq word (codes "all") || bytes_eq word (codes "any") || bytes_eq word (codes "*")
+
 -- `CLASS NAME ..` gives the class to each of the devices, in this order
 abbrev pub classes_given : List (List ℕ) → Option (List Edit)
-classes_given (class ∷ name ∷ names) = Some (map (λ (device : List ℕ). SetClass device class) (name ∷ names))
+classes_given (class ∷ name ∷ names) = if is_all_devices name then None else Some (map (λ (device : List ℕ). SetClass device class) (name ∷ names))
 classes_given words = None
 
 -- `NAME ..` takes the class away from each of the devices, in this order
 abbrev pub classes_taken : List (List ℕ) → Option (List Edit)
-classes_taken (name ∷ names) = Some (map (λ (device : List ℕ). RemoveClass device) (name ∷ names))
+classes_taken (name ∷ names) = if is_all_devices name then None else Some (map (λ (device : List ℕ). RemoveClass device) (name ∷ names))
 classes_taken words = None
 
 -- the edits of a command, given the words after its first word; none if the words don't have the command's form
