@@ -43,8 +43,8 @@ FORMS = {
     "rm-device-class": ("NAME", ["name"]),
 }
 # The commands in the order in which one is looked for that is near to a word.
-COMMANDS = ["add", "set", "create-or-move", "move", "swap-bucket", "reweight", "reweight-subtree", "rm", "add-bucket",
-            "rename-bucket", "set-device-class", "rm-device-class", "begin", "commit"]
+COMMANDS = ["add", "set", "create-or-move", "move", "swap-bucket", "reweight", "reweight-subtree", "rm", "remove",
+            "add-bucket", "rename-bucket", "set-device-class", "rm-device-class", "begin", "commit"]
 OPEN, MOST_EDITS = "a batch is already open: end it with `commit`", "a batch has at most 65536 edits"
 OF_FILES = {
     "BadLine": "the file's name can't be used as an operator's name: begin the file with a line %operator NAME",

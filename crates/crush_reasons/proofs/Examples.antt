@@ -1,7 +1,7 @@
 -- The lines and sentences for worked edits, histories and texts.
 use Rattle.std.proofs.Common.{◌≡◌, ℕ, Bool, true, false, List, [], ◌∷◌, ◌++◌, refl}
 use Rattle.std.specs.Fmt.{digits}
-use Rattle.std.specs.Prelude.{None, codes}
+use Rattle.std.specs.Prelude.{None, Some, codes}
 use Rattle.crush_model.specs.Table.{Row}
 use Rattle.crush_edits.specs.declared.edit.Edit.TheVariants.{Place, Move, Reweight, Remove, SetClass, Swap}
 use Rattle.crush_edits.specs.declared.edit.Placing.TheVariants.{Insert, Update}
@@ -198,6 +198,10 @@ missing = refl
 -- commands that are similar to a word, and one that isn't
 near_commands : (is_near_command (codes "rewieght") (codes "reweight") ≡ true) × (is_near_command (codes "reweigt") (codes "reweight") ≡ true) × (is_near_command (codes "rm") (codes "mr") ≡ true) × (is_near_command (codes "rm") (codes "set") ≡ false)
 near_commands = (refl, refl, refl, refl)
+
+second_word : near_command (codes "remvoe") ≡ Some (codes "remove")
+unfolding near_command first_command
+second_word = refl
 
 cut : fault_text (record { name = codes "map.txt"; before = 0 }) (codes "host h1 {\n\tid -2\n%operator a\n") (job.Text (record { kind = Ended; place = 17; expected = IdOrAlg }))
     ≡ codes "  map.txt line 2, column 5\n     id -2\n        ^\n  host h1, which begins at line 1, is not closed\n"

@@ -16,12 +16,12 @@ is_swapped a b =
 abbrev pub is_near_command : List ℕ → List ℕ → Bool
 is_near_command a b = is_one_off a b || is_swapped a b
 
--- the words of all commands, and the words `begin` and `commit` of a batch
+-- the words of all commands, of which `rm` has two, and the words `begin` and `commit` of a batch
 abbrev pub commands : List (List ℕ)
 commands =
     keyword_word (Place Insert) ∷ (keyword_word (Place Update) ∷ (keyword_word (Place CreateOrMove) ∷ (keyword_word Move ∷ (keyword_word SwapBucket
-    ∷ (keyword_word Reweight ∷ (keyword_word ReweightSubtree ∷ (keyword_word Rm ∷ (keyword_word AddBucket ∷ (keyword_word RenameBucket
-    ∷ (keyword_word SetDeviceClass ∷ (keyword_word RmDeviceClass ∷ (codes "begin" ∷ (codes "commit" ∷ [])))))))))))))
+    ∷ (keyword_word Reweight ∷ (keyword_word ReweightSubtree ∷ (keyword_word Rm ∷ (codes "remove" ∷ (keyword_word AddBucket ∷ (keyword_word RenameBucket
+    ∷ (keyword_word SetDeviceClass ∷ (keyword_word RmDeviceClass ∷ (codes "begin" ∷ (codes "commit" ∷ []))))))))))))))
 
 -- the first of these commands that is similar to a word
 unfoldable pub first_command : List ℕ → List (List ℕ) → Option (List ℕ)

@@ -70,6 +70,7 @@ fn near_command(word: &[u8]) -> Option<&'static str>
             Keyword::Reweight.word(),
             Keyword::ReweightSubtree.word(),
             Keyword::Rm.word(),
+            "remove",
             Keyword::AddBucket.word(),
             Keyword::RenameBucket.word(),
             Keyword::SetDeviceClass.word(),

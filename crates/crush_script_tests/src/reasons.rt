@@ -329,6 +329,11 @@ const MARKED: &[(&[u8], u64, &[u8])] = &[
         1,
         b"`reweigt` is not a command: did you mean reweight?",
     ),
+    (
+        b"remvoe h1",
+        1,
+        b"`remvoe` is not a command: did you mean remove?",
+    ),
     (b"ceph osd crush rm h1", 1, b"leave out `ceph osd crush`"),
 ];
 
