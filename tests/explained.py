@@ -505,6 +505,13 @@ def is_near(name, other):
     return any(long[:place] + long[place + 1 :] == short for place in range(len(long)))
 
 
+def near_name(map, name, kind):
+    """The first item or type that the name may mean, where the map has none of this name."""
+    if kind == "NoSuchType":
+        return next((other for other in map.types.values() if is_near(name, other) or is_near_command(name, other)), None)
+    return next((other for _, other in tree_rows(map) if is_near(name, other)), None) if kind == "NoSuchItem" else None
+
+
 def taking_rule(map, name):
     return next(rule["name"] for rule in map.rules if any(number == map.items[name]["id"] for _, number in rule["lines"]))
 
@@ -521,6 +528,8 @@ def sentence_of(words, kind, is_itself, count, near):
         return "NAME holds 1 item: move or remove it first"
     if kind == "NoSuchItem" and near:
         return "NAME doesn't exist: did you mean NEAR?"
+    if kind == "NoSuchType" and near:
+        return "NAME is not a type of the map: did you mean NEAR?"
     return OF_NAMES.get(kind, OF_REFUSALS[kind])
 
 
@@ -542,8 +551,7 @@ def edit_reason(map, edit, kind, looks):
     """What was wanted of a command that the map refused so, where near names are looked for or not."""
     words = edit.split(" ")
     name = blamed(map, words, kind)
-    looks = looks and kind == "NoSuchItem"
-    near = next((other for _, other in tree_rows(map) if is_near(name, other)), None) if looks else None
+    near = near_name(map, name, kind) if looks else None
     count = len(map.items[name]["kids"]) if kind == "NotEmpty" else 0
     seen = {"NAME": name, "NEAR": near, **seen_in(map, words, name, kind)}
     sentence = sentence_of(words, kind, name == words[1], count, near)
@@ -597,8 +605,8 @@ def is_reason(line, reason, job, files):
     words = edit.split(" ")
     forms = [sentence_of(words, kind, itself, count, near) for itself in (False, True) for count in (1, 2) for near in (None, "")
              ] + [sentence_of(words, kind, False, 2, "NEAR")]
-    names = {"NoSuchItem": "NAME|NEAR", "AlreadyPlaced": "NAME|BUCKET", "WrongType": "NAME|TYPE|WANTED", "ClassBound": "NAME|CLASS",
-             "InUse": "NAME|RULE", "Loop": "NAME|MOVED", "NotEmpty": "NAME|N"}.get(kind, "NAME")
+    names = {"NoSuchItem": "NAME|NEAR", "NoSuchType": "NAME|NEAR", "AlreadyPlaced": "NAME|BUCKET", "WrongType": "NAME|TYPE|WANTED",
+             "ClassBound": "NAME|CLASS", "InUse": "NAME|RULE", "Loop": "NAME|MOVED", "NotEmpty": "NAME|N"}.get(kind, "NAME")
     heads = [command_head(number, files) for number in edit_lines(job)[line.split(" ", 3)[2]]] if at else []
     front = f"(?:{'|'.join(map(re.escape, heads))}){re.escape(edit)}: " if at else ""
     return any(re.fullmatch("  " + front + re.sub(rf"\b({names})\b", lambda word: r"\S+", re.escape(form)) + "\n", reason)

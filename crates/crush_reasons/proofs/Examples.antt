@@ -3,10 +3,10 @@ use Rattle.std.proofs.Common.{◌≡◌, ℕ, Bool, true, false, List, [], ◌�
 use Rattle.std.specs.Fmt.{digits}
 use Rattle.std.specs.Prelude.{None, Some, codes}
 use Rattle.crush_model.specs.Table.{Row}
-use Rattle.crush_edits.specs.declared.edit.Edit.TheVariants.{Place, Move, Reweight, Remove, SetClass, Swap}
+use Rattle.crush_edits.specs.declared.edit.Edit.TheVariants.{Place, Move, Reweight, Remove, AddBucket, SetClass, Swap}
 use Rattle.crush_edits.specs.declared.edit.Placing.TheVariants.{Insert, Update}
 use Rattle.crush_edits.specs.declared.location.Pair.{Pair}
-use Rattle.crush_edits.specs.declared.refusal.Refusal.TheVariants.{AlreadyPlaced, BadLocation, InUse, Loop, NotEmpty, NoSuchItem, WrongType}
+use Rattle.crush_edits.specs.declared.refusal.Refusal.TheVariants.{AlreadyPlaced, BadLocation, InUse, Loop, NotEmpty, NoSuchItem, NoSuchType, WrongType}
 use Rattle.crush_edits.specs.Setting.{SettingData, take, emit}
 use Rattle.crush_units.specs.Words.{split, up_to_long, words_in}
 use Rattle.crush_history.specs.declared.call.Call.{Call}
@@ -126,6 +126,19 @@ none_near = refl
 -- the map isn't searched for a similar name
 not_looked : edit_reason false setting example (Remove (codes "h9")) NoSuchItem ≡ codes "h9 doesn't exist"
 not_looked = refl
+
+-- a type whose name is similar to the name of a type of the map, by two exchanged letters or by upper case; a type to which no type is similar; and a run that searches for no similar names
+exchanged : edit_reason true setting example (Move (codes "h1") (pair (codes "rakc") (codes "r1") ∷ [])) NoSuchType ≡ codes "rakc is not a type of the map: did you mean rack?"
+exchanged = refl
+
+upper : edit_reason true setting example (AddBucket (codes "h3") (codes "HOST")) NoSuchType ≡ codes "HOST is not a type of the map: did you mean host?"
+upper = refl
+
+no_type : edit_reason true setting example (Move (codes "h1") (pair (codes "shelf") (codes "s1") ∷ [])) NoSuchType ≡ codes "shelf is not a type of the map"
+no_type = refl
+
+no_type_looked : edit_reason false setting example (Move (codes "h1") (pair (codes "rakc") (codes "r1") ∷ [])) NoSuchType ≡ codes "rakc is not a type of the map"
+no_type_looked = refl
 
 -- reasons that say what the map has at the name for which an edit was refused
 taken : edit_reason true ruled example (Remove (codes "default")) InUse ≡ codes "the rule fast takes default"

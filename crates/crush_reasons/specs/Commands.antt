@@ -1,18 +1,13 @@
 -- The reason for a line of a script whose first word isn't a command.
-use Rattle.std.specs.Prelude.{ℕ, ◌+◌, Bool, ◌&&◌, ◌||◌, List, [], ◌∷◌, ◌++◌, Option, Some, None, bytes_eq, codes, drop, find, if◌then◌else◌}
+use Rattle.std.specs.Prelude.{ℕ, Bool, ◌&&◌, ◌||◌, List, [], ◌∷◌, ◌++◌, Option, Some, None, bytes_eq, codes, find, if◌then◌else◌}
 use Rattle.crush_edits.specs.declared.keyword.Keyword.TheVariants.{Place, Move, SwapBucket, Reweight, ReweightSubtree, Rm, AddBucket, RenameBucket, SetDeviceClass, RmDeviceClass}
 use Rattle.crush_edits.specs.declared.edit.Placing.TheVariants.{Insert, CreateOrMove, Update}
 use Rattle.crush_edits.specs.Keyword.{keyword_word}
 use Rattle.crush_script.specs.Lines.{word_in_line}
-use Rattle.crush_reasons.specs.Near.{is_one_off, same_heads, shared}
+use Rattle.crush_reasons.specs.Near.{is_one_off, is_swapped}
 use Rattle.crush_reasons.specs.Shown.{told}
 
--- whether two words are the same, except that two neighbouring bytes are exchanged
-abbrev pub is_swapped : List ℕ → List ℕ → Bool
-is_swapped a b =
-    same_heads (drop (shared a b) a) (drop (shared a b + 1) b) && same_heads (drop (shared a b + 1) a) (drop (shared a b) b)
-    && bytes_eq (drop (shared a b + 2) a) (drop (shared a b + 2) b)
-
+-- whether a word is similar to a command: one byte differs, is missing or is extra, or two neighbouring bytes are exchanged
 abbrev pub is_near_command : List ℕ → List ℕ → Bool
 is_near_command a b = is_one_off a b || is_swapped a b
 

@@ -9,13 +9,12 @@ use Rattle.crush_edits.specs.Setting.{SettingData}
 use Rattle.crush_edits.specs.Stops.{bucket_named}
 use Rattle.crush_apply.specs.Culprit.{culprit}
 use Rattle.crush_edits.specs.Refusal.{refusal_sentence}
-use Rattle.crush_reasons.specs.Way.{absent_reason, bound_said, class_named, held_count, held_said, holder_name, location_of, loop_reason, moved_name, placed_said, taken_reason, taking_rule, type_reason}
+use Rattle.crush_reasons.specs.Way.{absent_reason, bound_said, class_named, held_count, held_said, holder_name, location_of, loop_reason, moved_name, no_kind_reason, placed_said, taken_reason, taking_rule, type_reason}
 
 -- THE WORDS AFTER THE NAME, if they depend only on the refusal; none for a refusal that isn't about an item, and for a refusal whose reason depends on the map
 abbrev pub said_of : Refusal → Option (List ℕ)
 said_of refusal.BadName = Some (codes " is the device's own name, and the location uses it for a bucket")
 said_of refusal.BadLocation = Some (codes ": a location names each type and each bucket at most once, and never the type of devices")
-said_of refusal.NoSuchType = Some (codes " is not a type of the map")
 said_of refusal.NoPlace = Some (codes " needs a location: one or more TYPE=BUCKET")
 said_of refusal.NameTaken = Some (codes ": an item already has this name, or the device with this id has a different name")
 said_of refusal.NotPlaced = Some (codes " is in no bucket: use add to place it")
@@ -43,6 +42,7 @@ named_or n (Some said) sentence = n ++ said
 
 -- REASON for an edit that was refused when the map had this setting and this table. `n` is the name that the refusal is about, and `looks` says whether the map is searched for similar names
 abbrev pub reason_of : Bool → SettingData → List Row → Edit → List ℕ → Refusal → List ℕ
+reason_of looks s t e n refusal.NoSuchType = no_kind_reason looks s n
 reason_of looks s t e n refusal.NoSuchItem = absent_reason looks t n
 reason_of looks s t e n refusal.NotEmpty = n ++ held_said (held_count t n)
 reason_of looks s t e n refusal.InUse = taken_reason n (option_and_then (taking_rule s) (bucket_named t n))

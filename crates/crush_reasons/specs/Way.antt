@@ -9,18 +9,21 @@ use Rattle.crush_edits.specs.declared.edit.Edit.TheVariants.{Place, Move}
 use Rattle.crush_edits.specs.declared.location.Pair.{Pair}
 use Rattle.crush_edits.specs.Setting.{RuleData, SettingData, StepData, bucket_taken, kind_name}
 use Rattle.crush_edits.specs.Stops.{bucket_named}
-use Rattle.crush_reasons.specs.Near.{near_if}
+use Rattle.crush_reasons.specs.Near.{near_if, near_kind_if}
 
--- the reason for a name that the map doesn't have. If a similar name was searched for and found, the reason suggests it
+-- the reason for a name that the map doesn't have: the name, and what is wrong with it. If a similar name was searched for and found, the reason suggests it
 abbrev pub near_asked : Option (List ℕ) → List ℕ
 near_asked None = []
 near_asked (Some near) = codes ": did you mean " ++ near ++ codes "?"
 
-abbrev pub asked_reason : List ℕ → Option (List ℕ) → List ℕ
-asked_reason n near = n ++ codes " doesn't exist" ++ near_asked near
+abbrev pub asked_reason : List ℕ → List ℕ → Option (List ℕ) → List ℕ
+asked_reason n said near = n ++ said ++ near_asked near
 
 abbrev pub absent_reason : Bool → List Row → List ℕ → List ℕ
-absent_reason looks t n = asked_reason n (near_if looks t n)
+absent_reason looks t n = asked_reason n (codes " doesn't exist") (near_if looks t n)
+
+abbrev pub no_kind_reason : Bool → SettingData → List ℕ → List ℕ
+no_kind_reason looks s n = asked_reason n (codes " is not a type of the map") (near_kind_if looks s n)
 
 -- how many items the bucket with this name holds
 abbrev pub held_count : List Row → List ℕ → ℕ

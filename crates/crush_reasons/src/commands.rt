@@ -3,37 +3,14 @@
 
 ghost use Rattle.std.specs.Prelude.{◌≡◌, ◌++◌, OnOk, map as each};
 ghost use Rattle.std.specs.Option.{option_map};
-ghost use Rattle.crush_reasons.specs.Commands.{first_command, is_near_command, is_of_ceph, is_swapped, meant_text, near_command, no_command, no_word};
-ghost use Rattle.crush_reasons.specs.Near.{same_heads};
+ghost use Rattle.crush_reasons.specs.Commands.{first_command, is_near_command, is_of_ceph, meant_text, near_command, no_command, no_word};
 
-use crate::near::{is_one_off, shared};
+use crate::near::{is_one_off, is_swapped};
 use crate::shown::push_told;
-use crate::words::{from_place, push_all};
+use crate::words::push_all;
 use crush_edits::{Keyword, Placing};
 use crush_script::placed_word;
 use std::alloc::AllocError;
-
-fn same_heads(a: &[u8], b: &[u8]) -> bool
-    ensures { result ≡ same_heads a.now b.now }
-{
-    match a {
-        [] => false,
-        [first, ..] => match b {
-            [] => false,
-            [other, ..] => *first == *other,
-        },
-    }
-}
-
-/// Whether the words are the same, except that two neighbouring bytes are exchanged.
-fn is_swapped(a: &[u8], b: &[u8]) -> bool
-    ensures { result ≡ is_swapped a.now b.now }
-{
-    let same = shared(a, b);
-    same_heads(from_place(same, a), from_place(same + 1, b))
-        && same_heads(from_place(same + 1, a), from_place(same, b))
-        && from_place(same + 2, a) == from_place(same + 2, b)
-}
 
 fn is_near_command(a: &[u8], b: &[u8]) -> bool
     ensures { result ≡ is_near_command a.now b.now }

@@ -271,8 +271,9 @@ struct Subject<'a, O> {
 /// begins with two spaces. If the refusal is about a name, the reason has this name, and says what
 /// the map has under this name just before the refused edit. If an edit of a batch was refused, the
 /// reason begins with the place of this edit and with its command. The place is `FILE:LINE: `, or
-/// `line LINE: ` if no file is named. If the map has no item with the name, the reason can suggest
-/// a similar name. The map is searched for similar names only for the first 256 refused entries.
+/// `line LINE: ` if no file is named. If the map has no item or no type with the name, the reason can
+/// suggest a similar name. The map is searched for similar names only for the first 256 refused
+/// entries.
 ///
 /// `opening` is the map before the first call. `scripts` are the scripts of the job, in the order
 /// of its sections, and `lines` describes the lines of this job. Fails if memory runs out.

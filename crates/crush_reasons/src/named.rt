@@ -8,7 +8,7 @@ ghost use Rattle.crush_edits.specs.Refusal.{refusal_sentence};
 
 use crate::way::{
     class_named, holder_name, moved_name, push_absent, push_bound, push_holding, push_loop,
-    push_placed, push_taken, push_type, taking_rule,
+    push_no_kind, push_placed, push_taken, push_type, taking_rule,
 };
 use crush_edits::{Edit, Refusal};
 use crush_map::CrushMap;
@@ -29,7 +29,6 @@ fn said_of(refusal: Refusal) -> Option<&'static str>
                 ": a location names each type and each bucket at most once, and never the type of devices",
             )
         }
-        Refusal::NoSuchType => Some(" is not a type of the map"),
         Refusal::NoPlace => Some(" needs a location: one or more TYPE=BUCKET"),
         Refusal::NameTaken => Some(
             ": an item already has this name, or the device with this id has a different name",
@@ -98,6 +97,7 @@ fn push_reason_of(
 {
     let bytes = name.as_bytes();
     match refusal {
+        Refusal::NoSuchType => push_no_kind(looks, map, name, text),
         Refusal::NoSuchItem => push_absent(alloc, looks, map, name, text),
         Refusal::NotEmpty => push_holding(map, name, text),
         Refusal::InUse => push_taken(bytes, taking_rule(map, name), text),
@@ -109,8 +109,8 @@ fn push_reason_of(
     }
 }
 
-/// Appends the reason for a refused edit. `looks` says whether to search the map for a name that is
-/// similar to a missing one.
+/// Appends the reason for a refused edit. If the edit names an item or a type that the map doesn't
+/// have, `looks` says whether to search the map for a similar name.
 pub(crate) fn push_edit_reason(
     alloc: Global,
     looks: bool,

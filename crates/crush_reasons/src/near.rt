@@ -1,4 +1,4 @@
-//! Finds a name of the map that is similar to a name that the map doesn't have.
+//! Finds an item or a type of the map whose name is similar to a name that the map doesn't have.
 
 ghost use Rattle.std.specs.Prelude.{◌≡◌, ◌≤◌, ◌<◌, List, IfOk, IsTrue, drop, length, map as each};
 ghost use Rattle.std.specs.Option.{option_map};
@@ -6,10 +6,10 @@ ghost use Rattle.std.specs.Str.{str_eq_ignore_ascii_case};
 ghost use Rattle.crush_model.specs.Stands.{Stands};
 ghost use Rattle.crush_model.specs.Table.{Row};
 ghost use Rattle.crush_print.specs.WalkStep.{walk_step_data};
-ghost use Rattle.crush_reasons.specs.Near.{first_near, is_near, is_one_off, near_if, near_name, same_heads, shared};
+ghost use Rattle.crush_reasons.specs.Near.{first_near, first_near_kind, is_near, is_near_kind, is_one_off, is_swapped, near_if, near_kind_if, near_name, same_heads, shared};
 
 use crate::words::from_place;
-use crush_map::CrushMap;
+use crush_map::{CrushMap, Setting};
 use crush_print::{WalkStep, walk};
 use std::alloc::{AllocError, Global};
 
@@ -44,6 +44,28 @@ pub(crate) fn is_one_off(a: &[u8], b: &[u8]) -> bool
     let same = shared(a, b);
     let (behind_a, behind_b) = (from_place(same + 1, a), from_place(same + 1, b));
     behind_a == behind_b || behind_a == from_place(same, b) || from_place(same, a) == behind_b
+}
+
+fn same_heads(a: &[u8], b: &[u8]) -> bool
+    ensures { result ≡ same_heads a.now b.now }
+{
+    match a {
+        [] => false,
+        [first, ..] => match b {
+            [] => false,
+            [other, ..] => *first == *other,
+        },
+    }
+}
+
+/// Whether the words are the same, except that two neighbouring bytes are exchanged.
+pub(crate) fn is_swapped(a: &[u8], b: &[u8]) -> bool
+    ensures { result ≡ is_swapped a.now b.now }
+{
+    let same = shared(a, b);
+    same_heads(from_place(same, a), from_place(same + 1, b))
+        && same_heads(from_place(same + 1, a), from_place(same, b))
+        && from_place(same + 2, a) == from_place(same + 2, b)
 }
 
 fn is_other_case(a: &str, b: &str) -> bool
@@ -90,6 +112,8 @@ fn near_name<'a>(
     Ok(first_near(steps.as_slice(), name))
 }
 
+/// Returns the name of the first item of the map whose name is similar to this name. Returns `None`
+/// if there is none, or if `looks` is false, which means that the map isn't searched.
 pub(crate) fn near_if<'a>(
     alloc: Global,
     looks: bool,
@@ -103,4 +127,33 @@ pub(crate) fn near_if<'a>(
         return near_name(alloc, map, name);
     }
     Ok(None)
+}
+
+fn is_near_kind(a: &str, b: &str) -> bool
+    ensures { result ≡ is_near_kind a.now b.now }
+{
+    is_near(a, b) || is_swapped(a.as_bytes(), b.as_bytes())
+}
+
+fn near_kind<'a>(setting: &'a Setting, name: &str) -> Option<&'a str>
+    ensures { option_map (λ near. near.now) result ≡ first_near_kind name.now setting.now.kinds }
+{
+    for (_, kind) in setting.kinds() {
+        let near = kind.as_str();
+        if is_near_kind(name, near) {
+            return Some(near);
+        }
+    }
+    None
+}
+
+/// Returns the name of the first type of the map whose name is similar to this name. Returns `None`
+/// if there is none, or if `looks` is false, which means that the types aren't searched.
+pub(crate) fn near_kind_if<'a>(looks: bool, setting: &'a Setting, name: &str) -> Option<&'a str>
+    ensures { option_map (λ near. near.now) result ≡ near_kind_if looks setting.now name.now }
+{
+    if looks {
+        return near_kind(setting, name);
+    }
+    None
 }

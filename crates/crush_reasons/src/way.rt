@@ -8,9 +8,9 @@ ghost use Rattle.crush_model.specs.Table.{Row, id_named, kind_of, member};
 ghost use Rattle.crush_edits.specs.Setting.{bucket_taken, kind_name};
 ghost use Rattle.crush_edits.specs.SettingSeen.{rule_data, step_data};
 ghost use Rattle.crush_edits.specs.Stops.{bucket_named};
-ghost use Rattle.crush_reasons.specs.Way.{absent_reason, asked_reason, below_reason, bound_said, class_named, end_reason, held_count, held_said, holder_name, items_said, kind_reason, location_of, loop_reason, moved_name, near_asked, placed_said, taken_reason, takes_it, taking_rule, type_of_item, type_of_pair, type_reason, types_reason};
+ghost use Rattle.crush_reasons.specs.Way.{absent_reason, asked_reason, below_reason, bound_said, class_named, end_reason, held_count, held_said, holder_name, items_said, kind_reason, location_of, loop_reason, moved_name, near_asked, no_kind_reason, placed_said, taken_reason, takes_it, taking_rule, type_of_item, type_of_pair, type_reason, types_reason};
 
-use crate::near::near_if;
+use crate::near::{near_if, near_kind_if};
 use crate::words::{push_all, push_bytes};
 use crush_edits::{Edit, KeptRule, KeptStep, Location};
 use crush_map::CrushMap;
@@ -35,12 +35,17 @@ fn push_near(near: Option<&str>, text: &mut Vec<u8>) -> Result<(), AllocError>
     )
 }
 
-fn push_asked(name: &[u8], near: Option<&str>, text: &mut Vec<u8>) -> Result<(), AllocError>
+fn push_asked(
+    name: &[u8],
+    said: &[u8],
+    near: Option<&str>,
+    text: &mut Vec<u8>,
+) -> Result<(), AllocError>
     ensures { OnOk result (text.new.items ≡ text.old.items
-        ++ asked_reason name.now (option_map (λ near. near.now) near.entry)) }
+        ++ asked_reason name.now said.now (option_map (λ near. near.now) near.entry)) }
 {
     text.extend_from_slice(name)?;
-    text.extend_from_slice(b" doesn't exist")?;
+    text.extend_from_slice(said)?;
     push_near(near, text)
 }
 
@@ -55,7 +60,20 @@ pub(crate) fn push_absent(
         → text.new.items ≡ text.old.items ++ absent_reason looks t name.now) }
 {
     let near = near_if(alloc, looks, map, name.as_str())?;
-    push_asked(name.as_bytes(), near, text)
+    push_asked(name.as_bytes(), b" doesn't exist", near, text)
+}
+
+pub(crate) fn push_no_kind(
+    looks: bool,
+    map: &CrushMap<Global>,
+    name: &Name<Global>,
+    text: &mut Vec<u8>,
+) -> Result<(), AllocError>
+    ensures { OnOk result (text.new.items
+        ≡ text.old.items ++ no_kind_reason looks map.now.setting name.now) }
+{
+    let near = near_kind_if(looks, map.setting(), name.as_str());
+    push_asked(name.as_bytes(), b" is not a type of the map", near, text)
 }
 
 fn bucket_named(map: &CrushMap<Global>, name: &Name<Global>) -> Option<BucketId>

@@ -536,6 +536,19 @@ fn each_is_told_of_the_map_before_it(rt: HostRuntime) {
     drop(job);
 }
 
+const MISTYPED: &[u8] =
+    b"type 0 osd\ntype 3 rack\ntype 1 host\nhost h1 {\nid -1\nalg straw2\n}\n%operator a\nmove h1 rakc=r1\nadd-bucket h2 HOST\nmove h1 root=r1\n";
+
+const MISTYPED_TOLD: &[u8] =
+    b"# 1 a move h1 rakc=r1 = refused NoSuchType 22\n  rakc is not a type of the map: did you mean rack?\n# 2 a add-bucket h2 HOST = refused NoSuchType 22\n  HOST is not a type of the map: did you mean host?\n# 3 a move h1 root=r1 = refused NoSuchType 22\n  root is not a type of the map\n";
+
+#[test]
+fn a_mistyped_type_is_told_with_the_type_that_is_meant(rt: HostRuntime) {
+    let job = read_job(rt.alloc(), Hashing::plain(), MISTYPED).expect(&rt, "no job");
+    assert!(rt; is_answered(&rt, &job, b"# 0 commands\n", MISTYPED_TOLD));
+    drop(job);
+}
+
 const WEIGHED: &[u8] =
     b"device 0 osd.0\ntype 1 host\ntype 2 root\nhost h1 {\nid -2\nalg straw2\nitem osd.0 weight 554.62\n}\nroot default {\nid -1\nalg straw2\nitem h1 weight 554.6\n}\n%operator a\n";
 
