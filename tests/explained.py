@@ -319,7 +319,8 @@ def flaw_told(text, kind, at, files):
         return at, OF_TEXTS[kind].replace("WORDS", due) + (f" (in {block})" if block else "")
     if kind == "BadNumber":
         first, _, last = range.partition(" to ")
-        return at, (OF_TEXTS[kind].replace("FIRST", first).replace("LAST", last) if last else "expected 0")
+        out = "number out of range: FIRST to LAST" if re.fullmatch("-?[0-9]+", word) else OF_TEXTS[kind]
+        return at, (out.replace("FIRST", first).replace("LAST", last) if last else "expected 0")
     if kind == "BadWeight":
         # What the item is that the weight is of: the name is two words before it.
         is_device = any(a[1] == "device" and c[1] == found[-2][1] for a, c in zip(found, found[2:]))

@@ -19,7 +19,7 @@ use Rattle.crush_print.specs.MapText.{root_numbers}
 use Rattle.crush_print.specs.Tree.{step_at, steps_at, tree_rows, unplaced_numbers}
 use Rattle.crush_print.proofs.Examples.{example, setting}
 use Rattle.crush_script.specs.declared.fault.JobFault.TheVariants as job
-use Rattle.crush_text.specs.declared.expected.Expected.TheVariants.{IdOrAlg, Statement}
+use Rattle.crush_text.specs.declared.expected.Expected.TheVariants.{BucketId, IdOrAlg, Number, Statement, TypeNumber}
 use Rattle.crush_text.specs.declared.expected.Optional.TheVariants.{Nothing}
 use Rattle.crush_text.specs.declared.fault.TextFaultKind.TheVariants.{Ended, UnknownType}
 use Rattle.crush_history.specs.Ceph.{ceph_heading, ceph_line}
@@ -34,6 +34,7 @@ use Rattle.crush_script.specs.declared.fault.BadLine.TheVariants as bad
 use Rattle.crush_script.specs.declared.fault.Due.TheVariants as due
 use Rattle.crush_reasons.specs.Named.{edit_reason}
 use Rattle.crush_reasons.specs.Near.{is_near}
+use Rattle.crush_reasons.specs.Ranges.{range_text, up_to_most}
 use Rattle.crush_reasons.specs.Replay.{table_after_edits}
 use Rattle.crush_reasons.specs.Way.{items_said}
 use Rattle.crush_reasons.specs.Place.{column_line, command_head, from_line, number_line}
@@ -165,6 +166,26 @@ unknown_type : fault_text (record { name = []; before = 0 }) (codes "type 0 osd\
     ≡ codes "  line 2, column 2\n     hots h2 {\n     ^\n  no type named `hots` is declared above\n"
 unfolding column_line digits form_of keyword_of told words_in split up_to_long
 unknown_type = refl
+
+-- numbers that are out of range, words that aren't numbers, and a place where only 0 is expected
+out_of_range : range_text (codes "70000") TypeNumber ≡ codes "number out of range: 0 to 65535"
+out_of_range = refl
+
+positive : range_text (codes "2") BucketId ≡ codes "number out of range: -1 to -2147483648"
+positive = refl
+
+negative : range_text (codes "-1") (Number 255) ≡ codes "number out of range: 0 to 255"
+unfolding up_to_most digits
+negative = refl
+
+no_number : range_text (codes "x") TypeNumber ≡ codes "expected a whole number from 0 to 65535"
+no_number = refl
+
+sign_alone : range_text (codes "-") TypeNumber ≡ codes "expected a whole number from 0 to 65535"
+sign_alone = refl
+
+only_zero : range_text (codes "1") (Number 0) ≡ codes "expected 0"
+only_zero = refl
 
 -- a line of a file that isn't a command
 no_command : fault_text (record { name = codes "alice.txt"; before = 0 }) (codes "%operator a\nfly x\nrm y\n") (job.NoSuchCommand 2)

@@ -14,6 +14,7 @@ use Rattle.crush_script.specs.Keyword.{form_of}
 use Rattle.crush_reasons.specs.declared.around.Around.{Around}
 use Rattle.crush_reasons.specs.Around.{around_at, defined_at}
 use Rattle.crush_reasons.specs.Place.{OriginData, behind_feed, last_line, own_line}
+use Rattle.crush_reasons.specs.Ranges.{range_text}
 use Rattle.crush_reasons.specs.Shown.{told}
 
 -- the first of these words, or an empty word if there is none
@@ -91,23 +92,6 @@ expected_words expect.Memory = []
 abbrev pub expected_text : Expected → List ℕ
 expected_text (expect.Keyword k) = told (keyword_word k)
 expected_text e = expected_words e
-
--- THE NUMBERS THAT ARE EXPECTED
-unfoldable pub up_to_most : ℕ → List ℕ
-up_to_most most = codes "expected a whole number from 0 to " ++ decimal most
-
-abbrev pub number_text : ℕ → List ℕ
-number_text most = if most == 0 then codes "expected 0" else up_to_most most
-
-abbrev pub range_words : Expected → List ℕ
-range_words expect.TypeNumber = codes "expected a whole number from 0 to 65535"
-range_words expect.BucketId = codes "expected a whole number from -1 to -2147483648"
-range_words expect.Count = codes "expected a whole number from -2147483648 to 2147483647"
-range_words e = codes "expected a whole number from 0 to 2147483647"
-
-abbrev pub range_text : Expected → List ℕ
-range_text (expect.Number most) = number_text most
-range_text e = range_words e
 
 -- the sentence for a number, an id, a name or a class that another line already has
 abbrev pub same_id : Expected → List ℕ
@@ -247,7 +231,7 @@ abbrev pub flaw_reason : OriginData → List ℕ → TextFaultKind → ℕ → E
 flaw_reason origin bytes text.BadWord place e = bad_word bytes place e
 flaw_reason origin bytes text.Ended place e = unclosed origin bytes e (around_at bytes place)
 flaw_reason origin bytes text.Unexpected place e = no_word origin bytes place e
-flaw_reason origin bytes text.BadNumber place e = range_text e
+flaw_reason origin bytes text.BadNumber place e = range_text (word_at bytes place) e
 flaw_reason origin bytes text.UnknownType place e = unknown_type bytes place e
 flaw_reason origin bytes text.UnknownItem place e = missing origin bytes place (codes "no device or finished bucket above has this name")
 flaw_reason origin bytes text.UnknownBucketInRule place e = missing origin bytes place (codes "no finished bucket above has this name")

@@ -11,6 +11,7 @@ pub mod Place
 pub mod Commands
 pub mod Misfit
 pub mod Around
+pub mod Ranges
 pub mod Flaws
 pub mod EditsLeft
 pub mod Fault

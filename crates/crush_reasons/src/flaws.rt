@@ -3,12 +3,13 @@
 ghost use Rattle.std.specs.Prelude.{◌≡◌, ◌++◌, ◌<◌, ◌^◌, OnOk, [], ◌∷◌, codes, drop, length, nat_eq};
 ghost use Rattle.std.specs.List.{list_all, starts_with};
 ghost use Rattle.crush_units.specs.Words.{is_blank, words};
-ghost use Rattle.crush_reasons.specs.Flaws.{bad_weight, bad_word, begins_at, begins_line, begins_word, below_at, can_be_class, defined_below, expected_text, expected_words, first_of, flaw_place, flaw_reason, inside, is_command, item_words, left_out, line_of, missing, most_statements, no_word, not_begun, not_closed, number_text, open_text, range_text, range_words, same_id, same_name, statement_words, step_words, too_early, too_many, two_of, type_hint, unclosed, unexpected, unknown_type, up_to_most, weight_range, word_at, word_sentence};
+ghost use Rattle.crush_reasons.specs.Flaws.{bad_weight, bad_word, begins_at, begins_line, begins_word, below_at, can_be_class, defined_below, expected_text, expected_words, first_of, flaw_place, flaw_reason, inside, is_command, item_words, left_out, line_of, missing, most_statements, no_word, not_begun, not_closed, open_text, same_id, same_name, statement_words, step_words, too_early, too_many, two_of, type_hint, unclosed, unexpected, unknown_type, weight_range, word_at, word_sentence};
 ghost use Rattle.crush_reasons.specs.Place.{origin_data};
 ghost use Rattle.crush_reasons.specs.Shown.{told};
 
 use crate::around::{Around, around_at, defined_at};
 use crate::place::{Origin, behind_feed, last_line};
+use crate::ranges::push_range;
 use crate::shown::push_told;
 use crate::words::{from_place, next_placed, push_all, push_bytes, up_to};
 use crush_script::Form;
@@ -166,52 +167,6 @@ fn push_expected(expected: Expected, text: &mut Vec<u8>) -> Result<(), AllocErro
     match expected {
         Expected::Keyword(keyword) => push_told(keyword.text().as_bytes(), text),
         _ => push_bytes(expected_words(expected).as_bytes(), text),
-    }
-}
-
-#[tactic(auto, unfolding(crate::specs::Flaws::up_to_most))]
-fn push_up_to_most(most: u32, text: &mut Vec<u8>) -> Result<(), AllocError>
-    ensures { OnOk result (text.new.items ≡ text.old.items ++ up_to_most most) }
-{
-    let mut buffer = Buffer::new();
-    push_all(
-        &[
-            b"expected a whole number from 0 to ".as_slice(),
-            buffer.format(most).as_bytes(),
-        ],
-        text,
-    )
-}
-
-fn push_number(most: u32, text: &mut Vec<u8>) -> Result<(), AllocError>
-    ensures { OnOk result (text.new.items ≡ text.old.items ++ number_text most) }
-{
-    if most == 0 {
-        text.extend_from_slice(b"expected 0")
-    } else {
-        push_up_to_most(most, text)
-    }
-}
-
-/// Returns the sentence that says which numbers are expected. `push_range` itself prints the
-/// sentence for [`Expected::Number`], which has a greatest number of its own.
-fn range_words(expected: Expected) -> &'static str
-    ensures { result.now ≡ range_words expected }
-{
-    match expected {
-        Expected::TypeNumber => "expected a whole number from 0 to 65535",
-        Expected::BucketId => "expected a whole number from -1 to -2147483648",
-        Expected::Count => "expected a whole number from -2147483648 to 2147483647",
-        _ => "expected a whole number from 0 to 2147483647",
-    }
-}
-
-fn push_range(expected: Expected, text: &mut Vec<u8>) -> Result<(), AllocError>
-    ensures { OnOk result (text.new.items ≡ text.old.items ++ range_text expected) }
-{
-    match expected {
-        Expected::Number { most } => push_number(most, text),
-        _ => push_bytes(range_words(expected).as_bytes(), text),
     }
 }
 
@@ -616,7 +571,7 @@ pub(crate) fn push_flaw_reason(
             push_unclosed(origin, bytes, expected, around_at(bytes, place), text)
         }
         TextFaultKind::Unexpected => push_no_word(origin, bytes, place, expected, text),
-        TextFaultKind::BadNumber => push_range(expected, text),
+        TextFaultKind::BadNumber => push_range(word_at(bytes, place), expected, text),
         TextFaultKind::UnknownType => push_unknown_type(bytes, place, expected, text),
         TextFaultKind::UnknownItem => push_missing(
             origin,

@@ -23,6 +23,7 @@ mod misfit;
 mod named;
 mod near;
 mod place;
+mod ranges;
 mod replay;
 mod sentences;
 mod shown;

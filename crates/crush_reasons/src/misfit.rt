@@ -149,7 +149,7 @@ fn parts_of(word: &[u8]) -> &[u8]
     }
 }
 
-fn all_digits(text: &[u8]) -> bool
+pub(crate) fn all_digits(text: &[u8]) -> bool
     ensures { result ≡ list_all is_ascii_digit text.now }
 {
     text.iter().all(|byte| byte.is_ascii_digit())

@@ -209,7 +209,23 @@ fn numbers_and_words_that_are_expected_are_told(rt: HostRuntime) {
             &rt,
             origin,
             b"tunable a 4294967296\n",
-            b"  line 1, column 11\n    tunable a 4294967296\n              ^\n  expected a whole number from 0 to 4294967295\n"
+            b"  line 1, column 11\n    tunable a 4294967296\n              ^\n  number out of range: 0 to 4294967295\n"
+        )
+    );
+    assert!(rt;
+        is_listed(
+            &rt,
+            origin,
+            b"tunable a -1\n",
+            b"  line 1, column 11\n    tunable a -1\n              ^\n  number out of range: 0 to 4294967295\n"
+        )
+    );
+    assert!(rt;
+        is_listed(
+            &rt,
+            origin,
+            b"type x host\n",
+            b"  line 1, column 6\n    type x host\n         ^\n  expected a whole number from 0 to 65535\n"
         )
     );
     assert!(rt;
