@@ -16,8 +16,8 @@ from sources import contracts, crate_files, fields_of_records, known_words, page
 # Where the sentences of these enums stand, by the words that their definitions begin with; RULES.md has the same.
 SENTENCES = "crush_reasons/specs/Sentences.antt", "crush_edits/specs/Refusal.antt"
 SAID = {("job",): "Faults of a job", ("refusal", "stale"): "Refusals"}
-# A fault of the text that a job has, whose sentence is the text's.
-NO_SENTENCE = {"Text"}
+# The faults of a job whose sentences depend on the text of the map, or on the faulty line.
+NO_SENTENCE = {"Text", "BadLine", "NoSuchCommand"}
 
 
 def rule_faults():

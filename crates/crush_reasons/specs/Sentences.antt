@@ -6,10 +6,10 @@ use Rattle.crush_edits.specs.Refusal.{refusal_sentence}
 use Rattle.crush_script.specs.declared.fault.JobFault.{JobFault}
 use Rattle.crush_script.specs.declared.fault.JobFault.TheVariants as job
 
--- FAULTS OF A JOB. `Flaws.antt` defines the sentences for faults of the map's text, which have no sentence here
+-- FAULTS OF A JOB. The sentences for faults of the map's text, of a word that isn't a command, and of a line that isn't allowed at its place depend on the job's text. So they are not here, but in `Flaws.antt`, `Commands.antt` and `Misfit.antt`
 abbrev pub job_sentence : JobFault → List ℕ
-job_sentence (job.BadLine number why) = codes "the line doesn't have the form that its first word requires"
-job_sentence (job.NoSuchCommand number) = codes "the first word of a line must be a command: see --help"
+job_sentence (job.BadLine number why) = []
+job_sentence (job.NoSuchCommand number) = []
 job_sentence (job.OpenBatch number) = codes "this batch is not ended: add `commit` before the next %operator line"
 job_sentence (job.TooManyOperators number) = codes "a job has at most 16 operators"
 job_sentence (job.DuplicateOperator number) = codes "another operator above has this name"

@@ -10,20 +10,18 @@ use crush_script::JobFault;
 pub(crate) const STALE: &str =
     "the map has changed in the meantime: look at it again, and write `begin at` with the new number of changes";
 
-/// Returns the sentence for a fault of a job. For a fault of the map's text, returns an empty text,
-/// because that sentence depends on the map's text.
+/// Returns the sentence for a fault of a job. Returns an empty text if the sentence depends on the
+/// job's text.
 pub fn job_sentence(fault: JobFault) -> &'static str
     ensures { result.now ≡ job_sentence fault }
 {
     match fault {
-        JobFault::BadLine { .. } => "the line doesn't have the form that its first word requires",
-        JobFault::NoSuchCommand(_) => { "the first word of a line must be a command: see --help" }
         JobFault::OpenBatch(_) => {
             "this batch is not ended: add `commit` before the next %operator line"
         }
         JobFault::TooManyOperators(_) => "a job has at most 16 operators",
         JobFault::DuplicateOperator(_) => "another operator above has this name",
-        JobFault::Text(_) => "",
+        JobFault::BadLine { .. } | JobFault::NoSuchCommand(_) | JobFault::Text(_) => "",
         JobFault::OutOfMemory => "not enough memory for the job",
         JobFault::TooLong => "a job has at most 16777216 bytes",
         JobFault::TooManyCalls(_) => "a job has at most 65536 commands and batches",
