@@ -5,8 +5,9 @@
 Each case is a command of bash, with `$C` for the program and `$L` for a library that is preloaded, with which a
 file that is synced answers that the disk is full (it needs a C compiler, `cc`, `gcc` or what CC names), in a
 folder with `job` (a map with an edit), `large` (one
-of 2,000 devices, more than a pipe holds), `adjusted` (a weight that is no sum) and `map` (a map). Of a file that can't be opened or
-read `--explain` tells the reason, of standard input no more than the sentence. Of each it tells the status, of
+of 2,000 devices, more than a pipe holds), `adjusted` (a weight that is no sum), `refused` (a command that is refused) and `map` (a map). Of a file that can't be opened or
+read `--explain` tells the reason, of standard input no more than the sentence. In some cases standard error is a
+terminal, where the reasons are told without `--explain`. Of each it tells the status, of
 what a signal ended 128 and its number, what standard error got, and how much of its output was written. With --table
 what comes is printed as a table and not judged; else a line for each case that ends otherwise, and status 1 where
 any does.
@@ -14,6 +15,7 @@ any does.
 
 import os
 import pathlib
+import pty
 import shutil
 import subprocess
 import sys
@@ -44,7 +46,9 @@ int fsync(int fd) {
     return -1;
 }
 """
-JOBS = {"job": map_text(3) + script(3, 1), "large": map_text(2000) + script(2000, 1), "adjusted": ADJUSTED, "map": map_text(3) + "# end crush map\n"}
+JOBS = {"job": map_text(3) + script(3, 1), "large": map_text(2000) + script(2000, 1), "adjusted": ADJUSTED, "map": map_text(3) + "# end crush map\n",
+        "refused": map_text(3) + "%operator alice\nrm nope\n"}
+REFUSED = "crushedit: refused 1\n# 1 alice rm nope = refused NoSuchItem 2"
 # What it is, the command, the status, standard error, and what of the output is written: all, none, or the
 # start of it; of the empty job all are 75 bytes. None where the command sends the output elsewhere.
 CASES = [
@@ -116,6 +120,13 @@ CASES = [
     ("the MAP of --to never ends", "$C --to /dev/zero job", 1, "crushedit: to: TooLong", "none"),
     ("the MAP of --to is a FIFO", "mkfifo f; sed '/^%/,$d' job > f & $C --to f job | sed -n 1p", 0, "", "13"),
     ("--explain, and standard input is closed", "$C --explain <&-", 3, unread_text("read fault"), "none"),
+    ("--strict, and a command is refused", "$C --strict refused", 5, REFUSED, "none"),
+]
+# The same where standard error is a terminal.
+ON_TERMINAL = [
+    ("FILE isn't there, and standard error is a terminal", "$C missing", 3, unread_text("read fault", "missing", MISSING), "none"),
+    ("--strict, and a command is refused, and standard error is a terminal", "$C --strict refused", 5,
+     f"{REFUSED}\n  nope doesn't exist", "none"),
 ]
 # What can't be tried as root, who may look into each folder.
 OF_OTHERS = [
@@ -141,23 +152,50 @@ def make_library(folder):
     return library
 
 
-def ending(program, library, folder, command):
+def has_terminals():
+    """Whether the system has terminals for tests."""
+    try:
+        for end in pty.openpty():
+            os.close(end)
+    except OSError:
+        print("streams.py: the system has no terminal, so two cases are left out")
+        return False
+    return True
+
+
+def shown_by(terminal):
+    """What a terminal shows to which nobody writes any more, with the ends of lines of a file."""
+    shown = b""
+    while True:
+        try:
+            shown += os.read(terminal, 4096)
+        except OSError:
+            os.close(terminal)
+            return shown.replace(b"\r\n", b"\n")
+
+
+def ending(program, library, folder, command, is_on_terminal):
     """The status, standard error and standard output of a case, in a folder of its own."""
+    terminal, errors = pty.openpty() if is_on_terminal else (None, subprocess.PIPE)
     with tempfile.TemporaryDirectory(dir=folder) as case:
         for name in JOBS:
             os.link(os.path.join(folder, name), os.path.join(case, name))
         with open(os.path.join(folder, "out"), "wb") as out:
             run = subprocess.run(["bash", "-c", command], cwd=case, env={**os.environ, "C": program, "L": library},
-                                 stdin=subprocess.DEVNULL, stdout=out, stderr=subprocess.PIPE, timeout=60,
+                                 stdin=subprocess.DEVNULL, stdout=out, stderr=errors, timeout=60,
                                  restore_signals=True)
+        if is_on_terminal:
+            os.close(errors)
         with open(os.path.join(folder, "out"), "rb") as out:
             status = run.returncode if run.returncode >= 0 else 128 - run.returncode
-            return status, run.stderr.decode().strip(), out.read()
+            told = shown_by(terminal) if is_on_terminal else run.stderr
+            return status, told.decode().strip(), out.read()
 
 
 def main():
     program, as_table = os.path.abspath(sys.argv[1]), "--table" in sys.argv
     cases, failed = CASES + (OF_OTHERS if os.geteuid() else []), False
+    cases = [(case, False) for case in cases] + [(case, True) for case in (ON_TERMINAL if has_terminals() else [])]
     with tempfile.TemporaryDirectory() as folder:
         library = make_library(folder)
         whole = []
@@ -165,8 +203,8 @@ def main():
             with open(os.path.join(folder, name), "w") as out:
                 out.write(text)
             whole.append(subprocess.run([program, out.name], capture_output=True, check=True).stdout)
-        for name, command, due_status, due_told, due_written in cases:
-            status, told, out = ending(program, library, folder, command)
+        for (name, command, due_status, due_told, due_written), is_on_terminal in cases:
+            status, told, out = ending(program, library, folder, command, is_on_terminal)
             got = [status, told, written(out, whole) if due_written is not None else None]
             due = [due_status, due_told.strip(), due_written]
             if as_table:
