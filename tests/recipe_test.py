@@ -139,7 +139,38 @@ class Edits(Trial):
         self.assertIn(" alice reweight ", self.try_commands("%operator alice\nreweight osd.2 1.0\n"))
 
     def test_commands_before_a_section(self):
-        self.assertIn(" recipe reweight osd.1", self.try_commands("reweight osd.1 2\n%operator alice\nreweight osd.2 2\n"))
+        printed = self.try_commands("reweight osd.1 2\n%operator alice\nreweight osd.2 2\n")
+        self.assertIn("# 1 commands reweight osd.1 2.00000 = done changed 1 made 0\n# 2 alice reweight osd.2 2.00000 = done ", printed)
+
+    def test_operators_one_after_the_other(self):
+        printed = self.try_commands("%operator zoe\nadd-bucket r1 rack\n%operator alice\nmove r1 root=default\n%operator bob\nmove h1 rack=r1\n")
+        self.assertRegex(printed, "# 1 zoe .*\n# 2 alice .*\n# 3 bob ")
+        self.assertIn("Is that what you meant?\nr1: zoe: in (root); bob: in (root); in the end: in default\n", printed)
+
+    def test_lost_changes(self):
+        self.put("cluster", MAP.replace("item h1 weight 2.00000", "item h1 weight 3.00000"))
+        printed = self.try_commands("%operator alice\nreweight osd.0 2\n%operator bob\nreweight osd.0 3\n")
+        self.assertIn("Changes of a script are lost, because another script undoes them. Is that what you meant?\n"
+                      "osd.0: alice: weight 2.00000; bob: weight 3.00000\n", printed)
+        self.assertIn("osd.0 weight 3.000000\n", (self.folder / "new.txt").read_text())
+        self.assertIn(SET.format(42, self.folder), printed)
+
+    def test_no_change_is_lost(self):
+        printed = self.try_commands("%operator alice\nreweight osd.0 2\nreweight osd.0 3\n%operator bob\nreweight osd.0 3\n")
+        self.assertNotIn("Changes of a script are lost", printed)
+
+    def test_files_of_the_steps(self):
+        self.try_commands("reweight osd.2 1.0\n")
+        self.assertEqual({path.name for path in self.folder.iterdir()},
+                         {"map.bin", "map.txt", "before.txt", "commands", "new.txt", "raw.bin", "new.bin", "after.txt", "changes", "back"})
+        self.assertEqual((self.folder / "commands").read_text(), "reweight osd.2 1.0\n")
+        self.assertTrue((self.folder / "new.txt").read_text().endswith("\n# end crush map\n"))
+
+    def test_commands_of_any_name_and_of_a_pipe(self):
+        os.mkfifo(str(self.here / "a b.txt"))
+        writer = subprocess.Popen(["sh", "-c", 'echo reweight osd.2 1.0 > "a b.txt"'], cwd=str(self.here))
+        self.assertIn("# 1 commands reweight osd.2 1.00000 = done", self.check(0, ("a b.txt", self.folder)))
+        writer.wait()
 
     def test_device_with_class_in_a_batch(self):
         printed = self.try_commands("begin\nadd osd.3 1 host=h1\nset-device-class hdd osd.3\ncommit\n")
@@ -166,19 +197,21 @@ class Refusals(Trial):
 
     def test_refused_batch_has_the_line_of_its_file(self):
         printed = self.try_commands("begin\nreweight osd.0 1\nreweight h1 1\ncommit\n", 1)
-        self.assertIn("\n  line 3: reweight h1 1.00000: ", printed)
+        self.assertIn("\n  {}:3: reweight h1 1.00000: ".format(self.here / "commands"), printed)
 
     def test_faulty_line(self):
         printed = self.try_commands("reweight osd.2 1.0\nfly h1\n", 1)
-        self.assertIn("commands, line 2: NoSuchCommand: fly h1\n", printed)
+        self.assertIn("crushedit: NoSuchCommand\n  {} line 2, column 1\n    fly h1\n    ^\n".format(self.here / "commands"), printed)
         self.assertIn("is not a command: see --help", printed)
         self.assertNotRegex(printed, "line [0-9][0-9]")
 
     def test_faulty_line_of_a_section(self):
-        self.assertIn("commands, line 4: BadLine: rm", self.try_commands("# today\n\n%operator alice\nrm\n", 1))
+        printed = self.try_commands("# today\n\n%operator alice\nrm\n", 1)
+        self.assertIn("crushedit: BadLine\n  {} line 4\n    rm\n".format(self.here / "commands"), printed)
 
     def test_open_batch(self):
-        self.assertIn("commands, line 2: OpenBatch: begin", self.try_commands("rm osd.2\nbegin\nrm osd.1\n", 1))
+        printed = self.try_commands("rm osd.2\nbegin\nrm osd.1\n", 1)
+        self.assertIn("crushedit: OpenBatch\n  {} line 2\n    begin\n".format(self.here / "commands"), printed)
 
     def test_no_commands(self):
         self.assertIn("the file has no command", self.try_commands("# later\n", 1))
@@ -276,7 +309,7 @@ class Harm(Trial):
         self.assertIn("\n0 made, 0 removed, 0 renamed, 0 moved, 3 of other weight, 0 of other class\n", printed)
         before, after = ((self.folder / name).read_text() for name in ("map.txt", "after.txt"))
         self.assertEqual(re.findall("osd.[01] weight .*", before), re.findall("osd.[01] weight .*", after))
-        self.assertIn("item osd.0 weight 1.818985\n", (self.folder / "exact.txt").read_text())
+        self.assertIn("item osd.0 weight 1.818985\n", (self.folder / "new.txt").read_text())
 
     def test_a_map_that_is_compiled_otherwise(self):
         wrapper = self.tools / "careless"
@@ -429,7 +462,7 @@ class Words(Trial):
     def test_faults_of_files_named_like_options(self):
         for name in ("-n", "--version"):
             (self.here / name).write_text("fly h1\n")
-            self.assertIn("{}, line 1: NoSuchCommand: fly h1\n".format(name), self.check(1, (name, self.folder)))
+            self.assertIn("\n  ./{} line 1, column 1\n    fly h1\n".format(name), self.check(1, (name, self.folder)))
 
     def test_folders_with_blanks_and_quotes(self):
         for name in ("it's $1 today", "a\\nb", "-f"):
@@ -446,7 +479,7 @@ class Words(Trial):
 
     def test_control_characters_of_commands(self):
         printed = self.try_commands(b"fly \x1b[31m\xff\rh1\x07\n", 1)
-        self.assertIn("line 1: NoSuchCommand: fly ?[31m??h1?\n", printed)
+        self.assertIn("line 1, column 1\n    fly ?[31m? h1?\n", printed)
 
     def test_folder_in_place_of_a_file(self):
         self.assertIn("is a folder and not a file", self.check(1, (self.here, self.folder)))
@@ -487,6 +520,9 @@ class Words(Trial):
         self.folder = self.here / "für heute"
         printed = self.try_commands("reweight osd.2 1.0\n")
         self.assertIn("< '{}/new.bin'\n".format(self.folder), printed)
+        shutil.rmtree(str(self.folder))
+        (self.here / "für alle").write_text("fly h1\n")
+        self.assertIn("\n  für alle line 1, column 1\n    fly h1\n", self.check(1, ("für alle", self.folder)))
 
 
 class Exact(Trial):

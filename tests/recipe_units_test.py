@@ -140,11 +140,6 @@ class Weights(unittest.TestCase):
             self.assertEqual(recipe.units_of(weight), units)
             self.assertEqual(int(weight.replace(".", "")) * 65536 // 1000000, units)
 
-    def test_with_exact_weights(self):
-        text = "\t# weight 3.63869\n\titem osd.1.5 weight 1.81897\n\titem h1 weight -1.0\n# weight 3.63869\n"
-        self.assertEqual(recipe.with_exact_weights(text), "\t# weight 3.638688\n\titem osd.1.5 weight 1.818970\n"
-                         "\titem h1 weight -1.0\n# weight 3.63869\n")
-
     def test_with_dumped_weights(self):
         text = MAP.replace("h1 weight 2.00000", "h1 weight -25536.00000").replace("osd.0 weight 1.00000", "osd.0 weight 1.819")
         dump = {"devices": [{"id": number, "name": "osd.{}".format(number)} for number in range(3)],
@@ -215,16 +210,26 @@ class Texts(unittest.TestCase):
             self.assertEqual(len(read.devices), text.count("\ndevice "), path.name)
             read.names(), read.taken_classes()
 
-    def test_job_of(self):
-        self.assertEqual(recipe.job_of("a\nb\n", b"rm x"), (b"a\nb\n%operator recipe\nrm x", 3))
-        self.assertEqual(recipe.job_of("a\nb", b"\n# c\n%operator d\n"), (b"a\nb\n\n# c\n%operator d\n", 2))
-
     def test_fault_lines(self):
-        told = "crushedit: line 5: NoSuchCommand\n  line 5\n    fly\n  why\n"
-        self.assertEqual(recipe.fault_lines(told, "file", b"rm x\nfly\xff", 3), "recipe: file, line 2: NoSuchCommand: fly\ufffd\n  why")
-        self.assertEqual(recipe.fault_lines("crushedit: refused 1\n# 1 a\n  line 5: rm x: why\n", "file", b"", 3),
-                         "crushedit: refused 1\n# 1 a\n  line 2: rm x: why")
-        self.assertEqual(recipe.fault_lines("", "file", b"", 3), "")
+        told = "crushedit: line 45: NoSuchCommand\n  day (1)/commands line 2, column 1\n    fly\n    ^\n  why\n"
+        self.assertEqual(recipe.fault_lines(told, "day (1)/commands", "a\\1b"),
+                         "crushedit: NoSuchCommand\n  a\\1b line 2, column 1\n    fly\n    ^\n  why\n")
+        self.assertEqual(recipe.fault_lines("crushedit: refused 1\n# 1 a\n  t??g/commands:5: rm x: why\n", "t\u00e4g/commands", "file"),
+                         "crushedit: refused 1\n# 1 a\n  file:5: rm x: why\n")
+        other = "crushedit: byte 5: BadWord\n  day/map.txt line 2, column 1\n    day/commands line 2\n"
+        self.assertEqual(recipe.fault_lines(other, "day/commands", "file"), other)
+        self.assertEqual(recipe.fault_lines("", "day/commands", "file"), "")
+
+    def test_lost_changes(self):
+        folder = recipe.Folder("day")
+        for status, errors, lost in ((0, "crushedit: adjusted 1\nh1: 1.00000 was written, the sum is 2.00000\n", []),
+                                     (5, "crushedit: conflicts 2\nosd.0: a: removed; b: removed\nr1: a: made\nmore\n",
+                                      ["osd.0: a: removed; b: removed", "r1: a: made"])):
+            tools = recipe.Tools([], [], [], [sys.executable, "-c", "import sys; sys.stderr.write({!r}); sys.exit({})".format(errors, status)])
+            self.assertEqual(recipe.lost_changes(tools, folder), lost)
+        tools = recipe.Tools([], [], [], [sys.executable, "-c", "import sys; sys.exit('crushedit: out of memory')"])
+        with self.assertRaises(recipe.Stop):
+            recipe.lost_changes(tools, folder)
 
 
 class Placements(unittest.TestCase):
