@@ -92,7 +92,9 @@ monitor: $(PROGRAM)
 	tests/monitor.sh osds out/monitor
 	python3 -B tests/recipe_by_monitor.py $(PROGRAM) out/monitor
 	tests/monitor.sh start out/monitor
-	{ python3 tests/plans_by_monitor.py $(PROGRAM) out/monitor 100 1 && python3 tests/against_monitor.py $(PROGRAM) out/monitor 2000 1; }; \
+	{ python3 tests/plans_by_monitor.py $(PROGRAM) out/monitor 100 1 && python3 tests/against_monitor.py $(PROGRAM) out/monitor 2000 1 && \
+	  python3 tests/renames_by_monitor.py $(PROGRAM) out/monitor 100 1 && \
+	  python3 bench/exact_weights.py out/monitor --monitor 400 --program $(PROGRAM); }; \
 	  status=$$?; tests/monitor.sh stop out/monitor; exit $$status
 
 clean:

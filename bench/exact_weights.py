@@ -1,6 +1,6 @@
 """Tries exact weights, as `--exact` prints them, with Ceph's own crushtool and with a monitor.
 
-    python3 bench/exact_weights.py FOLDER [--maps N] [--monitor N] [--seed SEED]
+    python3 bench/exact_weights.py FOLDER [--maps N] [--monitor N [--program PROGRAM]] [--seed SEED]
 
 In FOLDER is the Ceph that `tests/monitor.sh install` has installed. Each weight of a device from 1 to 6553600 units (100
 TiB, the most that `crushtool -c` takes) is printed in exact form, in 100 maps of 65,536 weights each. `crushtool -c`
@@ -9,8 +9,9 @@ unit, too. A map has 500 devices, and each of its buckets holds all of them with
 `crushtool -c` takes long for maps with more devices. With --maps only the first N of the maps are tried. Random weights of
 buckets of 100 to 256 TiB are tried in one more map, as items of other buckets.
 
-With --monitor the monitor that `tests/monitor.sh start` has started in FOLDER gets N random weights in exact form, by the
-command that `--as-ceph` prints, and then has to have each of these units. This needs root.
+With --monitor the monitor that `tests/monitor.sh start` has started in FOLDER gets N random weights in exact form, and then
+has to have each of these units. This needs root. With --program PROGRAM the monitor gets the commands that PROGRAM prints
+with `--as-ceph`. Without it this script writes the weights itself.
 
 Prints how many weights were tried, and how many came back otherwise. The status is 1 if one did.
 """
@@ -34,6 +35,8 @@ UNITS = 65536
 # Weights in a map, and items of a bucket: more would weigh too much together.
 WEIGHTS, HELD = 65536, 500
 HEAVIEST_DEVICE, HEAVIEST_SUM = 100 * UNITS, 256 * UNITS
+# Devices of the monitor's map.
+DEVICES = 10
 TYPES = "type 0 osd\ntype 1 host\ntype 2 rack\n"
 
 
@@ -113,20 +116,34 @@ def try_map(ceph, text, weights):
     return len(others)
 
 
-def try_monitor(folder, dice, count):
-    """How many of these random weights a monitor stores otherwise."""
+def printed_commands(program, weights):
+    """The words of the commands that `--as-ceph` prints for these weights of ten devices in turn."""
+    from against_monitor import edited
+    # No device has its first weight again, so that each command changes the map. A unit has 16 digits after the point.
+    text = map_of_devices([HEAVIEST_DEVICE + 1] * DEVICES)
+    script = "".join(f"reweight osd.{turn % DEVICES} {units / UNITS:.16f}\n" for turn, units in enumerate(weights))
+    lines = edited(program, text, "%operator a\n" + script, "--as-ceph").splitlines()
+    return [line.split()[1:] for line in lines if not line.startswith("#")]
+
+
+def try_monitor(folder, program, weights):
+    """How many of these weights a monitor stores otherwise."""
     from against_monitor import BEGIN, TUNABLES, Monitor
+    commands = [["osd", "crush", "reweight", f"osd.{turn % DEVICES}", exact(units)] for turn, units in enumerate(weights)]
+    if program:
+        commands = printed_commands(program, weights)
+    if len(commands) != len(weights):
+        sys.exit(f"{len(weights)} weights, and {len(commands)} commands")
     monitor = Monitor(str(folder))
-    monitor.take(BEGIN + TUNABLES + map_of_devices([UNITS] * 10))
+    monitor.take(BEGIN + TUNABLES + map_of_devices([UNITS] * DEVICES))
     others = 0
-    for turn in range(count):
-        name, units = f"osd.{turn % 10}", dice.randint(1, HEAVIEST_DEVICE)
-        monitor.asked("osd", "crush", "reweight", name, exact(units))
+    for turn, (units, words) in enumerate(zip(weights, commands)):
+        monitor.asked(*words)
         dump = json.loads(monitor.asked("osd", "crush", "dump"))
-        stored = [item["weight"] for it in dump["buckets"] for item in it["items"] if item["id"] == turn % 10]
+        stored = [item["weight"] for it in dump["buckets"] for item in it["items"] if item["id"] == turn % DEVICES]
         if stored != [units]:
             others += 1
-            print(f"{name}: {units} units, {exact(units)}: stored {stored}")
+            print(f"{' '.join(words)}: {units} units: stored {stored}")
     return others
 
 
@@ -135,13 +152,14 @@ def main():
     parser.add_argument("folder", type=pathlib.Path)
     parser.add_argument("--maps", type=int, default=HEAVIEST_DEVICE // WEIGHTS)
     parser.add_argument("--monitor", type=int, default=0)
+    parser.add_argument("--program", type=os.path.abspath)
     parser.add_argument("--seed", type=int, default=1)
     parser.add_argument("--jobs", type=int, default=1)
     asked = parser.parse_args()
     folder = asked.folder.resolve()
     dice = random.Random(asked.seed)
     if asked.monitor:
-        others = try_monitor(folder, dice, asked.monitor)
+        others = try_monitor(folder, asked.program, [dice.randint(1, HEAVIEST_DEVICE) for _ in range(asked.monitor)])
         print(f"monitor: {asked.monitor} weights, {others} stored otherwise")
         return others > 0
     ceph = Ceph(folder)
