@@ -2,3 +2,4 @@ pub mod Coming
 pub mod Guiding
 pub mod Moving
 pub mod Passed
+pub mod Unchecked

@@ -189,6 +189,16 @@ fn faults_say_why(rt: HostRuntime) {
     drop(told);
 }
 
+fn move_h1(rt: &impl Abort, alloc: Global) -> Edit {
+    let mut at = Location::new(alloc);
+    at.push(b"rack", b"r1").expect(rt, "a pair");
+    at.push(b"root", b"default").expect(rt, "a pair");
+    Edit::Move {
+        name: name(rt, alloc, "h1"),
+        at,
+    }
+}
+
 fn assert_printed(rt: &(impl Abort + AllocGlobal), edit: &Edit, text: &str) {
     let printed = format!(in rt.alloc(); "{edit}").expect(rt, "memory");
     assert_eq!(rt; printed.as_str(), text);
@@ -203,6 +213,9 @@ fn edits_are_printed_as_commands(rt: HostRuntime) {
     assert_printed(&rt, choose, "create-or-move osd.7 1.00000 host=h1");
     assert_printed(&rt, set, "set osd.7 1.00000 host=h1");
     drop(edits);
+    let moved = move_h1(&rt, rt.alloc());
+    assert_printed(&rt, &moved, "move h1 rack=r1 root=default");
+    drop(moved);
 }
 
 #[test]

@@ -7,7 +7,7 @@ use crate::map::statements::{Statement, finish, takes_all};
 use crate::map::whole::{BEFORE_RULE, assert_the_setting, map_in_the_making, whole_example_map};
 use crush_builder::{BuildFault, MapBuilder};
 use crush_map::Hashing;
-use crush_units::{BucketId, DeviceId, ItemId, TypeId};
+use crush_units::{BucketId, DeviceId, ItemId, TypeId, is_name};
 use std::alloc::Global;
 use std::hash::RandomState;
 use std::process::Abort;
@@ -132,5 +132,70 @@ fn what_a_builder_is_asked(rt: HostRuntime) {
     assert_knows_the_open_host(&rt, &builder);
     takes_all(&rt, &mut builder, FILLED);
     assert_eq!(rt; builder.adjusted(), 1);
+    drop(builder);
+}
+
+/// Adds a device with `device_unchecked`, if everything is true that this method requires. Returns
+/// whether the device was added.
+fn adds_unchecked(builder: &mut MapBuilder<Global>, id: DeviceId, name: &[u8]) -> bool {
+    if !builder.is_idle() {
+        return false;
+    }
+    if !is_name(name) {
+        return false;
+    }
+    if builder.has_device(id) {
+        return false;
+    }
+    if builder.has_name(name) {
+        return false;
+    }
+    if builder.is_full_of_devices() {
+        return false;
+    }
+    builder.device_unchecked(id, name, None).is_ok()
+}
+
+#[test]
+fn a_device_is_added_unchecked(rt: HostRuntime) {
+    let mut builder = map_in_the_making(&rt, rt.alloc());
+    let added = adds_unchecked(&mut builder, device(&rt, 9), b"osd.9");
+    assert!(rt; added);
+    assert_eq!(rt;
+        builder.item_named(b"osd.9"),
+        Ok(ItemId::Device(device(&rt, 9)))
+    );
+    drop(builder);
+}
+
+/// Puts an item without a weight into the incomplete bucket with `item_unchecked`, if everything is
+/// true that this method requires. Returns whether the item was put there.
+fn puts_unchecked(builder: &mut MapBuilder<Global>, name: &[u8]) -> bool {
+    if !builder.is_filling() {
+        return false;
+    }
+    let Ok(id) = builder.item_named(name) else {
+        return false;
+    };
+    if builder.is_placed(id) {
+        return false;
+    }
+    builder.item_unchecked(id, None).is_ok()
+}
+
+const OPEN: &[Statement] = &[
+    Statement::Device(9, "osd.9"),
+    Statement::Begin("host", "h9"),
+    Statement::Id(-4),
+    Statement::Alg,
+];
+
+#[test]
+fn an_item_is_put_unchecked(rt: HostRuntime) {
+    let mut builder = map_in_the_making(&rt, rt.alloc());
+    takes_all(&rt, &mut builder, OPEN);
+    let put = puts_unchecked(&mut builder, b"osd.9");
+    assert!(rt; put);
+    assert!(rt; builder.is_placed(ItemId::Device(device(&rt, 9))));
     drop(builder);
 }
