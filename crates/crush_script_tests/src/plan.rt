@@ -5,7 +5,7 @@ mod maps;
 mod names_part;
 mod names_since;
 
-use crush_plan::{Identity, ceph_plan_text, find_plan, plan_text};
+use crush_plan::{Identity, Plan, ceph_plan_text, find_plan, plan_text};
 use crush_since::stays;
 use maps::*;
 use std::process::Abort;
@@ -112,6 +112,34 @@ fn a_copy_of_a_plan_is_printed_as_the_plan_is(rt: HostRuntime) {
     let text_of_copy = plan_text(rt.alloc(), &copy).expect(&rt, "no memory");
     drop(copy);
     assert!(rt; text_of_copy.as_slice() == text.as_slice());
+}
+
+fn copied_plan(rt: &(impl Abort + AllocGlobal), texts: [&[&[u8]]; 2]) -> Plan {
+    let map = map_of_parts(rt, texts[0]);
+    let wanted = map_of_parts(rt, texts[1]);
+    let plan = find_plan(rt.alloc(), Identity::Ids, None, &map, &wanted).expect(rt, "no memory");
+    drop(wanted);
+    drop(map);
+    let copy = plan.try_copy(rt.alloc()).expect(rt, "no memory");
+    drop(plan);
+    copy
+}
+
+#[test]
+fn a_copy_of_a_plan_has_the_lines_of_differences(rt: HostRuntime) {
+    let copy = copied_plan(&rt, [REGION_9, REGION_10]);
+    assert_eq!(rt; copy.rest.len(), 1);
+    assert!(rt; copy.rest[0].as_slice() == b"types differ".as_slice());
+    drop(copy);
+}
+
+#[test]
+fn a_copy_of_a_plan_has_the_numbers_aside(rt: HostRuntime) {
+    let copy = copied_plan(&rt, [HOSTS_OF_CEPH, HOSTS]);
+    let aside = copy.aside;
+    drop(copy);
+    assert_eq!(rt; aside.ids, 2);
+    assert_eq!(rt; aside.class_ids, 0);
 }
 
 #[test]

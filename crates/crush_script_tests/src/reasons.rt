@@ -166,6 +166,26 @@ fn a_misspelt_class_and_a_bucket_below_are_told(rt: HostRuntime) {
     );
 }
 
+/// The map's rule takes a bucket that is defined after the rule.
+const TAKEN_BELOW: &[u8] =
+    b"type 1 root\nrule r {\nid 0\ntype replicated\nstep take default\nstep emit\n}\nroot default {\nid -1\nalg straw2\n}\n";
+
+#[test]
+fn a_taken_bucket_below_is_told(rt: HostRuntime) {
+    let origin = Origin {
+        name: b"",
+        before: 0,
+    };
+    assert!(rt;
+        is_listed(
+            &rt,
+            origin,
+            TAKEN_BELOW,
+            b"  line 5, column 11\n    step take default\n              ^\n  `default` is defined below, at line 8: move that bucket up\n"
+        )
+    );
+}
+
 #[test]
 fn texts_that_are_no_maps_are_named(rt: HostRuntime) {
     let origin = Origin {
