@@ -25,6 +25,7 @@ mod full;
 mod gauge;
 mod guarded;
 mod no_memory;
+mod printed;
 mod unkept;
 
 fn started(rt: &(impl Abort + AllocGlobal), operators: usize) -> Started

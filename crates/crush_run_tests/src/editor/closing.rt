@@ -95,6 +95,15 @@ fn three_operators_by_turns(rt: HostRuntime) {
     let started = started_with(&rt, map, 3);
     let closed = close_after::<Brand>(&rt, started, scripts.as_slice());
     assert!(&rt; is_written(&rt, &closed, CLOSED));
+    assert_debug(&rt, &closed);
+}
+
+fn assert_debug(rt: &(impl Abort + AllocGlobal), closed: &Closed<Global>) {
+    let text = format!(in rt.alloc(); "{closed:?}").expect(rt, "no memory");
+    assert_eq!(rt;
+        text.as_str(),
+        "Closed { entries: 6, map: CrushMap { devices: 4, buckets: 3 } }"
+    );
 }
 
 fn close_after<N: Desk>(
