@@ -91,7 +91,9 @@ fn add_type<A: Allocator + Clone>(
     number: u16,
     name: &[u8],
 ) -> Result<(), BuildFault> {
-    assert!(rt; builder.is_idle() && is_name(name) && !is_reserved(name));
+    assert!(rt; builder.is_idle());
+    assert!(rt; is_name(name));
+    assert!(rt; !is_reserved(name));
     builder.kind(TypeId::new(number), name)
 }
 
@@ -107,7 +109,9 @@ fn add_device<A: Allocator + Clone>(
         Some(class) => is_name(class),
         None => true,
     };
-    assert!(rt; builder.is_idle() && is_name(name) && has_form);
+    assert!(rt; builder.is_idle());
+    assert!(rt; is_name(name));
+    assert!(rt; has_form);
     builder.device(id, name, class)
 }
 
@@ -117,7 +121,8 @@ fn begin_bucket<A: Allocator + Clone>(
     kind: &[u8],
     name: &[u8],
 ) -> Result<(), BuildFault> {
-    assert!(rt; builder.is_idle() && is_name(name));
+    assert!(rt; builder.is_idle());
+    assert!(rt; is_name(name));
     builder.begin(kind, name)
 }
 
@@ -127,7 +132,8 @@ fn add_tunable<A: Allocator + Clone>(
     name: &[u8],
     value: u32,
 ) -> Result<(), BuildFault> {
-    assert!(rt; builder.is_idle() && is_name(name));
+    assert!(rt; builder.is_idle());
+    assert!(rt; is_name(name));
     builder.tunable(name, value)
 }
 
@@ -148,7 +154,8 @@ fn add_class_id<A: Allocator + Clone>(
     class: &[u8],
 ) -> Result<(), BuildFault> {
     let id = BucketId::new(number).expect(rt, "a class id");
-    assert!(rt; builder.is_numbered() && is_name(class));
+    assert!(rt; builder.is_numbered());
+    assert!(rt; is_name(class));
     builder.class_id(id, class)
 }
 

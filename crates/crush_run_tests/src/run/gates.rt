@@ -51,7 +51,8 @@ fn a_gate_stands_round_each_call_in_turn(rt: HostRuntime) {
     let mut out = Vec::new(rt.alloc());
     let outcome = run_map(&rt, &gate, MODE, &mut job.as_slice(), &mut out);
     let seen = gate.seen.load(Ordering::SeqCst);
-    assert!(&rt; outcome == Ok(summary(0, 4, 2)) && seen == 0x1234_5678);
+    assert_eq!(&rt; outcome, Ok(summary(0, 4, 2)));
+    assert_eq!(&rt; seen, 0x1234_5678);
 }
 
 #[derive(Drop)]
@@ -97,6 +98,8 @@ fn of_two_guarded_batches_the_later_is_stale(rt: HostRuntime) {
         let mut out = Vec::new(rt.alloc());
         let outcome = run_map(&rt, &gate, AT_ONCE, &mut job.as_slice(), &mut out);
         let missed = gate.missed.load(Ordering::SeqCst);
-        assert!(&rt; missed == 0 && outcome == Ok(summary(0, 2, 1)) && out.ends_with(*lines));
+        assert_eq!(&rt; missed, 0);
+        assert_eq!(&rt; outcome, Ok(summary(0, 2, 1)));
+        assert!(&rt; out.ends_with(*lines));
     }
 }

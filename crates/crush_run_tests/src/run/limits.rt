@@ -60,5 +60,7 @@ fn two_operators_edit_the_most_buckets(rt: HostRuntime) {
     let mut out = Vec::new(rt.alloc());
     let outcome = run_map(&rt, &gate, AT_ONCE, &mut job.as_slice(), &mut out);
     let in_order = gate.kept_order();
-    assert!(&rt; in_order && outcome == Ok(summary(0, 4, 4)) && out == expected);
+    assert!(&rt; in_order);
+    assert_eq!(&rt; outcome, Ok(summary(0, 4, 4)));
+    assert!(&rt; out == expected);
 }
