@@ -5,11 +5,7 @@ ghost use Rattle.crush_editor.specs.Book.{MakesAll};
 ghost use Rattle.crush_two_operators.specs.Calls.{AreTheirs, HasMade};
 
 use crate::together::{Work, Worked, work_together};
-use anyhow::Context;
-use crush_editor::{Closed, Desk, Editor, Seat, Started};
-use crush_gauge::Reading;
-use crush_history::Call;
-use crush_map::CrushMap;
+use crush::{Call, Closed, CrushMap, Desk, Editor, Reading, Seat, Started};
 use std::alloc::Global;
 use std::marker::Brand;
 use std::sync::Wait;
@@ -40,7 +36,7 @@ pub fn edit_at_once<R: Threads + Wait + Sync>(
     // counts the calls of all seats). So `work_together` is generic over `N`. The code passes the
     // placeholder type `Brand` for `N`, and proofs/at_once/edit_at_once/Invariants.antt says that
     // in this call the gauge, the opening map and the ledger of `N` are those of `started`.
-    let started = Started::new(alloc, map, 2).ok().context("out of memory")?;
+    let started = Started::new(alloc, map, 2)?;
     work_together::<Brand, R, Call>(rt, alloc, started, first, second)
 }
 

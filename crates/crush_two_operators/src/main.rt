@@ -12,13 +12,10 @@
 
 use anyhow::bail;
 use at_once::edit_at_once;
-use crush_editor::Closed;
-use crush_edits::Edit;
-use crush_gauge::Reading;
-use crush_history::{Call, Entry, Line, Script, is_change};
-use crush_map::Hashing;
-use crush_print::{WeightForm, write_map};
-use crush_script::{Job, read_job};
+use crush::{
+    Call, Closed, Edit, Entry, Hashing, Job, Line, Reading, Script, WeightForm, is_change,
+    read_job, write_map,
+};
 use plan::follow_at_once;
 use std::io;
 

@@ -8,12 +8,8 @@ ghost use Rattle.crush_editor.specs.Book.{MakesAll};
 ghost use Rattle.crush_two_operators.specs.Plan.{HasFollowed, IsFollowed};
 
 use crate::together::{Work, Worked, work_together};
-use anyhow::Context;
-use crush_editor::{Closed, Desk, Editor, Seat, Started};
-use crush_edits::Edit;
-use crush_history::{Call, Edits, Reply, is_change};
-use crush_map::CrushMap;
-use crush_units::limits::MOST_ENTRIES;
+use crush::limits::MOST_ENTRIES;
+use crush::{Call, Closed, CrushMap, Desk, Edit, Editor, Edits, Reply, Seat, Started, is_change};
 use std::alloc::Global;
 use std::marker::Brand;
 use std::sync::Wait;
@@ -37,7 +33,7 @@ pub fn follow_at_once<R: Threads + Wait + Sync>(
     ensures all { IfOk result (λ c. MakesAll map c.map c.history.items) }
     ensures plan { IfOk result (λ c. IsFollowed plan.now c.history.items) }
 {
-    let started = Started::new(alloc, map, 2).ok().context("out of memory")?;
+    let started = Started::new(alloc, map, 2)?;
     let (closed, _last) = work_together::<Brand, R, Edit>(rt, alloc, started, plan, plan)?;
     Ok(closed)
 }

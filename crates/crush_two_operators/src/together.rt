@@ -6,8 +6,7 @@ ghost use Rattle.crush_editor.specs.Book.{MakesAll};
 ghost use Rattle.crush_editor.specs.Seat.{SeatData, IsHistoryOfSeats, seat_data};
 
 use anyhow::Context;
-use crush_editor::{Closed, Desk, Editor, Seat, Started};
-use crush_gauge::Reading;
+use crush::{Closed, Desk, Editor, Reading, Seat, Started};
 use std::alloc::Global;
 use std::sync::Wait;
 use std::thread::{Threads, join};
@@ -62,9 +61,7 @@ pub(crate) fn work_together<N: Desk + Send + Sync, R: Threads + Wait + Sync, W: 
 {
     // The editor has a seat for each operator. An operator needs its seat for each call and each
     // reading.
-    let (editor, mut seats) = Editor::<N>::open(alloc, started)
-        .ok()
-        .context("out of memory")?;
+    let (editor, mut seats) = Editor::<N>::open(alloc, started)?;
     let two = seats.pop().context("no seat")?;
     let one = seats.pop().context("no seat")?;
 

@@ -1,13 +1,12 @@
-use Rattle.std.proofs.Common.{sym, ◌∙◌, subst}
+use Rattle.std.proofs.Common.{subst}
 use Rattle.crush_editor.specs.Book.{MakesAll}
-use Rattle.crush_two_operators.proofs.Order.{of_ok}
 use Rattle.crush_two_operators.proofs.Following.{followed_by_two}
 use Rattle.crush_two_operators.proofs.plan.follow_at_once.Goals as goal
 
 -- the opening map of the editor is the map that was passed to the function
 pub returns-clause-all : goal.returns-clause-all
 returns-clause-all g c =
-    let o = of_ok _ _ _ (sym c.ok.ensures.value ∙ c.in_ok-started.ensures) c.new.ensures.opening in
+    let o = c.in_ok-started.ensures.opening in
     subst (λ m. MakesAll m c.in_ok-closed.closed.map c.in_ok-closed.closed.history.items) o c.in_ok-closed.ensures.all
 
 pub returns-clause-plan : goal.returns-clause-plan
