@@ -401,6 +401,16 @@ class Ways(Trial):
     def test_wanted_map_that_no_command_leads_to(self):
         self.assertIn("tunables differ\n", self.try_wanted(MAP.replace("tries 50", "tries 51"), 1))
 
+    def test_wanted_map_of_a_pipe_and_with_a_fault(self):
+        (self.here / "text").write_text(MAP.replace("osd.2 weight 0.50000", "osd.2 weight 1.00000"))
+        os.mkfifo(str(self.here / "a b"))
+        writer = subprocess.Popen(["sh", "-c", 'cat text > "a b"'], cwd=str(self.here))
+        self.assertIn(SET.format(42, self.folder), self.check(0, ("--to", "a b", self.folder)))
+        writer.wait()
+        shutil.rmtree(str(self.folder))
+        printed = self.try_wanted(MAP.replace("host h2", "hots h2"), 1)
+        self.assertRegex(printed, "crushedit: to: byte [0-9]+: UnknownType\n  {} line [0-9]+, column 1\n".format(self.here / "wanted"))
+
     def test_wanted_map_that_was_cut(self):
         self.assertIn("isn't a whole map", self.try_wanted("".join(MAP.splitlines(True)[:30]), 1))
         self.assertIn("is empty or isn't there", self.check(1, ("--to", "missing", self.folder)))
@@ -483,6 +493,10 @@ class Words(Trial):
 
     def test_folder_in_place_of_a_file(self):
         self.assertIn("is a folder and not a file", self.check(1, (self.here, self.folder)))
+
+    def test_empty_names(self):
+        for words in (("", self.folder), ("--to", "", self.folder)):
+            self.assertIn("recipe:  is empty or isn't there: No such file or directory\n", self.check(1, words))
 
     def test_full_output(self):
         (self.here / "commands").write_text("reweight osd.2 1.0\n")
