@@ -2,4 +2,3 @@ pub mod Coming
 pub mod Guiding
 pub mod Moving
 pub mod Passed
-pub mod Unchecked

@@ -167,35 +167,3 @@ fn a_device_is_added_unchecked(rt: HostRuntime) {
     );
     drop(builder);
 }
-
-/// Puts an item without a weight into the incomplete bucket with `item_unchecked`, if everything is
-/// true that this method requires. Returns whether the item was put there.
-fn puts_unchecked(builder: &mut MapBuilder<Global>, name: &[u8]) -> bool {
-    if !builder.is_filling() {
-        return false;
-    }
-    let Ok(id) = builder.item_named(name) else {
-        return false;
-    };
-    if builder.is_placed(id) {
-        return false;
-    }
-    builder.item_unchecked(id, None).is_ok()
-}
-
-const OPEN: &[Statement] = &[
-    Statement::Device(9, "osd.9"),
-    Statement::Begin("host", "h9"),
-    Statement::Id(-4),
-    Statement::Alg,
-];
-
-#[test]
-fn an_item_is_put_unchecked(rt: HostRuntime) {
-    let mut builder = map_in_the_making(&rt, rt.alloc());
-    takes_all(&rt, &mut builder, OPEN);
-    let put = puts_unchecked(&mut builder, b"osd.9");
-    assert!(rt; put);
-    assert!(rt; builder.is_placed(ItemId::Device(device(&rt, 9))));
-    drop(builder);
-}
