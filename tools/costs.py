@@ -92,7 +92,7 @@ def longest_chain(sums):
 
 def table(log):
     sums = collections.defaultdict(collections.Counter)
-    for name, what, seconds in re.findall(r"(?m)^(crush\w+) (proof|tests|edits) (\d+)$", log):
+    for name, what, seconds in re.findall(r"(?m)^(crush\w*) (proof|tests|edits) (\d+)$", log):
         sums[name][what] += int(seconds)
     total = collections.Counter()
     for row in sums.values():
