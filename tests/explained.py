@@ -498,19 +498,29 @@ def blamed(map, words, kind):
     return names[1] if command == "set-device-class" else names[0]
 
 
+def is_exchanged(name, other):
+    """Whether two letters beside one another are exchanged, and all else is the same."""
+    return len(name) == len(other) and any(
+        name[:place] + name[place + 1] + name[place] + name[place + 2 :] == other for place in range(len(name) - 1))
+
+
 def is_near(name, other):
-    """Whether one has a letter more, less or other, or is the other in another case."""
+    """Whether one has a letter more, less or other, has two letters exchanged, or is the other in another case."""
     short, long = sorted((name, other), key=len)
     if len(long) == len(short):
-        return sum(a != b for a, b in zip(long, short)) <= 1 or long.lower() == short.lower()
+        return sum(a != b for a, b in zip(long, short)) <= 1 or is_exchanged(long, short) or long.lower() == short.lower()
     return any(long[:place] + long[place + 1 :] == short for place in range(len(long)))
+
+
+def near_item(map, name):
+    return next((other for _, other in tree_rows(map) if is_near(name, other)), None)
 
 
 def near_name(map, name, kind):
     """The first item or type that the name may mean, where the map has none of this name."""
     if kind == "NoSuchType":
-        return next((other for other in map.types.values() if is_near(name, other) or is_near_command(name, other)), None)
-    return next((other for _, other in tree_rows(map) if is_near(name, other)), None) if kind == "NoSuchItem" else None
+        return next((other for other in map.types.values() if is_near(name, other)), None)
+    return near_item(map, name) if kind == "NoSuchItem" else None
 
 
 def taking_rule(map, name):

@@ -30,9 +30,9 @@ is_swapped a b =
     same_heads (drop (shared a b) a) (drop (shared a b + 1) b) && same_heads (drop (shared a b + 1) a) (drop (shared a b) b)
     && bytes_eq (drop (shared a b + 2) a) (drop (shared a b + 2) b)
 
--- SIMILAR: at most one byte differs as above, or the names differ only in upper and lower case
+-- SIMILAR: at most one byte differs as above, or two neighbouring bytes are exchanged, or the names differ only in upper and lower case
 abbrev pub is_near : List ℕ → List ℕ → Bool
-is_near a b = is_one_off a b || str_eq_ignore_ascii_case a b
+is_near a b = is_one_off a b || (is_swapped a b || str_eq_ignore_ascii_case a b)
 
 -- the first name of these items that is similar to the name n
 abbrev pub first_near : List ℕ → List WalkStepData → Option (List ℕ)
@@ -46,13 +46,9 @@ near_name t n = first_near n (tree_rows t)
 abbrev pub near_if : Bool → List Row → List ℕ → Option (List ℕ)
 near_if looks t n = if looks then near_name t n else None
 
--- SIMILAR TYPES: the names of two types are similar as above, or two neighbouring bytes are exchanged. A map has few types, and their names are words
-abbrev pub is_near_kind : List ℕ → List ℕ → Bool
-is_near_kind a b = is_near a b || is_swapped a b
-
 -- the first name of these types that is similar to the name n
 abbrev pub first_near_kind : List ℕ → List KindData → Option (List ℕ)
-first_near_kind n kinds = option_map (λ (k : KindData). k.name) (find (λ (k : KindData). is_near_kind n k.name) kinds)
+first_near_kind n kinds = option_map (λ (k : KindData). k.name) (find (λ (k : KindData). is_near n k.name) kinds)
 
 -- the first similar name among the types of a setting, in the order in which the types were declared; none if `looks` says that similar names aren't searched for
 abbrev pub near_kind_if : Bool → SettingData → List ℕ → Option (List ℕ)

@@ -6,7 +6,7 @@ ghost use Rattle.std.specs.Str.{str_eq_ignore_ascii_case};
 ghost use Rattle.crush_model.specs.Stands.{Stands};
 ghost use Rattle.crush_model.specs.Table.{Row};
 ghost use Rattle.crush_print.specs.WalkStep.{walk_step_data};
-ghost use Rattle.crush_reasons.specs.Near.{first_near, first_near_kind, is_near, is_near_kind, is_one_off, is_swapped, near_if, near_kind_if, near_name, same_heads, shared};
+ghost use Rattle.crush_reasons.specs.Near.{first_near, first_near_kind, is_near, is_one_off, is_swapped, near_if, near_kind_if, near_name, same_heads, shared};
 
 use crate::words::from_place;
 use crush_map::{CrushMap, Setting};
@@ -77,7 +77,9 @@ fn is_other_case(a: &str, b: &str) -> bool
 fn is_near(a: &str, b: &str) -> bool
     ensures { result ≡ is_near a.now b.now }
 {
-    is_one_off(a.as_bytes(), b.as_bytes()) || is_other_case(a, b)
+    is_one_off(a.as_bytes(), b.as_bytes())
+        || is_swapped(a.as_bytes(), b.as_bytes())
+        || is_other_case(a, b)
 }
 
 fn name_of<'a>(step: &WalkStep<'a, Global>) -> &'a str
@@ -129,18 +131,12 @@ pub(crate) fn near_if<'a>(
     Ok(None)
 }
 
-fn is_near_kind(a: &str, b: &str) -> bool
-    ensures { result ≡ is_near_kind a.now b.now }
-{
-    is_near(a, b) || is_swapped(a.as_bytes(), b.as_bytes())
-}
-
 fn near_kind<'a>(setting: &'a Setting, name: &str) -> Option<&'a str>
     ensures { option_map (λ near. near.now) result ≡ first_near_kind name.now setting.now.kinds }
 {
     for (_, kind) in setting.kinds() {
         let near = kind.as_str();
-        if is_near_kind(name, near) {
+        if is_near(name, near) {
             return Some(near);
         }
     }
