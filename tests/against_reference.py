@@ -8,9 +8,9 @@ scripts, of sixteen operators, and those of examples/, the refused ones too, as 
 tunables, rules and classes. In turn all bytes are compared. At once the history may be another each time: the model
 makes the calls in its order (`at_once.py`). Where the program has the words `--tree`, `--since MAP`, `--as-ceph`,
 `--strict`, `--explain` and `--script`, half of the runs have some of them (`looking.py` and `explained.py` say what
-comes then); else that is told. With the last two there comes to each job one whose scripts are in files, half of these
-jobs with one faulty line and many with weights of buckets that aren't the sums. The seed may be any word; without one
-it is drawn. It is printed, and the same seed makes the same jobs.
+comes then); else that is told. Each run in turn is made once more with `--no-make`. With the last two there comes to
+each job one whose scripts are in files, half of these jobs with one faulty line and many with weights of buckets that
+aren't the sums. The seed may be any word; without one it is drawn. It is printed, and the same seed makes the same jobs.
 """
 
 import collections
@@ -272,6 +272,10 @@ def difference(program, case, due):
         got = run(program, ["--in-turn", *flags], given, folder)
         if got != due:
             return f"in turn: {got}\n--- and not {due}"
+        made = outcome(*case._replace(words=[*case.words, "--no-make"]))
+        got = run(program, ["--in-turn", "--no-make", *flags], given, folder)
+        if got != made:
+            return f"in turn with --no-make: {got}\n--- and not {made}"
         got = run(program, [flag for flag in flags if flag != "--no-history"], given, folder)
     if due[0] == 1:
         return f"at once: {got}" if got != due else None

@@ -10,7 +10,7 @@ from model import is_change, make, number_of, route, text_of, units_of
 
 RULES = pathlib.Path(__file__).resolve().parent.parent / "docs/user/RULES.md"
 MOST_SHOWN, MOST_BEFORE = 72, 40
-# For how many refused calls a name is looked for that is nearly one that isn't there.
+# For how many refused calls, and for how many created buckets, a name is looked for that is nearly one that isn't there.
 MOST_LOOKS = 256
 
 
@@ -600,6 +600,44 @@ def refused_text(map, made, job, files):
             text += f"{line}  {call_reason(map, call, line, heads, refused < MOST_LOOKS)}\n"
             refused += 1
         given[operator] += len(call[1])
+        if is_change(line):
+            map = after_edits(map, call[1])
+    return text
+
+
+def count_made(line):
+    """How many buckets the call of a history line created."""
+    count = re.search(r" = (?:done|dones \d+) changed \d+ made (\d+)$", line)
+    return int(count[1]) if count else 0
+
+
+def makes_more(call, line):
+    """Whether a call created more buckets than it has commands that ask for one."""
+    return count_made(line) > sum(words[0] == "add-bucket" for words in call[1])
+
+
+def created_hints(map, edits):
+    """Of each bucket that a location of these edits creates, the first on this map: the item that its name may mean."""
+    text = ""
+    for words in edits:
+        at = location_of(words[1:])
+        created = [name for _, name in route(map, at)[0]]
+        for name in [name for _, name in at if name in created]:
+            near = near_item(map, name)
+            text += f"  {name} was created: did you mean {near}?\n" if near else ""
+        map = make(map, words)[0]
+    return text
+
+
+def created_text(map, made, explain):
+    """Of calls that were made, the first on this map, each with its history line: the lines of those that created buckets
+    unasked, and where it is wanted, below each what may be meant."""
+    text, looks = "", MOST_LOOKS
+    for call, line in made:
+        if makes_more(call, line):
+            count = count_made(line)
+            text += line + (created_hints(map, call[1]) if explain and count <= looks else "")
+            looks = max(looks - count, 0)
         if is_change(line):
             map = after_edits(map, call[1])
     return text

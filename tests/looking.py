@@ -3,7 +3,7 @@ and how a strict run ends."""
 
 import re
 
-from explained import by_id, in_order, refused_text, tree_rows, written_text
+from explained import by_id, created_text, in_order, makes_more, refused_text, tree_rows, written_text
 from for_ceph import ceph_lines
 from model import is_change, run_call, run_one, text_of
 
@@ -200,13 +200,24 @@ def first_line(status, refused, adjusted):
     return f"crushedit: adjusted {len(adjusted)}\n" if adjusted else ""
 
 
+def created_notes(words, read, made):
+    """What standard error is told of calls, the first on this map, that created buckets unasked, if none may."""
+    count = sum(makes_more(call, line) for call, line in made)
+    if "--no-make" not in words or count == 0:
+        return ""
+    return f"crushedit: made {count}\n" + created_text(read, made, "--explain" in words)
+
+
 def ending(words, since, read, adjusted, scripts, text, files):
     """Status, standard output and standard error of a run in turn. `adjusted` are the weights of the text that were replaced."""
     map, made = run_in_turn(read, scripts)
     refused = [line for _, line in made if is_refusal(line)]
     told = reasons(words, read, made, adjusted, text, files)
+    created = created_notes(words, read, made)
     if "--strict" in words and refused:
-        return 5, "", first_line(5, refused, adjusted) + told
+        return 5, "", first_line(5, refused, adjusted) + told + created
+    if created:
+        return 5, "", created + told
     history = "" if "--no-history" in words else "".join(line for _, line in made)
     return 0, body(words, since, read, map, made) + history, first_line(0, refused, adjusted) + told
 

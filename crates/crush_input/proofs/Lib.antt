@@ -1,7 +1,6 @@
 pub mod Outputs
 pub mod Consuming
 pub mod Joins
-pub mod MadeLines
 pub mod Noted
 pub mod Outcomes
 pub mod Parts

@@ -2,7 +2,6 @@ pub mod Faults
 pub mod Input
 pub mod Joined
 pub mod Lost
-pub mod Made
 pub mod Options
 pub mod Notes
 pub mod Origins

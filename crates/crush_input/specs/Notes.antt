@@ -4,8 +4,10 @@ use Rattle.crush_edits.specs.Setting.{SettingData}
 use Rattle.crush_map.specs.MapData.{MapData, MapStands}
 use Rattle.crush_history.specs.History.{EntryData}
 use Rattle.crush_history.specs.Refused.{refusals, refused_text}
+use Rattle.crush_reasons.specs.Created.{created_text}
 use Rattle.crush_reasons.specs.Explained.{explained_job}
 use Rattle.crush_reasons.specs.Fault.{fault_line, fault_text}
+use Rattle.crush_reasons.specs.Made.{made_text, makings}
 use Rattle.crush_reasons.specs.Place.{OriginData}
 use Rattle.crush_reasons.specs.Shown.{shown_byte}
 use Rattle.crush_reasons.specs.Written.{written_text}
@@ -22,7 +24,6 @@ use Rattle.crush_input.specs.declared.fault.SecondMapFault.{SecondMapFault}
 use Rattle.crush_input.specs.declared.fault.SecondMapFault.TheVariants as unread
 use Rattle.crush_input.specs.declared.aborted.KeptText.{KeptText}
 use Rattle.crush_input.specs.Lost.{LostData, conflict_notes}
-use Rattle.crush_input.specs.Made.{made_text, makings}
 use Rattle.crush_input.specs.Origins.{origin_of, whole_of}
 use Rattle.crush_input.specs.Report.{made_line}
 
@@ -65,10 +66,16 @@ text_of explain origin bytes t = record { origin = origin; lines = job_lines byt
 abbrev pub history_notes : Mode → TextData → SettingData → List Row → List (List ℕ) → List EntryData → List ℕ
 history_notes mode text s t names h = refused_notes mode text s t names h ++ text.weights
 
+-- LINES OF CREATED BUCKETS: the history lines of the calls that created more buckets than they have `add-bucket` commands; with `--explain`, each with hints, which depend on
+-- the setting and the table before the first call
+abbrev pub created_lines : Bool → SettingData → List Row → List (List ℕ) → List EntryData → List ℕ
+created_lines explain s t names h = if explain then created_text s t names h else made_text names 1 h
+
 -- NOTES OF CREATED BUCKETS of a run that refused calls ended: with `--no-make`, the line with the number of the calls that created more buckets than they have `add-bucket`
--- commands, and the history lines of these calls; otherwise, or if there are no such calls, nothing
-abbrev pub created_notes : Bool → List (List ℕ) → List EntryData → List ℕ
-created_notes no_make names h = if no_make then (if makings h == 0 then [] else made_line (makings h) ++ made_text names 1 h) else []
+-- commands, and the lines of these calls; otherwise, or if there are no such calls, nothing
+abbrev pub created_notes : Mode → SettingData → List Row → List (List ℕ) → List EntryData → List ℕ
+created_notes mode s t names h =
+    if mode.no_make then (if makings h == 0 then [] else made_line (makings h) ++ created_lines mode.explain s t names h) else []
 
 -- NOTES OF A FAULT OF BYTES: with `--explain`, the fault's place in the file that its line comes from, and the reason; otherwise nothing
 abbrev pub place_notes : Bool → (ℕ → OriginData) → List ℕ → JobFault → List ℕ
@@ -110,8 +117,8 @@ AreNotesOfSecondMap explain name all fault notes = notes ≡ []
 abbrev pub AreNotesOfHistory : {X : Type 0} → Mode → TextData → SettingData → List Row → List (List ℕ) → List EntryData → List ℕ → LostData → Result X RunFault → List ℕ → Type 0
 AreNotesOfHistory mode text s t names h rest lost (Ok x) notes = notes ≡ history_notes mode text s t names h
 AreNotesOfHistory mode text s t names h rest lost (Err run.Write) notes = notes ≡ history_notes mode text s t names h
-AreNotesOfHistory mode text s t names h rest lost (Err (run.Refused n)) notes = notes ≡ history_notes mode text s t names h ++ (created_notes mode.no_make names h ++ conflict_notes lost)
-AreNotesOfHistory mode text s t names h rest lost (Err (run.Made n)) notes = notes ≡ made_text names 1 h ++ (history_notes mode text s t names h ++ conflict_notes lost)
+AreNotesOfHistory mode text s t names h rest lost (Err (run.Refused n)) notes = notes ≡ history_notes mode text s t names h ++ (created_notes mode s t names h ++ conflict_notes lost)
+AreNotesOfHistory mode text s t names h rest lost (Err (run.Made n)) notes = notes ≡ created_lines mode.explain s t names h ++ (history_notes mode text s t names h ++ conflict_notes lost)
 AreNotesOfHistory mode text s t names h rest lost (Err (run.Conflicts n)) notes = notes ≡ lost.lines ++ history_notes mode text s t names h
 AreNotesOfHistory mode text s t names h rest lost (Err (run.Differs n)) notes = notes ≡ history_notes mode text s t names h ++ rest
 AreNotesOfHistory mode text s t names h rest lost (Err run.NoItem) notes = notes ≡ history_notes mode text s t names h

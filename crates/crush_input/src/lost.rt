@@ -1,18 +1,21 @@
 //! The changes of operators that a run has lost: whether they end the run, and what is told of them.
 
-ghost use Rattle.std.specs.Prelude.{◌≡◌, ◌++◌, ◌≤◌, IfErr, IfOk, OnOk, length};
+ghost use Rattle.std.specs.Prelude.{◌≡◌, ◌++◌, ◌≤◌, IfErr, IfOk, List, OnOk, is_some, length, true};
+ghost use Rattle.crush_model.specs.Table.{Row};
+ghost use Rattle.crush_edits.specs.Setting.{SettingData};
 ghost use Rattle.crush_history.specs.Entries.{AreOf};
 ghost use Rattle.crush_history.specs.HistoryText.{names_of};
 ghost use Rattle.crush_history.specs.Script.{scripts_data};
 ghost use Rattle.crush_input.specs.Lost.{IsConflictsFault, IsLossless, conflict_notes, lost_data};
-ghost use Rattle.crush_input.specs.Notes.{created_notes};
+ghost use Rattle.crush_input.specs.Notes.{IsKept, created_notes};
 ghost use Rattle.crush_input.specs.Report.{conflicts_line};
 ghost use Rattle.crush_units.specs.declared.limits.TheConstants.{MOST_ENTRIES};
 
 use crate::ending::write_conflicts;
 use crate::fault::RunFault;
 use crate::made::push_created;
-use crush_history::{Entry, Script};
+use crate::notes::History;
+use crush_options::Mode;
 use std::alloc::{AllocError, Global};
 
 /// The lost changes of a run: changes that an operator's script makes if it runs alone, and that
@@ -76,24 +79,26 @@ pub fn notes_with_lost(
 /// Returns the notes of a run that refused calls ended.
 ///
 /// These are `notes`, followed by the notes of two other things that end a run: with `no_make`, the
-/// calls that created buckets, and then the lost changes. Fails if memory runs out.
+/// calls that created buckets, and then the lost changes. With `explain`, there are hints below the
+/// line of a call that created buckets. Fails if memory runs out.
 pub fn notes_with_made_and_lost(
     alloc: Global,
-    no_make: bool,
-    scripts: &[Script],
-    entries: &[Entry],
+    mode: Mode,
+    history: History<'_>,
     notes: &[u8],
     lost: &LostChanges,
 ) -> Result<Vec<u8>, AllocError>
-    requires few { length entries.now ≤ MOST_ENTRIES }
-    requires operators { AreOf (length scripts.now) entries.now }
-    ensures { IfOk result (λ text. text.items ≡ notes.now
-        ++ (created_notes no_make (names_of (scripts_data scripts.now)) entries.now
-        ++ conflict_notes (lost_data lost.now))) }
+    requires few { length history.entries.now ≤ MOST_ENTRIES }
+    requires operators { AreOf (length history.scripts.now) history.entries.now }
+    requires kept { mode.explain ≡ true → is_some history.opening.now ≡ true }
+    ensures { IfOk result (λ text. (s : SettingData) (t : List Row)
+        → (mode.explain ≡ true → IsKept history.entry.opening.now s t) → text.items ≡ notes.now
+        ++ (created_notes mode s t (names_of (scripts_data history.entry.scripts.now))
+        history.entry.entries.now ++ conflict_notes (lost_data lost.now))) }
 {
     let mut text = Vec::new(alloc);
     text.extend_from_slice(notes)?;
-    push_created(alloc, no_make, scripts, entries, &mut text)?;
+    push_created(alloc, mode, history, &mut text)?;
     push_conflicts(lost, &mut text)?;
     Ok(text)
 }

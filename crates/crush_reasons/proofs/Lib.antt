@@ -8,3 +8,5 @@ pub mod Naming
 pub mod Nearing
 pub mod Scanning
 pub mod SumLaws
+pub mod MadeLines
+pub mod Creating

@@ -17,3 +17,5 @@ pub mod EditsLeft
 pub mod Fault
 pub mod Sums
 pub mod Written
+pub mod Made
+pub mod Created

@@ -13,8 +13,9 @@ use crush_map::{CrushMap, Setting};
 use crush_print::{WalkStep, walk};
 use std::alloc::{AllocError, Global};
 
-/// For how many refused entries the map is searched for similar names. There is a limit because
-/// each search goes through all names of the map, and up to 65,536 entries may be refused.
+/// For how many refused entries, and for how many created buckets, the map is searched for similar
+/// names. There is a limit because each search goes through all names of the map, and up to 65,536
+/// entries may be refused.
 pub(crate) const MOST_LOOKS: usize = 256;
 
 fn same_at(a: &[u8], b: &[u8], place: usize) -> bool
@@ -102,7 +103,7 @@ fn first_near<'a>(steps: &[WalkStep<'a, Global>], name: &str) -> Option<&'a str>
 }
 
 /// Returns the first name of the map that is similar to this name, in the order of the map's tree.
-fn near_name<'a>(
+pub(crate) fn near_name<'a>(
     alloc: Global,
     map: &'a CrushMap<Global>,
     name: &str,

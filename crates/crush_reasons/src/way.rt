@@ -35,7 +35,7 @@ fn push_near(near: Option<&str>, text: &mut Vec<u8>) -> Result<(), AllocError>
     )
 }
 
-fn push_asked(
+pub(crate) fn push_asked(
     name: &[u8],
     said: &[u8],
     near: Option<&str>,
@@ -355,7 +355,7 @@ fn push_end(
     )
 }
 
-fn location_of(edit: &Edit) -> Option<&Location>
+pub(crate) fn location_of(edit: &Edit) -> Option<&Location>
     ensures { option_map (λ at. at.now) result ≡ location_of edit.now }
 {
     match edit {

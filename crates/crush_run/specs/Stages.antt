@@ -18,8 +18,7 @@ use Rattle.crush_input.specs.declared.output.Output.TheVariants as output
 use Rattle.crush_input.specs.declared.summary.Summary.{Summary}
 use Rattle.crush_reasons.specs.Place.{OriginData}
 use Rattle.crush_input.specs.Lost.{IsLossless, LostData, conflict_notes}
-use Rattle.crush_input.specs.Made.{made_text}
-use Rattle.crush_input.specs.Notes.{AreNotesOfHistory, IsKept, IsNoMake, AreNotesOfResult, IsStrict, TextData, created_notes, history_notes}
+use Rattle.crush_input.specs.Notes.{AreNotesOfHistory, IsKept, IsNoMake, AreNotesOfResult, IsStrict, TextData, created_lines, created_notes, history_notes}
 use Rattle.crush_run.specs.declared.outcome.EndNotes.{EndNotes}
 use Rattle.crush_run.specs.Found.{IsFound}
 use Rattle.crush_run.specs.Output.{IsWritten, written_text}
@@ -100,8 +99,8 @@ IsOpening mode what kept s t = needs_opening mode what ≡ true → IsKept kept 
 -- changes, followed by the notes of its history; `whole`, if the run is strict, are the notes of its history, followed by the lines of the differences that remain after its plan
 pub record AreEndNotes (mode : Mode) (text : TextData) (s : SettingData) (t : List Row) (names : List (List ℕ)) (h : List EntryData) (rest : List (List ℕ)) (lost : LostData) (end_notes : EndNotes) : Type 0 where
   pub calls : end_notes.calls.items ≡ history_notes mode text s t names h
-  pub refused : end_notes.refused.items ≡ history_notes mode text s t names h ++ (created_notes mode.no_make names h ++ conflict_notes lost)
-  pub made : mode.no_make ≡ true → end_notes.made.items ≡ made_text names 1 h ++ (history_notes mode text s t names h ++ conflict_notes lost)
+  pub refused : end_notes.refused.items ≡ history_notes mode text s t names h ++ (created_notes mode s t names h ++ conflict_notes lost)
+  pub made : mode.no_make ≡ true → end_notes.made.items ≡ created_lines mode.explain s t names h ++ (history_notes mode text s t names h ++ conflict_notes lost)
   pub conflicts : end_notes.conflicts.items ≡ lost.lines ++ history_notes mode text s t names h
   pub whole : mode.strict ≡ true → end_notes.whole.items ≡ history_notes mode text s t names h ++ text_of_lines rest
 

@@ -169,22 +169,9 @@ fn end_notes_of(
         entries: completed.entries,
     };
     let calls = history_notes(alloc, mode, history, completed.text)?;
-    let refused = notes_with_made_and_lost(
-        alloc,
-        mode.no_make,
-        completed.scripts,
-        completed.entries,
-        calls.as_slice(),
-        completed.lost,
-    )?;
+    let refused = notes_with_made_and_lost(alloc, mode, history, calls.as_slice(), completed.lost)?;
     let with_lost = notes_with_lost(alloc, calls.as_slice(), completed.lost)?;
-    let made = made_notes(
-        alloc,
-        mode.no_make,
-        completed.scripts,
-        completed.entries,
-        with_lost.as_slice(),
-    )?;
+    let made = made_notes(alloc, mode, history, with_lost.as_slice())?;
     let conflicts = lost_notes(alloc, completed.lost, calls.as_slice())?;
     let whole = whole_notes(alloc, mode.strict, calls.as_slice(), completed.plan)?;
     Ok(EndNotes {

@@ -8,8 +8,8 @@ use crate::histories::entries_of;
 use crush_history::{Entry, Script};
 use crush_map::{CrushMap, Hashing};
 use crush_reasons::{
-    JobLines, Locates, Origin, ceph_text, explained_job, explained_text, fault_line, fault_text,
-    flaw_place_text, shown_byte, written_text,
+    JobLines, Locates, Origin, ceph_text, count_makings, created_text, explained_job,
+    explained_text, fault_line, fault_text, flaw_place_text, made_text, shown_byte, written_text,
 };
 use crush_script::{Job, JobFault, read_job};
 use std::alloc::Global;
@@ -582,6 +582,53 @@ const MISTYPED_TOLD: &[u8] =
 fn a_mistyped_type_is_told_with_the_type_that_is_meant(rt: HostRuntime) {
     let job = read_job(rt.alloc(), Hashing::plain(), MISTYPED).expect(&rt, "no job");
     assert!(rt; is_answered(&rt, &job, b"# 0 commands\n", MISTYPED_TOLD));
+    drop(job);
+}
+
+/// The second command of the batch uses the host that the first one creates.
+const CREATING: &[u8] =
+    b"device 0 osd.0\ntype 1 host\ntype 2 rack\nhost host1 {\nid -1\nalg straw2\nitem osd.0 weight 1\n}\nrack rack1 {\nid -2\nalg straw2\nitem host1 weight 1\n}\n%operator a\nadd osd.9 1 host=hots1 rack=rack1\nadd-bucket host2 host\nbegin\nadd osd.8 1 host=edge rack=rakc1\nadd osd.7 1 host=edge\ncommit\n";
+
+const CREATED: &[u8] =
+    b"# 1 a add osd.9 1.00000 host=hots1 rack=rack1 = done changed 1 made 1\n# 3 a begin ; add osd.8 1.00000 host=edge rack=rakc1 ; add osd.7 1.00000 host=edge ; commit = dones 2 changed 2 made 2\n";
+
+const CREATED_HINTED: &[u8] =
+    b"# 1 a add osd.9 1.00000 host=hots1 rack=rack1 = done changed 1 made 1\n  hots1 was created: did you mean host1?\n# 3 a begin ; add osd.8 1.00000 host=edge rack=rakc1 ; add osd.7 1.00000 host=edge ; commit = dones 2 changed 2 made 2\n  rakc1 was created: did you mean rack1?\n";
+
+fn are_hinted(
+    rt: &(impl Abort + AllocGlobal),
+    opening: CrushMap<Global>,
+    scripts: &[Script],
+    entries: &[Entry],
+) -> bool
+    requires few { length entries.now < 100 }
+    requires operators { AreOf (length scripts.now) entries.now }
+{
+    let lines = made_text(rt.alloc(), scripts, entries).expect(rt, "no memory");
+    let hints = created_text(rt.alloc(), opening, scripts, entries).expect(rt, "no memory");
+    count_makings(entries) == 2
+        && lines.as_slice() == CREATED
+        && hints.as_slice() == CREATED_HINTED
+}
+
+fn are_created(rt: &(impl Abort + AllocGlobal), job: &Job) -> bool {
+    let scripts = job.scripts.as_slice();
+    if scripts.len() != 1 {
+        return false;
+    }
+    let mut map = job.map.try_copy().expect(rt, "no memory");
+    let entries = entries_of(rt, &mut map, scripts, 0);
+    let opening = job.map.try_copy().expect(rt, "no memory");
+    let created = entries.len() < 100 && are_hinted(rt, opening, scripts, entries.as_slice());
+    drop(entries);
+    drop(map);
+    created
+}
+
+#[test]
+fn a_created_bucket_is_told_with_the_item_that_is_meant(rt: HostRuntime) {
+    let job = read_job(rt.alloc(), Hashing::plain(), CREATING).expect(&rt, "no job");
+    assert!(rt; are_created(&rt, &job));
     drop(job);
 }
 

@@ -10,7 +10,7 @@ use Rattle.crush_history.specs.declared.call.Reply.TheVariants.{Done, Dones, Ref
 use Rattle.crush_history.specs.declared.entry.Entry.{Entry}
 use Rattle.crush_history.specs.History.{EntryData}
 use Rattle.crush_history.specs.HistoryText.{line_head, reply_text}
-use Rattle.crush_input.specs.Made.{made_line, made_text, makings}
+use Rattle.crush_reasons.specs.Made.{made_line, made_text, makings}
 
 -- the lines after one more entry are the lines before, followed by the line of this entry
 made_text-push : (names : List (List ℕ)) (n : ℕ) (h : List EntryData) (e : EntryData)

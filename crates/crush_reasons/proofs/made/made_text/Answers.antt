@@ -2,9 +2,9 @@ use Rattle.std.proofs.Common.{◌+◌, ◌++◌, List, ℕ, ap, sym, ◌∙◌}
 use Rattle.std.proofs.lemmas.List.{take_all}
 use Rattle.crush_history.specs.HistoryText.{names_of}
 use Rattle.crush_history.specs.Script.{scripts_data}
-use Rattle.crush_input.specs.Made.{made_line, made_text}
-use Rattle.crush_input.proofs.MadeLines.{made-take, no_made}
-use Rattle.crush_input.proofs.made.made_text.Goals as goal
+use Rattle.crush_reasons.specs.Made.{made_line, made_text}
+use Rattle.crush_reasons.proofs.MadeLines.{made-take, no_made}
+use Rattle.crush_reasons.proofs.made.made_text.Goals as goal
 
 pub loop-place-init : goal.loop-place-init
 loop-place-init c = c.new-text.ensures.items ∙ no_made (names_of (scripts_data c.args.scripts.now))

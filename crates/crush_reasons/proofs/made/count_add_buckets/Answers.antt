@@ -2,9 +2,9 @@ use Rattle.std.proofs.Common.{◌≡◌, get_or, ap, refl, sym, ◌∙◌, arith
 use Rattle.std.specs.List.{count_by}
 use Rattle.std.proofs.lemmas.List.{take_all}
 use Rattle.std.proofs.lemmas.List.Sums.{count_by_more_no, count_by_more_yes}
-use Rattle.crush_input.specs.Made.{is_add_bucket}
-use Rattle.crush_input.proofs.made.count_add_buckets.Goals as goal
-use Rattle.crush_input.proofs.made.count_add_buckets.Goals.{then-is_add_bucket, else-is_add_bucket}
+use Rattle.crush_reasons.specs.Made.{is_add_bucket}
+use Rattle.crush_reasons.proofs.made.count_add_buckets.Goals as goal
+use Rattle.crush_reasons.proofs.made.count_add_buckets.Goals.{then-is_add_bucket, else-is_add_bucket}
 
 pub loop-edit-init : goal.loop-edit-init
 loop-edit-init c = record { few = omega arith; count = refl }

@@ -1,9 +1,9 @@
 use Rattle.std.proofs.Common.{◌≡◌, get_or, ap, refl, sym, ◌∙◌, arith}
 use Rattle.std.proofs.lemmas.List.{take_all}
 use Rattle.std.proofs.lemmas.List.Sums.{count_by_more_no, count_by_more_yes}
-use Rattle.crush_input.specs.Made.{makes_more, makings}
-use Rattle.crush_input.proofs.made.count_making.Goals as goal
-use Rattle.crush_input.proofs.made.count_making.Goals.{then-makes_more, else-makes_more}
+use Rattle.crush_reasons.specs.Made.{makes_more, makings}
+use Rattle.crush_reasons.proofs.made.count_makings.Goals as goal
+use Rattle.crush_reasons.proofs.made.count_makings.Goals.{then-makes_more, else-makes_more}
 
 pub loop-entry-init : goal.loop-entry-init
 loop-entry-init c = record { few = omega arith; count = refl }

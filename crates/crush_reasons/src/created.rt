@@ -1,0 +1,237 @@
+//! Writes the history lines of the calls that created buckets by their locations, with hints. If
+//! the name of a created bucket is similar to the name of an item of the map, then the operator
+//! may have mistyped the name of this item.
+
+ghost use Rattle.std.specs.Prelude.{◌≡◌, ◌<◌, ◌^◌, ◌++◌, List, IfOk, OnOk, length};
+ghost use Rattle.std.specs.Option.{option_map};
+ghost use Rattle.crush_model.specs.Stands.{Stands};
+ghost use Rattle.crush_model.specs.Table.{Row};
+ghost use Rattle.crush_history.specs.Entries.{AreOf};
+ghost use Rattle.crush_history.specs.HistoryText.{names_of};
+ghost use Rattle.crush_history.specs.Script.{scripts_data};
+ghost use Rattle.crush_reasons.specs.Created.{created_behind, created_line, created_text, edit_hints, edits_hints, ends_before, has_looks, hint_line, is_created, is_up_to, location_hints, looks_after, pair_hint};
+ghost use Rattle.crush_reasons.specs.Replay.{table_after_edits, table_after_entry};
+ghost use Rattle.crush_reasons.specs.declared.near.TheConstants.{MOST_LOOKS};
+
+use crate::made::{buckets_made, makes_more};
+use crate::near::{MOST_LOOKS, near_name};
+use crate::replay::{changing_edits, make_entry};
+use crate::way::{location_of, push_asked};
+use crate::words::push_bytes;
+use crush_ceph::redo_edit;
+use crush_edits::{Edit, Location, Pair, Setting};
+use crush_history::{Entry, Script, operator_name, push_entry};
+use crush_map::CrushMap;
+use std::alloc::{AllocError, Global};
+
+/// Whether the type of the pair `other` is the type of `pair`, or has a lower number.
+fn is_up_to(setting: &Setting, pair: &Pair, other: &Pair) -> bool
+    ensures { result ≡ is_up_to setting.now pair.now other.now }
+{
+    let Some(kind) = setting.kind_number(pair.kind.as_bytes()) else {
+        return false;
+    };
+    let Some(lower) = setting.kind_number(other.kind.as_bytes()) else {
+        return false;
+    };
+    lower.number() <= kind.number()
+}
+
+/// Whether the pair `other` names an item of the map, so that no bucket is created for `pair`.
+fn ends_before(map: &CrushMap<Global>, pair: &Pair, other: &Pair) -> bool
+    ensures { (t : List Row) → Stands map.now.forest t
+        → result ≡ ends_before map.now.setting t pair.now other.now }
+{
+    map.locate(other.name.as_str()).is_some() && is_up_to(map.setting(), pair, other)
+}
+
+/// Whether an edit with these pairs as its location creates a bucket for one of them, `pair`.
+fn is_created(map: &CrushMap<Global>, pairs: &[Pair], pair: &Pair) -> bool
+    ensures { (t : List Row) → Stands map.now.forest t
+        → result ≡ is_created map.now.setting t pairs.now pair.now }
+{
+    for other in pairs {
+        if ends_before(map, pair, other) {
+            return false;
+        }
+    }
+    true
+}
+
+fn push_hint(name: &[u8], near: Option<&str>, text: &mut Vec<u8>) -> Result<(), AllocError>
+    ensures { OnOk result (text.new.items ≡ text.old.items
+        ++ hint_line name.now (option_map (λ near. near.now) near.entry)) }
+{
+    let Some(near) = near else {
+        return Ok(());
+    };
+    text.extend_from_slice(b"  ")?;
+    push_asked(name, b" was created", Some(near), text)?;
+    push_bytes(b"\n", text)
+}
+
+fn push_pair_hint(
+    alloc: Global,
+    map: &CrushMap<Global>,
+    pairs: &[Pair],
+    pair: &Pair,
+    text: &mut Vec<u8>,
+) -> Result<(), AllocError>
+    ensures { OnOk result ((t : List Row) → Stands map.now.forest t → text.new.items
+        ≡ text.old.items ++ pair_hint map.now.setting t pairs.now pair.now) }
+{
+    if !is_created(map, pairs, pair) {
+        return Ok(());
+    }
+    let near = near_name(alloc, map, pair.name.as_str())?;
+    push_hint(pair.name.as_bytes(), near, text)
+}
+
+fn push_location_hints(
+    alloc: Global,
+    map: &CrushMap<Global>,
+    at: &Location,
+    text: &mut Vec<u8>,
+) -> Result<(), AllocError>
+    ensures { OnOk result ((t : List Row) → Stands map.now.forest t → text.new.items
+        ≡ text.old.items ++ location_hints map.now.setting t at.now) }
+{
+    let pairs = at.pairs();
+    for pair in pairs {
+        push_pair_hint(alloc, map, pairs, pair, text)?;
+    }
+    Ok(())
+}
+
+fn push_edit_hints(
+    alloc: Global,
+    map: &CrushMap<Global>,
+    edit: &Edit,
+    text: &mut Vec<u8>,
+) -> Result<(), AllocError>
+    ensures { OnOk result ((t : List Row) → Stands map.now.forest t → text.new.items
+        ≡ text.old.items ++ edit_hints map.now.setting t edit.now) }
+{
+    match location_of(edit) {
+        Some(at) => push_location_hints(alloc, map, at, text),
+        None => Ok(()),
+    }
+}
+
+/// Appends the hints for edits, and applies the edits to `map`, one after the other.
+fn push_edits_hints(
+    alloc: Global,
+    map: &mut CrushMap<Global>,
+    edits: &[Edit],
+    text: &mut Vec<u8>,
+) -> Result<(), AllocError>
+    ensures stands { OnOk result ((t : List Row) → Stands map.old.forest t
+        → Stands map.new.forest (table_after_edits map.old.setting t edits.now)) }
+    ensures setting { map.new.setting ≡ map.old.setting }
+    ensures hints { OnOk result ((t : List Row) → Stands map.old.forest t
+        → text.new.items ≡ text.old.items ++ edits_hints map.old.setting t edits.now) }
+{
+    for edit in edits {
+        push_edit_hints(alloc, map, edit, text)?;
+        redo_edit(map, edit)?;
+    }
+    Ok(())
+}
+
+/// If the call of the entry created more buckets than it has `add-bucket` commands, appends its
+/// history line, and the hints if `looks` is set. If the entry changed the map, applies its edits to
+/// `map`.
+fn push_created(
+    alloc: Global,
+    looks: bool,
+    map: &mut CrushMap<Global>,
+    number: u32,
+    operator: &str,
+    entry: &Entry,
+    text: &mut Vec<u8>,
+) -> Result<(), AllocError>
+    ensures stands { OnOk result ((t : List Row) → Stands map.old.forest t
+        → Stands map.new.forest (table_after_entry map.old.setting t entry.now)) }
+    ensures setting { map.new.setting ≡ map.old.setting }
+    ensures lines { OnOk result ((t : List Row) → Stands map.old.forest t → text.new.items
+        ≡ text.old.items ++ created_line looks map.old.setting t number operator.now entry.now) }
+{
+    if !makes_more(entry) {
+        return make_entry(map, entry);
+    }
+    push_entry(number, operator, entry, text)?;
+    if looks {
+        push_edits_hints(alloc, map, changing_edits(entry), text)
+    } else {
+        make_entry(map, entry)
+    }
+}
+
+/// Whether so many searches are left that the entry can have one for each bucket that it created.
+fn has_looks(left: usize, entry: &Entry) -> bool
+    ensures { result ≡ has_looks left entry.now }
+{
+    buckets_made(entry.reply) <= left
+}
+
+fn looks_after(left: usize, entry: &Entry) -> usize
+    ensures { result ≡ looks_after left entry.now }
+{
+    if makes_more(entry) {
+        left.saturating_sub(buckets_made(entry.reply))
+    } else {
+        left
+    }
+}
+
+fn push_entries(
+    alloc: Global,
+    map: &mut CrushMap<Global>,
+    scripts: &[Script],
+    entries: &[Entry],
+    text: &mut Vec<u8>,
+) -> Result<(), AllocError>
+    requires few { length entries.now < 2 ^ 32 }
+    requires operators { AreOf (length scripts.now) entries.now }
+    ensures { OnOk result ((t : List Row) → Stands map.old.forest t
+        → text.new.items ≡ text.old.items ++ created_behind map.old.setting t
+        (names_of (scripts_data scripts.now)) 1 MOST_LOOKS entries.now) }
+{
+    let mut left = MOST_LOOKS;
+    for (place, entry) in entries.iter().enumerate() {
+        let number = place as u32 + 1;
+        let name = operator_name(scripts, entry.operator);
+        push_created(alloc, has_looks(left, entry), map, number, name, entry, text)?;
+        left = looks_after(left, entry);
+    }
+    Ok(())
+}
+
+/// Returns the history lines of the calls that created more buckets than they have `add-bucket`
+/// commands, each followed by hints.
+///
+/// A history line has the number that the call has in the whole history. There is a hint for each
+/// bucket that a location of the call created, if the map just before the edit with this location
+/// has an item with a similar name. A hint begins with two spaces, and has the names of the bucket
+/// and of the first such item. Each search goes through all names of the map, so there are hints
+/// only until these calls have created more than 256 buckets: the call with which this happens and
+/// all later calls have no hints.
+///
+/// `opening` is the map before the first call. `scripts` are the scripts of the job, in the order
+/// of its sections. Fails if memory runs out.
+pub fn created_text(
+    alloc: Global,
+    opening: CrushMap<Global>,
+    scripts: &[Script],
+    entries: &[Entry],
+) -> Result<Vec<u8>, AllocError>
+    requires few { length entries.now < 2 ^ 32 }
+    requires operators { AreOf (length scripts.now) entries.now }
+    ensures { IfOk result (λ text. (t : List Row) → Stands opening.forest t → text.items
+        ≡ created_text opening.setting t (names_of (scripts_data scripts.now)) entries.now) }
+{
+    let mut map = opening;
+    let mut text = Vec::new(alloc);
+    push_entries(alloc, &mut map, scripts, entries, &mut text)?;
+    Ok(text)
+}
