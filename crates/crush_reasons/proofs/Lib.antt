@@ -10,3 +10,4 @@ pub mod Scanning
 pub mod SumLaws
 pub mod MadeLines
 pub mod Creating
+pub mod LawCreated

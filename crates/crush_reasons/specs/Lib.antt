@@ -19,3 +19,4 @@ pub mod Sums
 pub mod Written
 pub mod Made
 pub mod Created
+pub mod LawCreated

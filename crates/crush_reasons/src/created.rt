@@ -10,6 +10,7 @@ ghost use Rattle.crush_history.specs.Entries.{AreOf};
 ghost use Rattle.crush_history.specs.HistoryText.{names_of};
 ghost use Rattle.crush_history.specs.Script.{scripts_data};
 ghost use Rattle.crush_reasons.specs.Created.{created_behind, created_line, created_text, edit_hints, edits_hints, ends_before, has_looks, hint_line, is_created, is_up_to, location_hints, looks_after, pair_hint};
+ghost use Rattle.crush_reasons.specs.LawCreated.{CreatedAreFresh};
 ghost use Rattle.crush_reasons.specs.Replay.{table_after_edits, table_after_entry};
 ghost use Rattle.crush_reasons.specs.declared.near.TheConstants.{MOST_LOOKS};
 
@@ -23,6 +24,12 @@ use crush_edits::{Edit, Location, Pair, Setting};
 use crush_history::{Entry, Script, operator_name, push_entry};
 use crush_map::CrushMap;
 use std::alloc::{AllocError, Global};
+
+/// A law: the pairs of a location for which hints are searched are exactly the pairs for which an
+/// edit creates buckets.
+pub fn created_buckets_are_new_stops()
+    ensures { CreatedAreFresh }
+{}
 
 /// Whether the type of the pair `other` is the type of `pair`, or has a lower number.
 fn is_up_to(setting: &Setting, pair: &Pair, other: &Pair) -> bool

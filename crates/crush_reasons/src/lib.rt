@@ -36,7 +36,7 @@ mod words;
 mod written;
 
 pub use ceph::ceph_text;
-pub use created::created_text;
+pub use created::{created_buckets_are_new_stops, created_text};
 pub use explained::{explained_job, explained_text};
 pub use fault::{fault_line, fault_text, flaw_place_text};
 pub use locates::{JobLines, Locates};
