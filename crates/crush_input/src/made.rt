@@ -111,6 +111,14 @@ fn push_count(count: usize, text: &mut Vec<u8>) -> Result<(), AllocError>
     write_made(count, text).map_err(|_| AllocError)
 }
 
+/// Appends this line and the lines of these calls.
+fn push_counted(count: usize, lines: &[u8], text: &mut Vec<u8>) -> Result<(), AllocError>
+    ensures { OnOk result (text.new.items ≡ text.old.items ++ (made_line count ++ lines.now)) }
+{
+    push_count(count, text)?;
+    text.extend_from_slice(lines)
+}
+
 /// Appends, with `no_make`, the line with the number of the calls that [`check_made`] counts, and
 /// the history lines of these calls, with hints if `explain` is set. Appends nothing if there are
 /// no such calls.
@@ -136,6 +144,5 @@ pub(crate) fn push_created(
         return Ok(());
     }
     let lines = created_lines(alloc, mode.explain, history)?;
-    push_count(count, text)?;
-    text.extend_from_slice(lines.as_slice())
+    push_counted(count, lines.as_slice(), text)
 }

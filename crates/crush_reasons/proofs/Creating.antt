@@ -33,10 +33,10 @@ next_of xs i x h is = drop_more xs i x h ∙ ap (λ y. y ∷ drop (i + 1) xs) (s
 
 -- whether the test holds for one of the values that are left: it holds for the next one, or the values after it decide
 pub any_here : {X : Type 0} → (test : X → Bool) (xs : List X) (i : ℕ) (x : X) → i < length xs → x ≡ get_or xs i x → test x ≡ true → list_any test (drop i xs) ≡ true
-any_here test xs i x h is yes = ap (list_any test) (next_of xs i x h is) ∙ ap (λ b. b || list_any test (drop (i + 1) xs)) yes
+any_here test xs i x h is holds = ap (list_any test) (next_of xs i x h is) ∙ ap (λ b. b || list_any test (drop (i + 1) xs)) holds
 
 pub any_later : {X : Type 0} → (test : X → Bool) (xs : List X) (i : ℕ) (x : X) → i < length xs → x ≡ get_or xs i x → test x ≡ false → list_any test (drop i xs) ≡ list_any test (drop (i + 1) xs)
-any_later test xs i x h is no = ap (list_any test) (next_of xs i x h is) ∙ ap (λ b. b || list_any test (drop (i + 1) xs)) no
+any_later test xs i x h is fails = ap (list_any test) (next_of xs i x h is) ∙ ap (λ b. b || list_any test (drop (i + 1) xs)) fails
 
 -- ONE MORE VALUE: its text was appended, and the texts of the values after it are left
 pub text_more : {X : Type 0} → (text : X → List ℕ) (xs : List X) (i : ℕ) (x : X) (old now new : List ℕ) → i < length xs → x ≡ get_or xs i x

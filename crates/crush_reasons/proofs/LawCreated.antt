@@ -1,6 +1,6 @@
 -- The pairs of a location for which buckets are created are the stops for which an edit creates buckets.
 use Rattle.std.proofs.Common.{◌≡◌, ℕ, suc, ◌+◌, ◌<◌, ◌≤◌, Bool, true, false, List, [], ◌∷◌, take, refl, sym, ap, ◌∙◌, ⊎_elim, arith}
-use Rattle.std.specs.Prelude.{◌==◌, ◌&&◌, ◌||◌, Option, Some, None, All, not, if◌then◌else◌, nat_le, nat_lt}
+use Rattle.std.specs.Prelude.{◌==◌, ◌&&◌, ◌||◌, Option, Some, None, All, not, if◌then◌else◌, nat_le}
 use Rattle.std.specs.List.{count_by, list_any, prefix_len, sum_by}
 use Rattle.std.proofs.lemmas.Bool.{leb-false, leb-true}
 use Rattle.std.proofs.lemmas.Bool.Decides.{eqb_tells}
@@ -30,14 +30,22 @@ sum_same : {X : Type 0} → (f g : X → ℕ) (xs : List X) → ((x : X) → f x
 sum_same f g [] same = refl
 sum_same f g (x ∷ xs) same = omega (arith, sum_by-cons f x xs, sum_by-cons g x xs, same x, sum_same f g xs same)
 
--- a test holds for one of the values if and only if it holds for at least one
-any_counts : {X : Type 0} → (test : X → Bool) (xs : List X) → list_any test xs ≡ nat_lt 0 (sum_by (λ (x : X). one_if (test x)) xs)
+not_zero : (n : ℕ) → 0 < n → not (n == 0) ≡ true
+not_zero n some = ⊎_elim (λ p. absurd (omega (arith, p.1, some))) (λ p. ap not p.0) (eqb_tells n 0)
+
+-- a test holds for one of the values if and only if the number of values for which it holds isn't 0
+any_counts : {X : Type 0} → (test : X → Bool) (xs : List X) → list_any test xs ≡ not (sum_by (λ (x : X). one_if (test x)) xs == 0)
 any_counts test [] = refl
-any_counts {X} test (x ∷ xs) = at (test x) refl
+any_counts {X} test (x ∷ xs) = at (test x) refl (any_counts test xs)
   where
-    at : (b : Bool) → test x ≡ b → list_any test (x ∷ xs) ≡ nat_lt 0 (sum_by (λ (y : X). one_if (test y)) (x ∷ xs))
-    at true yes = ap (λ c. c || list_any test xs) yes ∙ ap (nat_lt 0) (sym (sum_by-cons (λ (y : X). one_if (test y)) x xs ∙ ap (λ c. one_if c + sum_by (λ (y : X). one_if (test y)) xs) yes))
-    at false no = ap (λ c. c || list_any test xs) no ∙ any_counts test xs ∙ ap (nat_lt 0) (sym (sum_by-cons (λ (y : X). one_if (test y)) x xs ∙ ap (λ c. one_if c + sum_by (λ (y : X). one_if (test y)) xs) no))
+    at : (b : Bool) → test x ≡ b → list_any test xs ≡ not (sum_by (λ (y : X). one_if (test y)) xs == 0) → list_any test (x ∷ xs) ≡ not (sum_by (λ (y : X). one_if (test y)) (x ∷ xs) == 0)
+    at true holds rest =
+        let one : one_if (test x) ≡ 1 = ap one_if holds in
+        ap (λ c. c || list_any test xs) holds ∙ sym (not_zero (sum_by (λ (y : X). one_if (test y)) (x ∷ xs)) (omega (arith, one, sum_by-cons (λ (y : X). one_if (test y)) x xs)))
+    at false fails rest =
+        let none : one_if (test x) ≡ 0 = ap one_if fails in
+        let same : sum_by (λ (y : X). one_if (test y)) xs ≡ sum_by (λ (y : X). one_if (test y)) (x ∷ xs) = omega (arith, none, sum_by-cons (λ (y : X). one_if (test y)) x xs) in
+        ap (λ c. c || list_any test xs) fails ∙ rest ∙ ap (λ n. not (n == 0)) same
 
 none_at : (g : StopData → ℕ) (k : ℕ) (qs : List StopData) → ((q : StopData) → k ≤ q.kind → g q ≡ 0) → All (λ (q : StopData). k ≤ q.kind) qs → sum_by g qs ≡ 0
 none_at g k [] none all = refl
@@ -58,7 +66,7 @@ above k j le other = at (nat_le j k) refl
   where
     at : (c : Bool) → nat_le j k ≡ c → nat_le j k ≡ false
     at false e = e
-    at true e = ⊎_elim (λ p. absurd (let one : 1 ≡ 0 = sym (ap one_if p.0) ∙ other in cc)) (λ p. absurd (omega (arith, p.1, le, leb-true j k e))) (eqb_tells j k)
+    at true e = ⊎_elim (λ p. absurd (let one : one_if (j == k) ≡ 1 = ap one_if p.0 in omega (arith, one, other))) (λ p. absurd (omega (arith, p.1, le, leb-true j k e))) (eqb_tells j k)
 
 and_false : (b : Bool) → (b && false) ≡ false
 and_false true = refl
@@ -131,7 +139,7 @@ created_are_fresh s t l f once =
     same_ends : (k : ℕ) → list_any (ends_to t k) (stops s l) ≡ list_any (λ (q : Pair). is_named t q.name && meets (λ j. nat_le j k) (kind_number s q.kind)) l
     same_ends k =
         any_counts (ends_to t k) (stops s l)
-        ∙ ap (nat_lt 0)
+        ∙ ap (λ n. not (n == 0))
         (stops_are_pairs s l (λ (q : StopData). one_if (ends_to t k q))
         ∙ sum_same (λ (q : Pair). of_stop (λ (r : StopData). one_if (ends_to t k r)) (kind_number s q.kind) q.name) (λ (q : Pair). one_if (is_named t q.name && meets (λ j. nat_le j k) (kind_number s q.kind))) l
         (λ q. one_at k q.name (kind_number s q.kind)))

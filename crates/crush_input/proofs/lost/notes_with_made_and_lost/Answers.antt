@@ -7,7 +7,7 @@ use Rattle.crush_input.proofs.lost.notes_with_made_and_lost.Goals as goal
 
 pub returns : goal.returns
 returns c = λ s t kept.
-    let created = created_notes c.args.mode s t (names_of (scripts_data c.args.history.entry.scripts.now)) c.args.history.entry.entries.now in
+    let created = created_notes c.args.mode s t (names_of (scripts_data c.args.history.scripts.now)) c.args.history.entries.now in
     let lost = conflict_notes (lost_data c.args.lost.now) in
     c.in_ok-push_conflicts.ensures
     ∙ ap (λ l. l ++ lost) (c.in_ok-push_created.ensures s t kept)

@@ -15,7 +15,7 @@ loop-place-preserved c =
       setting = pushed.setting ∙ so_far.setting;
       left = λ t st.
           lines_more c.args.map.now.setting t (names_of (scripts_data c.args.scripts.now)) c.args.entries.now c.loop-place.place c.index-entries-place.result _ _ _ _ _ _ _ _ _ _
-          c.loop-place-test.true c.index-entries-place.is so_far.setting c.operator_name-name.ensures c.has_looks.ensures c.looks_after.ensures pushed.lines pushed.stands (so_far.left t st);
+          c.loop-place-test.true c.index-entries-place.is so_far.setting c.operator_name-name.ensures c.has_looks.ensures c.looks_after-left.ensures pushed.lines pushed.stands (so_far.left t st);
     }
 
 pub returns : goal.returns
