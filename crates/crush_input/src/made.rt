@@ -57,11 +57,7 @@ fn hinted_lines(alloc: Global, history: History<'_>) -> Result<Vec<u8>, AllocErr
 
 /// Returns the history lines of the calls that [`check_made`] counts. With `explain`, there are
 /// hints below the line of a call.
-fn created_lines(
-    alloc: Global,
-    explain: bool,
-    history: History<'_>,
-) -> Result<Vec<u8>, AllocError>
+fn created_lines(alloc: Global, explain: bool, history: History<'_>) -> Result<Vec<u8>, AllocError>
     requires few { length history.entries.now ≤ MOST_ENTRIES }
     requires operators { AreOf (length history.scripts.now) history.entries.now }
     requires kept { explain ≡ true → is_some history.opening.now ≡ true }

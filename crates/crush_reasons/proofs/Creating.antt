@@ -110,10 +110,10 @@ lines_more s t names entries i e name old now new m n number looks has after h i
     let line : List ℕ = created_line (has_looks looks e) s u number (slice_index_or names e.operator []) e in
     let rest : ℕ → List ℕ = λ k. created_behind s v names (number + 1) k (drop (i + 1) entries) in
     let here : new ≡ now ++ line =
-        pushed u left.stands
-        ∙ ap (λ (k : SettingData). now ++ created_line has k u number name e) same
-        ∙ ap (λ (k : List ℕ). now ++ created_line has s u number k e) called
-        ∙ ap (λ (k : Bool). now ++ created_line k s u number (slice_index_or names e.operator []) e) searched in
+    pushed u left.stands
+    ∙ ap (λ (k : SettingData). now ++ created_line has k u number name e) same
+    ∙ ap (λ (k : List ℕ). now ++ created_line has s u number k e) called
+    ∙ ap (λ (k : Bool). now ++ created_line k s u number (slice_index_or names e.operator []) e) searched in
     record {
       table = v;
       stands = subst (λ (k : SettingData). Stands n.forest (table_after_entry k u e)) same (made u left.stands);
@@ -157,15 +157,3 @@ old_host = (refl, refl)
 -- two new buckets, in the order of the location or by ascending types
 two_new : (created (pair (codes "root") (codes "defualt") ∷ (pair (codes "rack") (codes "r1") ∷ [])) ≡ codes "defualt" ∷ (codes "r1" ∷ [])) × (fresh (pair (codes "root") (codes "defualt") ∷ (pair (codes "rack") (codes "r1") ∷ [])) ≡ codes "r1" ∷ (codes "defualt" ∷ []))
 two_new = (refl, refl)
-
--- a history: a mistyped host; a batch whose second command uses the host that its first command created; an `add-bucket`; and a batch that mistypes the name of its own `add-bucket`.
--- A name without a similar one, such as `r1`, has no hint
-their_hints : created_text setting example (codes "a" ∷ []) (
-    entry (One (Move (codes "osd.0") (pair (codes "root") (codes "default") ∷ (pair (codes "host") (codes "h11") ∷ [])))) (Done (record { changed = true; made = 1 }))
-    ∷ (entry (Batch (Move (codes "osd.1") (pair (codes "host") (codes "nodes") ∷ (pair (codes "root") (codes "defualt") ∷ [])) ∷ (Move (codes "osd.2") (pair (codes "host") (codes "nodes") ∷ []) ∷ []))) (Dones (record { edits = 2; changed = 2; made = 2 }))
-    ∷ (entry (One (AddBucket (codes "h12") (codes "host"))) (Done (record { changed = true; made = 1 }))
-    ∷ (entry (Batch (AddBucket (codes "edge") (codes "host") ∷ (Move (codes "osd.1") (pair (codes "host") (codes "egde") ∷ []) ∷ []))) (Dones (record { edits = 2; changed = 2; made = 2 }))
-    ∷ []))))
-    ≡ codes "# 1 a move osd.0 root=default host=h11 = done changed 1 made 1\n  h11 was created: did you mean h1?\n# 2 a begin ; move osd.1 host=nodes root=defualt ; move osd.2 host=nodes ; commit = dones 2 changed 2 made 2\n  defualt was created: did you mean default?\n# 4 a begin ; add-bucket edge host ; move osd.1 host=egde ; commit = dones 2 changed 2 made 2\n  egde was created: did you mean edge?\n"
-unfolding created_behind edits_hints table_after_edits tree_rows step_at steps_at root_numbers unplaced_numbers line_head reply_text digits
-their_hints = refl

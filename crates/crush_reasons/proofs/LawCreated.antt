@@ -111,17 +111,17 @@ fresh_sum t f (p ∷ ps) rises once = at (is_named t p.name) refl (fresh_sum t f
     at true named rest =
         let none : sum_by f (fresh_stops t (p ∷ ps)) ≡ 0 = rw named refl in
         let ended : (q : StopData) → p.kind ≤ q.kind → unended t f (p ∷ ps) q ≡ 0 = λ q le.
-            ap (λ c. if not ((c && nat_le p.kind q.kind) || list_any (ends_to t q.kind) ps) then f q else 0) named
-            ∙ ap (λ c. if not (c || list_any (ends_to t q.kind) ps) then f q else 0) (le_true p.kind q.kind le) in
+        ap (λ c. if not ((c && nat_le p.kind q.kind) || list_any (ends_to t q.kind) ps) then f q else 0) named
+        ∙ ap (λ c. if not (c || list_any (ends_to t q.kind) ps) then f q else 0) (le_true p.kind q.kind le) in
         none ∙ sym (none_at (unended t f (p ∷ ps)) p.kind (p ∷ ps) ended (All-cons (λ (q : StopData). p.kind ≤ q.kind) p ps (omega arith) rises.0))
     at false fresh rest =
         let first : sum_by f (fresh_stops t (p ∷ ps)) ≡ f p + sum_by f (fresh_stops t ps) = rw fresh (next (prefix_len (is_fresh t) ps)) in
         let own : unended t f (p ∷ ps) p ≡ f p =
-            ap (λ c. if not ((c && nat_le p.kind p.kind) || list_any (ends_to t p.kind) ps) then f p else 0) fresh
-            ∙ ap (λ c. if not c then f p else 0) (none_ends t p.kind ps rises.0 alone) in
+        ap (λ c. if not ((c && nat_le p.kind p.kind) || list_any (ends_to t p.kind) ps) then f p else 0) fresh
+        ∙ ap (λ c. if not c then f p else 0) (none_ends t p.kind ps rises.0 alone) in
         let others : sum_by (unended t f (p ∷ ps)) ps ≡ sum_by (unended t f ps) ps =
-            sum_same (unended t f (p ∷ ps)) (unended t f ps) ps
-            (λ q. ap (λ c. if not ((c && nat_le p.kind q.kind) || list_any (ends_to t q.kind) ps) then f q else 0) fresh) in
+        sum_same (unended t f (p ∷ ps)) (unended t f ps) ps
+        (λ q. ap (λ c. if not ((c && nat_le p.kind q.kind) || list_any (ends_to t q.kind) ps) then f q else 0) fresh) in
         omega (arith, first, own, others, rest, sum_by-cons (unended t f (p ∷ ps)) p ps)
 
 -- THE LAW

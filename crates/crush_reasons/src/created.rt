@@ -208,7 +208,15 @@ fn push_entries(
     for (place, entry) in entries.iter().enumerate() {
         let number = place as u32 + 1;
         let name = operator_name(scripts, entry.operator);
-        push_created(alloc, has_looks(left, entry), map, number, name, entry, text)?;
+        push_created(
+            alloc,
+            has_looks(left, entry),
+            map,
+            number,
+            name,
+            entry,
+            text,
+        )?;
         left = looks_after(left, entry);
     }
     Ok(())

@@ -606,9 +606,7 @@ fn are_hinted(
 {
     let lines = made_text(rt.alloc(), scripts, entries).expect(rt, "no memory");
     let hints = created_text(rt.alloc(), opening, scripts, entries).expect(rt, "no memory");
-    count_makings(entries) == 2
-        && lines.as_slice() == CREATED
-        && hints.as_slice() == CREATED_HINTED
+    count_makings(entries) == 2 && lines.as_slice() == CREATED && hints.as_slice() == CREATED_HINTED
 }
 
 fn are_created(rt: &(impl Abort + AllocGlobal), job: &Job) -> bool {
