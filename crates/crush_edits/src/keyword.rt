@@ -1,11 +1,11 @@
-//! The words and the forms of the commands that stand for edits.
+//! The words and the forms of the commands that make edits.
 
 ghost use Rattle.std.specs.Prelude.{◌≡◌, Some};
 ghost use Rattle.crush_edits.specs.Keyword.{edit_keyword, keyword_form, keyword_of, keyword_word, placing_form, placing_word};
 
 use crate::edit::{Edit, Placing};
 
-/// A command of a script that stands for one edit.
+/// A command of a script that makes one edit.
 #[derive(Clone, Copy, Debug, PartialEq, Eq)]
 pub enum Keyword {
     /// `add`, `create-or-move` or `set`.
