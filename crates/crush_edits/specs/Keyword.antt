@@ -1,4 +1,4 @@
--- The words and the forms of the commands that stand for edits.
+-- The words and the forms of the commands that make edits.
 use Rattle.std.specs.Prelude.{ℕ, List, ◌||◌, Option, Some, None, codes, bytes_eq, if◌then◌else◌}
 use Rattle.crush_edits.specs.declared.edit.Edit.{Edit}
 use Rattle.crush_edits.specs.declared.edit.Edit.TheVariants.{Place, Move, Swap, Reweight, ReweightSubtree, Remove, AddBucket, Rename, SetClass, RemoveClass}
