@@ -31,8 +31,8 @@
 //! and the other one is in a module. The modules are [`compare`], [`items`], [`since`] and
 //! [`text`].
 //!
-//! The contract of a type or a function refers to definitions in the crate that it comes from. So a
-//! program with contracts of its own must also name these crates in `crates.txt`.
+//! The contract of a type or a function refers to definitions in the crate that defines the type or
+//! the function. So a program with contracts of its own must also name these crates in `crates.txt`.
 #![tactic(auto)]
 
 pub mod compare;

@@ -24,7 +24,8 @@ use std::alloc::{AllocError, Allocator};
 /// Applies all edits of a batch, or none of them, and returns what they have done.
 ///
 /// There must be at most 65,536 edits, and the setting must fit the hierarchy, as for `apply_edit`.
-/// Each edit is applied to the hierarchy as the edits before it have changed it.
+/// The edits are applied one after the other: each edit is applied to the hierarchy that the edits
+/// before it have changed.
 ///
 /// If an edit is refused, fails with `Refused`, which has the index of the first refused edit, from
 /// 0, and the refusal. If memory runs out before an edit is refused, fails with `OutOfMemory`. In

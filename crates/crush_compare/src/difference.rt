@@ -25,8 +25,8 @@ pub enum Report {
     Remaining,
 }
 
-/// The columns in which two maps are compared about one item. A field is true if the two maps say
-/// different things in its column.
+/// The columns in which two maps are compared about one item. A field is true if the two maps
+/// differ in the column that the field names.
 #[derive(Clone, Copy, Debug, PartialEq, Eq)]
 pub struct Columns {
     /// Whether the names differ. Always false if items are matched by their names.

@@ -171,8 +171,8 @@ fn push_old_lines<'a, A: Allocator>(
     Ok(())
 }
 
-/// Appends a line for each new item that has one of these names and a lost change. Equal names that
-/// follow one another count once.
+/// Appends a line for each new item whose name is in `names` and of which a change was lost. Equal
+/// names that follow one another count once.
 fn push_new_lines<'a, A: Allocator>(
     alloc: Global,
     naming: &Naming<'_, 'a, A>,

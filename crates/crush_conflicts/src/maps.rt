@@ -75,7 +75,9 @@ impl<'a, A: Allocator> RunItems<'a, A> {
         Ok(found)
     }
 
-    /// Returns what the maps have of a new item with this name. An `Err` says that memory ran out.
+    /// Looks up the new item with this name in the map that each operator would make alone and in
+    /// the map after all scripts, and returns what these maps say about it. An `Err` says that
+    /// memory ran out.
     pub(crate) fn new_case<'r>(
         &'r self,
         alloc: Global,

@@ -249,8 +249,8 @@ impl<A: Allocator + Clone, O: KeptOpening> Book<A, O> {
         Ok(reply)
     }
 
-    /// Joins a note into the book's seat, which changes nothing in the book. The method is called
-    /// only for its contract, which says that the note's history is a prefix of the book's history.
+    /// Lets the book's seat learn from a note. Nothing in the book changes. The method is called only
+    /// for its contract, which says that the note's history is a prefix of the book's history.
     pub(crate) fn merge_note(&mut self, gauge: &MapGauge, note: MapNote)
         requires gauge { self.old.table ≡ gauge.now.table.shared.table_id }
         requires note { (note.table ≡ self.old.table)

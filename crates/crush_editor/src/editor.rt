@@ -208,8 +208,10 @@ fn new_gauge<M: GhostOpening>(
     MapGauge::new(alloc, weight, operators)
 }
 
-/// The editor with the name `N`: a book under one lock, and a gauge that is read without the lock.
-/// Threads share an editor by reference; each thread needs a [`Seat`] of its own.
+/// The editor with the name `N`. It has a *book* and a *gauge*. The book has the map and its
+/// history, and one lock protects it. The gauge has the number of changes and the weight of the
+/// map, and is read without the lock. Threads share an editor by reference; each thread needs a
+/// [`Seat`] of its own.
 #[derive(Drop)]
 pub struct Editor<N: Desk, O: KeptOpening = CrushMap<Global>> {
     lock_free_reader: LockFreeReader<N>,

@@ -69,8 +69,9 @@ impl<O, E, P: Law<O, E>> Gauge<O, E, P> {
         Ok((gauge, book, seats))
     }
 
-    /// Turns the first seat of the table into the book's seat, which is the seat that publishes.
-    /// The book's seat has then seen the opening that `M` chooses.
+    /// Makes the first seat of the table the book's seat. Only the book's seat publishes: it stores
+    /// new values in the gauge, which the other seats read. The book's seat has then seen the
+    /// opening that `M` chooses.
     fn begin<M: ChoosesGhost<O>>(&self, first: Seat<(), View<O, E>>, weight: u64) -> BookSeat<O, E>
         requires gauge { first.table_id ≡ self.now.table.shared.table_id }
         requires key { self.now.table.shared.key ≡ weight }

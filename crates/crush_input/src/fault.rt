@@ -33,7 +33,8 @@ pub enum SecondMapFault {
 /// Why a run failed. Nothing was written, except in the case of [`RunFault::Write`].
 #[derive(Clone, Copy, Debug, PartialEq, Eq, Error)]
 pub enum RunFault {
-    /// The bytes that were read aren't a job. The fault never says that memory ran out.
+    /// The bytes that were read aren't a job. The `JobFault` is never the one that says that memory
+    /// ran out: that is [`RunFault::Memory`].
     #[error("{0}")]
     Job(JobFault),
     /// Standard input or a file of the job couldn't be opened or read.

@@ -1,4 +1,4 @@
-//! The changes of operators that a run has lost: whether they end the run, and what is told of them.
+//! The changes of operators that a run has lost: whether they end the run, and the notes about them.
 
 ghost use Rattle.std.specs.Prelude.{◌≡◌, ◌++◌, ◌≤◌, IfErr, IfOk, List, OnOk, is_some, length, true};
 ghost use Rattle.crush_model.specs.Table.{Row};

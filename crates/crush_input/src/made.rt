@@ -1,5 +1,5 @@
 //! The calls of a run that created more buckets than they have `add-bucket` commands: whether they
-//! end the run, and what is told of them.
+//! end the run, and the notes about them.
 
 ghost use Rattle.std.specs.Prelude.{◌≡◌, ◌≤◌, ◌++◌, IfErr, IfOk, List, OnOk, is_some, length, true};
 ghost use Rattle.crush_model.specs.Table.{Row};
@@ -73,8 +73,8 @@ fn created_lines(alloc: Global, explain: bool, history: History<'_>) -> Result<V
 }
 
 /// Returns the history lines of the calls that [`check_made`] counts, followed by `notes`. With
-/// `explain`, there are hints below the line of a call: names of items that may have been meant by
-/// the names of created buckets.
+/// `explain`, hints follow the line of a call. A hint has the name of an item that may have been
+/// meant by the name of a created bucket.
 ///
 /// Without `no_make`, returns no bytes. Fails only if memory runs out.
 pub fn made_notes(
@@ -107,7 +107,8 @@ fn push_count(count: usize, text: &mut Vec<u8>) -> Result<(), AllocError>
     write_made(count, text).map_err(|_| AllocError)
 }
 
-/// Appends this line and the lines of these calls.
+/// Appends the line with the number of the calls that created buckets, and then `lines`, which are
+/// the history lines of these calls.
 fn push_counted(count: usize, lines: &[u8], text: &mut Vec<u8>) -> Result<(), AllocError>
     ensures { OnOk result (text.new.items ≡ text.old.items ++ (made_line count ++ lines.now)) }
 {

@@ -50,7 +50,8 @@ pub fn check_strict(strict: bool, entries: &[Entry]) -> Result<(), RunFault>
 /// The calls of a run, and the map before them.
 #[derive(Clone, Copy)]
 pub struct History<'a> {
-    /// The map before the first call. With `explain`, it is needed to find the reasons of refusals.
+    /// The map before the first call. With `explain`, it is needed to find the reasons of refusals
+    /// and the hints for created buckets.
     pub opening: &'a Option<CrushMap<Global>>,
     /// The scripts from which the calls come.
     pub scripts: &'a [Script],

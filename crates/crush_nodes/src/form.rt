@@ -41,8 +41,9 @@ pub fn is_formed_node<A: Allocator>(node: &Node<A>) -> bool
     }
 }
 
-/// Whether a device's weight is at most 2147483647 units. Reads the other fields only because their
-/// types' invariants prove the rest of the contract.
+/// Whether a device's weight is at most 2147483647 units. The code also reads the other fields,
+/// although it doesn't need their values: reading a field gives the proof the invariant of the
+/// field's type, and these invariants prove the rest of the contract.
 fn is_formed_leaf<A: Allocator>(leaf: &Leaf<A>) -> bool
     ensures tested { result ≡ nat_le leaf.now.weight HEAVIEST_DEVICE }
     ensures id { leaf.now.id < DEVICE_IDS }

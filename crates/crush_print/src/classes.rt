@@ -61,9 +61,9 @@ fn is_in<A: Allocator>(node: &Node<A>, class: &[u8]) -> bool
     }
 }
 
-/// Returns a weight for each item of the map, in the order of the map's tree. An item's weight is
-/// the sum of the weights of all devices of the class that are the item itself or below it, or
-/// `None` if there is no such device. The function visits each item once, and fails only if memory
+/// Returns for each item of the map what its devices of the class weigh, in the order of the map's
+/// tree: the sum of the weights of all devices of the class that are the item itself or below it,
+/// or `None` if there is no such device. The function visits each item once, and fails only if memory
 /// runs out.
 pub fn class_weights<A: Allocator>(
     alloc: Global,

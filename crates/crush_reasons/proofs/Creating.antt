@@ -1,29 +1,20 @@
 -- The hints for created buckets and the lines of the entries that created them, for one more pair, edit or entry; and worked examples.
 use Rattle.std.proofs.Common.{◌≡◌, ℕ, ◌+◌, ◌<◌, ◌≤◌, Bool, true, false, List, [], ◌∷◌, ◌++◌, length, drop, get_or, refl, subst, sym, ap, ◌∙◌, append_assoc}
 use Rattle.std.proofs.lemmas.List.{append-nil, drop_all, drop_more}
-use Rattle.std.specs.Fmt.{digits}
 use Rattle.std.specs.List.{list_any}
 use Rattle.std.specs.Prelude.{◌||◌, codes, filter, flat_map, map, slice_index_or}
 use Rattle.crush_model.specs.Stands.{Stands}
 use Rattle.crush_model.specs.Table.{Row}
 use Rattle.crush_map.specs.MapData.{MapData}
 use Rattle.crush_edits.specs.declared.edit.Edit.{Edit}
-use Rattle.crush_edits.specs.declared.edit.Edit.TheVariants.{AddBucket, Move}
 use Rattle.crush_edits.specs.declared.location.Pair.{Pair}
 use Rattle.crush_edits.specs.Setting.{SettingData}
 use Rattle.crush_edits.specs.Stops.{StopData, fresh_stops, stops}
 use Rattle.crush_ceph.specs.ForCeph.{table_after_edit}
-use Rattle.crush_history.specs.declared.call.Call.{Call}
-use Rattle.crush_history.specs.declared.call.Call.TheVariants.{One, Batch}
-use Rattle.crush_history.specs.declared.call.Reply.{Reply}
-use Rattle.crush_history.specs.declared.call.Reply.TheVariants.{Done, Dones}
 use Rattle.crush_history.specs.declared.entry.Entry.{Entry}
 use Rattle.crush_history.specs.History.{EntryData}
-use Rattle.crush_history.specs.HistoryText.{line_head, reply_text}
-use Rattle.crush_print.specs.MapText.{root_numbers}
-use Rattle.crush_print.specs.Tree.{step_at, steps_at, tree_rows, unplaced_numbers}
 use Rattle.crush_print.proofs.Examples.{example, setting}
-use Rattle.crush_reasons.specs.Created.{created_behind, created_line, created_text, edit_hints, edits_hints, has_looks, is_created, looks_after}
+use Rattle.crush_reasons.specs.Created.{created_behind, created_line, edit_hints, edits_hints, has_looks, is_created, looks_after}
 use Rattle.crush_reasons.specs.declared.near.TheConstants.{MOST_LOOKS}
 use Rattle.crush_reasons.specs.Replay.{table_after_edits, table_after_entry}
 
@@ -132,12 +123,9 @@ unfolding created_behind
 lines_all s t names entries i old now m number looks le left =
     sym (left.lines ∙ ap (λ (l : List Entry). now ++ created_behind s left.table names number looks l) (drop_all i entries le) ∙ append-nil now)
 
--- a pair of a location, and an entry of the first operator
+-- a pair of a location
 abbrev pair : List ℕ → List ℕ → Pair
 pair kind name = record { kind = kind; name = name }
-
-abbrev entry : Call → Reply → EntryData
-entry call reply = record { operator = 0; call = call; reply = reply }
 
 -- the names of the pairs for which buckets are created, and the names of the stops before the first stop that the table has. They are the same, except for their order
 abbrev created : List Pair → List (List ℕ)

@@ -11,7 +11,7 @@ use Rattle.crush_model.specs.Table.{Row, is_named}
 use Rattle.crush_edits.specs.declared.location.Pair.{Pair}
 use Rattle.crush_edits.specs.Answer.{meets}
 use Rattle.crush_edits.specs.LawRoute.{Rises, of_stop}
-use Rattle.crush_edits.specs.Setting.{SettingData, kind_number}
+use Rattle.crush_edits.specs.Setting.{kind_number}
 use Rattle.crush_edits.specs.Stops.{StopData, fresh_stops, is_fresh, stops}
 use Rattle.crush_edits.proofs.Stops.{stops_are_pairs, stops_rise}
 use Rattle.crush_reasons.specs.Created.{is_created}

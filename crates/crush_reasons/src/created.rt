@@ -25,8 +25,8 @@ use crush_history::{Entry, Script, operator_name, push_entry};
 use crush_map::CrushMap;
 use std::alloc::{AllocError, Global};
 
-/// A law: the pairs of a location for which hints are searched are exactly the pairs for which an
-/// edit creates buckets.
+/// A law: if no type occurs twice in a location, the pairs for which hints are searched are exactly
+/// the pairs for which an edit creates buckets. An edit whose location has a type twice is refused.
 pub fn created_buckets_are_new_stops()
     ensures { CreatedAreFresh }
 {}
@@ -44,7 +44,8 @@ fn is_up_to(setting: &Setting, pair: &Pair, other: &Pair) -> bool
     lower.number() <= kind.number()
 }
 
-/// Whether the pair `other` names an item of the map, so that no bucket is created for `pair`.
+/// Whether the map has an item with the name in `other`, and the type of `other` isn't above the
+/// type of `pair`. Then no bucket is created for `pair`.
 fn ends_before(map: &CrushMap<Global>, pair: &Pair, other: &Pair) -> bool
     ensures { (t : List Row) → Stands map.now.forest t
         → result ≡ ends_before map.now.setting t pair.now other.now }
@@ -52,7 +53,8 @@ fn ends_before(map: &CrushMap<Global>, pair: &Pair, other: &Pair) -> bool
     map.locate(other.name.as_str()).is_some() && is_up_to(map.setting(), pair, other)
 }
 
-/// Whether an edit with these pairs as its location creates a bucket for one of them, `pair`.
+/// Whether an edit with these pairs as its location, if it isn't refused, creates a bucket for one
+/// of them, `pair`.
 fn is_created(map: &CrushMap<Global>, pairs: &[Pair], pair: &Pair) -> bool
     ensures { (t : List Row) → Stands map.now.forest t
         → result ≡ is_created map.now.setting t pairs.now pair.now }
@@ -146,8 +148,8 @@ fn push_edits_hints(
 }
 
 /// If the call of the entry created more buckets than it has `add-bucket` commands, appends its
-/// history line, and the hints if `looks` is set. If the entry changed the map, applies its edits to
-/// `map`.
+/// history line, and the hints if `looks` is set. If the entry changed the map, applies its edits
+/// to `map`.
 fn push_created(
     alloc: Global,
     looks: bool,

@@ -84,7 +84,7 @@ pub record HaveRun (in_turn : Bool) (job : JobData) (after : MapData) (h : List 
 abbrev pub RunsScripts : Bool → MapData → List ScriptData → MapData → List EntryData → Type 0
 RunsScripts in_turn map scripts after h = (job : JobData) → MapStands map job.setting job.table → scripts ≡ job.scripts → HaveRun in_turn job after h
 
--- whether a run needs the map as it was read after its scripts have run: to explain refusals, to look for lost changes, or to print the commands that changed it
+-- whether a run needs the map as it was read after its scripts have run: to explain refusals and created buckets, to look for lost changes, or to print the commands that changed it
 abbrev pub needs_opening : Mode → Output → Bool
 needs_opening mode output.AsCeph = true
 needs_opening mode what = mode.explain || mode.conflicts

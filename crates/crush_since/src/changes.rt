@@ -74,9 +74,9 @@ pub fn write_changes<A: Allocator, B: Allocator, W: Write>(
 /// [`write_changes`] does, but only the devices of one class count.
 ///
 /// The weights of a row are the sums of the weights of all devices of the class that are the item or
-/// below it: 0 if there is no such device. An item has no row if neither map has such a device at
-/// the item or below it. The only exceptions are buckets above an item that has a row. The lines
-/// after the rows are those of `write_changes`: they count all devices.
+/// below it: 0 if there is no such device. An item has no row if in neither map the item is such a
+/// device or has such a device below it. The only exceptions are buckets above an item that has a
+/// row. The lines after the rows are those of `write_changes`: they count all devices.
 pub fn write_changes_of_class<A: Allocator, B: Allocator, W: Write>(
     alloc: Global,
     old: &CrushMap<A>,

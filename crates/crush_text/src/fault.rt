@@ -24,8 +24,8 @@ pub enum TextFaultKind {
     BadWeight,
     /// An earlier line has the same number or id.
     DuplicateId,
-    /// An earlier line has the same name. For the class of a class id, an earlier line of the same
-    /// bucket has the same class.
+    /// An earlier line has the same name. In a line such as `id -2 class hdd`, the name is the
+    /// class: an earlier line of the same bucket gives an id for the same class.
     DuplicateName,
     /// The word isn't the name of a declared type, or it begins a bucket and names type 0, which is
     /// the type of devices.

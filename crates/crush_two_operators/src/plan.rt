@@ -17,8 +17,9 @@ use std::thread::Threads;
 
 /// Lets two operators work through one plan at the same time. The steps are made in order, and each
 /// step is made once, by the operator that is the first to submit it. A step is only made if the
-/// map hasn't changed since this operator's last reading. Returns the map and the history. Fails if
-/// memory runs out, if the history is full, or if a step is refused or changes nothing.
+/// map hasn't changed since the operator that submits the step last read it. Returns the map and
+/// the history. Fails if memory runs out, if the history is full, or if a step is refused or
+/// changes nothing.
 ///
 /// The contract says two things about a success. First (`all`), the history is legal for the map
 /// that was given, and the returned map is the map after this history. Second (`plan`), each call

@@ -172,3 +172,33 @@ fn help_that_cannot_be_written_is_a_write_fault(rt: HostRuntime) {
     assert!(rt; are_write_faults);
     assert!(rt; held == *b"Usage: crushed");
 }
+
+fn assert_told(rt: &(impl Abort + AllocGlobal), fault: RunFault, status: u8) {
+    let line = format!(in rt.alloc(); "crushedit: {fault}\n").expect(rt, "no memory");
+    let is_told = is_listed(rt, &Err(fault), line.as_bytes(), status);
+    drop(line);
+    assert!(rt; is_told);
+}
+
+#[test]
+fn the_line_of_a_fault_is_the_text_of_the_fault(rt: HostRuntime) {
+    assert_told(&rt, RunFault::Read, 3);
+    assert_told(&rt, RunFault::Write, 3);
+    assert_told(&rt, RunFault::Memory, 4);
+    assert_told(&rt, RunFault::Thread, 4);
+    assert_told(&rt, RunFault::Refused(2), 5);
+    assert_told(&rt, RunFault::Made(3), 5);
+    assert_told(&rt, RunFault::Conflicts(4), 5);
+    assert_told(&rt, RunFault::Differs(5), 5);
+}
+
+#[test]
+fn the_line_of_a_fault_of_a_job_is_the_text_of_the_fault(rt: HostRuntime) {
+    assert_told(&rt, RunFault::Job(JobFault::NoSuchCommand(6)), 1);
+    assert_told(&rt, RunFault::Job(JobFault::OpenBatch(7)), 1);
+    assert_told(&rt, RunFault::Job(JobFault::TooManyOperators(8)), 1);
+    assert_told(&rt, RunFault::Job(JobFault::DuplicateOperator(9)), 1);
+    assert_told(&rt, RunFault::Job(JobFault::TooManyCalls(10)), 1);
+    assert_told(&rt, RunFault::Job(JobFault::TooLong), 1);
+    assert_told(&rt, RunFault::Job(JobFault::OutOfMemory), 4);
+}

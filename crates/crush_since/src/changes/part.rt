@@ -23,9 +23,10 @@ use std::alloc::{AllocError, Allocator, Global};
 pub(crate) enum Reached {
     /// The item's own row hasn't come yet.
     Before,
-    /// The walk is in the item's part. The item's own row has this depth.
+    /// The walk is among the rows of the item and of all items below it. The item's own row has
+    /// this depth.
     Within(u32),
-    /// All rows of the item's part have come.
+    /// All these rows have come.
     After,
 }
 

@@ -32,8 +32,8 @@ pub(crate) struct TreeRow {
 }
 
 /// Returns the rows of the tree. First come the new map's roots from -1 downward, each followed by
-/// the rows below it. The old map's roots that aren't roots any more follow. The unplaced devices
-/// follow in the same way, by ascending id.
+/// the rows below it. After them come the old map's roots that aren't roots in the new map. After
+/// the roots come the unplaced devices, in the same way, by ascending id.
 #[tactic(auto, unfolding(crate::specs::Changes::change_rows))]
 pub(crate) fn rows_of<A: Allocator, B: Allocator>(
     alloc: Global,
