@@ -12,11 +12,11 @@ use Rattle.crush_plan.specs.declared.draft.Draft.{Draft}
 use Rattle.crush_plan.specs.Leads.{Leads}
 use Rattle.crush_plan.specs.Part.{HasPartBelow, IsAllowed, WeighsPart}
 
--- the plan may apply the edit e to a map with the table v
+-- the plan may have the edit e, if e is applied to a map with the table v
 abbrev pub Allows : {A B : _} → PlanGoal A B → List Row → Edit → Type 0
 Allows goal v e = (t u : List Row) → Stands goal.before.now.forest t → Stands goal.wanted.now.forest u → IsAllowed t u (option_map (λ name. name.now) goal.under) v e
 
--- the edit sets no weight of an item outside the part; and the plan may set all weights below the bucket
+-- `MayWeigh`: if the edit e sets all weights below a bucket, then no item below the bucket is outside the part. `MayWeighBelow`: no item below the item i is outside the part. The table v is that of the map to which the edit is applied
 abbrev pub MayWeigh : {A B : _} → PlanGoal A B → List Row → Edit → Type 0
 MayWeigh goal v e = (t u : List Row) → Stands goal.before.now.forest t → Stands goal.wanted.now.forest u → WeighsPart t u (option_map (λ name. name.now) goal.under) v e
 

@@ -1,4 +1,4 @@
--- Which edits a plan may have: a command must be able to express the edit, its location must create no bucket, and it must change only items of the part.
+-- Which edits a plan may have: a line of a script must be able to express the edit, the edit must create no bucket that its location names, and the edit must be only about items of the part.
 use Rattle.std.specs.Prelude.{◌≡◌, ℕ, Bool, true, false, ◌||◌, List, [], ◌∷◌, Option, None, Some, is_some}
 use Rattle.std.specs.List.{list_all}
 use Rattle.std.specs.Option.{option_map_or}
@@ -11,7 +11,7 @@ use Rattle.crush_edits.specs.declared.location.Pair.{Pair}
 use Rattle.crush_compare.specs.Named.{is_in}
 use Rattle.crush_history.specs.Said.{IsSaid}
 
--- the name by which an edit names an item, and the name that the item has after the edit; none if the edit removes the item
+-- an item that an edit is about: the name by which the edit names the item, and the name that the item has after the edit. The second name is `None` if the edit removes the item. `called` lists all items that an edit is about. The buckets of a location aren't among them
 pub record Called : Type 0 where
   pub before : List ℕ
   pub behind : Option (List ℕ)
@@ -31,7 +31,7 @@ called (Rename from to) = record { before = from; behind = Some to } ∷ []
 called (SetClass n c) = keeps_name n
 called (RemoveClass n) = keeps_name n
 
--- the first test finds the item with this name in the table t, and says whether the item with its id was in the part of the old table. The second test says whether the item with this name in the new table is in the part of the new table
+-- `was_in_part`: whether the table t has an item with this name, and the item's id was in the part of the old table. `will_be_in_part`: whether the new table has an item with this name, and this item is in the part of the new table
 abbrev pub was_in_part : List Row → Option (List ℕ) → List Row → List ℕ → Bool
 was_in_part old under t name = option_map_or (is_in under old) (id_named t name) false
 
@@ -41,22 +41,22 @@ will_be_in_part new under name = option_map_or (is_in under new) (id_named new n
 abbrev pub is_called_in : List Row → List Row → Option (List ℕ) → List Row → Called → Bool
 is_called_in old new under t c = was_in_part old under t c.before || option_map_or (will_be_in_part new under) c.behind false
 
--- CONCERNS: if a part is selected, then each item that the edit names was in the part of the old table, or the name that it has after the edit is the name of an item in the part of the new table
+-- CONCERNS: if a part is selected, then for each item that the edit is about, at least one of two statements is true. First, the item's id was in the part of the old table. Second, the name that the item has after the edit is the name of an item in the part of the new table. Here t is the table to which the edit is applied
 abbrev pub concerns : List Row → List Row → Option (List ℕ) → List Row → Edit → Bool
 concerns old new None t e = true
 concerns old new (Some part) t e = list_all (is_called_in old new (Some part) t) (called e)
 
--- whether the id of an item was in the part of the old table, or the item's name in the table t is the name of an item in the part of the new table
+-- whether the item's id i was in the part of the old table, or the item's name in the table t is the name of an item in the part of the new table
 abbrev pub is_item_in_part : List Row → List Row → Option (List ℕ) → List Row → ItemId → Bool
 is_item_in_part old new under t i = is_in under old i || option_map_or (will_be_in_part new under) (name_of t i) false
 
--- each item below a bucket meets this test. For a device, or if there is no item, this requires nothing
+-- each item below the bucket meets the test `is_item_in_part`. For a device, or if there is no item, nothing is required
 abbrev pub HasPartBelow : List Row → List Row → Option (List ℕ) → List Row → Option ItemId → Type 0
 HasPartBelow old new under t None = Unit {0}
 HasPartBelow old new under t (Some (Device d)) = Unit {0}
 HasPartBelow old new under t (Some (Bucket b)) = (i : ItemId) → is_below t b i ≡ true → is_item_in_part old new under t i ≡ true
 
--- WEIGHS PART: if the edit sets all weights below a bucket, then each item below this bucket meets this test. For any other edit this requires nothing
+-- WEIGHS PART: if the edit sets all weights below a bucket, then each item below this bucket meets the test `is_item_in_part`. For any other edit, nothing is required
 abbrev pub WeighsPart : List Row → List Row → Option (List ℕ) → List Row → Edit → Type 0
 WeighsPart old new under t (Place how d n w l) = Unit {0}
 WeighsPart old new under t (Move n l) = Unit {0}
@@ -69,7 +69,7 @@ WeighsPart old new under t (Rename from to) = Unit {0}
 WeighsPart old new under t (SetClass n c) = Unit {0}
 WeighsPart old new under t (RemoveClass n) = Unit {0}
 
--- the location of an edit
+-- the location of an edit; no pairs if the edit has no location
 abbrev pub location_of : Edit → List Pair
 location_of (Place how d n w l) = l
 location_of (Move n l) = l
@@ -82,12 +82,11 @@ location_of (Rename from to) = []
 location_of (SetClass n c) = []
 location_of (RemoveClass n) = []
 
--- whether the table has all buckets of a location, so that the edit creates none of them
+-- whether the table has an item with the name of each bucket of the location, so that the edit creates none of these buckets
 abbrev pub are_there : List Row → List Pair → Bool
 are_there t l = list_all (λ (p : Pair). is_some (id_named t p.name)) l
 
--- ALLOWED: a command can express the edit, the edit's location creates no bucket, and the edit changes only items of the part. This also holds
--- if the edit sets all weights below a bucket
+-- ALLOWED: a line of a script can express the edit, the edit creates no bucket that its location names, and the edit is only about items of the part. If the edit sets all weights below a bucket, each item below the bucket is in the part too
 pub record IsAllowed (old new : List Row) (under : Option (List ℕ)) (t : List Row) (e : Edit) : Type 0 where
   pub said : IsSaid e
   pub there : are_there t (location_of e) ≡ true

@@ -14,7 +14,7 @@ use Rattle.crush_plan.specs.Plan.{PlanData}
 abbrev pub script_line : Edit → List ℕ
 script_line e = edit_text e ++ codes "\n"
 
--- the bytes of a text, with `# ` before each line. The first argument says whether the next byte is the first of a line
+-- `commented`: the bytes of a text, with `# ` before each line. The argument `at_head` says whether the first byte is the first of a line. `mark` is what comes before a single byte: `# ` or nothing
 abbrev pub mark : Bool → List ℕ
 mark at_head = if at_head then codes "# " else []
 
@@ -22,7 +22,7 @@ abbrev pub commented : Bool → List ℕ → List ℕ
 commented at_head [] = []
 commented at_head (b ∷ bs) = mark at_head ++ b ∷ commented (b == 10) bs
 
--- the comment lines with the differences that remain; nothing if no differences remain
+-- `stay_heading`: the line that says how many differences remain. `stay_text`: this line, and a comment line for each difference. If no differences remain, `stay_text` is empty
 unfoldable pub stay_heading : ℕ → List ℕ
 stay_heading count = codes "# " ++ decimal count ++ codes " differences stay\n"
 
@@ -30,14 +30,14 @@ abbrev pub stay_text : List (List ℕ) → List ℕ
 stay_text [] = []
 stay_text (line ∷ lines) = stay_heading (length (line ∷ lines)) ++ commented true (text_of_lines (line ∷ lines))
 
--- what follows the edits: the differences that remain, and the numbers of buckets whose ids differ
+-- the lines that follow the edits: the differences that remain, and the numbers of buckets whose ids differ
 abbrev pub tail_text : PlanData → List ℕ
 tail_text plan = stay_text plan.rest ++ commented true (aside_text plan.aside)
 
--- PLAN TEXT as a script: the number of edits, a line for each edit, and what follows the edits
+-- PLAN TEXT as a script: the number of edits, a line for each edit, and the lines of `tail_text`
 unfoldable pub plan_text : PlanData → List ℕ
 plan_text plan = ceph_heading (length plan.edits) ++ flat_map script_line plan.edits ++ tail_text plan
 
--- PLAN TEXT for Ceph: the commands of Ceph that do the edits, if this is the table from which the plan starts, and what follows the edits
+-- PLAN TEXT for Ceph: the commands of Ceph that make the edits, and the lines of `tail_text`. Here t is the table from which the plan starts
 unfoldable pub ceph_plan_text : SettingData → List Row → PlanData → List ℕ
 ceph_plan_text s t plan = ceph_text s t plan.edits ++ tail_text plan

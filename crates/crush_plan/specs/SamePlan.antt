@@ -1,4 +1,4 @@
--- What `==` answers for two plans.
+-- The result of `==` for two plans.
 use Rattle.std.specs.Prelude.{Bool}
 use Rattle.crush_plan.specs.declared.plan.Plan.{Plan}
 use Rattle.crush_plan.specs.contracts.plan.PlanPartialEq.TheImpl as plan

@@ -8,8 +8,8 @@ use crate::goal::PlanGoal;
 use crush_units::{BucketId, ItemId};
 use std::alloc::{AllocError, Allocator};
 
-/// Creates a bucket with the name and the type that the bucket has in the wanted map. The types are
-/// matched by their names, because the two maps may number their types differently.
+/// Creates a bucket with the name and the type that the bucket `bucket` has in the wanted map. The
+/// types are matched by their names, because the two maps may number their types differently.
 pub(crate) fn make_bucket<A: Allocator + Clone, B: Allocator>(
     draft: &mut Draft<A>,
     goal: &PlanGoal<'_, A, B>,

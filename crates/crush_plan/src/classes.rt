@@ -12,36 +12,38 @@ use crush_print::WalkStep;
 use crush_units::{DeviceId, ItemId};
 use std::alloc::{AllocError, Allocator, Global};
 
-/// A class, and the position of the first device of the wanted map that has the class.
+/// A class, and the position of the first device that has the class in the list of all items of the
+/// wanted map.
 #[derive(Clone, Copy)]
 struct FirstUse<'a> {
     class: &'a str,
     at: usize,
 }
 
-/// One edit of a device that has another class in the wanted map. It removes the old class, or sets
-/// the new class.
+/// One edit for a device that has another class in the wanted map. The edit removes the device's
+/// old class, or sets its new class.
 #[derive(Clone, Copy)]
 struct ClassStep {
     device: DeviceId,
     kind: StepKind,
-    /// The position of the first device of the wanted map that has the device's new class.
+    /// The position of the first device that has the device's new class, in the list of all items
+    /// of the wanted map.
     first_use: usize,
 }
 
 /// What an edit does with the class of a device.
 #[derive(Clone, Copy)]
 enum StepKind {
-    /// It removes the old class. A device that has a class can't get another class.
+    /// The edit removes the old class. A device that still has a class can't get another class.
     Remove,
-    /// It gives the device the class that the device has in the wanted map.
+    /// The edit gives the device the class that the device has in the wanted map.
     Set,
 }
 
 impl ClassStep {
-    /// Returns the number by which the edits are sorted. The edits of devices that get the same class
-    /// come together. Of these edits, those that remove old classes come before those that set the
-    /// class.
+    /// Returns the number by which the edits are sorted, the lowest first. All edits for devices
+    /// that get the same class come together. Of these edits, those that remove old classes come
+    /// before those that set the class.
     fn rank(&self) -> u128
         ensures { result ≡ rank self.now }
     {
@@ -53,10 +55,14 @@ impl ClassStep {
     }
 }
 
-/// Sets the classes of these devices, class by class, in the order in which the wanted map first
-/// has the classes. The devices that get a class lose their old classes right before. The devices
-/// that only lose a class come last. So two devices that get different classes are never without a
-/// class at the same time.
+/// Sets the classes of these devices, class by class, in the order in which the classes first occur
+/// in the tree of the wanted map. For each class, the function first removes the old classes of the
+/// devices that get this class, and then sets the class. So at any moment, all devices that have
+/// lost their old class, and don't have their new class yet, get the same class. At the end, the
+/// function removes the classes of the devices that have no class in the wanted map.
+///
+/// The contract of [`class_steps`] promises the order of the edits that it returns. Only tests show
+/// that the draft gets the edits in this order.
 pub(crate) fn set_classes<A: Allocator + Clone, B: Allocator>(
     draft: &mut Draft<A>,
     goal: &PlanGoal<'_, A, B>,
@@ -72,7 +78,9 @@ pub(crate) fn set_classes<A: Allocator + Clone, B: Allocator>(
     remove_classes(draft, goal, devices)
 }
 
-/// Returns the edits of the classes of those devices that get another class, in their order.
+/// Returns the edits that remove the old classes and set the new classes of those devices that get
+/// another class. The edits are sorted by [`ClassStep::rank`]. Devices that only lose a class have
+/// no edits in this list.
 fn class_steps<B: Allocator>(
     alloc: Global,
     wanted: &ItemTable<'_, B>,
@@ -85,7 +93,7 @@ fn class_steps<B: Allocator>(
     Ok(steps)
 }
 
-/// Returns the edits of the classes of those devices that get another class, device by device.
+/// Returns the same edits as [`class_steps`], but in the order of `devices`.
 fn unordered_steps<B: Allocator>(
     alloc: Global,
     wanted: &ItemTable<'_, B>,
@@ -101,7 +109,8 @@ fn unordered_steps<B: Allocator>(
     Ok(steps)
 }
 
-/// Returns the classes of a map by name, each with the position of the first device that has it.
+/// Returns the classes of a map, sorted by their names. Each class has the position of the first
+/// device that has it. `steps` lists all items of the map.
 fn first_uses<'a, B: Allocator>(
     alloc: Global,
     steps: &[WalkStep<'a, B>],
@@ -117,7 +126,8 @@ fn first_uses<'a, B: Allocator>(
     Ok(uses)
 }
 
-/// Returns the position of the first device that has the class.
+/// Returns the position of the first device that has the class, or `None` if no device has it.
+/// `uses` must be sorted by the names of the classes.
 fn first_at(uses: &[FirstUse<'_>], class: &str) -> Option<usize> {
     match uses.binary_search_by_key(&class, |first| first.class) {
         Ok(at) => Some(uses[at].at),
@@ -125,8 +135,9 @@ fn first_at(uses: &[FirstUse<'_>], class: &str) -> Option<usize> {
     }
 }
 
-/// Returns the position of the first device that has the same class as this device in the wanted
-/// map. Returns `None` if the class of this device doesn't change.
+/// Returns the position of the first device of the wanted map that has this device's new class.
+/// Returns `None` if the class of this device doesn't change, or if the device has no class in the
+/// wanted map.
 fn first_use_of<B: Allocator>(
     wanted: &ItemTable<'_, B>,
     uses: &[FirstUse<'_>],
@@ -144,7 +155,8 @@ fn first_use_of<B: Allocator>(
     }
 }
 
-/// Appends the edits of the class of a device that gets another class.
+/// Appends the edits for a device that gets another class. If the device has a class, the first
+/// edit removes this class. The last edit sets the new class.
 fn push_steps(
     device: &SetDevice,
     first_use: usize,
@@ -178,7 +190,8 @@ fn make_steps<A: Allocator + Clone, B: Allocator>(
     Ok(())
 }
 
-/// Makes the edit if the map has the device under the name that it has in the wanted map.
+/// Gives the draft the edit of this step, if the draft's map has the device under the name that the
+/// device has in the wanted map.
 fn make_step<A: Allocator + Clone, B: Allocator>(
     draft: &mut Draft<A>,
     goal: &PlanGoal<'_, A, B>,
@@ -200,7 +213,7 @@ fn make_step<A: Allocator + Clone, B: Allocator>(
     }
 }
 
-/// Removes the class of each device that has no class in the wanted map.
+/// Removes the class of each of these devices that has no class in the wanted map.
 fn remove_classes<A: Allocator + Clone, B: Allocator>(
     draft: &mut Draft<A>,
     goal: &PlanGoal<'_, A, B>,
@@ -214,8 +227,8 @@ fn remove_classes<A: Allocator + Clone, B: Allocator>(
     Ok(())
 }
 
-/// Removes the class of the device if the wanted map has the device without a class, and if the map
-/// has the device under the same name.
+/// Removes the class of the device, if the device has no class in the wanted map, and if the
+/// draft's map has the device under the same name as the wanted map.
 fn remove_class<A: Allocator + Clone, B: Allocator>(
     draft: &mut Draft<A>,
     goal: &PlanGoal<'_, A, B>,

@@ -11,7 +11,8 @@ use crush_tree::View;
 use crush_units::ItemId;
 use std::alloc::{AllocError, Allocator};
 
-/// Adds each of these devices that the map doesn't have.
+/// Adds each of these devices that the map doesn't have, if a bucket holds the device in the wanted
+/// map, and if the map has a bucket with the name of this bucket.
 pub(crate) fn add_devices<A: Allocator + Clone, B: Allocator>(
     draft: &mut Draft<A>,
     goal: &PlanGoal<'_, A, B>,
@@ -39,7 +40,8 @@ fn add_device<A: Allocator + Clone, B: Allocator>(
 }
 
 /// Adds the device to the bucket that has the same name as the device's bucket in the wanted map.
-/// Does nothing if an item already has the device's name.
+/// Does nothing if an item already has the device's name, if no bucket holds the device in the
+/// wanted map, or if the map has no bucket of that name. `there` is the device in the wanted map.
 fn put_device<A: Allocator + Clone, B: Allocator>(
     draft: &mut Draft<A>,
     goal: &PlanGoal<'_, A, B>,
@@ -65,7 +67,8 @@ fn put_device<A: Allocator + Clone, B: Allocator>(
     }
 }
 
-/// Returns the name of the bucket that holds the device in the wanted map.
+/// Returns the name of the bucket that holds the device in the wanted map, or `None` if no bucket
+/// holds it there.
 fn place_name<'a, A: Allocator, B: Allocator>(
     goal: &'a PlanGoal<'_, A, B>,
     there: &View<'_>,

@@ -20,12 +20,13 @@ pub(crate) struct Draft<A: Allocator> {
     pub alloc: Global,
     /// The map after the edits.
     pub map: CrushMap<A>,
-    /// The edits that were applied, in this order. The plan may have each of them, none was
-    /// refused, and each changed the map.
+    /// The edits that were applied, in this order. Each of them was allowed, wasn't refused, and
+    /// changed the map. [`Draft::give`] says which edits are allowed.
     pub edits: Vec<Edit>,
 }
 
-/// Copies the name of an item. It can only fail because memory runs out, since the name is valid.
+/// Copies the name of an item, a type or a class. The name must be valid. Then the call fails only
+/// if memory runs out.
 pub(crate) fn copy_name(alloc: Global, name: &[u8]) -> Result<Name<Global>, AllocError> {
     match Name::read(alloc, name) {
         Ok(name) => Ok(name),
@@ -45,8 +46,9 @@ impl<A: Allocator + Clone> Draft<A> {
         })
     }
 
-    /// Adopts a draft that was forked from this one and then got further edits: takes the fork's
-    /// map, and appends the fork's edits.
+    /// Adopts `fork`, a draft that was forked from this one and then got edits. Appends the edits
+    /// of `fork` to the edits of this draft, and replaces the map of this draft by the map of
+    /// `fork`.
     pub(crate) fn adopt(&mut self, fork: Draft<A>) -> Result<(), AllocError>
         ensures map { OnOk result (self.new.map ≡ fork.map) }
         ensures edits { OnOk result (self.new.edits.items
@@ -58,8 +60,12 @@ impl<A: Allocator + Clone> Draft<A> {
         Ok(())
     }
 
-    /// Applies the edit if the plan may have it. If the edit is not refused and changes the map,
-    /// adds it to the edits.
+    /// Applies the edit to the draft's map if the edit is allowed. If the edit then isn't refused
+    /// and changes the map, adds it to the edits of the draft.
+    ///
+    /// An edit is allowed if a line of a script can express it, if it creates no bucket that its
+    /// location names, and if it is only about items in the part of the maps that the plan may
+    /// change. The call fails only if memory runs out.
     pub(crate) fn give<B: Allocator>(
         &mut self,
         goal: &PlanGoal<'_, A, B>,
@@ -75,7 +81,8 @@ impl<A: Allocator + Clone> Draft<A> {
         }
     }
 
-    /// Whether the plan may have the edit. It fails only if memory runs out.
+    /// Whether the edit is allowed, as [`Draft::give`] explains. The call fails only if memory runs
+    /// out.
     fn allows<B: Allocator>(
         &self,
         goal: &PlanGoal<'_, A, B>,
@@ -91,7 +98,8 @@ impl<A: Allocator + Clone> Draft<A> {
         }
     }
 
-    /// Whether the plan may have the edit, except for one test, that of `PlanGoal::weighs_part`.
+    /// Whether the edit meets all conditions for allowed edits, except for the one condition that
+    /// `PlanGoal::weighs_part` tests.
     fn fits<B: Allocator>(&self, goal: &PlanGoal<'_, A, B>, edit: &Edit) -> bool
         ensures said { result ≡ true → IsSaid edit.now }
         ensures there { result ≡ true → (v : List Row) → Stands self.now.map.forest v
@@ -104,7 +112,8 @@ impl<A: Allocator + Clone> Draft<A> {
         is_expressible(edit) && is_located(&self.map, edit) && goal.concerns(&self.map, edit)
     }
 
-    /// Applies the edit. If it is not refused and changes the map, adds it to the edits.
+    /// Applies the edit to the draft's map. If the edit isn't refused and changes the map, adds it
+    /// to the edits of the draft.
     fn make<B: Allocator>(
         &mut self,
         goal: &PlanGoal<'_, A, B>,
@@ -132,13 +141,14 @@ impl<A: Allocator + Clone> Draft<A> {
         Ok(())
     }
 
-    /// Whether the map has an item of this id with this name.
+    /// Whether the draft's map has an item with this id and this name.
     pub(crate) fn has_item(&self, id: ItemId, name: &str) -> bool {
         self.map.locate(name) == Some(id)
     }
 
-    /// Returns the location that consists of one bucket, whose id is `bucket` and whose name is
-    /// `name`.
+    /// Returns the location that consists of one bucket of the draft's map. `bucket` is the
+    /// bucket's id, and `name` must be its name. If the draft's map has no bucket with this id,
+    /// returns an empty location. An edit with an empty location isn't allowed.
     fn place(&self, bucket: BucketId, name: &str) -> Result<Location, AllocError> {
         let mut at = Location::new(self.alloc);
         let Some(kind) = self.map.kind_of(ItemId::Bucket(bucket)) else {
@@ -153,7 +163,8 @@ impl<A: Allocator + Clone> Draft<A> {
         }
     }
 
-    /// Gives the draft an edit that removes the item with this name.
+    /// Gives the draft an edit that removes the item with this name. As for all edits that are
+    /// given to a draft, [`Draft::give`] decides whether the edit is applied.
     pub(crate) fn remove<B: Allocator>(
         &mut self,
         goal: &PlanGoal<'_, A, B>,
@@ -193,7 +204,8 @@ impl<A: Allocator + Clone> Draft<A> {
         self.give(goal, Edit::Rename { from, to })
     }
 
-    /// Gives the draft an edit that creates an empty bucket of this name and this type.
+    /// Gives the draft an edit that creates an empty bucket with this name. `kind` is the name of
+    /// the bucket's type.
     pub(crate) fn add_bucket<B: Allocator>(
         &mut self,
         goal: &PlanGoal<'_, A, B>,
@@ -207,8 +219,8 @@ impl<A: Allocator + Clone> Draft<A> {
         self.give(goal, Edit::AddBucket { name, kind })
     }
 
-    /// Gives the draft an edit that moves an item into a bucket. The first name is the item's name,
-    /// and the second is the bucket's name.
+    /// Gives the draft an edit that moves the item with the name `name` into a bucket. `bucket` and
+    /// `bucket_name` are the id and the name of this bucket in the draft's map.
     pub(crate) fn relocate<B: Allocator>(
         &mut self,
         goal: &PlanGoal<'_, A, B>,
@@ -236,7 +248,8 @@ impl<A: Allocator + Clone> Draft<A> {
         self.give(goal, Edit::Reweight { name, weight })
     }
 
-    /// Gives the draft an edit that sets each device below the bucket to the same weight.
+    /// Gives the draft an edit that sets the weight of each device below the bucket to `weight`.
+    /// Does nothing if the draft's map doesn't have the bucket.
     pub(crate) fn reweight_below<B: Allocator>(
         &mut self,
         goal: &PlanGoal<'_, A, B>,
@@ -252,7 +265,8 @@ impl<A: Allocator + Clone> Draft<A> {
         self.give(goal, Edit::ReweightSubtree { name, weight })
     }
 
-    /// Gives the draft an edit that adds the device to the bucket with this name.
+    /// Gives the draft an edit that adds the device to a bucket. `bucket` and `bucket_name` are the
+    /// id and the name of this bucket in the draft's map.
     pub(crate) fn insert<B: Allocator>(
         &mut self,
         goal: &PlanGoal<'_, A, B>,
@@ -309,7 +323,9 @@ pub(crate) struct NewDevice<'a> {
     pub weight: Weight,
 }
 
-/// Whether the map already has the buckets of the edit's location, so that the edit creates none.
+/// Whether the edit creates no bucket that its location names. An edit that has a location passes
+/// this test only if the location consists of exactly one bucket, and the map has an item with this
+/// bucket's name. An edit of a kind that has no location always passes.
 fn is_located<A: Allocator>(map: &CrushMap<A>, edit: &Edit) -> bool
     ensures { result ≡ true → (v : List Row) → Stands map.now.forest v
         → are_there v (location_of edit.now) ≡ true }
@@ -328,7 +344,9 @@ fn is_located<A: Allocator>(map: &CrushMap<A>, edit: &Edit) -> bool
     }
 }
 
-/// Whether the location consists of exactly one bucket, and the map has this bucket.
+/// Whether the location consists of exactly one bucket, and the map has an item with this bucket's
+/// name. If this item is a device, or a bucket of another type, the map refuses the edit when it is
+/// applied.
 fn is_there<A: Allocator>(map: &CrushMap<A>, at: &Location) -> bool
     ensures { result ≡ true → (v : List Row) → Stands map.now.forest v
         → are_there v at.now ≡ true }

@@ -11,7 +11,8 @@ use crush_units::{DeviceId, Name, Weight};
 use std::alloc::Global;
 
 /// Whether a line of a script can express the edit. An edit that places a device can be expressed
-/// only if the name of the device is `osd.` followed by the id of the device.
+/// only if the name of the device is `osd.` followed by the id of the device. Every other edit can
+/// be expressed.
 pub(crate) fn is_expressible(edit: &Edit) -> bool
     ensures { result ≡ true → IsSaid edit.now }
 {
@@ -96,7 +97,7 @@ fn recall_names(first: &Name<Global>, second: &Name<Global>)
     let _second = second.as_bytes();
 }
 
-/// Tells the prover that the name is valid, and that the weight has 32 bits.
+/// Tells the prover that the name is valid, and that the weight is less than 2^32 units.
 fn recall_weighed(name: &Name<Global>, weight: Weight)
     ensures name { IsName name.now }
     ensures weight { weight < 2 ^ 32 }

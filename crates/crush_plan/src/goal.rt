@@ -1,4 +1,4 @@
-//! The goal of a plan: the wanted map, and the part of the map that the plan may change. The part
+//! The goal of a plan: the wanted map, and the part of the maps that the plan may change. The part
 //! is the whole map, or one item and all items below it.
 
 ghost use Rattle.std.specs.Prelude.{◌≡◌, List, IfOk, Some, false, true};
@@ -24,8 +24,9 @@ use std::alloc::{AllocError, Allocator, Global};
 #[derive(Drop)]
 pub(crate) struct PlanGoal<'a, A: Allocator, B: Allocator> {
     pub identity: Identity,
-    /// If it is the name of an item, the part that the plan may change is this item and all items
-    /// below it. If it is `None`, the part is the whole map.
+    /// If this is a name, the part that the plan may change is the item of this name and all items
+    /// below it, in each of the two maps. If a map has no item of this name, its part is empty. If
+    /// this is `None`, the part is the whole map.
     pub under: Option<&'a str>,
     /// The map before the plan's first edit.
     pub before: &'a CrushMap<A>,
@@ -35,7 +36,8 @@ pub(crate) struct PlanGoal<'a, A: Allocator, B: Allocator> {
 }
 
 impl<A: Allocator, B: Allocator> PlanGoal<'_, A, B> {
-    /// Whether the item of this id was in the part before the plan's first edit.
+    /// Whether the item of this id was in the part of the map before the plan's first edit. True
+    /// for every id if the part is the whole map.
     pub(crate) fn was_in_part(&self, id: ItemId) -> bool
         ensures { (t : List Row) → Stands self.now.before.now.forest t
             → result ≡ is_in (option_map (λ n. n.now) self.now.under) t id }
@@ -43,7 +45,8 @@ impl<A: Allocator, B: Allocator> PlanGoal<'_, A, B> {
         is_in(self.before, self.under, id)
     }
 
-    /// Whether the item of this name is in the part in the wanted map.
+    /// Whether the wanted map has an item of this name, and this item is in the part of the wanted
+    /// map.
     fn will_be_in_part(&self, name: &str) -> bool
         ensures { (u : List Row) → Stands self.now.wanted.now.forest u
             → result ≡ will_be_in_part u (option_map (λ n. n.now) self.now.under) name.now }
@@ -59,8 +62,11 @@ impl<A: Allocator, B: Allocator> PlanGoal<'_, A, B> {
         self.under.is_none() || self.was_in_part(id) || self.will_be_in_part(name)
     }
 
-    /// Whether each item that the edit names was in the part before the plan's first edit, or is in
-    /// the part in the wanted map.
+    /// Whether each item that the edit is about was in the part of the map before the plan's first
+    /// edit, or has after the edit the name of an item in the part of the wanted map. A swap is
+    /// about two buckets, and any other edit is about one item. The buckets of a location aren't
+    /// tested. If the part is the whole map, every edit passes. `map` is the map to which the edit
+    /// is to be applied.
     pub(crate) fn concerns(&self, map: &CrushMap<A>, edit: &Edit) -> bool
         ensures { (t u v : List Row) → Stands self.now.before.now.forest t
             → Stands self.now.wanted.now.forest u → Stands map.now.forest v
@@ -111,10 +117,13 @@ impl<A: Allocator, B: Allocator> PlanGoal<'_, A, B> {
         self.was_called_in(map, before) || self.will_be_in_part(behind.as_str())
     }
 
-    /// Whether the edit sets only weights of items that were in the part before the plan's first
-    /// edit, or that are in the part in the wanted map. Only an edit that sets all weights below a
-    /// bucket could set the weights of other items, so every other edit passes this test. The test
-    /// fails only if memory runs out.
+    /// Whether the edit sets no weight outside the part. Only an edit that sets all weights below a
+    /// bucket needs this test, because any other edit sets at most the weight of an item that it
+    /// names, and [`PlanGoal::concerns`] tests this item. An edit that sets all weights below a
+    /// bucket passes if each item below this bucket was in the part of the map before the plan's
+    /// first edit, or has the name of an item in the part of the wanted map.
+    ///
+    /// The call returns an error only if memory runs out.
     pub(crate) fn weighs_part(
         &self,
         alloc: Global,
@@ -183,7 +192,9 @@ impl<A: Allocator, B: Allocator> PlanGoal<'_, A, B> {
         }
     }
 
-    /// Whether all items below the bucket are in the part. The test first lists these items.
+    /// Whether all items below the bucket are in the part of the map before the plan's first edit,
+    /// or have names of items in the part of the wanted map. To test this, the function lists the
+    /// items below the bucket.
     fn has_listed_below(
         &self,
         alloc: Global,

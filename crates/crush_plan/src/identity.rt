@@ -1,6 +1,7 @@
 //! Matches the buckets of the map with the buckets of the wanted map. If two buckets are matched,
-//! the plan changes the map's bucket until it agrees with the wanted map's bucket. A bucket of the
-//! map that isn't matched is removed, and a bucket of the wanted map that isn't matched is created.
+//! the plan changes the map's bucket until it agrees with the wanted map's bucket, as far as edits
+//! can do this. If a bucket of the map isn't matched, the plan removes it if it can. If a bucket of
+//! the wanted map isn't matched, the plan creates it if it can.
 
 use crate::item_table::ItemTable;
 use crush_edits::Setting;
@@ -11,12 +12,15 @@ use std::alloc::{AllocError, Allocator, Global};
 /// How a plan matches the buckets of the map with the buckets of the wanted map.
 #[derive(Clone, Copy, Debug, PartialEq, Eq)]
 pub enum Identity {
-    /// For two maps of one cluster. Two buckets of the same id are matched if their names or their
-    /// types agree. Any other bucket is matched by its name. If this plan leaves more differences
-    /// than a plan that matches all buckets by their names, the search returns the plan that
-    /// matches by names.
+    /// For two maps of one cluster. Two buckets of the same id are matched if they have the same
+    /// name, or if their types have the same name. Any other bucket is matched with the wanted
+    /// map's bucket of the same name, unless that bucket is matched by its id. If two matched
+    /// buckets have different names, the search also tries to match all buckets by their names. It
+    /// then chooses the edits after which fewer differences remain. If equally many differences
+    /// remain, it chooses the fewer edits.
     Ids,
-    /// For maps of two clusters. Two buckets are matched if they have the same name.
+    /// For maps of two clusters, which may have different ids for the same buckets. Two buckets are
+    /// matched if they have the same name.
     Names,
 }
 
@@ -71,8 +75,8 @@ fn is_same_by_id<A: Allocator, B: Allocator>(
     }
 }
 
-/// Returns the bucket of the wanted map with which a bucket of the map is matched, or `None` if
-/// there is no such bucket.
+/// Returns the bucket of the wanted map with which `bucket` is matched, or `None` if it isn't
+/// matched. `bucket` is a bucket of the map.
 ///
 /// Two buckets of the same name are matched even if their types differ. Otherwise the plan would
 /// have to remove the bucket and create it again.
@@ -107,7 +111,8 @@ fn unless_same_by_id<A: Allocator, B: Allocator>(
 }
 
 impl BucketPairs {
-    /// Matches the buckets of two maps. It takes logarithmic time for each bucket of the map.
+    /// Matches the buckets of two maps. The function visits each item of the map once. For each
+    /// bucket, it takes logarithmic time.
     pub(crate) fn new<A: Allocator, B: Allocator>(
         alloc: Global,
         identity: Identity,
@@ -158,7 +163,7 @@ impl BucketPairs {
     }
 
     /// `bucket` is a bucket of the map. Returns the bucket of the wanted map with which it is
-    /// matched.
+    /// matched, or `None` if it isn't matched.
     pub(crate) fn target_of(&self, bucket: BucketId) -> Option<BucketId> {
         let pairs = self.by_current.as_slice();
         match pairs.binary_search_by_key(&bucket.distance(), |pair| pair.current.distance()) {
@@ -168,7 +173,7 @@ impl BucketPairs {
     }
 
     /// `bucket` is a bucket of the wanted map. Returns the bucket of the map with which it is
-    /// matched.
+    /// matched, or `None` if it isn't matched.
     pub(crate) fn current_of(&self, bucket: BucketId) -> Option<BucketId> {
         let pairs = self.by_target.as_slice();
         match pairs.binary_search_by_key(&bucket.distance(), |pair| pair.target.distance()) {

@@ -7,7 +7,8 @@ use crush_tree::View;
 use crush_units::{BucketId, ItemId};
 use std::alloc::{AllocError, Allocator, Global};
 
-/// The key of an item, and the position of the item in the list of all items.
+/// The key of an item, which is the number that [`key_of`] gives for its id, and the position of
+/// the item in the list of all items.
 #[derive(Clone, Copy)]
 struct Key {
     key: u64,
@@ -16,9 +17,9 @@ struct Key {
 
 /// The items of a map that doesn't change while the table is used.
 ///
-/// The table is built in one walk over the map. A search in the table takes logarithmic time. In
-/// the map itself, a search for an id climbs through all buckets above the item, which takes long
-/// if buckets are nested deeply.
+/// The table is built in one walk over the map. In the table, a search for an id takes logarithmic
+/// time. In the map itself, such a search climbs through all buckets above the item, which takes
+/// long if buckets are nested deeply.
 #[derive(Drop)]
 pub(crate) struct ItemTable<'a, A: Allocator> {
     map: &'a CrushMap<A>,
@@ -52,7 +53,8 @@ fn push_keys<A: Allocator>(
 }
 
 impl<'a, A: Allocator> ItemTable<'a, A> {
-    /// Returns the table of a map. It visits each item of the map once, and sorts the keys.
+    /// Returns the table of a map. The function visits each item of the map once, and sorts the
+    /// keys.
     pub(crate) fn new(alloc: Global, map: &'a CrushMap<A>) -> Result<ItemTable<'a, A>, AllocError> {
         let steps = walk(alloc, map)?;
         let mut keys = Vec::new(alloc);
@@ -82,7 +84,8 @@ impl<'a, A: Allocator> ItemTable<'a, A> {
         }
     }
 
-    /// Returns the parent of the item of this id, or `None` if the item has no parent.
+    /// Returns the parent of the item of this id, or `None` if the item has no parent or the map
+    /// has no such item.
     pub(crate) fn parent(&self, id: ItemId) -> Option<BucketId> {
         match self.view(id) {
             Some(view) => view.parent,

@@ -8,30 +8,31 @@ use crush_tree::View;
 use crush_units::{BucketId, DeviceId, ItemId};
 use std::alloc::{AllocError, Allocator, Global};
 
-/// Items of the map, in the order of the map's tree: a bucket comes before the items below it.
+/// Items of the map for which a plan may need edits. Each list is in the order of the map's tree: a
+/// bucket comes before the items below it.
 #[derive(Drop)]
 pub(crate) struct CurrentItems {
-    /// The buckets that the wanted map doesn't have.
+    /// The buckets that aren't matched with any bucket of the wanted map.
     pub removed_buckets: Vec<BucketId>,
-    /// The devices that the wanted map doesn't have.
+    /// The devices for which the wanted map has no device of the same id and the same name.
     pub removed_devices: Vec<DeviceId>,
-    /// The devices that both maps have and whose weight or place may have to change: not both maps
-    /// hold the device in a bucket with the same weight.
+    /// The devices that both maps have and whose weight may have to be set. A device is left out if
+    /// a bucket holds it in both maps, with weights that are at most one unit (1/65536 TiB) apart.
     pub reweighed: Vec<DeviceId>,
-    /// The devices among `reweighed` that get a lower weight.
+    /// The devices among `reweighed` whose weight has to become lower by more than one unit.
     pub lowered: Vec<DeviceId>,
 }
 
-/// Items of the wanted map, in the order of the wanted map's tree.
+/// Items of the wanted map for which a plan may need edits. Each list is in the order of the wanted
+/// map's tree.
 #[derive(Drop)]
 pub(crate) struct TargetItems {
     /// All buckets. A bucket that already is in its place is listed too, because an edit of another
-    /// bucket may move it away.
+    /// bucket may move the bucket away from this place.
     pub buckets: Vec<TargetBucket>,
-    /// The devices that are in a bucket.
+    /// The devices that are in a bucket in the wanted map.
     pub placed: Vec<Placed>,
-    /// The devices that the map doesn't have, and the devices whose class in the map is another
-    /// one.
+    /// The devices that the map doesn't have, and the devices whose classes in the two maps differ.
     pub set: Vec<SetDevice>,
 }
 
@@ -39,7 +40,7 @@ pub(crate) struct TargetItems {
 #[derive(Clone, Copy)]
 pub(crate) struct TargetBucket {
     pub id: BucketId,
-    /// Whether the map doesn't have the bucket.
+    /// Whether the bucket isn't matched with any bucket of the map, so that it has to be created.
     pub is_new: bool,
 }
 
@@ -54,9 +55,10 @@ pub(crate) struct Placed {
 #[derive(Clone, Copy)]
 pub(crate) struct SetDevice {
     pub id: DeviceId,
-    /// Whether the device has a class in the map before the plan's edits.
+    /// Whether the device has a class in the map from which the round starts.
     pub has_class: bool,
-    /// Whether the device's class in the wanted map is another one.
+    /// Whether the device's class in the wanted map differs from its class in the map from which
+    /// the round starts. A device that a map doesn't have counts as a device without a class.
     pub differs: bool,
 }
 
@@ -66,8 +68,8 @@ pub(crate) struct Items {
     pub target: TargetItems,
 }
 
-/// Finds the items of both maps for which the plan may need an edit. `pairs` has the matched
-/// buckets of the two maps.
+/// Finds the items of both maps for which the plan may need an edit. `pairs` has the pairs of
+/// matched buckets of the two maps.
 pub(crate) fn items_of_both<A: Allocator, B: Allocator>(
     alloc: Global,
     pairs: &BucketPairs,
@@ -114,7 +116,8 @@ fn target_items<A: Allocator, B: Allocator>(
     Ok(items)
 }
 
-/// Returns the other map's item with the same id and the same name, or `None` if there is none.
+/// Returns the item of `map` that has the same id and the same name as `item`, an item of the other
+/// map. Returns `None` if there is no such item.
 pub(crate) fn same_item<'a, A: Allocator>(
     map: &'a ItemTable<'_, A>,
     item: &View<'_>,
@@ -148,8 +151,8 @@ impl CurrentItems {
         Ok(())
     }
 
-    /// Appends the device if it isn't held with the same weight in both maps. Both maps have the
-    /// device.
+    /// Appends the device, which both maps have, unless a bucket holds it in both maps with nearly
+    /// the same weight.
     fn push_reweighed(
         &mut self,
         device: DeviceId,

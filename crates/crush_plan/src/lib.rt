@@ -1,10 +1,11 @@
-//! Plans: the edits that lead from one map to another map, and the differences that remain because
-//! no edit can remove them.
+//! Plans: the edits that lead from one map toward another map, and the differences that remain
+//! after these edits.
 //!
 //! [`find_plan`] finds a [`Plan`]. [`plan_text`] and [`ceph_plan_text`] print it. To find a plan,
-//! the search applies each edit to a copy of the map. It keeps the edit only if the edit isn't
-//! refused and changes the copy. So the edits of a plan and its remaining differences are right for the two maps, however
-//! the plan was found.
+//! the search applies edits, one after the other, to a copy of the map. The search adds an edit to
+//! the plan only if the edit isn't refused and changes the copy. After the last edit, the remaining
+//! differences are computed from the copy. So the edits of a plan can be applied to the map, and
+//! the listed differences are those that then remain, however the search has chosen the edits.
 #![tactic(auto)]
 
 mod buckets;

@@ -12,8 +12,11 @@ use crush_units::{BucketId, ItemId};
 use std::alloc::{AllocError, Allocator};
 
 /// Creates and moves buckets, from the roots of the wanted map downward, and then moves devices.
-/// When an item is moved, all buckets above its destination already have their places, so nothing
-/// is moved below itself.
+///
+/// So before an item is moved, the function has already tried to move all buckets above the item's
+/// new place to their own places. This order avoids moves of a bucket below itself, which the map
+/// would refuse. But such a refusal is still possible, for example if a root of the wanted map is
+/// below another bucket in the map. No edit turns such a bucket into a root.
 pub(crate) fn move_all<A: Allocator + Clone, B: Allocator>(
     draft: &mut Draft<A>,
     goal: &PlanGoal<'_, A, B>,
@@ -38,8 +41,8 @@ fn place_buckets<A: Allocator + Clone, B: Allocator>(
     Ok(())
 }
 
-/// Creates the bucket if the map doesn't have it, and then moves it. Nothing comes between the two
-/// edits, so that Ceph can do both with one command.
+/// Creates the bucket if it isn't matched with any bucket of the map, and then moves it to its
+/// place. No other edit comes between the two edits, so that Ceph can do both with one command.
 fn place_bucket<A: Allocator + Clone, B: Allocator>(
     draft: &mut Draft<A>,
     goal: &PlanGoal<'_, A, B>,
@@ -65,8 +68,9 @@ fn make_if_new<A: Allocator + Clone, B: Allocator>(
     }
 }
 
-/// Moves the bucket that has the name of this bucket of the wanted map, if the two have different
-/// places.
+/// `bucket` is a bucket of the wanted map. Moves the map's bucket of the same name to the place
+/// that `bucket` has in the wanted map, unless the map's bucket already has this place. If `bucket`
+/// is a root of the wanted map, does nothing.
 fn move_bucket<A: Allocator + Clone, B: Allocator>(
     draft: &mut Draft<A>,
     goal: &PlanGoal<'_, A, B>,
@@ -117,7 +121,8 @@ fn move_device<A: Allocator + Clone, B: Allocator>(
 }
 
 /// Moves the item of this name into the bucket of the map that has the same name as `parent`, which
-/// is a bucket of the wanted map. If that bucket already holds the item, nothing changes.
+/// is a bucket of the wanted map. Does nothing if that bucket already holds the item, or if the map
+/// has no such bucket.
 fn move_below<A: Allocator + Clone, B: Allocator>(
     draft: &mut Draft<A>,
     goal: &PlanGoal<'_, A, B>,

@@ -19,18 +19,23 @@ use crush_map::{CrushMap, Edit};
 use crush_since::{Counts, count_aside, stays_part};
 use std::alloc::{AllocError, Allocator, Global};
 
-/// Edits that lead from one map to another map, and the differences that remain after the edits.
+/// Edits that lead from one map toward another map, and the differences that remain after the
+/// edits. The comments of the fields describe a plan that [`find_plan`] returns.
 #[derive(Debug, PartialEq, Eq, Drop)]
 pub struct Plan {
-    /// The edits, in the order in which they have to be applied. No edit is refused, and each edit
-    /// changes the map to which the edits before it have led.
+    /// The edits, in the order in which they have to be applied. The first edit is applied to the
+    /// map from which the plan starts, and each other edit to the result of the edits before it. No
+    /// edit is refused, and each edit changes the map to which it is applied.
     pub edits: Vec<Edit>,
-    /// A line of text for each difference that remains after the edits, without its line feed. To
-    /// find these differences, the items of the two maps are matched by their names.
+    /// A line of text, without its line feed, for each difference between the map after the edits
+    /// and the wanted map. [`stays_part`] describes these lines. To find the differences, the items
+    /// of the two maps are matched by their names. Two devices must also have the same id. If the
+    /// plan is for a part of the maps, only the differences in this part are listed.
     pub rest: Vec<Vec<u8>>,
-    /// The numbers of buckets that have different ids, or different class ids, in the two maps
-    /// after the edits. The buckets are matched by their names. No edit can set an id, so these
-    /// differences aren't in `rest`.
+    /// How many buckets have different ids in the map after the edits and in the wanted map, and
+    /// how many have different class ids, which are their ids for device classes. The buckets are
+    /// matched by their names. If the plan is for a part of the maps, only buckets in this part are
+    /// counted. No edit can set these ids, so such differences aren't in `rest`.
     pub aside: Counts,
 }
 
@@ -63,12 +68,17 @@ fn copy_lines(alloc: Global, lines: &[Vec<u8>]) -> Result<Vec<Vec<u8>>, AllocErr
 
 /// Returns a plan that leads from a map toward the wanted map.
 ///
-/// `identity` says how the buckets of the two maps are matched. If `under` is a name, the plan
-/// changes only a part of the map: the item of this name, and all items below it. Then an edit
-/// names and changes only items that are in this part of the map or in this part of the wanted map.
+/// `identity` says how the buckets of the two maps are matched. If `under` is a name, the plan is
+/// only for a part of the maps: the item of this name, and all items below it. If a map has no item
+/// of this name, its part is empty. Each item that an edit names then meets one of two conditions,
+/// except for the bucket into which the edit puts an item. Either an item with the same id is in
+/// the part of `map` before the plan's first edit, or the item has after the edit the name of an
+/// item in the part of `wanted`. If an edit sets the weights of all devices below a bucket, each
+/// item below this bucket also meets one of these conditions.
 ///
-/// Each edit can be written as a line of a script. No edit is refused, and each edit changes the
-/// map. If the plan has edits, fewer differences remain after them than before them.
+/// A line of a script can express each edit. No edit creates a bucket that its location names. No
+/// edit is refused, and each edit changes the map. If the plan has edits, fewer differences remain
+/// after them than there are before them. Ids of buckets that differ don't count as differences.
 ///
 /// The call fails only if memory runs out.
 pub fn find_plan<A: Allocator + Clone, B: Allocator>(
@@ -169,8 +179,8 @@ fn is_better(plan: &Plan, differences: usize) -> bool
     plan.rest.len() < differences
 }
 
-/// Searches for edits, starting from the map itself, and returns the draft that the search has
-/// reached.
+/// Searches for edits, starting from the map before the plan, and returns a draft with the edits
+/// that the search has found. `differences` is the number of differences before the search.
 fn drafted<A: Allocator + Clone, B: Allocator>(
     alloc: Global,
     goal: &PlanGoal<'_, A, B>,

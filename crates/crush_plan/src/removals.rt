@@ -1,4 +1,5 @@
-//! Removes items that the wanted map doesn't have.
+//! Removes the devices that the wanted map doesn't have, and the buckets that aren't matched with
+//! any bucket of the wanted map.
 
 ghost use Rattle.std.specs.Prelude.{OnOk};
 ghost use Rattle.crush_plan.specs.Draft.{GoesOn};
@@ -9,8 +10,9 @@ use crate::way::Way;
 use crush_units::{BucketId, DeviceId, ItemId, Name};
 use std::alloc::{AllocError, Allocator, Global};
 
-/// Removes first all devices and then all buckets that have to be removed. A bucket is removed
-/// after all buckets below it.
+/// Removes first the devices and then the buckets that have to be removed. A bucket is removed
+/// after all buckets below it, because a bucket can be removed only if it is empty. A bucket that
+/// still holds other items isn't removed, because the map refuses the edit.
 pub(crate) fn remove_all<A: Allocator + Clone, B: Allocator>(
     draft: &mut Draft<A>,
     goal: &PlanGoal<'_, A, B>,
@@ -82,9 +84,9 @@ fn remove_bucket<A: Allocator + Clone, B: Allocator>(
     }
 }
 
-/// Returns the name that the bucket has now, or `None` if the bucket has been removed. The bucket
-/// has also been removed if an item has the bucket's id and the name of a new bucket. In this case
-/// the new bucket has got the id of the removed one.
+/// Returns the name that the bucket has now, or `None` if the bucket has been removed. After the
+/// removal of a bucket, a new bucket may have got the id of the removed bucket. So if the bucket
+/// that has this id now has the name of a new bucket, the function returns `None` too.
 fn removed_name<A: Allocator + Clone, B: Allocator>(
     draft: &Draft<A>,
     goal: &PlanGoal<'_, A, B>,

@@ -2,9 +2,10 @@
 //!
 //! A bucket can get its new name only when no other item has this name. If another bucket has the
 //! name and has to be renamed too, that bucket has to be renamed first. So the buckets that have to
-//! be renamed form chains and cycles. The last bucket of a chain gets a name that is free, and
-//! every other bucket of the chain gets the name of the next bucket. In a cycle, each bucket gets
-//! the name of the next one, so one bucket of the cycle first gets a name that no item has.
+//! be renamed form chains and cycles. The last bucket of a chain gets a name that no other bucket
+//! of the chain has, and every other bucket of the chain gets the name of the next bucket. In a
+//! cycle, each bucket gets the name of the next one. So one bucket of the cycle first gets a *free
+//! name*, which no item of either map has.
 
 ghost use Rattle.std.specs.Prelude.{OnOk};
 ghost use Rattle.crush_plan.specs.Draft.{GoesOn};
@@ -19,12 +20,12 @@ use crush_units::{BucketId, ItemId, Name};
 use itoa::Buffer;
 use std::alloc::{AllocError, Allocator, Global};
 
-/// A free name begins with the first bytes of a bucket's name, at most this many, and ends with a
-/// number. The limit keeps the free name within the longest length that a name may have.
+/// The largest number of bytes of a bucket's name with which a free name begins. The free name ends
+/// with a dot and a number. With this limit, a free name isn't longer than a name may be.
 const LONGEST_STEM: usize = 240;
 
 /// Renames each bucket whose matched bucket in the wanted map has a different name, if the plan may
-/// rename it.
+/// rename it, and if no other item keeps the new name.
 pub(crate) fn rename_all<A: Allocator + Clone, B: Allocator>(
     draft: &mut Draft<A>,
     goal: &PlanGoal<'_, A, B>,
@@ -41,7 +42,8 @@ pub(crate) fn rename_all<A: Allocator + Clone, B: Allocator>(
     rename_cycles(draft, goal, way, cycles.as_slice())
 }
 
-/// Returns the renames that the plan may have, in the order of the map's tree.
+/// Returns the pairs of those buckets that have to be renamed and that the plan may rename, in the
+/// order of the map's tree.
 fn possible_renames<A: Allocator, B: Allocator>(
     alloc: Global,
     goal: &PlanGoal<'_, A, B>,
@@ -72,8 +74,8 @@ fn target_name<'a, A: Allocator, B: Allocator>(
     goal.there.name_of(ItemId::Bucket(pair.target))
 }
 
-/// Returns the bucket of the map that has this bucket's new name, or `None` if no bucket has the
-/// name.
+/// Returns the bucket that has this bucket's new name in the map from which the round starts, or
+/// `None` if no bucket has the name.
 fn owner<A: Allocator, B: Allocator>(
     goal: &PlanGoal<'_, A, B>,
     way: &Way<'_, A>,
@@ -82,8 +84,8 @@ fn owner<A: Allocator, B: Allocator>(
     way.start.bucket_named(target_name(goal, pair)?)
 }
 
-/// Returns the bucket that has to get this bucket's old name, if there is one and the plan may
-/// rename it.
+/// Returns the pair of the bucket that has to get this bucket's old name. Returns `None` if there
+/// is no such bucket, or if the plan may not rename it.
 fn next_owner<A: Allocator, B: Allocator>(
     goal: &PlanGoal<'_, A, B>,
     way: &Way<'_, A>,
@@ -98,8 +100,8 @@ fn next_owner<A: Allocator, B: Allocator>(
     }
 }
 
-/// Whether this bucket is the last one of a chain, so that no other bucket has to be renamed before
-/// it.
+/// Whether this bucket is the last one of a chain. The renaming of a chain begins with its last
+/// bucket, because no other bucket has to be renamed before it.
 fn begins_chain<A: Allocator, B: Allocator>(
     goal: &PlanGoal<'_, A, B>,
     way: &Way<'_, A>,
@@ -129,8 +131,10 @@ fn rename_chains<A: Allocator + Clone, B: Allocator>(
     Ok(())
 }
 
-/// Renames the buckets of the chain that ends with this bucket. Does nothing if an item has this
-/// bucket's new name, or if this bucket is not the last one of a chain.
+/// Renames the buckets of the chain that ends with this bucket, but at most `most` buckets. Does
+/// nothing if this bucket isn't the last one of a chain. If a bucket that has to be removed still
+/// has this bucket's new name, that bucket gets a free name first. If an item has the new name even
+/// then, the function renames no bucket of the chain.
 fn rename_chain<A: Allocator + Clone, B: Allocator>(
     draft: &mut Draft<A>,
     goal: &PlanGoal<'_, A, B>,
@@ -163,8 +167,8 @@ fn is_target_free<A: Allocator, B: Allocator>(
     }
 }
 
-/// Renames this bucket, then the bucket that gets this bucket's old name, and so on. Stops when a
-/// bucket has been renamed already, or after `most` buckets.
+/// Renames the bucket `first`, then the bucket that gets the old name of `first`, and so on. Stops
+/// at a bucket that has been renamed already, or after `most` buckets.
 fn rename_from<A: Allocator + Clone, B: Allocator>(
     draft: &mut Draft<A>,
     goal: &PlanGoal<'_, A, B>,
@@ -185,8 +189,8 @@ fn rename_from<A: Allocator + Clone, B: Allocator>(
     Ok(())
 }
 
-/// Returns the bucket that gets this bucket's old name, or `None` if this bucket has been renamed
-/// already.
+/// Returns the pair of the bucket that has to get this bucket's old name. Returns `None` if there
+/// is no such bucket, or if this bucket has been renamed already.
 fn next_waiting<A: Allocator + Clone, B: Allocator>(
     draft: &Draft<A>,
     goal: &PlanGoal<'_, A, B>,
@@ -218,7 +222,7 @@ fn rename_one<A: Allocator + Clone, B: Allocator>(
 }
 
 /// Frees this bucket's new name: if a bucket that isn't matched with any bucket of the wanted map
-/// still has the name, gives that bucket a name that no item of either map has.
+/// still has the name, gives that bucket a free name.
 fn release_name<A: Allocator + Clone, B: Allocator>(
     draft: &mut Draft<A>,
     goal: &PlanGoal<'_, A, B>,
@@ -245,7 +249,7 @@ fn is_removed<A: Allocator + Clone>(
     way.pairs.target_of(bucket).is_none() && draft.has_item(ItemId::Bucket(bucket), name)
 }
 
-/// Renames the bucket that has this name to a name that no item of either map has.
+/// Gives the bucket that has this name a free name.
 fn release<A: Allocator + Clone, B: Allocator>(
     draft: &mut Draft<A>,
     goal: &PlanGoal<'_, A, B>,
@@ -303,8 +307,8 @@ fn is_chained(chained: &[BucketId], bucket: BucketId) -> bool {
     }
 }
 
-/// Appends the last bucket of a chain, and the other buckets of the chain in the order in which
-/// they are renamed. Appends at most `most` buckets.
+/// Appends the buckets of a chain to `chained`, in the order in which they are renamed, but at most
+/// `most` buckets. `first` is the pair of the last bucket of the chain.
 fn push_chain<A: Allocator, B: Allocator>(
     goal: &PlanGoal<'_, A, B>,
     way: &Way<'_, A>,
@@ -338,7 +342,8 @@ fn rename_cycles<A: Allocator + Clone, B: Allocator>(
     Ok(())
 }
 
-/// Whether the bucket still has this name, and was in the part before the plan's first edit.
+/// Whether the bucket still has this name, and was in the part of the map before the plan's first
+/// edit.
 fn may_break<A: Allocator + Clone, B: Allocator>(
     draft: &Draft<A>,
     goal: &PlanGoal<'_, A, B>,
@@ -349,8 +354,10 @@ fn may_break<A: Allocator + Clone, B: Allocator>(
         && goal.was_in_part(ItemId::Bucket(pair.current))
 }
 
-/// Renames all buckets of a cycle. This bucket first gets a free name. It must have been in the
-/// part before the plan's first edit, because no item of the wanted map has the free name.
+/// Renames all buckets of the cycle to which this bucket belongs. This bucket first gets a free
+/// name. No item of the wanted map has this name, so the plan may give it only to a bucket that was
+/// in the part of the map before the plan's first edit. If this bucket wasn't, or has been renamed
+/// already, the function does nothing.
 fn break_cycle<A: Allocator + Clone, B: Allocator>(
     draft: &mut Draft<A>,
     goal: &PlanGoal<'_, A, B>,
@@ -375,7 +382,7 @@ fn break_cycle<A: Allocator + Clone, B: Allocator>(
 }
 
 /// Returns a free name: the first of the names `NAME.1`, `NAME.2` and so on that no item of either
-/// map has.
+/// map has. Returns `None` if items have all of these names.
 fn free_name<A: Allocator, B: Allocator>(
     alloc: Global,
     map: &CrushMap<A>,
@@ -392,7 +399,7 @@ fn free_name<A: Allocator, B: Allocator>(
 }
 
 /// Returns a name that consists of `name`, a dot and the number. If `name` is longer than
-/// `LONGEST_STEM`, only its first bytes are used.
+/// [`LONGEST_STEM`], only its first [`LONGEST_STEM`] bytes are used.
 fn numbered_name(alloc: Global, name: &[u8], number: u32) -> Result<Name<Global>, AllocError> {
     let mut buffer = Buffer::new();
     let number = buffer.format(number).as_bytes();

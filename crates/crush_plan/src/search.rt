@@ -18,21 +18,27 @@ use crush_since::stays_part;
 use crush_units::DeviceId;
 use std::alloc::{AllocError, Allocator, Global};
 
-/// The largest number of rounds in which edits are added to a plan. Nearly all plans are found in
-/// one round. Each round starts from the map to which the round before it has led. So edits that
-/// were refused in an earlier round may now succeed.
+/// The largest number of rounds of a search. In each round, the search builds one or more lists of
+/// edits. It appends the best of these lists to the plan if fewer differences remain after it than
+/// before the round. Each round starts from the map to which the earlier rounds have led. So edits
+/// that were refused in an earlier round may now succeed. In tests with random maps, no plan has
+/// needed all of these rounds.
 const MOST_ROUNDS: usize = 8;
 
-/// A draft that continues another draft, and the number of differences that remain after its edits.
+/// A draft that starts from the map of another draft, and the number of differences that remain
+/// after its edits.
 #[derive(Drop)]
 struct Candidate<A: Allocator> {
     draft: Draft<A>,
     differences: usize,
 }
 
-/// Adds edits to the draft in rounds, as long as each round leaves fewer differences than the round
-/// before it. `differences` is the number of differences before the first round. So a second plan,
-/// from the map after the first plan to the same wanted map, has no edits.
+/// Adds edits to the draft in rounds. `differences` is the number of differences before the first
+/// round. The search ends when no difference remains, when a round can't reduce the number of
+/// differences, or after [`MOST_ROUNDS`] rounds.
+///
+/// In tests with random maps, a second plan, from the map after the first plan to the same wanted
+/// map, never had an edit. No contract promises this.
 pub(crate) fn improve<A: Allocator + Clone, B: Allocator>(
     draft: &mut Draft<A>,
     goal: &PlanGoal<'_, A, B>,
@@ -53,8 +59,9 @@ pub(crate) fn improve<A: Allocator + Clone, B: Allocator>(
     Ok(())
 }
 
-/// Adds the edits of the best candidate, if they leave fewer than `differences` differences.
-/// Returns the number of differences that remain then.
+/// If fewer than `differences` differences remain after the edits of the best candidate, adds these
+/// edits to the draft, and returns the number of differences that then remain. Otherwise changes
+/// nothing and returns `differences`.
 fn improve_once<A: Allocator + Clone, B: Allocator>(
     draft: &mut Draft<A>,
     goal: &PlanGoal<'_, A, B>,
@@ -80,9 +87,10 @@ fn count_differences<A: Allocator + Clone, B: Allocator>(
     Ok(rest.len())
 }
 
-/// Returns the better of two candidates: one that matches buckets as the goal says, and one that
-/// matches all buckets by their names. If all matched buckets have the same names in both maps, the
-/// two would be equal, so it creates only one.
+/// Returns the better of two candidates: one that matches the buckets as `goal.identity` says, and
+/// one that matches all buckets by their names. If the first candidate matches only buckets of the
+/// same name, the two candidates would be equal. In this case, the function builds only the first
+/// candidate.
 fn best_candidate<A: Allocator + Clone, B: Allocator>(
     draft: &Draft<A>,
     goal: &PlanGoal<'_, A, B>,
@@ -100,7 +108,7 @@ fn best_candidate<A: Allocator + Clone, B: Allocator>(
 }
 
 /// Returns the candidate that leaves fewer differences. If both leave the same number, returns the
-/// one with fewer edits, and the first one if these numbers are equal too.
+/// one with fewer edits. If both also have the same number of edits, returns the first one.
 fn better_of<A: Allocator>(first: Candidate<A>, second: Candidate<A>) -> Candidate<A>
     ensures { (result ≡ first) ⊎ (result ≡ second) }
 {
@@ -119,10 +127,14 @@ fn is_better<A: Allocator>(candidate: &Candidate<A>, other: &Candidate<A>) -> bo
             && candidate.draft.edits.len() < other.draft.edits.len())
 }
 
-/// Returns a copy of the draft's map with the edits that lead to the goal in this way. A weight
-/// isn't lowered first if a later edit sets it, together with all other weights below a bucket. But
-/// then an edit in between may be refused. So if differences remain, this function also tries the
-/// edits that lower each such weight first.
+/// Returns a candidate that starts from the map of `draft`, and that matches the buckets as `way`
+/// does.
+///
+/// The search lowers weights before it moves items. But the first candidate doesn't lower a weight
+/// early if a later edit sets this weight, together with all other weights below a bucket. Before
+/// this later edit, a sum of weights may then be too large, so that an edit is refused. So if
+/// differences remain, the function builds a second candidate, which lowers each of these weights
+/// early. The function returns the better of the two candidates.
 fn try_way<A: Allocator + Clone, B: Allocator>(
     draft: &Draft<A>,
     goal: &PlanGoal<'_, A, B>,
@@ -139,8 +151,9 @@ fn try_way<A: Allocator + Clone, B: Allocator>(
     Ok(better_of(first, second))
 }
 
-/// Returns the devices whose weights a later edit sets together, in the order of their ids. Returns
-/// no device if no weight has to be lowered.
+/// Returns the devices below those buckets for which one later edit sets all weights together. The
+/// devices are sorted by their ids. If no weight has to be lowered, returns no device, because
+/// [`try_way`] then doesn't need the list.
 fn weighed_later<A: Allocator, B: Allocator>(
     alloc: Global,
     goal: &PlanGoal<'_, A, B>,
@@ -153,8 +166,8 @@ fn weighed_later<A: Allocator, B: Allocator>(
     }
 }
 
-/// Returns a copy of the draft's map with the edits that lead to the goal in this way. The weights
-/// of the devices `later` aren't lowered first.
+/// Returns a candidate that starts from the map of `draft`, and that matches the buckets as `way`
+/// does. The devices `later` get no edits of their own that lower their weights early.
 fn try_edits<A: Allocator + Clone, B: Allocator>(
     draft: &Draft<A>,
     goal: &PlanGoal<'_, A, B>,
@@ -172,9 +185,12 @@ fn try_edits<A: Allocator + Clone, B: Allocator>(
     })
 }
 
-/// Gives the draft all edits that lead to the goal in this way. Removals come first, to make room.
-/// Weights are lowered before anything is added, so that no sum is too large in between, except for
-/// the weights of the devices `later`.
+/// Gives the draft the edits that lead toward the wanted map, with the buckets matched as in `way`.
+///
+/// Removals come first, because the number of devices and buckets of a map is limited. Weights are
+/// lowered before items are moved or added, so that fewer of the later edits are refused because a
+/// sum of weights would be too large. The devices `later` get no edits of their own that lower
+/// their weights early.
 fn build_edits<A: Allocator + Clone, B: Allocator>(
     draft: &mut Draft<A>,
     goal: &PlanGoal<'_, A, B>,

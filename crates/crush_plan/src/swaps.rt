@@ -1,4 +1,5 @@
-//! Swaps two buckets if they exchange their names and most of their items.
+//! Swaps two buckets if each of them has to get the other's name, and if more of their items have
+//! to move from one bucket to the other than have to stay.
 
 ghost use Rattle.std.specs.Prelude.{OnOk};
 ghost use Rattle.crush_plan.specs.Draft.{GoesOn};
@@ -14,7 +15,8 @@ use crush_units::{BucketId, ItemId};
 use std::alloc::{AllocError, Allocator};
 
 /// Swaps two buckets if each of them has to get the other's name, and if the number of their items
-/// that have to move from one of them to the other is greater than the number that stay.
+/// that have to move from one of them to the other is greater than the number of items that stay.
+/// One swap exchanges the names and the items of the two buckets.
 pub(crate) fn swap_all<A: Allocator + Clone, B: Allocator>(
     draft: &mut Draft<A>,
     goal: &PlanGoal<'_, A, B>,
@@ -28,7 +30,8 @@ pub(crate) fn swap_all<A: Allocator + Clone, B: Allocator>(
     Ok(())
 }
 
-/// Swaps the bucket with its partner, if it has a partner and the swap saves moves.
+/// Swaps the bucket with its partner, if it has a partner and the swap saves moves. Does nothing if
+/// the two buckets have been swapped already.
 fn swap_one<A: Allocator + Clone, B: Allocator>(
     draft: &mut Draft<A>,
     goal: &PlanGoal<'_, A, B>,
@@ -52,8 +55,8 @@ fn swap_one<A: Allocator + Clone, B: Allocator>(
     }
 }
 
-/// Returns the partner of a bucket, if there is one. Each of two partners has to get the other's
-/// name.
+/// Returns the pair of the bucket's partner, or `None` if there is no partner. Each of two partners
+/// has to get the other's name.
 fn partner<A: Allocator, B: Allocator>(
     goal: &PlanGoal<'_, A, B>,
     way: &Way<'_, A>,
@@ -70,7 +73,7 @@ fn partner<A: Allocator, B: Allocator>(
 }
 
 /// Whether the number of the two buckets' items that have to move from one of them to the other is
-/// greater than the number that stay.
+/// greater than the number of items that stay.
 fn is_worth<A: Allocator, B: Allocator>(
     map: &CrushMap<A>,
     wanted: &ItemTable<'_, B>,
@@ -84,7 +87,8 @@ fn is_worth<A: Allocator, B: Allocator>(
     a_stay + b_stay < a_leave + b_leave
 }
 
-/// Returns how many items of the map's bucket `from` are in the bucket `to` in the wanted map.
+/// Returns how many items of the map's bucket `from` are in the bucket `to` in the wanted map. The
+/// items of the two maps are matched by their ids.
 fn count_below<A: Allocator, B: Allocator>(
     map: &CrushMap<A>,
     wanted: &ItemTable<'_, B>,
@@ -97,7 +101,8 @@ fn count_below<A: Allocator, B: Allocator>(
     }
 }
 
-/// Returns how many of the given items are in this bucket in the wanted map.
+/// Returns how many of the given items are in this bucket in the wanted map, which has them under
+/// the same ids.
 fn count_in<A: Allocator, B: Allocator>(
     items: &[Node<A>],
     wanted: &ItemTable<'_, B>,

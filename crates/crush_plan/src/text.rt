@@ -21,7 +21,8 @@ use std::io::Write;
 
 /// Returns the text of a plan as a script: the line `# N commands`, and a line for each edit. If
 /// differences remain, the line `# N differences stay` follows, and then a comment line for each
-/// difference. The last lines are comment lines that say how many buckets have different ids. The
+/// difference. The last lines are comment lines: one says how many buckets have different ids, and
+/// one says how many have different class ids. If such a number is 0, its line is left out. The
 /// call fails only if memory runs out.
 pub fn plan_text(alloc: Global, plan: &Plan) -> Result<Vec<u8>, AllocError>
     ensures { IfOk result (λ text. text.items ≡ plan_text (plan_data plan.now)) }
@@ -34,9 +35,10 @@ pub fn plan_text(alloc: Global, plan: &Plan) -> Result<Vec<u8>, AllocError>
     Ok(text)
 }
 
-/// Returns the text of a plan as Ceph's own commands. `map` is the map from which the plan starts.
-/// The commands are those that [`ceph_text`] returns for the edits. The lines after the commands are
-/// the same as in [`plan_text`]. The call fails only if memory runs out.
+/// Returns the text of a plan as Ceph's own commands. `map` must be the map from which the plan
+/// starts. The text begins with the text that [`ceph_text`] returns for the edits. The comment
+/// lines after the commands are the same as in [`plan_text`]. The call fails only if memory runs
+/// out.
 pub fn ceph_plan_text(
     alloc: Global,
     map: &CrushMap<Global>,
@@ -50,7 +52,7 @@ pub fn ceph_plan_text(
     Ok(text)
 }
 
-/// Appends what follows the edits of the plan.
+/// Appends the comment lines that follow the edits of the plan.
 fn push_tail(alloc: Global, plan: &Plan, text: &mut Vec<u8>) -> Result<(), AllocError>
     ensures { OnOk result (text.new.items ≡ text.old.items ++ tail_text (plan_data plan.now)) }
 {
@@ -58,7 +60,8 @@ fn push_tail(alloc: Global, plan: &Plan, text: &mut Vec<u8>) -> Result<(), Alloc
     push_ids(alloc, plan.aside, text)
 }
 
-/// Appends comment lines that say how many buckets have different ids.
+/// Appends a comment line that says how many buckets have different ids, and one that says how many
+/// have different class ids. If such a number is 0, its line is left out.
 fn push_ids(alloc: Global, counts: Counts, text: &mut Vec<u8>) -> Result<(), AllocError>
     ensures { OnOk result (text.new.items ≡ text.old.items ++ commented true (aside_text counts)) }
 {

@@ -1,5 +1,5 @@
-//! What one search for a plan starts from: the matched buckets of the two maps, and the items that
-//! need edits.
+//! A way to find the edits of a plan: the matched buckets of the two maps, and the items that may
+//! need edits. In each round, the search can try two ways, which match the buckets differently.
 
 use crate::goal::PlanGoal;
 use crate::identity::{BucketPair, BucketPairs, Identity};
@@ -9,18 +9,20 @@ use crush_map::CrushMap;
 use crush_units::{BucketId, ItemId};
 use std::alloc::{AllocError, Allocator, Global};
 
-/// The matched buckets of the two maps, and the items for which the plan may need an edit.
+/// One way to match the buckets of the two maps, and the items for which the plan may then need an
+/// edit.
 #[derive(Drop)]
 pub(crate) struct Way<'a, A: Allocator> {
-    /// The items of the map from which the search starts.
+    /// The items of the map from which the round starts. This is the draft's map before the edits
+    /// of the round.
     pub start: ItemTable<'a, A>,
     pub pairs: BucketPairs,
     pub items: Items,
 }
 
 impl<'a, A: Allocator> Way<'a, A> {
-    /// Matches the buckets of this map with those of the wanted map, as `identity` says, and finds
-    /// the items that need edits.
+    /// Matches the buckets of `map` with those of the wanted map, as `identity` says, and finds the
+    /// items that may need edits.
     pub(crate) fn new<B: Allocator>(
         alloc: Global,
         identity: Identity,
@@ -37,13 +39,13 @@ impl<'a, A: Allocator> Way<'a, A> {
         })
     }
 
-    /// Returns the bucket's name in the map from which the search starts.
+    /// Returns the bucket's name in the map from which the round starts.
     pub(crate) fn name_at_start(&self, pair: &BucketPair) -> Option<&str> {
         self.start.name_of(ItemId::Bucket(pair.current))
     }
 
     /// `current` is a bucket of the map. If it is matched with a bucket of the wanted map that has
-    /// a different name, returns the pair of the two buckets.
+    /// a different name, returns the pair of the two buckets. Otherwise returns `None`.
     pub(crate) fn renamed<B: Allocator>(
         &self,
         goal: &PlanGoal<'_, A, B>,

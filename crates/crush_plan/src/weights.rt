@@ -16,18 +16,18 @@ use crush_map::CrushMap;
 use crush_units::{DeviceId, ItemId, Weight};
 use std::alloc::{AllocError, Allocator, Global};
 
-/// Which weights a call sets.
+/// Which weights a call of [`set_weights`] sets.
 #[derive(Clone, Copy, PartialEq, Eq)]
 pub(crate) enum Which {
-    /// The weights that become lower.
+    /// The weights that become lower by more than one unit.
     Less,
-    /// The weights that change in any way.
+    /// The weights that become lower or higher by more than one unit.
     Other,
 }
 
 impl Which {
-    /// Whether a weight that changes from `from` to `to` is set. A change of one unit doesn't
-    /// count.
+    /// Whether a weight that has to change from `from` to `to` is set. A change of one unit
+    /// (1/65536 TiB) doesn't count.
     pub(crate) fn sets(self, from: Weight, to: Weight) -> bool {
         match self {
             Which::Less => to.units() < from.units() && !are_near(from, to),
@@ -43,10 +43,16 @@ struct NewWeight {
     weight: Weight,
 }
 
-/// Sets the weights of these devices, except for the devices `later`, whose weights a later edit
-/// sets. If all devices below a bucket get the same weight, and at least two of them have another
-/// weight now, one edit sets the weights of all of them. Every other weight is set by an edit of its
-/// own.
+/// Sets those weights of these devices that `which` selects.
+///
+/// If all devices below a bucket get the same weight, and at least two of them have another weight
+/// now, one edit sets the weights of all of them. [`subtrees`] finds these buckets. Every other
+/// weight is set by an edit of its own.
+///
+/// A later call sets the weights of the devices `later`. So this call doesn't count these devices,
+/// and gives them no edits of their own. But if it sets all weights below a bucket, it also sets
+/// the weights of those devices `later` that are below this bucket. `later` must be sorted by the
+/// ids of the devices.
 pub(crate) fn set_weights<A: Allocator + Clone, B: Allocator>(
     draft: &mut Draft<A>,
     goal: &PlanGoal<'_, A, B>,
@@ -106,8 +112,8 @@ fn set_weight<A: Allocator + Clone, B: Allocator>(
     }
 }
 
-/// Returns those of the devices whose weights have to be set, with their new weights. Leaves out the
-/// devices `later`.
+/// Returns those of the devices whose weights have to be set, with their new weights. Leaves out
+/// the devices `later`, which must be sorted by their ids.
 fn new_weights<A: Allocator, B: Allocator>(
     alloc: Global,
     map: &CrushMap<A>,
@@ -140,7 +146,7 @@ fn push_new_weight<A: Allocator, B: Allocator>(
     Ok(())
 }
 
-/// Whether the device is one of these devices, which are in the order of their ids.
+/// Whether the device is one of the devices `devices`, which must be sorted by their ids.
 fn is_one_of(devices: &[DeviceId], device: DeviceId) -> bool {
     match devices.binary_search_by_key(&device.number(), |device| device.number()) {
         Ok(_) => true,
@@ -148,8 +154,9 @@ fn is_one_of(devices: &[DeviceId], device: DeviceId) -> bool {
     }
 }
 
-/// Returns the weight that the device is to get, or `None` if it is not to be set or a map doesn't
-/// place the device.
+/// Returns the weight that the device has to get. Returns `None` if `which` doesn't select the
+/// change of its weight. Also returns `None` if one of the maps doesn't have the device, or has it
+/// in no bucket.
 fn new_weight<A: Allocator, B: Allocator>(
     map: &ItemTable<'_, A>,
     wanted: &ItemTable<'_, B>,
