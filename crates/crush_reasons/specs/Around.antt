@@ -1,14 +1,14 @@
--- Which bucket or rule of a map's text is open at a place, and where a bucket is defined. A place is the index of a byte of the text, from 0.
+-- Which bucket or rule of a map's text is open at a place, and where a bucket is defined. A place is the index of a byte of the text, from 0. A bucket or a rule is open at a place if its `{` comes before the place, and its `}` doesn't. Only some words of the text count: those before the first byte that isn't in a comment and is allowed only there, and before the first word of more than 255 bytes.
 use Rattle.std.specs.Prelude.{ℕ, false, ◌&&◌, ◌||◌, not, List, [], ◌∷◌, bytes_eq, codes, if◌then◌else◌, take}
 use Rattle.crush_units.specs.Words.{Word, words}
 use Rattle.crush_reasons.specs.declared.around.Around.{Around}
 use Rattle.crush_reasons.specs.declared.around.Search.{Search}
 
--- what is known of a place before the first word was read
+-- the state before the first word was read: no bucket or rule is open
 abbrev pub nothing_yet : Around
 nothing_yet = record { is_open = false; head = 0; before = 0; last = 0 }
 
--- what is known after one more word: `{` opens the bucket or the rule that begins with the two words before the `{`, and `}` closes it
+-- the state after one more word: `{` opens the bucket or the rule that begins two words before the `{`, and `}` closes it
 abbrev pub one_further : Around → Word → Around
 one_further a w = record {
   is_open = bytes_eq w.text (codes "{") || (a.is_open && not (bytes_eq w.text (codes "}")));
@@ -21,7 +21,7 @@ unfoldable pub further : Around → List Word → Around
 further a [] = a
 further a (w ∷ ws) = further (one_further a w) ws
 
--- WHAT IS AROUND a place: which bucket or rule is open there, and the last word before the place
+-- WHAT IS AROUND a place: whether a bucket or a rule is open there, where the last one that was opened begins, and where the last two words before the place begin
 abbrev pub around_at : List ℕ → ℕ → Around
 around_at bytes place = further nothing_yet (words 0 (take place bytes)).words
 
@@ -42,6 +42,6 @@ unfoldable pub looked_for : List ℕ → Search → List Word → Search
 looked_for name s [] = s
 looked_for name s (w ∷ ws) = looked_for name (looked_further name s w) ws
 
--- WHERE A BUCKET IS DEFINED: the place of the name in the last definition of a bucket with this name, or 0 if there is none
+-- WHERE A BUCKET IS DEFINED: the place of the name in the last definition of a bucket with this name, or 0 if there is no definition
 abbrev pub defined_at : List ℕ → List ℕ → ℕ
 defined_at bytes name = (looked_for name nothing_seen (words 0 bytes).words).found

@@ -22,7 +22,7 @@ use Rattle.crush_reasons.specs.Shown.{reason_line}
 use Rattle.crush_edits.specs.Refusal.{refusal_sentence}
 use Rattle.crush_reasons.specs.Sentences.{reply_sentence, stale_sentence}
 
--- the reason for a refused edit of a batch, without the edit's place: the edit's command, and the reason for the edit alone
+-- the reason for a refused edit of a batch, without the edit's place: the edit's command, and the reason that the edit would have outside of a batch
 abbrev pub refused_reason : Bool → SettingData → List Row → Edit → Refusal → List ℕ
 refused_reason looks s t e r = edit_text e ++ codes ": " ++ edit_reason looks s t e r
 
@@ -30,11 +30,11 @@ abbrev pub first_reason : SettingData → List Row → HeadData → List Edit �
 first_reason s t head [] r = refusal_sentence r
 first_reason s t head (e ∷ es) r = head.place ++ refused_reason head.looks s t e r
 
--- the reason for a batch in which the edit with this index was refused. It depends on the table after the edits that come before the refused one
+-- the reason for a batch in which the edit with this index was refused. The reason depends on the table after those edits of the batch that come before the refused one
 abbrev pub batched_reason : SettingData → List Row → HeadData → List Edit → ℕ → Refusal → List ℕ
 batched_reason s t head es index r = first_reason s (table_after_edits s t (take index es)) head (drop index es) r
 
--- the reason for a guarded batch that names another number of changes than there were. If it names more changes, the reason says what the number counts. Otherwise the reason says how to go on
+-- the reason for a refused guarded batch. Such a batch begins with `begin at N`, and is refused if the number of earlier calls that changed the map isn't N. If N is greater than this number, the reason has both numbers. Otherwise, the reason says what to do next
 unfoldable pub so_far : ℕ → List ℕ
 so_far count = codes " changes of this run were expected, but there have been " ++ decimal count
 
@@ -44,7 +44,7 @@ too_high seen count = decimal seen ++ so_far count
 abbrev pub stale_reason : ℕ → ℕ → List ℕ
 stale_reason seen count = if nat_lt count seen then too_high seen count else stale_sentence
 
--- REASON for a call that was refused when the map had this setting and this table, if its entry has this head
+-- REASON for a refused call. Just before the call, the map had this setting and this table. `head` has the place of the refused edit, and says whether the map is searched for similar names
 abbrev pub call_reason : SettingData → List Row → HeadData → Call → Reply → List ℕ
 call_reason s t head (One e) (Refused r) = edit_reason head.looks s t e r
 call_reason s t head (Batch es) (BatchRefused index r) = batched_reason s t head es index r
@@ -57,27 +57,26 @@ abbrev pub explained_line : SettingData → List Row → ℕ → List ℕ → He
 explained_line s t number operator head e =
     if is_refused e.reply then entry_text number operator e ++ reason_line (call_reason s t head e.call e.reply) else []
 
--- these lines for all entries of a history before which the map had this setting and this table. Each entry has its number in the history,
--- and its reason depends on the table before it. The entries `before` come before this history.
+-- the lines of all refused entries of a list, with their reasons. Before these entries, the map had this setting and this table, and the reason for each entry depends on the table just before this entry. `number` is the number of the first entry in the history, `names` has the names of all operators, and `before` has the entries of the history that come before the list
 unfoldable pub explained_behind : (ℕ → ℕ → List ℕ) → SettingData → List Row → List (List ℕ) → ℕ → List EntryData → List EntryData → List ℕ
 explained_behind head s t names number before [] = []
 explained_behind head s t names number before (e ∷ h) =
     explained_line s t number (slice_index_or names e.operator []) (entry_head head before e) e
     ++ explained_behind head s (table_after_entry s t e) names (number + 1) (before ++ e ∷ []) h
 
--- EXPLAINED JOB: these lines for the history of a job. `origin` gives the file of each line, and `lines` has the lines of each operator's edits
+-- EXPLAINED JOB: these lines for the whole history of a job. `origin` gives the file of each line, and `lines` has the lines of each operator's edits
 abbrev pub explained_job : (ℕ → OriginData) → List (List ℕ) → SettingData → List Row → List (List ℕ) → List EntryData → List ℕ
 explained_job origin lines s t names h = explained_behind (head_in origin lines) s t names 1 [] h
 
--- EXPLAINED TEXT: these lines for a history if the text of its job isn't known, so that no edit has a place
+-- no edit has a place, because the text of the job isn't known
 abbrev pub no_head : ℕ → ℕ → List ℕ
 no_head operator k = []
 
+-- EXPLAINED TEXT: the lines for a history if the text of its job isn't known
 abbrev pub explained_text : SettingData → List Row → List (List ℕ) → ℕ → List EntryData → List ℕ
 explained_text s t names number h = explained_behind no_head s t names number [] h
 
--- EXPLAINED: the entries of a history were applied to the map `old`, the map `new` represents the table after them, and their lines with
--- reasons were appended to a text
+-- EXPLAINED: the entries of a history were applied to the map `old`, and the map `new` represents the table after them. The lines of the refused entries, with their reasons, were appended to the text `before`, and the result is the text `behind`
 pub record AreExplained (head : ℕ → ℕ → List ℕ) (names : List (List ℕ)) (old new : MapData) (before behind : List ℕ) (h : List EntryData) : Type 0 where
   pub setting : new.setting ≡ old.setting
   pub stands : (t : List Row) → Stands old.forest t → Stands new.forest (table_after_edits old.setting t (history_edits h))

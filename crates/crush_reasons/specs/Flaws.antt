@@ -1,4 +1,4 @@
--- What is expected at a fault of a map's text, and what is wrong there.
+-- What is wrong at a fault of a map's text, and what is expected there. A place is the index of a byte of the text, from 0.
 use Rattle.std.specs.Prelude.{ℕ, ◌-◌, ◌==◌, Bool, true, false, ◌&&◌, not, List, [], ◌∷◌, ◌++◌, bytes_eq, codes, decimal, drop, if◌then◌else◌, is_some, length, nat_eq, nat_lt, take}
 use Rattle.std.specs.List.{list_all, starts_with}
 use Rattle.crush_units.specs.Name.{is_name_byte}
@@ -17,33 +17,33 @@ use Rattle.crush_reasons.specs.Place.{OriginData, behind_feed, last_line, own_li
 use Rattle.crush_reasons.specs.Ranges.{range_text}
 use Rattle.crush_reasons.specs.Shown.{told}
 
--- the first of these words, or an empty word if there is none
+-- the first of these words, or an empty word if there are none
 abbrev pub first_of : List Word → List ℕ
 first_of [] = []
 first_of (w ∷ ws) = w.text
 
--- the word at a place
+-- the word that begins at a place
 abbrev pub word_at : List ℕ → ℕ → List ℕ
 word_at bytes place = first_of (words 0 (drop place bytes)).words
 
--- the first two of these words, or as many as there are
+-- the first two of these words, with a space between them, or as many words as there are
 abbrev pub two_of : List Word → List ℕ
 two_of [] = []
 two_of (v ∷ []) = v.text
 two_of (v ∷ w ∷ ws) = v.text ++ codes " " ++ w.text
 
--- the number that the line of a place has in its file
+-- the number of the line that has this place, counted in the file of `origin`
 abbrev pub line_of : OriginData → List ℕ → ℕ → ℕ
 line_of origin bytes place = own_line origin (last_line (take place bytes))
 
--- THE BUCKET OR RULE that is open: its first two words, and the number of the line on which it begins
+-- THE BUCKET OR RULE that is open at a place, which means that its `{` comes before the place, and its `}` doesn't: its first two words, and the number of the line on which it begins
 unfoldable pub begins_at : ℕ → List ℕ
 begins_at line = codes ", which begins at line " ++ decimal line
 
 unfoldable pub open_text : OriginData → List ℕ → ℕ → List ℕ
 open_text origin bytes head = two_of (words 0 (drop head bytes)).words ++ begins_at (line_of origin bytes head)
 
--- THE WORDS THAT ARE EXPECTED
+-- THE WORDS THAT ARE EXPECTED at the place of a fault, as a phrase. If only one keyword is expected, `expected_words` is empty, and `expected_text` has the keyword in backquotes
 abbrev pub statement_words : Bool → Optional → List ℕ
 statement_words true or = codes "`rule` or the name of a type; tunables, devices and types must come before the first bucket or rule"
 statement_words false optional.Class = codes "`class`, `tunable`, `device`, `type`, `rule` or the name of a type"
@@ -107,7 +107,7 @@ same_name expect.IdClass = codes "another `id` line of this bucket has this clas
 same_name expect.RuleName = codes "another rule has this name"
 same_name e = codes "another device or bucket has this name"
 
--- the sentence for a word that isn't a weight. `crushtool -d` prints the 32 bits of a bucket's weight as a signed number
+-- the sentence for a word that isn't a weight, or is too large a weight. `crushtool -d` prints the 32 bits of a bucket's weight as a signed number, so the number that it prints for a large weight can begin with `-`
 abbrev pub begins_with_minus : List ℕ → Bool
 begins_with_minus [] = false
 begins_with_minus (b ∷ rest) = b == 45
@@ -125,7 +125,7 @@ left_out expect.StepWord = codes "maps with MSR rules (choosemsr) can't be edite
 left_out (expect.ItemOrEnd or) = codes "`pos` isn't supported: if the items are already in the order of these numbers, remove each `pos` and its number"
 left_out e = codes "maps with weight sets (choose_args) can't be edited here; removing them moves data"
 
--- the sentence for one statement more than a map may have; `word` is the first word of this statement
+-- the sentence for a statement that is one too many for a map; `word` is the first word of this statement
 unfoldable pub most_statements : List ℕ → List ℕ
 most_statements word =
     if bytes_eq word (codes "tunable") then codes "a map has at most 64 tunables"
@@ -139,31 +139,31 @@ too_many word expect.IdOrAlg = codes "a bucket has at most 16 class ids"
 too_many word (expect.StepOrEnd or) = codes "a rule has at most 64 steps"
 too_many word e = most_statements word
 
--- whether the word that follows these bytes is the first word of its line
+-- whether a word that comes right after these bytes is the first word of its line
 abbrev pub begins_line : List ℕ → Bool
 begins_line before = list_all is_blank (drop (length before - behind_feed before) before)
 
--- whether the word at this place is the first word of its line, and is the first word of a command
+-- whether the word at this place is the first word of its line, and is a word with which a line of a script may begin
 abbrev pub is_command : List ℕ → ℕ → Bool
 is_command bytes place = begins_line (take place bytes) && is_some (form_of (word_at bytes place))
 
--- whether the text declares a device without a class just before the fault
+-- whether the text declares a device without a class just before the fault, so that the word `class` may follow
 abbrev pub can_be_class : Expected → Bool
 can_be_class (expect.Statement late optional.Class) = true
 can_be_class e = false
 
--- AN UNKNOWN TYPE: if the word is on the line of a device, the reason asks whether `class` was meant
+-- AN UNKNOWN TYPE: if the word follows a device without a class, on the same line, the reason asks whether `class` was meant
 abbrev pub type_hint : List ℕ → ℕ → Expected → List ℕ
 type_hint bytes place e = if can_be_class e && not (begins_line (take place bytes)) then codes "; did you mean `class`?" else []
 
--- the sentence for a word that isn't the name of a type. The word may begin a command, or the output of `ceph osd tree`
+-- the sentence for a word that isn't the name of a type, or names type 0 where a bucket begins. The word may begin a command of a script, or the output of `ceph osd tree`
 abbrev pub unknown_type : List ℕ → ℕ → Expected → List ℕ
 unknown_type bytes place e =
     if is_command bytes place then codes "this looks like a command: commands go below a line `%operator NAME`"
     else if bytes_eq (word_at bytes place) (codes "ID") then codes "this looks like the output of `ceph osd tree`: a text map is the output of `crushtool -d`"
     else codes "no type named " ++ told (word_at bytes place) ++ codes " is declared above" ++ type_hint bytes place e
 
--- AN UNKNOWN ITEM OR BUCKET, which may be defined further below in the text
+-- AN UNKNOWN ITEM OR BUCKET: if a bucket with this name is defined further below in the text, the sentence has the line of this definition
 unfoldable pub below_at : ℕ → List ℕ
 below_at line = codes " is defined below, at line " ++ decimal line ++ codes ": move that bucket up"
 
@@ -175,14 +175,14 @@ missing origin bytes place sentence =
     if nat_lt place (defined_at bytes (word_at bytes place)) then defined_below origin bytes (word_at bytes place) (defined_at bytes (word_at bytes place))
     else sentence
 
--- A TEXT THAT ISN'T A MAP: it begins with a byte order mark, or with the bytes with which `gzip` begins a file, or with anything else
+-- A FAULT AT THE FIRST BYTE of a text: the text begins with a byte order mark, or with the bytes with which `gzip` begins a file, or isn't the text of a map
 abbrev pub not_begun : List ℕ → List ℕ
 not_begun bytes =
     if starts_with nat_eq bytes (239 ∷ 187 ∷ 191 ∷ []) then codes "the text begins with a byte order mark: save it without one"
     else if starts_with nat_eq bytes (31 ∷ 139 ∷ []) then codes "this file is compressed with gzip: unpack it first"
     else codes "this is not a text map: use `crushtool -d` to make one"
 
--- the sentence for a byte that no word may have, or for a word that is too long
+-- the sentence for a byte that no word may have, or for a word of more than 255 bytes
 abbrev pub begins_word : List ℕ → Bool
 begins_word [] = false
 begins_word (b ∷ rest) = is_name_byte b
@@ -193,7 +193,7 @@ bad_word bytes place e =
     else if begins_word (drop place bytes) then codes "a word has at most 255 characters"
     else codes "this character can't be in a word: letters, digits, `-`, `_` and `.` only; expected " ++ expected_text e
 
--- the sentence for a word at whose place another word is expected
+-- the sentence for a word in whose place the grammar expects another word. If a bucket or a rule is open there, the sentence also names this bucket or rule
 abbrev pub inside : OriginData → List ℕ → Around → List ℕ
 inside origin bytes a = if a.is_open then codes " (in " ++ open_text origin bytes a.head ++ codes ")" else []
 

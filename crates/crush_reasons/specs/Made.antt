@@ -1,4 +1,4 @@
--- The entries of a history that created more buckets than they have `add-bucket` commands, and the lines of these entries.
+-- The entries of a history whose calls created more buckets than they have `add-bucket` commands, and the history lines of these entries.
 use Rattle.std.specs.Prelude.{ℕ, ◌+◌, List, [], ◌∷◌, ◌++◌, Bool, true, false, if◌then◌else◌, nat_lt, slice_index_or}
 use Rattle.std.specs.List.{count_by}
 use Rattle.crush_edits.specs.declared.edit.Edit.{Edit}
@@ -21,7 +21,7 @@ add_bucket_count (One e) = if is_add_bucket e then 1 else 0
 add_bucket_count (Batch es) = count_by is_add_bucket es
 add_bucket_count (Guarded seen es) = count_by is_add_bucket es
 
--- the number of buckets that a call created, which its reply says
+-- the number of buckets that a call created, according to its reply
 abbrev pub buckets_made : Reply → ℕ
 buckets_made (Done d) = d.made
 buckets_made (Dones d) = d.made
@@ -29,11 +29,11 @@ buckets_made (Refused r) = 0
 buckets_made (BatchRefused index r) = 0
 buckets_made (Stale n) = 0
 
--- MAKES MORE: whether an entry created more buckets than its call has `add-bucket` commands. If it did, a location of the call named a bucket that wasn't in the map
+-- MAKES MORE: whether the call of an entry created more buckets than it has `add-bucket` commands. In this case, a location of the call named a bucket that wasn't in the map, and the call created this bucket, too
 abbrev pub makes_more : EntryData → Bool
 makes_more e = nat_lt (add_bucket_count e.call) (buckets_made e.reply)
 
--- the number of entries that created more buckets than they have `add-bucket` commands
+-- the number of entries for which `makes_more` is true
 abbrev pub makings : List EntryData → ℕ
 makings h = count_by makes_more h
 

@@ -11,7 +11,7 @@ use Rattle.crush_apply.specs.Culprit.{culprit}
 use Rattle.crush_edits.specs.Refusal.{refusal_sentence}
 use Rattle.crush_reasons.specs.Way.{absent_reason, bound_said, class_named, held_count, held_said, holder_name, location_of, loop_reason, moved_name, no_kind_reason, placed_said, taken_reason, taking_rule, type_reason}
 
--- THE WORDS AFTER THE NAME, if they depend only on the refusal; none for a refusal that isn't about an item, and for a refusal whose reason depends on the map
+-- THE WORDS AFTER THE NAME, if they depend only on the refusal; none if the refusal isn't about a name, or if the rest of the reason depends on the map or on more names of the edit
 abbrev pub said_of : Refusal → Option (List ℕ)
 said_of refusal.BadName = Some (codes " is the device's own name, and the location uses it for a bucket")
 said_of refusal.BadLocation = Some (codes ": a location names each type and each bucket at most once, and never the type of devices")
@@ -25,7 +25,7 @@ said_of refusal.NotDirectory = Some (codes " is a device: only buckets can be re
 said_of refusal.AlreadyRenamed = Some (codes " exists and no item has the old name: was it renamed before?")
 said_of r = None
 
--- the same words for an edit of a class, because only a device can have a class
+-- the same words for an edit that sets or removes a class; only the words for a bucket differ
 abbrev pub said_of_class : Refusal → Option (List ℕ)
 said_of_class refusal.NotADevice = Some (codes " is a bucket: only devices have a class")
 said_of_class r = said_of r
@@ -40,7 +40,7 @@ abbrev pub named_or : List ℕ → Option (List ℕ) → List ℕ → List ℕ
 named_or n None sentence = sentence
 named_or n (Some said) sentence = n ++ said
 
--- REASON for an edit that was refused when the map had this setting and this table. `n` is the name that the refusal is about, and `looks` says whether the map is searched for similar names
+-- REASON for a refused edit. Just before the edit, the map had this setting and this table. `n` is the name that the refusal is about, and `looks` says whether the map is searched for similar names
 abbrev pub reason_of : Bool → SettingData → List Row → Edit → List ℕ → Refusal → List ℕ
 reason_of looks s t e n refusal.NoSuchType = no_kind_reason looks s n
 reason_of looks s t e n refusal.NoSuchItem = absent_reason looks t n

@@ -18,19 +18,19 @@ shared [] b = 0
 shared (x ∷ a) [] = 0
 shared (x ∷ a) (y ∷ b) = if x == y then 1 + shared a b else 0
 
--- ONE BYTE DIFFERS at the first place where the names aren't the same, or one of the names has one more byte at this place; and the rest of both names is the same
+-- AT MOST ONE BYTE DIFFERS: two names are equal, or they become equal if one byte is changed, or if one byte is removed from one of the names
 abbrev pub is_one_off : List ℕ → List ℕ → Bool
 is_one_off a b =
     bytes_eq (drop (shared a b + 1) a) (drop (shared a b + 1) b)
     || (bytes_eq (drop (shared a b + 1) a) (drop (shared a b) b) || bytes_eq (drop (shared a b) a) (drop (shared a b + 1) b))
 
--- TWO BYTES ARE EXCHANGED: two words are the same, except that two neighbouring bytes are exchanged
+-- TWO BYTES ARE EXCHANGED: two names are the same, except that two neighbouring bytes are exchanged
 abbrev pub is_swapped : List ℕ → List ℕ → Bool
 is_swapped a b =
     same_heads (drop (shared a b) a) (drop (shared a b + 1) b) && same_heads (drop (shared a b + 1) a) (drop (shared a b) b)
     && bytes_eq (drop (shared a b + 2) a) (drop (shared a b + 2) b)
 
--- SIMILAR: at most one byte differs as above, or two neighbouring bytes are exchanged, or the names differ only in upper and lower case
+-- SIMILAR: at most one byte differs, or two neighbouring bytes are exchanged, or the names differ only in upper and lower case
 abbrev pub is_near : List ℕ → List ℕ → Bool
 is_near a b = is_one_off a b || (is_swapped a b || str_eq_ignore_ascii_case a b)
 
@@ -42,7 +42,7 @@ first_near n steps = option_map (λ (s : WalkStepData). s.item.name) (find (λ (
 abbrev pub near_name : List Row → List ℕ → Option (List ℕ)
 near_name t n = first_near n (tree_rows t)
 
--- this name, if `looks` says that the map is searched for similar names; otherwise none
+-- the first similar name among all items of a table, if `looks` says that the map is searched for similar names; otherwise none
 abbrev pub near_if : Bool → List Row → List ℕ → Option (List ℕ)
 near_if looks t n = if looks then near_name t n else None
 
@@ -50,6 +50,6 @@ near_if looks t n = if looks then near_name t n else None
 abbrev pub first_near_kind : List ℕ → List KindData → Option (List ℕ)
 first_near_kind n kinds = option_map (λ (k : KindData). k.name) (find (λ (k : KindData). is_near n k.name) kinds)
 
--- the first similar name among the types of a setting, in the order in which the types were declared; none if `looks` says that similar names aren't searched for
+-- the first similar name among the types of a setting, in the order in which the types were declared, if `looks` says that similar names are searched for; otherwise none
 abbrev pub near_kind_if : Bool → SettingData → List ℕ → Option (List ℕ)
 near_kind_if looks s n = if looks then first_near_kind n s.kinds else None

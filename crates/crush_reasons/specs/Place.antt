@@ -5,7 +5,7 @@ use Rattle.crush_script.specs.Lines.{line_feeds}
 use Rattle.crush_reasons.specs.declared.place.Origin.{Origin}
 use Rattle.crush_reasons.specs.Shown.{shown_byte}
 
--- the file from which a line of a job comes: its name, which is empty if no file is to be named, and how many lines of the job come before the file's first line
+-- the file from which a line of a job comes: its name, which is empty if messages name no file, and how many lines of the job come before the file's first line
 pub record OriginData : Type 0 where
   pub name : List ℕ
   pub before : ℕ
@@ -29,11 +29,11 @@ to_feed bytes = position_or_len (λ b. b == 10) bytes
 abbrev pub behind_feed : List ℕ → ℕ
 behind_feed bytes = to_feed (reverse bytes)
 
--- the bytes up to the next line feed, but at most 72 of them, after four spaces
+-- the bytes up to the next line feed, as a message shows them: four spaces, at most 72 of these bytes, and a line feed
 abbrev pub shown_line : List ℕ → List ℕ
 shown_line bytes = codes "    " ++ map shown_byte (take (min (to_feed bytes) 72) bytes) ++ codes "\n"
 
--- how many bytes of a line are shown before a place, if `before` has all bytes of the text before this place
+-- how many bytes of a line are shown before a place, at most 40. `before` has all bytes of the text before this place
 abbrev pub shown_before : List ℕ → ℕ
 shown_before before = min (behind_feed before) 40
 
@@ -41,15 +41,15 @@ shown_before before = min (behind_feed before) 40
 abbrev pub name_head : List ℕ → List ℕ
 name_head name = if length name == 0 then [] else map shown_byte name ++ codes " "
 
--- the line of a message with the number of a line in its file, and with the column of a place in this line
+-- the line of a message with the number that a line of the text has in its file, and with the column of a place in this line
 unfoldable pub column_line : OriginData → ℕ → ℕ → List ℕ
 column_line origin line column = codes "  " ++ name_head origin.name ++ codes "line " ++ decimal (own_line origin line) ++ codes ", column " ++ decimal column ++ codes "\n"
 
--- the line of a message with the `^` below a place, if `shown` bytes of the text's line are shown before the place
+-- the line of a message with the `^` below a place, if the message shows `shown` bytes of the text's line before the place
 abbrev pub sign_line : ℕ → List ℕ
 sign_line shown = replicate (shown + 4) 32 ++ codes "^\n"
 
--- A PLACE in a text, as it is shown. Lines and columns count from 1. The line is shown from its beginning, or from 40 bytes before the place. `before` has all bytes of the text before the place
+-- A PLACE in a text, as it is shown. Lines and columns count from 1. The text's line is shown from its beginning, or from 40 bytes before the place if more than 40 bytes of the line come before the place. `before` has all bytes of the text before the place
 abbrev pub at_place : OriginData → List ℕ → List ℕ → List ℕ
 at_place origin bytes before =
     column_line origin (last_line before) (behind_feed before + 1)
@@ -59,26 +59,28 @@ at_place origin bytes before =
 abbrev pub place_text : OriginData → List ℕ → ℕ → List ℕ
 place_text origin bytes place = at_place origin bytes (take place bytes)
 
--- the first line of a text, the text after its first line, and the text from the line with a given number on; here lines count from 0
+-- the first line of a text, without its line feed
 abbrev pub first_line : List ℕ → List ℕ
 first_line bytes = take (to_feed bytes) bytes
 
+-- the rest of a text after its first line
 abbrev pub behind_line : List ℕ → List ℕ
 behind_line bytes = drop 1 (drop (to_feed bytes) bytes)
 
+-- the rest of a text from the line with this number to the end; lines count from 0
 unfoldable pub from_line : ℕ → List ℕ → List ℕ
 from_line zero bytes = bytes
 from_line (suc n) bytes = behind_line (from_line n bytes)
 
--- the line of a message with the number of a line in its file
+-- the line of a message with the number that a line of the text has in its file
 unfoldable pub number_line : OriginData → ℕ → List ℕ
 number_line origin line = codes "  " ++ name_head origin.name ++ codes "line " ++ decimal (own_line origin line) ++ codes "\n"
 
--- the rest of a job, which begins with this line; lines count from 1
+-- the rest of a job from the line with this number to the end; lines count from 1
 abbrev pub line_at : List ℕ → ℕ → List ℕ
 line_at bytes line = from_line (line - 1) bytes
 
--- the place of a command, which messages show before the command: the name of the file and the line's number in it, or only the number if no file is named
+-- the place of a command, which messages show before the command: `FILE:LINE: `, or `line LINE: ` if no file is named. LINE is the line's number in its file
 abbrev pub named_head : List ℕ → ℕ → List ℕ
 named_head [] line = codes "line " ++ decimal line ++ codes ": "
 named_head (b ∷ name) line = map shown_byte (b ∷ name) ++ codes ":" ++ decimal line ++ codes ": "

@@ -11,16 +11,17 @@ use Rattle.crush_model.specs.Table.{Row, weight_of}
 use Rattle.crush_reasons.specs.declared.sums.Sum.{Sum}
 use Rattle.crush_reasons.specs.declared.sums.SummedMap.{SummedMap}
 
--- the buckets among these items and below them, each with the weight that is stored in it. A bucket comes after the buckets below it
+-- a bucket, given by the distance of its id from 0, and a weight
 abbrev pub sum : ℕ → ℕ → Sum
 sum b w = record { bucket = b; weight = w }
 
+-- the buckets among these items and below them, each with the weight that is stored in the bucket. A bucket comes after the buckets below it
 abbrev pub sums_of : Items → List Sum
 sums_of none = []
 sums_of (device d rest) = sums_of rest
 sums_of (bucket h w m k rest) = sums_of k ++ (sum h.id w ∷ sums_of rest)
 
--- the sums are those of a table's buckets: there is one for each bucket, and they are sorted by the distances of the buckets' ids from 0
+-- the sums are those of a table's buckets: there is one for each bucket, it is the bucket's weight in the table, and the sums are sorted by the distances of the buckets' ids from 0
 pub record AreSums (t : List Row) (sums : List Sum) : Type 0 where
   pub told : All (λ (s : Sum). weight_of t (Bucket s.bucket) ≡ Some s.weight) sums
   pub each : (b : ℕ) → sum_by (λ (s : Sum). one_if (s.bucket == b)) sums ≡ count_by (λ (r : Row). same_id r.id (Bucket b)) t

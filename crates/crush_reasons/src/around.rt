@@ -1,5 +1,10 @@
 //! Finds the bucket or rule of a map's text that is open at a place, and the place where a bucket
-//! is defined. A place is the index of a byte of the text, from 0.
+//! is defined.
+//!
+//! A place is the index of a byte of the text, from 0. A bucket or a rule is *open* at a place if
+//! its `{` comes before the place, and its `}` doesn't. Both searches end early at a byte that
+//! isn't in a comment and is allowed only there, and at a word of more than 255 bytes: what follows
+//! is ignored.
 
 ghost use Rattle.std.specs.Prelude.{◌≡◌};
 ghost use Rattle.crush_units.specs.Words.{words};
@@ -8,12 +13,13 @@ ghost use Rattle.crush_reasons.specs.Around.{around_at, defined_at, further, loo
 use crate::words::{next_placed, up_to};
 use crush_units::Reader;
 
-/// What the words before a place of a map's text say about this place, if none of them has a fault.
+/// What the words before a place of a map's text say about this place.
 #[derive(Clone, Copy)]
 pub(crate) struct Around {
-    /// Whether the place is between the braces of a bucket or a rule.
+    /// Whether a bucket or a rule is open at the place.
     pub(crate) is_open: bool,
-    /// The place of the first word of the bucket or rule that was opened last, or 0 if none was.
+    /// The place of the first word of the bucket or rule whose `{` was read last, or 0 if no `{`
+    /// was read.
     pub(crate) head: usize,
     /// Where the second-to-last word before the given place begins, or 0 if there is none.
     pub(crate) before: usize,
@@ -62,14 +68,15 @@ pub(crate) fn around_at(bytes: &[u8], place: usize) -> Around
 /// The state of the search for the bucket with a given name, after the words that were read so far.
 #[derive(Clone, Copy)]
 pub(crate) struct Search {
-    /// Whether the last word that was read is this name, and the word before it isn't `rule`.
+    /// Whether the last word that was read is the given name, and the word before this name isn't
+    /// `rule`.
     pub(crate) is_name: bool,
     /// Whether the last word that was read is `rule`.
     pub(crate) is_rule: bool,
     /// The place of the last word that was read.
     pub(crate) last: usize,
-    /// The place of the name in the last definition of such a bucket, or 0 if there was none so
-    /// far.
+    /// The place of the name in the last definition of this bucket that was read, or 0 if no
+    /// definition was read so far.
     pub(crate) found: usize,
 }
 
@@ -91,8 +98,9 @@ impl Search {
     }
 }
 
-/// Returns the place of the name in the last definition of a bucket with this name, or 0 if the
-/// text defines no such bucket.
+/// Returns the place of the name in the last definition of a bucket with this name, or 0 if no
+/// definition was found. In a definition, `{` follows the name, and the word before the name isn't
+/// `rule`.
 #[tactic(auto, unfolding(crate::specs::Around::looked_for))]
 pub(crate) fn defined_at(bytes: &[u8], name: &[u8]) -> usize
     ensures { result ≡ defined_at bytes.now name.now }

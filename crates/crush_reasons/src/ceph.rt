@@ -1,4 +1,4 @@
-//! Prints the commands that changed a map in the form of Ceph's own commands.
+//! Prints the edits of those calls of a history that changed the map, as Ceph's own commands.
 
 ghost use Rattle.std.specs.Prelude.{◌≡◌, ◌++◌, List, IfOk, OnOk};
 ghost use Rattle.crush_model.specs.Stands.{Stands};
@@ -12,7 +12,7 @@ use crush_history::Entry;
 use crush_map::CrushMap;
 use std::alloc::{AllocError, Global};
 
-/// Appends copies of the edits.
+/// Appends a copy of each edit to `copies`.
 fn push_copies(alloc: Global, edits: &[Edit], copies: &mut Vec<Edit>) -> Result<(), AllocError>
     ensures { OnOk result (copies.new.items ≡ copies.old.items ++ edits.now) }
 {
@@ -23,7 +23,7 @@ fn push_copies(alloc: Global, edits: &[Edit], copies: &mut Vec<Edit>) -> Result<
     Ok(())
 }
 
-/// Returns copies of the edits of those entries that changed the map.
+/// Returns copies of all edits of those calls that changed the map.
 fn history_edits(alloc: Global, entries: &[Entry]) -> Result<Vec<Edit>, AllocError>
     ensures { IfOk result (λ edits. edits.items ≡ history_edits entries.now) }
 {
@@ -34,11 +34,13 @@ fn history_edits(alloc: Global, entries: &[Entry]) -> Result<Vec<Edit>, AllocErr
     Ok(edits)
 }
 
-/// Returns the commands that changed the map, as lines for a shell: the line `# N commands`, and
-/// then N lines, as [`crush_ceph::ceph_text`] returns them for the edits of the history.
+/// Returns the edits of those calls that changed the map, as Ceph's own commands. The text has
+/// lines for a shell: the line `# N commands`, and then N lines. It is the text that
+/// [`crush_ceph::ceph_text`] returns for these edits.
 ///
-/// If a batch changed the map, the lines have all edits of the batch. An edit and the next one can
-/// have a line together even if they are from different calls or of different operators.
+/// If a batch changed the map, the text also has those edits of the batch that changed nothing. Two
+/// edits that follow one another can have one line together, even if they are in calls of different
+/// operators.
 ///
 /// `opening` is the map before the first call. Fails if memory runs out.
 pub fn ceph_text(

@@ -1,5 +1,5 @@
-//! Writes the reason for a line of a script whose first word isn't a command, with the command that
-//! may be meant.
+//! Writes the reason why a line of a script is rejected if its first word isn't a command. If this
+//! word is similar to a command, the reason suggests the command.
 
 ghost use Rattle.std.specs.Prelude.{◌≡◌, ◌++◌, OnOk, map as each};
 ghost use Rattle.std.specs.Option.{option_map};
@@ -31,8 +31,9 @@ fn first_command(word: &[u8], commands: &[&'static str]) -> Option<&'static str>
     None
 }
 
-/// Returns the first of the commands below that is similar to a word: one byte differs, one byte is
-/// missing or extra, or two neighbouring bytes are exchanged.
+/// Returns the first command of the list below that is similar to a word: at most one byte differs,
+/// one byte is missing or extra, or two neighbouring bytes are exchanged. Returns `None` if no
+/// command of the list is similar.
 fn near_command(word: &[u8]) -> Option<&'static str>
     ensures { option_map (λ near. near.now) result ≡ near_command word.now }
 {
@@ -93,7 +94,8 @@ fn push_no_word(word: &[u8], text: &mut Vec<u8>) -> Result<(), AllocError>
     push_meant(near_command(word), text)
 }
 
-/// Appends the reason for a line whose first word isn't a command.
+/// Appends the reason why a line is rejected if its first word isn't a command. If the line begins
+/// with `ceph osd crush`, the reason says to leave out these words.
 pub(crate) fn push_no_command(line: &[u8], text: &mut Vec<u8>) -> Result<(), AllocError>
     ensures { OnOk result (text.new.items ≡ text.old.items ++ no_command line.now) }
 {

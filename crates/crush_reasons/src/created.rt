@@ -1,6 +1,10 @@
-//! Writes the history lines of the calls that created buckets by their locations, with hints. If
-//! the name of a created bucket is similar to the name of an item of the map, then the operator
-//! may have mistyped the name of this item.
+//! Writes the history lines of the calls in which the location of an edit created a bucket, with
+//! hints.
+//!
+//! A location says into which bucket an edit puts its item, with pairs such as `host=h1`. If a
+//! location names a bucket that isn't in the map, the edit can create this bucket. If the name of
+//! the created bucket is similar to the name of an item of the map, then the operator may have
+//! mistyped the name of this item. A *hint* is a line that says so.
 
 ghost use Rattle.std.specs.Prelude.{◌≡◌, ◌<◌, ◌^◌, ◌++◌, List, IfOk, OnOk, length};
 ghost use Rattle.std.specs.Option.{option_map};
@@ -25,13 +29,16 @@ use crush_history::{Entry, Script, operator_name, push_entry};
 use crush_map::CrushMap;
 use std::alloc::{AllocError, Global};
 
-/// A law: if no type occurs twice in a location, the pairs for which hints are searched are exactly
-/// the pairs for which an edit creates buckets. An edit whose location has a type twice is refused.
+/// A law: if no two pairs of a location have the same type, then `is_created` holds for exactly
+/// those pairs for which an edit creates a bucket. Hints are searched for these pairs. The law
+/// leaves out pairs whose types the map doesn't have. An edit is refused if its location has such a
+/// pair, or has a type twice.
 pub fn created_buckets_are_new_stops()
     ensures { CreatedAreFresh }
 {}
 
-/// Whether the type of the pair `other` is the type of `pair`, or has a lower number.
+/// Whether the type of the pair `other` is the type of `pair`, or has a lower number. Returns
+/// `false` if the map doesn't have one of the two types.
 fn is_up_to(setting: &Setting, pair: &Pair, other: &Pair) -> bool
     ensures { result ≡ is_up_to setting.now pair.now other.now }
 {
@@ -44,8 +51,9 @@ fn is_up_to(setting: &Setting, pair: &Pair, other: &Pair) -> bool
     lower.number() <= kind.number()
 }
 
-/// Whether the map has an item with the name in `other`, and the type of `other` isn't above the
-/// type of `pair`. Then no bucket is created for `pair`.
+/// Whether the map has an item with the name in `other`, and `is_up_to` holds for the two pairs. An
+/// edit reads the pairs of its location from the lowest type upward, and stops at the first name
+/// that the map has. So if the result is `true`, the edit creates no bucket for `pair`.
 fn ends_before(map: &CrushMap<Global>, pair: &Pair, other: &Pair) -> bool
     ensures { (t : List Row) → Stands map.now.forest t
         → result ≡ ends_before map.now.setting t pair.now other.now }
@@ -53,8 +61,8 @@ fn ends_before(map: &CrushMap<Global>, pair: &Pair, other: &Pair) -> bool
     map.locate(other.name.as_str()).is_some() && is_up_to(map.setting(), pair, other)
 }
 
-/// Whether an edit with these pairs as its location, if it isn't refused, creates a bucket for one
-/// of them, `pair`.
+/// Whether an edit with the location `pairs` creates a bucket for `pair`, which is one of these
+/// pairs. The answer is right only for an edit that isn't refused.
 fn is_created(map: &CrushMap<Global>, pairs: &[Pair], pair: &Pair) -> bool
     ensures { (t : List Row) → Stands map.now.forest t
         → result ≡ is_created map.now.setting t pairs.now pair.now }
@@ -127,7 +135,8 @@ fn push_edit_hints(
     }
 }
 
-/// Appends the hints for edits, and applies the edits to `map`, one after the other.
+/// Appends the hints for edits, and applies the edits to `map`, one after the other. The hints for
+/// each edit depend on the map just before this edit.
 fn push_edits_hints(
     alloc: Global,
     map: &mut CrushMap<Global>,
@@ -147,9 +156,9 @@ fn push_edits_hints(
     Ok(())
 }
 
-/// If the call of the entry created more buckets than it has `add-bucket` commands, appends its
-/// history line, and the hints if `looks` is set. If the entry changed the map, applies its edits
-/// to `map`.
+/// If the call of the entry created more buckets than it has `add-bucket` commands, appends the
+/// history line of the entry. If `looks` is set, the hints for the call's edits follow. If the call
+/// changed the map, this function also applies the call's edits to `map`.
 fn push_created(
     alloc: Global,
     looks: bool,
@@ -176,7 +185,8 @@ fn push_created(
     }
 }
 
-/// Whether so many searches are left that the entry can have one for each bucket that it created.
+/// Whether `left`, the number of searches that are left, is at least the number of buckets that the
+/// call of the entry created.
 fn has_looks(left: usize, entry: &Entry) -> bool
     ensures { result ≡ has_looks left entry.now }
 {
@@ -225,17 +235,20 @@ fn push_entries(
 }
 
 /// Returns the history lines of the calls that created more buckets than they have `add-bucket`
-/// commands, each followed by hints.
+/// commands. The hints for a call follow after its line.
 ///
 /// A history line has the number that the call has in the whole history. There is a hint for each
 /// bucket that a location of the call created, if the map just before the edit with this location
-/// has an item with a similar name. A hint begins with two spaces, and has the names of the bucket
-/// and of the first such item. Each search goes through all names of the map, so there are hints
-/// only until these calls have created more than 256 buckets: the call with which this happens and
-/// all later calls have no hints.
+/// has an item with a similar name. A hint is a line that begins with two spaces. It has the name
+/// of the created bucket, and the name of the first similar item in the order of the map's tree.
 ///
-/// `opening` is the map before the first call. `scripts` are the scripts of the job, in the order
-/// of its sections. Fails if memory runs out.
+/// Each search for a similar name goes through all names of the map, so the number of searches is
+/// limited. The function adds up how many buckets the calls of the result created, in the order of
+/// the history. The call at which this sum first exceeds 256 has no hints, and neither has any
+/// later call.
+///
+/// `opening` is the map before the first call. `scripts` are the scripts of the job in their order,
+/// and the operator of each entry is the index of one of them. Fails if memory runs out.
 pub fn created_text(
     alloc: Global,
     opening: CrushMap<Global>,

@@ -37,8 +37,8 @@ fn refused_index(reply: Reply) -> Option<usize>
     }
 }
 
-/// For each section of a job, the numbers of the lines whose edits come after the edits of the
-/// entries that were passed so far.
+/// For each script of a job, the numbers of the lines with those edits of the script that are left.
+/// `EditsLeft::pass` removes the lines of the edits of an entry.
 #[derive(Drop)]
 pub(crate) struct EditsLeft<'a> {
     lines: Vec<&'a [u32]>,
@@ -68,8 +68,8 @@ impl<'a> EditsLeft<'a> {
         }
     }
 
-    /// Returns the number of the line of one of the operator's edits that are left. `index` counts
-    /// these edits from 0.
+    /// Returns the number of the line that has one of the operator's edits that are left. `index`
+    /// is the position of this edit among them, from 0. Returns `None` if fewer edits are left.
     fn line(&self, operator: usize, index: usize) -> Option<u32>
         ensures { result ≡ line_in (lines_left self.now) operator index }
     {

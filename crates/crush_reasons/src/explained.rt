@@ -1,4 +1,4 @@
-//! Writes the history lines of refused entries, each with its reason.
+//! Writes the history lines of refused entries, each followed by the reason for the refusal.
 
 ghost use Rattle.std.specs.Prelude.{◌≡◌, ◌<◌, ◌^◌, ◌++◌, List, [], IfOk, OnOk, drop, length, map as each, take};
 ghost use Rattle.crush_model.specs.Stands.{Stands};
@@ -44,10 +44,10 @@ fn before_edit(index: usize, edits: &[Edit]) -> &[Edit]
     }
 }
 
-/// What the line of an entry and its reason depend on, besides the entry and the map. `number` is
-/// the entry's number in the history. `operator` is the name of the entry's operator. `place` is
-/// the place of the refused edit of a batch. `looks` says whether to search the map for similar
-/// names.
+/// What the history line of an entry and the reason for its refusal depend on, besides the entry
+/// and the map. `number` is the entry's number in the history, from 1. `operator` is the name of
+/// the entry's operator. `place` is the place of the refused edit of a batch, or `None` if no place
+/// is known. `looks` says whether to search the map for similar names.
 #[derive(Clone, Copy)]
 struct EntryHead<'a> {
     number: u32,
@@ -134,9 +134,9 @@ fn push_too_high(seen: u32, count: u32, text: &mut Vec<u8>) -> Result<(), AllocE
     push_so_far(count, text)
 }
 
-/// Appends the reason for a guarded batch that was refused because the history had another number
-/// of changes than the batch names. `seen` is the number that the batch names, and `count` is the
-/// number of changes that there were.
+/// Appends the reason for a refused guarded batch. Such a batch begins with `begin at N`, and is
+/// refused if the number of earlier calls that changed the map isn't N. `seen` is N, and `count` is
+/// the number of these calls.
 fn push_stale(seen: u32, count: u32, text: &mut Vec<u8>) -> Result<(), AllocError>
     ensures { OnOk result (text.new.items ≡ text.old.items ++ stale_reason seen count) }
 {
@@ -205,8 +205,8 @@ fn push_explained(
     push_reply(alloc, map, head, &entry.call, entry.reply, text)
 }
 
-/// If the entry was refused, appends its history line and its reason. If the entry changed the map,
-/// applies its edits to `map`.
+/// If the call of the entry was refused, appends the history line of the entry and the reason. If
+/// the call changed the map, applies the edits of the call to `map`.
 fn push_made(
     alloc: Global,
     map: &mut CrushMap<Global>,
@@ -269,14 +269,17 @@ struct Subject<'a, O> {
 ///
 /// A history line has the number that the entry has in the whole history. The line with the reason
 /// begins with two spaces. If the refusal is about a name, the reason has this name, and says what
-/// the map has under this name just before the refused edit. If an edit of a batch was refused, the
-/// reason begins with the place of this edit and with its command. The place is `FILE:LINE: `, or
-/// `line LINE: ` if no file is named. If the map has no item or no type with the name, the reason can
-/// suggest a similar name. The map is searched for similar names only for the first 256 refused
-/// entries.
+/// is wrong with it in the map just before the refused edit. If the map has no item or no type with
+/// the name, the reason can suggest a similar name. The map is searched for similar names only for
+/// the first 256 refused entries.
 ///
-/// `opening` is the map before the first call. `scripts` are the scripts of the job, in the order
-/// of its sections, and `lines` describes the lines of this job. Fails if memory runs out.
+/// If an edit of a batch was refused, the reason begins with the place of this edit and with its
+/// command. The place is `FILE:LINE: `, or `line LINE: ` if no file is named. LINE is the number of
+/// the line in its file, from 1.
+///
+/// `opening` is the map before the first call. `scripts` are the scripts of the job in their order,
+/// and the operator of each entry is the index of one of them. `lines` describes the lines of this
+/// job. Fails if memory runs out.
 pub fn explained_job<O: Locates>(
     alloc: Global,
     lines: JobLines<'_, O>,

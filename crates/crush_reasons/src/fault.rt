@@ -1,4 +1,4 @@
-//! Explains a fault of a job: shows its place, and says what is expected there.
+//! Explains a fault of a job: shows the place of the fault, and says what is expected there.
 
 ghost use Rattle.std.specs.Prelude.{◌≡◌, ◌<◌, ◌^◌, ◌++◌, IfOk, OnOk, length};
 ghost use Rattle.crush_text.specs.declared.fault.TextFault.{TextFault};
@@ -15,7 +15,8 @@ use crush_script::{JobFault, placed_word};
 use crush_text::TextFault;
 use std::alloc::{AllocError, Global};
 
-/// Appends the reason for a fault of a line that comes from a file of the job.
+/// Appends the reason for a fault of a line that comes from a file, and not from the program
+/// itself.
 fn push_own_reason(fault: JobFault, line: &[u8], text: &mut Vec<u8>) -> Result<(), AllocError>
     ensures { OnOk result (text.new.items ≡ text.old.items ++ own_reason fault line.now) }
 {
@@ -28,7 +29,7 @@ fn push_own_reason(fault: JobFault, line: &[u8], text: &mut Vec<u8>) -> Result<(
 }
 
 /// Returns the reason for a fault of a line `%operator NAME` that the program itself put before a
-/// file's script. NAME is made of the file's name.
+/// file's script. The program made NAME from the name of the file.
 fn put_reason(fault: JobFault) -> &'static str
     ensures { result.now ≡ put_reason fault }
 {
@@ -177,7 +178,8 @@ fn push_fault(
 /// Returns the number of the line that has a fault, or 0 if the fault has no line. Lines count from
 /// 1 in the whole job.
 ///
-/// If the map's text ends too early, the result is the last line that has a word.
+/// If the map's text ends too early, the result is the number of the last line of this text that
+/// has a word.
 pub fn fault_line(bytes: &[u8], fault: JobFault) -> usize
     requires { length bytes.now < 2 ^ 32 }
     ensures { result ≡ fault_line bytes.now fault }
@@ -194,17 +196,23 @@ pub fn fault_line(bytes: &[u8], fault: JobFault) -> usize
     }
 }
 
-/// Returns the place of a fault of a job, followed by a sentence that says what is expected.
+/// Returns the place of a fault of a job, followed by a sentence that says what is wrong or what is
+/// expected.
 ///
 /// For a fault of the map's text, and for a word that doesn't fit in a line of a script, the result
 /// has the line's number, the column, a part of the line, and `^` below the place. For any other
-/// fault of a line, the result has the line's number and the line. For a fault without a place,
-/// such as too many bytes, the result has the sentence alone.
+/// fault of a line, and for a line that the program put before a file's first line, the result has
+/// the line's number and the line. For a fault without a place, such as too many bytes, the result
+/// has the sentence alone. If the map's text ends too early, the place is the beginning of the
+/// text's last word.
 ///
-/// `bytes` are the whole job. The line's number counts from 1 in the file of `origin`, and is 0 for
-/// a line that the program put before the file's first line. Columns count from 1. At most 72 bytes
-/// of the line are shown, from its beginning or from 40 bytes before the place. `shown_byte` says
-/// how each byte of the line and of the file's name is shown. Fails if memory runs out.
+/// `bytes` are the whole job, and `origin` is the file from which the line with the fault comes. If
+/// the name of this file isn't empty, it comes before the line's number. The line's number counts
+/// from 1 in this file, and is 0 for a line that the program put before the file's first line.
+/// Columns count bytes, from 1. At most 72 bytes of the line are shown. They are shown from the
+/// line's beginning, or from 40 bytes before the place if more than 40 bytes of the line come
+/// before the place. `shown_byte` says how each byte of the line and of the file's name is shown.
+/// Fails if memory runs out.
 pub fn fault_text(
     alloc: Global,
     origin: Origin<'_>,
@@ -220,8 +228,9 @@ pub fn fault_text(
     Ok(text)
 }
 
-/// Returns the place of a fault of a map's text as [`fault_text`] does, but without the sentence
-/// after it. `bytes` are the whole job. Fails if memory runs out.
+/// Returns the lines with which [`fault_text`] shows the place of a fault of a map's text, without
+/// the sentence that follows after them. `bytes` are the whole job. `origin` is the file from which
+/// the line with the fault comes. Fails if memory runs out.
 pub fn flaw_place_text(
     alloc: Global,
     origin: Origin<'_>,

@@ -51,8 +51,7 @@ fn push_two(bytes: &[u8], place: usize, text: &mut Vec<u8>) -> Result<(), AllocE
     push_all(&[b" ".as_slice(), second.text], text)
 }
 
-/// Returns the number of the line that has this place. The number counts the lines of the file from
-/// which the line comes.
+/// Returns the number of the line that has this place. Lines count from 1 in the file of `origin`.
 fn line_of(origin: Origin<'_>, bytes: &[u8], place: usize) -> usize
     requires { length bytes.now < 2 ^ 32 }
     ensures { result ≡ line_of (origin_data origin.entry) bytes.now place }
@@ -123,8 +122,8 @@ fn step_words(or: Optional) -> &'static str
 }
 
 /// Returns a phrase that names the words or the kind of word that may be at the place of the fault.
-/// Returns an empty phrase in two cases: if memory ran out, or if only one keyword may be there.
-/// `push_expected` prints this keyword itself.
+/// Returns an empty phrase in two cases: if memory ran out, or if only one keyword may be there. In
+/// the second case, `push_expected` itself prints the keyword.
 fn expected_words(expected: Expected) -> &'static str
     ensures { result.now ≡ expected_words expected }
 {
@@ -363,8 +362,8 @@ fn push_defined_below(
     push_below_at(line, text)
 }
 
-/// If the word at the place names a bucket that is defined further below, appends where that is.
-/// Otherwise appends the sentence.
+/// If the word at the place is the name of a bucket that is defined further below in the text,
+/// appends a sentence with the line of this definition. Otherwise appends `sentence`.
 fn push_missing(
     origin: Origin<'_>,
     bytes: &[u8],
@@ -397,8 +396,8 @@ fn is_zipped(bytes: &[u8]) -> bool
     matches!(bytes, [0x1F, 0x8B, ..])
 }
 
-/// Returns the sentence for a text that has its fault at the first byte, so that it isn't a map's
-/// text at all.
+/// Returns the sentence for a text that has its fault at the first byte. The text may begin with a
+/// byte order mark, or may be compressed with `gzip`. Otherwise, it isn't the text of a map.
 fn not_begun(bytes: &[u8]) -> &'static str
     ensures { result.now ≡ not_begun bytes.now }
 {
@@ -595,7 +594,7 @@ pub(crate) fn push_flaw_reason(
 }
 
 /// Returns the place that messages show for a fault. If the text ends too early, this is the place
-/// of its last word.
+/// of the text's last word. Otherwise it is the place of the fault itself.
 pub(crate) fn flaw_place(bytes: &[u8], fault: TextFault) -> usize
     ensures { result ≡ flaw_place bytes.now fault.kind fault.place }
 {

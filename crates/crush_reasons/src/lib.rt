@@ -1,15 +1,23 @@
 //! Explains faults and refusals to operators, and prints the commands of a history as Ceph's own
 //! commands.
 //!
-//! A *fault* is the reason why a text or a job is rejected, and a *refusal* is the reason why an
-//! edit is refused. `specs/Sentences.antt` defines a sentence for each refusal, and for each fault
-//! except for the faults of a map's text. `specs/Flaws.antt` defines the sentences for these. With
-//! `--explain`, `crush_input` prints reasons with the functions of this crate. With `--as-ceph`,
-//! `crush_run` prints the history's commands as Ceph's own commands with the function [`ceph_text`]
-//! of this crate. The functions [`made_text`] and [`created_text`] list the calls that created
-//! buckets by their locations. A function that explains a history takes the map before the first
-//! call, and applies the commands of the history to this map once more. All functions fail only if
-//! memory runs out.
+//! A *fault* says why a text or a job is rejected, and a *refusal* says why an edit or a batch is
+//! refused. In this crate, the *reason* for a fault or a refusal is the sentence with which a
+//! message explains it. Most of these sentences are defined in the folder `specs/`: in `Flaws.antt`
+//! for faults of a map's text, in `Commands.antt` and `Misfit.antt` for faults of the lines of a
+//! script, in `Named.antt` for refused edits, and in `Sentences.antt` for faults and refusals whose
+//! sentence depends neither on a text nor on a map.
+//!
+//! A *call* is an edit or a batch that an operator has sent. An *entry* of a history is a call with
+//! its reply. The functions [`made_text`] and [`created_text`] list the calls in which the location
+//! of an edit created a bucket. To explain the refused calls of a history, a function takes the map
+//! before the first call. It applies the edits of those calls that changed the map to this map once
+//! more, so it can look at the map as it was just before each refused edit.
+//!
+//! `crush_input` prints reasons with the functions of this crate, for example if `--explain` is
+//! given. With `--as-ceph`, `crush_run` uses the function [`ceph_text`] to print the commands that
+//! changed the map as Ceph's own commands. The functions of this crate fail only if memory runs
+//! out.
 #![tactic(auto)]
 
 mod around;

@@ -17,14 +17,16 @@ pub trait Locates {
 /// The lines of a job that have edits, and the file from which each line of the job comes.
 #[derive(Clone, Copy)]
 pub struct JobLines<'a, O> {
-    /// For each script of the job, the numbers of the lines that have its edits. Lines count from 1
-    /// in the whole job. The parser of jobs returns these numbers in the field `lines` of a job.
+    /// For each script of the job, the numbers of the lines that have the script's edits: one
+    /// number for each edit, in order. Lines count from 1 in the whole job.
+    /// `crush_script::read_job` returns these numbers in the field `lines` of a job.
     pub edits: &'a [Vec<u32>],
     /// Says from which file each line comes.
     pub origins: &'a O,
 }
 
-/// Says that no line comes from a file.
+/// Gives an origin without a file's name for every line. It is used if the text of a job isn't
+/// known.
 #[derive(Clone, Copy, Drop)]
 pub(crate) struct Nowhere;
 

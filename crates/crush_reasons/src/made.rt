@@ -40,7 +40,7 @@ fn add_bucket_count(call: &Call) -> usize
     }
 }
 
-/// Returns the number of buckets that a call created.
+/// Returns the number of buckets that a call created, according to the reply to the call.
 pub(crate) fn buckets_made(reply: Reply) -> usize
     ensures { result ≡ buckets_made reply }
 {
@@ -89,9 +89,10 @@ fn push_made(
 }
 
 /// Returns the history lines of the calls that created more buckets than they have `add-bucket`
-/// commands, each with its number in the history.
+/// commands. Each line has the number that its call has in the whole history.
 ///
-/// `scripts` are the scripts of the job, in the order of its sections. Fails if memory runs out.
+/// `scripts` are the scripts of the job in their order, and the operator of each entry is the index
+/// of one of them. Fails if memory runs out.
 pub fn made_text(
     alloc: Global,
     scripts: &[Script],

@@ -1,5 +1,5 @@
-//! Says why a line of a script isn't allowed at its place: it names the first word that doesn't
-//! fit, or another reason.
+//! Writes the reason why a line of a script isn't allowed at its place. The reason names the first
+//! word that doesn't fit, or says what else is wrong with the line.
 
 ghost use Rattle.std.specs.Prelude.{◌≡◌, ◌++◌, ◌≤◌, OnOk, length};
 ghost use Rattle.std.specs.List.{list_all};
@@ -161,8 +161,8 @@ fn are_digits(most: usize, text: &[u8]) -> bool
     !text.is_empty() && text.len() <= most && all_digits(text)
 }
 
-/// Whether the word looks like a weight that has a comma in place of the point, or no digit before
-/// the point.
+/// Whether the word consists of at most 10 digits, a comma or a point, and 1 to 18 digits. If such
+/// a word isn't a weight, it may have a comma in place of the point, or no digit before the point.
 #[tactic(auto, unfolding(crate::specs::Misfit::is_mistyped))]
 fn is_mistyped(word: &[u8]) -> bool
     ensures { result ≡ is_mistyped word.now }

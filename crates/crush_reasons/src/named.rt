@@ -1,4 +1,5 @@
-//! Says because of which name an edit was refused, and what is wrong with this name.
+//! Writes the reason for a refused edit: the name because of which the edit was refused, and what
+//! is wrong with this name.
 
 ghost use Rattle.std.specs.Prelude.{◌≡◌, ◌++◌, List, None, OnOk, Some, MatchOption};
 ghost use Rattle.crush_model.specs.Stands.{Stands};
@@ -16,7 +17,7 @@ use crush_units::Name;
 use std::alloc::{AllocError, Global};
 
 /// Returns the words that follow the name in the reason. Returns `None` if the refusal isn't about
-/// an item, or if these words depend on the map.
+/// a name, or if the rest of the reason depends on the map or on more names of the edit.
 fn said_of(refusal: Refusal) -> Option<&'static str>
     ensures { MatchOption result (said_of refusal ≡ None) (λ said. said_of refusal ≡ Some said.now) }
 {

@@ -102,7 +102,8 @@ fn first_near<'a>(steps: &[WalkStep<'a, Global>], name: &str) -> Option<&'a str>
     None
 }
 
-/// Returns the first name of the map that is similar to this name, in the order of the map's tree.
+/// Returns the name of the first item whose name is similar to this name, in the order of the map's
+/// tree. Returns `None` if there is no such item.
 pub(crate) fn near_name<'a>(
     alloc: Global,
     map: &'a CrushMap<Global>,

@@ -9,7 +9,7 @@ use crush_script::line_feeds;
 use itoa::Buffer;
 use std::alloc::AllocError;
 
-/// How many bytes of a line are shown before a place at most.
+/// The largest number of bytes of a line that are shown before a place.
 const MOST_BEFORE: usize = 40;
 
 /// The file from which a line of a job comes.
@@ -200,7 +200,8 @@ pub(crate) fn behind_line(bytes: &[u8]) -> &[u8]
     }
 }
 
-/// Returns the rest of the bytes, which begins with this line. Lines count from 0.
+/// Returns the bytes from the line with this number to the end, or no bytes if there are fewer
+/// lines. Lines count from 0.
 fn from_line(line: usize, bytes: &[u8]) -> &[u8]
     ensures { result.now ≡ from_line line bytes.now }
 {
@@ -211,7 +212,8 @@ fn from_line(line: usize, bytes: &[u8]) -> &[u8]
     rest
 }
 
-/// Returns the rest of the bytes, which begins with this line. Lines count from 1.
+/// Returns the bytes from the line with this number to the end, or no bytes if there are fewer
+/// lines. Lines count from 1.
 pub(crate) fn line_at(bytes: &[u8], line: usize) -> &[u8]
     ensures { result.now ≡ line_at bytes.now line }
 {

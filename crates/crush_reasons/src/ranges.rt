@@ -1,4 +1,5 @@
-//! Says which numbers are expected at a fault of a map's text where the grammar requires a number.
+//! Writes which numbers the grammar of a map's text allows, for a word that isn't one of these
+//! numbers.
 
 ghost use Rattle.std.specs.Prelude.{◌≡◌, ◌++◌, OnOk};
 ghost use Rattle.crush_reasons.specs.Ranges.{is_whole, is_zero_expected, range_head, range_of, range_text, range_words, up_to_most, without_minus};
@@ -17,8 +18,9 @@ fn push_up_to_most(most: u32, text: &mut Vec<u8>) -> Result<(), AllocError>
     push_all(&[b"0 to ".as_slice(), buffer.format(most).as_bytes()], text)
 }
 
-/// Returns the least and the greatest number that are expected. `push_range_of` itself prints them
-/// for [`Expected::Number`], which has a greatest number of its own.
+/// Returns the first and the last number of the range that the grammar allows. The ids of buckets
+/// go down from -1, so the first number of their range is the greatest. The result isn't used for
+/// [`Expected::Number`], because `push_range_of` prints the range of this variant itself.
 fn range_words(expected: Expected) -> &'static str
     ensures { result.now ≡ range_words expected }
 {

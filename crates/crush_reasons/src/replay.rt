@@ -1,4 +1,4 @@
-//! Applies once more those edits of a history that changed the map.
+//! Applies once more the edits of those calls of a history that changed the map.
 
 ghost use Rattle.std.specs.Prelude.{◌≡◌, ◌≤◌, List, OnOk, length};
 ghost use Rattle.crush_units.specs.declared.limits.TheConstants.{MOST_EDITS};
@@ -14,8 +14,9 @@ use crush_map::CrushMap;
 use std::alloc::{AllocError, Global};
 use std::slice;
 
-/// A law: if the edits of a history that changed the map are applied, one after the other, to the
-/// map before the history, then the result is the map after the history.
+/// A law about a legal history, in which each reply is the right one for its call. If the edits of
+/// those calls that changed the map are applied, one after the other, to the map before the
+/// history, then the result is the map after the history.
 pub fn edits_lead_to_the_map_after()
     ensures { LeadsToTableAfter }
 {}

@@ -6,7 +6,9 @@ ghost use Rattle.crush_reasons.specs.Sentences.{job_sentence, reply_sentence, st
 use crush_history::Reply;
 use crush_script::JobFault;
 
-/// The sentence for a guarded batch that was refused because the map has changed.
+/// The sentence for a guarded batch that was refused because the map has changed since the operator
+/// looked at the map. A guarded batch begins with `begin at N`. N is the number of changes that the
+/// operator has seen.
 pub(crate) const STALE: &str =
     "the map has changed in the meantime: look at it again, and write `begin at` with the new number of changes";
 

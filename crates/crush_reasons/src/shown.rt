@@ -6,12 +6,12 @@ ghost use Rattle.crush_reasons.specs.Shown.{shown_byte, told};
 use crate::words::push_all;
 use std::alloc::AllocError;
 
-/// How many bytes of a line or of a word are shown at most.
+/// The largest number of bytes of a line or of a word that are shown.
 pub(crate) const MOST_SHOWN: usize = 72;
 
 /// Returns the byte that a message shows in place of `byte`, so that no message sends a control
-/// character to a terminal. A byte from 32 to 126 is shown as it is, a tab or a carriage return as a
-/// space, and any other byte as `?`.
+/// character to a terminal. A byte from 32 to 126 is shown as it is, a tab or a carriage return as
+/// a space, and any other byte as `?`.
 pub fn shown_byte(byte: u8) -> u8
     ensures { result ≡ shown_byte byte }
 {

@@ -1,4 +1,4 @@
-//! Finds the weights of all buckets of a map, in one walk through its tree.
+//! Finds the weights of all buckets of a map in one walk through the map's tree.
 
 ghost use Rattle.std.specs.Prelude.{◌≡◌, ◌++◌, ◌∷◌, [], List, IfOk, OnOk};
 ghost use Rattle.crush_nodes.specs.Seen.{items_of};
@@ -22,7 +22,7 @@ pub(crate) struct Sum {
 #[derive(Drop)]
 pub(crate) struct SummedMap<'a> {
     pub(crate) map: &'a CrushMap<Global>,
-    /// The sums, sorted by the distances of the buckets' ids from 0.
+    /// The sums, one for each bucket, sorted by the distances of the buckets' ids from 0.
     pub(crate) sums: Vec<Sum>,
 }
 

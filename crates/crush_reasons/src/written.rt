@@ -1,4 +1,5 @@
-//! Lists the buckets whose weight in a map's text isn't the sum of the weights of their devices.
+//! Lists the buckets whose weight in a map's text isn't the sum of the weights of all devices below
+//! them.
 
 ghost use Rattle.std.specs.Prelude.{◌≡◌, ◌<◌, ◌==◌, ◌∷◌, ◌++◌, List, [], IfOk, IsTrue, MatchOption, OnOk, bytes_eq, if◌then◌else◌, length};
 ghost use Rattle.std.specs.List.{list_any};
@@ -144,7 +145,7 @@ fn next_word<'a>(reader: &mut Reader<'a>) -> Option<&'a [u8]>
 
 /// A position in a text. `item`, `name` and `key` are three consecutive words, `inside` says
 /// whether the first of these words is between braces, and `reader` reads the words that follow
-/// them.
+/// them. At the beginning of the text, the three words are empty.
 #[derive(Drop)]
 struct Scan<'a> {
     inside: bool,
@@ -168,8 +169,9 @@ impl<'a> Scan<'a> {
         }
     }
 
-    /// `weight` is the word after the three words. Appends the line for a bucket, if these four
-    /// words are `item NAME weight W` between braces, and if the sum of the bucket NAME isn't W.
+    /// If the three words and `weight`, the word after them, are `item NAME weight W` between
+    /// braces, compares W with the sum of the bucket NAME. If the two weights differ, appends the
+    /// line for the bucket. Appends nothing if NAME isn't a bucket, or if W isn't a weight.
     fn push_first(
         &self,
         summed: &SummedMap<'_>,
@@ -186,8 +188,9 @@ impl<'a> Scan<'a> {
         }
     }
 
-    /// Moves on by one word. Appends the line for a bucket, if the word that is left behind begins
-    /// an item whose weight isn't the sum. Returns `false` if no word follows the three words.
+    /// Moves on by one word. If an `item NAME weight W` between braces began at the old position,
+    /// and W isn't the sum of the bucket NAME, appends the line for the bucket. Returns `false` if
+    /// no word follows the three words.
     fn push_next(&mut self, summed: &SummedMap<'_>, text: &mut Vec<u8>) -> Result<bool, AllocError>
         ensures goes { IfOk result (λ more. (t : List Row) → IsSummed summed.now t
             → text.new.items ++ (if more then lines_left t self.new else [])
@@ -239,14 +242,16 @@ fn push_returns(bytes: &[u8], text: &mut Vec<u8>) -> Result<(), AllocError>
 }
 
 /// Returns a line for each bucket whose weight in a map's text isn't the sum of the weights of all
-/// devices below it.
+/// devices below the bucket.
 ///
 /// The line is `NAME: W was written, the sum is SUM`. There is a line for each `item NAME weight W`
 /// between braces in which NAME is a bucket of the map, and W is a weight that isn't the bucket's
 /// sum. The lines are in the order of the text. W is printed as in the text, and SUM has five
-/// decimals. If the text has carriage returns and no line feed, the first line says so.
+/// decimals. If the text has carriage returns and no line feed, the first line of the result says
+/// so.
 ///
-/// `map` is the map that was read from `bytes`. Fails if memory runs out.
+/// `bytes` are the text of a map without scripts, and `map` is the map that was read from this
+/// text. Fails if memory runs out.
 pub fn written_text(
     alloc: Global,
     map: &CrushMap<Global>,
