@@ -6,33 +6,33 @@ use Rattle.crush_input.specs.declared.input.Joined.{Joined}
 use Rattle.crush_input.specs.Joined.{ScriptSpanData, joined, script_span_data, script_span_of, script_spans_of, with_scripts}
 use Rattle.crush_units.specs.declared.limits.TheConstants.{LONGEST_JOB}
 
--- `bytes` are what was read of `all`: if either of them is no longer than a job may be, the two are equal
+-- `bytes` are the bytes that were read, and `all` are all bytes that could be read. If at least one of these lists isn't longer than a job may be, the two lists are equal
 pub record IsInput (bytes all : List ℕ) : Type 0 where
   pub read : length bytes ≤ LONGEST_JOB → bytes ≡ all
   pub whole : length all ≤ LONGEST_JOB → bytes ≡ all
 
--- the bytes of `read` were read of `all` (`IsInput`), and its parts are `stand`, unless `all` is longer than a job may be. A part says which lines of a job come from one file of scripts
+-- `all` are all bytes of a job, and `stand` are its parts. A part says which lines of a job come from one file of scripts. The bytes of `read` were read of `all` (`IsInput`). If `all` isn't longer than a job may be, then `read` has the parts `stand`
 pub record IsJoined (read : Joined) (all : List ℕ) (stand : List ScriptSpanData) : Type 0 where
   pub bytes : IsInput read.bytes.items all
   pub spans : length all ≤ LONGEST_JOB → map script_span_data read.spans.items ≡ stand
 
--- the number of bytes that may be read after these: as many as the job may still have, and one more, so that a job that is too long is noticed
+-- the number of bytes that may still be read after these bytes of a job: as many as the job may still have, and one more, so that a job that is too long is noticed
 abbrev pub readable_bytes : List ℕ → ℕ
 readable_bytes bytes = (LONGEST_JOB + 1) - length bytes
 
--- READ AND APPENDED: the script in the file `name` was appended to what was read of a job, and its lines were stored as a part. The script is the first `readable_bytes` bytes of the file, if the file's bytes are known.
+-- READ AND APPENDED: the script in the file `name` was read and appended to the job `before`. The result is `after`, which also has a part with the lines of this script. If the file's bytes are known, the script is their first `readable_bytes` bytes.
 pub record IsReadAndAppended (before after : Joined) (name : List ℕ) (all : Option (List ℕ)) : Type 0 where
   pub script : List ℕ
   pub read : IfSome all (λ bytes. script ≡ take (readable_bytes before.bytes.items) bytes)
   pub bytes : after.bytes.items ≡ joined before.bytes.items name script
   pub spans : map script_span_data after.spans.items ≡ map script_span_data before.spans.items ++ script_span_of before.bytes.items name script ∷ []
 
--- the bytes with which a job begins: those of its file, or those of standard input if there is no file
+-- the bytes with which a job begins: those of the file that the command line names, or those of standard input if it names no file. `content` gives the bytes of a file by its name, if they are known
 abbrev pub first_bytes : {Z : Type 0} → (List ℕ → Option (List ℕ)) → Option (String Z) → Option (List ℕ) → Option (List ℕ)
 first_bytes content None input = input
 first_bytes content (Some name) input = content name.bytes.items
 
--- JOB BYTES: the bytes with which the job begins, followed by the scripts of files
+-- JOB BYTES: the bytes of the job that the options select, if they are known: the bytes with which the job begins, followed by the scripts of files
 abbrev pub job_bytes : (List ℕ → Option (List ℕ)) → Options → Option (List ℕ) → Option (List ℕ)
 job_bytes content options input = with_scripts content (first_bytes content options.file input) options.scripts.items
 

@@ -24,12 +24,12 @@ begins_section_in starts comment (b ∷ bs) =
     else (if is_line_blank b then begins_section_in false false bs
     else (starts && b == 37))))
 
--- the number of bytes of a file's name up to and including its last `/`. `seen` bytes were tested before these bytes, and `best` is the number for them
+-- the number of bytes of a file's name up to and including its last `/`. `seen` is the number of bytes of the name before these bytes, and `best` is the result for those earlier bytes
 abbrev pub folder_length : ℕ → ℕ → List ℕ → ℕ
 folder_length seen best [] = best
 folder_length seen best (b ∷ bs) = folder_length (seen + 1) (if b == 47 then seen + 1 else best) bs
 
--- a file's name without its folders
+-- a file's name without its folders: what follows after the last `/`
 abbrev pub last_part : List ℕ → List ℕ
 last_part name = drop (folder_length 0 0 name) name
 
@@ -45,7 +45,7 @@ section_head operator = if is_name operator then codes "%operator " ++ operator 
 abbrev pub operator_line : List ℕ → List ℕ → List ℕ
 operator_line name script = if begins_section_in true false script then [] else section_head (operator_of name)
 
--- JOINED: a job, and then the script of a file of this name on a new line, after a `%operator` line if the script needs one
+-- JOINED: the bytes of a job, followed by the script of a file of this name. The script begins on a new line, after a `%operator` line if the script needs one
 abbrev pub joined : List ℕ → List ℕ → List ℕ → List ℕ
 joined job name script = job ++ line_end job ++ operator_line name script ++ script
 

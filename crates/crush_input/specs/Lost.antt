@@ -1,11 +1,11 @@
--- The lost changes of the operators of a run: when they end the run, and what is told of them.
+-- The lost changes of the operators of a run: when they end the run, and which notes say what they are.
 use Rattle.std.specs.Prelude.{◌≡◌, ℕ, ◌<◌, ◌==◌, Bool, true, List, [], ◌++◌, Result, Ok, Err, if◌then◌else◌}
 use Rattle.crush_input.specs.declared.fault.RunFault.{RunFault}
 use Rattle.crush_input.specs.declared.fault.RunFault.TheVariants as run
 use Rattle.crush_input.specs.declared.lost.LostChanges.{LostChanges}
 use Rattle.crush_input.specs.Report.{conflicts_line}
 
--- LOST CHANGES: how many items have a lost change, and a line for each of them
+-- LOST CHANGES: how many items have a lost change, and a line for each of these items
 pub record LostData : Type 0 where
   pub count : ℕ
   pub lines : List ℕ
@@ -13,12 +13,11 @@ pub record LostData : Type 0 where
 abbrev pub lost_data : LostChanges → LostData
 lost_data l = record { count = l.count; lines = l.lines.items }
 
--- what is told of lost changes after another end of the run: the line with their number, and their lines; nothing if there are none
+-- the notes on lost changes if something else has ended the run: the line with the number of items that have a lost change, and then the lines of these items; nothing if there are none
 abbrev pub conflict_notes : LostData → List ℕ
 conflict_notes lost = if lost.count == 0 then [] else conflicts_line lost.count ++ lost.lines
 
--- LOSSLESS: if a run looks for conflicts, then no change is lost when it is done, or when it ends by a failed write, by remaining differences or by a name that the map
--- lacks. A run that ends by lost changes looks for conflicts, and its fault has the number of items with a lost change, at least 1. Nothing is said of other faults.
+-- LOSSLESS: suppose that a run looks for lost changes. If the run succeeds, or if it ends because of a failed write, of remaining differences or of a name that the map doesn't have, then no change is lost. A run that ends because of lost changes looks for them, and its fault has the number of items with a lost change, which is at least 1. The definition says nothing about other faults.
 abbrev pub IsLossless : {X : Type 0} → Bool → LostData → Result X RunFault → Type 0
 IsLossless conflicts lost (Ok x) = conflicts ≡ true → lost.count ≡ 0
 IsLossless conflicts lost (Err run.Write) = conflicts ≡ true → lost.count ≡ 0
@@ -29,7 +28,7 @@ IsLossless conflicts lost (Err run.NoType) = conflicts ≡ true → lost.count �
 IsLossless conflicts lost (Err run.NoClass) = conflicts ≡ true → lost.count ≡ 0
 IsLossless conflicts lost (Err fault) = Unit {0}
 
--- the faults of the check for lost changes: Conflicts, of a run that looks for conflicts only
+-- the faults with which the check for lost changes may fail. The only one is Conflicts, and only for a run that looks for lost changes
 abbrev pub IsConflictsFault : Bool → RunFault → Type 0
 IsConflictsFault conflicts (run.Conflicts n) = conflicts ≡ true
 IsConflictsFault conflicts fault = ⊥

@@ -32,7 +32,7 @@ abbrev pub IsKept : Option MapData → SettingData → List Row → Type 0
 IsKept None s t = ⊥
 IsKept (Some m) s t = MapStands m s t
 
--- WHAT IS STORED OF A JOB'S TEXT, so that notes can be written: the file from which each line comes, the numbers of the lines with each script's edits, the bytes, and the notes on bucket weights in the text that aren't sums
+-- WHAT IS STORED OF A JOB'S TEXT, so that notes can be written later. `origin` gives the file from which each line comes, and `lines` has the numbers of the lines with each script's edits. `bytes` are the bytes of the job (`bytes_kept`), and `weights` are the notes on the weights in the map's text (`weight_notes`)
 pub record TextData : Type 0 where
   pub origin : ℕ → OriginData
   pub lines : List (List ℕ)
@@ -43,14 +43,12 @@ pub record TextData : Type 0 where
 abbrev pub text_data : KeptText → TextData
 text_data k = record { origin = origin_of k.origins; lines = lines_data k.lines.items; bytes = k.bytes.items; weights = k.weights.items }
 
--- NOTES OF REFUSED CALLS: with `--explain`, the lines of these calls with reasons, which depend on the job's text and on the setting
--- and the table before the first call; in any other strict run, the lines without reasons; otherwise nothing
+-- NOTES OF REFUSED CALLS: with `--explain`, the lines of the refused calls with reasons. The reasons depend on the job's text, and on the setting and the table before the first call. In a strict run without `--explain`, the lines without reasons. In any other run, nothing
 abbrev pub refused_notes : Mode → TextData → SettingData → List Row → List (List ℕ) → List EntryData → List ℕ
 refused_notes mode text s t names h =
     if mode.explain then explained_job text.origin text.lines s t names h else (if mode.strict then refused_text names 1 h else [])
 
--- NOTES OF WEIGHTS: with `--explain`, a warning line if the map's text has carriage returns and no line feed, and then a line for each bucket item
--- of this text whose weight isn't the sum in the job's table; otherwise nothing
+-- NOTES OF WEIGHTS: with `--explain`, a warning line if the map's text has carriage returns and no line feed, and then a line for each bucket that this text lists as an item with a weight that isn't the weight of the bucket in the job's table t. In t, the weight of a bucket is the sum of the weights of the devices below it. Without `--explain`, nothing
 abbrev pub weight_notes : Bool → List ℕ → List Row → List ℕ
 weight_notes explain bytes t = if explain then written_text t (map_part bytes) else []
 
@@ -58,7 +56,7 @@ weight_notes explain bytes t = if explain then written_text t (map_part bytes) e
 abbrev pub bytes_kept : Bool → List ℕ → List ℕ
 bytes_kept explain bytes = if explain then bytes else []
 
--- THE TEXT that a run stores of a job with these bytes and this table; `origin` says from which file each line comes
+-- THE TEXT that a run stores of a job with these bytes and with the table t; `origin` says from which file each line comes
 abbrev pub text_of : Bool → (ℕ → OriginData) → List ℕ → List Row → TextData
 text_of explain origin bytes t = record { origin = origin; lines = job_lines bytes; bytes = bytes_kept explain bytes; weights = weight_notes explain bytes t }
 
@@ -66,18 +64,16 @@ text_of explain origin bytes t = record { origin = origin; lines = job_lines byt
 abbrev pub history_notes : Mode → TextData → SettingData → List Row → List (List ℕ) → List EntryData → List ℕ
 history_notes mode text s t names h = refused_notes mode text s t names h ++ text.weights
 
--- LINES OF CREATED BUCKETS: the history lines of the calls that created more buckets than they have `add-bucket` commands; with `--explain`, each with hints, which depend on
--- the setting and the table before the first call
+-- LINES OF CREATED BUCKETS: the history lines of the calls that created more buckets than they have `add-bucket` commands. With `--explain`, hints follow each of these lines. The hints depend on the setting and the table before the first call
 abbrev pub created_lines : Bool → SettingData → List Row → List (List ℕ) → List EntryData → List ℕ
 created_lines explain s t names h = if explain then created_text s t names h else made_text names 1 h
 
--- NOTES OF CREATED BUCKETS of a run that refused calls ended: with `--no-make`, the line with the number of the calls that created more buckets than they have `add-bucket`
--- commands, and the lines of these calls; otherwise, or if there are no such calls, nothing
+-- NOTES OF CREATED BUCKETS in a run that ended because of refused calls. If the run has `--no-make`, and if calls created more buckets than they have `add-bucket` commands, the notes are the line with the number of these calls, and then the lines of these calls. Otherwise there are none
 abbrev pub created_notes : Mode → SettingData → List Row → List (List ℕ) → List EntryData → List ℕ
 created_notes mode s t names h =
     if mode.no_make then (if makings h == 0 then [] else made_line (makings h) ++ created_lines mode.explain s t names h) else []
 
--- NOTES OF A FAULT OF BYTES: with `--explain`, the fault's place in the file that its line comes from, and the reason; otherwise nothing
+-- NOTES OF A FAULT OF THE JOB'S BYTES: with `--explain`, the reason for the fault, and its place in the file from which the line with the fault comes; otherwise nothing
 abbrev pub place_notes : Bool → (ℕ → OriginData) → List ℕ → JobFault → List ℕ
 place_notes explain origin bytes fault = if explain then fault_text (origin (fault_line bytes fault)) bytes fault else []
 
@@ -89,7 +85,7 @@ unread_text name reason = codes "  " ++ map shown_byte name ++ codes ": " ++ rea
 abbrev pub IsNoteOfUnreadFile : List ℕ → List ℕ → Type 0
 IsNoteOfUnreadFile name notes = (reason : List ℕ) × (notes ≡ unread_text name reason)
 
--- NOTES OF A FILE of this name, whose reading ended with a fault: if a read failed and `--explain` is given, the note about the file; otherwise nothing
+-- NOTES OF A FILE of this name, if this fault occurred when the file was read. If the file couldn't be opened or read, and `--explain` is given, the notes are the note about the file. In all other cases there are none
 abbrev pub AreNotesOfFile : Bool → List ℕ → RunFault → List ℕ → Type 0
 AreNotesOfFile explain name run.Read notes = (explain ≡ false → notes ≡ []) × (explain ≡ true → IsNoteOfUnreadFile name notes)
 AreNotesOfFile explain name fault notes = notes ≡ []
@@ -98,7 +94,7 @@ AreNotesOfFile explain name fault notes = notes ≡ []
 abbrev pub flaw_notes : Bool → List ℕ → List ℕ → TextFault → List ℕ
 flaw_notes explain name bytes fault = if explain then fault_text (whole_of name) bytes (job.Text fault) else []
 
--- the notes of a fault of the second map. For a flaw they are `flaw_notes`, if the map's bytes are known. If the map is too long, there are none. If its file can't be read, they are the note about the file
+-- the notes of a fault of the second map. For a flaw, they are `flaw_notes`, if the map's bytes are known. If the map is too long, there are none. If its file can't be read, they are the note about the file with `--explain`, and there are none without it
 abbrev pub AreNotesOfSecondMapFault : Bool → List ℕ → Option (List ℕ) → SecondMapFault → List ℕ → Type 0
 AreNotesOfSecondMapFault explain name all (unread.Text fault) notes = (explain ≡ false → notes ≡ []) × IfSome all (λ bytes. notes ≡ flaw_notes explain name bytes fault)
 AreNotesOfSecondMapFault explain name all unread.TooLong notes = notes ≡ []
@@ -109,11 +105,7 @@ abbrev pub AreNotesOfSecondMap : Bool → List ℕ → Option (List ℕ) → Run
 AreNotesOfSecondMap explain name all (run.SecondMap which fault) notes = AreNotesOfSecondMapFault explain name all fault notes
 AreNotesOfSecondMap explain name all fault notes = notes ≡ []
 
--- NOTES OF A HISTORY: the notes of refused calls and of weights, if the run succeeds, or ends because of a failed write or of a name that the map doesn't have.
--- If it ends because of refused calls, the notes of created buckets come after these notes, and then the lines of the lost changes `lost`, after a line with their number. If it
--- ends because of calls that created buckets, the lines of these calls come before these notes, and the lines of the lost changes come after these notes in the same way. If it
--- ends because of lost changes, their lines come before these notes. If it ends because of differences that remain after a plan, `rest`, the lines of these differences, comes
--- after these notes. Nothing is said of other faults.
+-- NOTES OF A HISTORY: how the notes of a run depend on its end. If the run succeeds, or ends because of a failed write or of a name that the map doesn't have, the notes are `history_notes`: the notes of refused calls and of weights. If refused calls end the run, the notes of created buckets follow after `history_notes`, and then the lines of the lost changes `lost`, after a line with the number of items that have a lost change. If calls that created buckets end the run, the lines of these calls come before `history_notes`, and the lines of the lost changes follow after `history_notes` in the same way. If lost changes end the run, their lines come before `history_notes`. If differences that remain after a plan end the run, `rest`, the lines of these differences, follows after `history_notes`. The definition says nothing about other faults.
 abbrev pub AreNotesOfHistory : {X : Type 0} → Mode → TextData → SettingData → List Row → List (List ℕ) → List EntryData → List ℕ → LostData → Result X RunFault → List ℕ → Type 0
 AreNotesOfHistory mode text s t names h rest lost (Ok x) notes = notes ≡ history_notes mode text s t names h
 AreNotesOfHistory mode text s t names h rest lost (Err run.Write) notes = notes ≡ history_notes mode text s t names h
@@ -126,9 +118,7 @@ AreNotesOfHistory mode text s t names h rest lost (Err run.NoType) notes = notes
 AreNotesOfHistory mode text s t names h rest lost (Err run.NoClass) notes = notes ≡ history_notes mode text s t names h
 AreNotesOfHistory mode text s t names h rest lost (Err fault) notes = Unit {0}
 
--- NOTES WITHOUT A HISTORY: what is true of the notes of a fault, whatever the history is. For a fault of the bytes, the notes have its place if the bytes are known, and without
--- `--explain` there are none. For a failed write, or a name that the map doesn't have, there are none without `--explain`. Nothing is said of refused calls, created buckets, lost
--- changes and remaining differences. For any other fault there are none.
+-- NOTES WITHOUT A HISTORY: what is true of the notes of a fault, whatever the history is. For a fault of the job's bytes, there are none without `--explain`. If the bytes are known, the notes are `place_notes`. For a failed write, or for a name that the map doesn't have, there are none without `--explain`. The definition says nothing about the notes of refused calls, of created buckets, of lost changes and of remaining differences. For any other fault there are none.
 abbrev pub AreNotesOfFault : Bool → (ℕ → OriginData) → Option (List ℕ) → RunFault → List ℕ → Type 0
 AreNotesOfFault explain origin all (run.Job fault) notes = (explain ≡ false → notes ≡ []) × IfSome all (λ bytes. notes ≡ place_notes explain origin bytes fault)
 AreNotesOfFault explain origin all run.Write notes = explain ≡ false → notes ≡ []
@@ -146,9 +136,7 @@ abbrev pub AreNotesOfResult : {X : Type 0} → Bool → (ℕ → OriginData) →
 AreNotesOfResult explain origin all (Ok x) notes = explain ≡ false → notes ≡ []
 AreNotesOfResult explain origin all (Err fault) notes = AreNotesOfFault explain origin all fault notes
 
--- STRICT: if a run is strict, its history has no refused entry when the run succeeds, or when it fails because of a failed write, of created buckets, of remaining differences or of
--- a name that the map doesn't have. A run that fails because of refusals is strict, and its fault has their number, at least 1. Only a strict run fails because of remaining
--- differences. The definition says nothing about other faults.
+-- STRICT: a strict run has no refused entry in its history if it succeeds, or if it fails because of a failed write, of created buckets, of lost changes, of remaining differences or of a name that the map doesn't have. A run that fails because of refused calls is strict, and its fault has the number of refused entries, which is at least 1. Only a strict run fails because of remaining differences. The definition says nothing about other faults.
 abbrev pub IsStrict : {X : Type 0} → Bool → List EntryData → Result X RunFault → Type 0
 IsStrict strict h (Ok x) = strict ≡ true → refusals h ≡ 0
 IsStrict strict h (Err run.Write) = strict ≡ true → refusals h ≡ 0
@@ -161,9 +149,7 @@ IsStrict strict h (Err run.NoType) = strict ≡ true → refusals h ≡ 0
 IsStrict strict h (Err run.NoClass) = strict ≡ true → refusals h ≡ 0
 IsStrict strict h (Err fault) = Unit {0}
 
--- NO MAKE: with `--no-make`, no entry of the history created more buckets than its call has `add-bucket` commands when the run succeeds, or when it ends because of a failed write,
--- of lost changes, of remaining differences or of a name that the map doesn't have. A run that ends because of such entries has `--no-make`, and its fault has their number, at least 1.
--- Nothing is said of other faults.
+-- NO MAKE: suppose that a run has `--no-make`. If the run succeeds, or if it fails because of a failed write, of lost changes, of remaining differences or of a name that the map doesn't have, then no entry of its history created more buckets than its call has `add-bucket` commands. A run that fails because of such entries has `--no-make`, and its fault has the number of these entries, which is at least 1. The definition says nothing about other faults.
 abbrev pub IsNoMake : {X : Type 0} → Bool → List EntryData → Result X RunFault → Type 0
 IsNoMake no_make h (Ok x) = no_make ≡ true → makings h ≡ 0
 IsNoMake no_make h (Err run.Write) = no_make ≡ true → makings h ≡ 0

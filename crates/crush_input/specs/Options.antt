@@ -1,4 +1,4 @@
--- What a run prints and reads for its command line, and the notes of the faults that occur meanwhile.
+-- The output that a command line selects, with the second map that this output may need. The faults that may occur when the maps and scripts of a command line are read, and the notes of these faults.
 use Rattle.std.specs.Prelude.{◌≡◌, ◌⊎◌, ℕ, ◌<◌, ◌≤◌, Bool, false, List, [], Option, None, Some, Result, Err, IfSome, String, length, option_map, slice_index_or}
 use Rattle.crush_model.specs.Table.{Row}
 use Rattle.crush_model.specs.Stands.{Stands}
@@ -88,7 +88,7 @@ IsSecondMapFault bytes (unread.Text fault) = (length bytes ≤ LONGEST_JOB) × I
 IsSecondMapFault bytes unread.TooLong = LONGEST_JOB < length bytes
 IsSecondMapFault bytes unread.Read = Unit {0}
 
--- the faults with which reading the map for the option `why` may fail: a fault of this map, which the bytes of its file have if they are known; or memory ran out
+-- the faults with which reading the second map, which the option `why` names, may fail: a fault of this map, or memory ran out. If the bytes of the map's file are known, they have the fault of the map
 abbrev pub IsMapFault : SecondMap → Option (List ℕ) → RunFault → Type 0
 IsMapFault why all (run.SecondMap which fault) = (which ≡ why) × IfSome all (λ bytes. IsSecondMapFault bytes fault)
 IsMapFault why all run.Memory = Unit {0}
@@ -102,7 +102,7 @@ IsOutputFault content (output_spec.Changes words) fault = IsMapFault second.Sinc
 IsOutputFault content (output_spec.To words) fault = IsMapFault second.To (content words.map.bytes.items) fault
 IsOutputFault content what fault = ⊥
 
--- the notes of such a fault: for a second map the notes about its file, and for a tree none
+-- the notes of a fault of `IsOutputFault`: for a second map the notes about its file, and for a tree none
 abbrev pub AreNotesOfOutputFault : (List ℕ → Option (List ℕ)) → Bool → OutputSpec → RunFault → List ℕ → Type 0
 AreNotesOfOutputFault content explain (output_spec.Tree part) fault notes = notes ≡ []
 AreNotesOfOutputFault content explain (output_spec.Since words) fault notes = AreNotesOfSecondMap explain words.map.bytes.items (content words.map.bytes.items) fault notes
@@ -129,17 +129,16 @@ pub record IsPartUnread (options : Options) (notes : List ℕ) : Type 0 where
   pub named : IsFile options.file name ⊎ IsScript options.scripts.items name
   pub unread : IsNoteOfUnreadFile name notes
 
--- NOTES OF A JOB that couldn't be read: without `--explain` none; with `--explain` none, or the note about a file as in `IsPartUnread`
+-- NOTES OF A JOB that couldn't be read: without `--explain` none. With `--explain`, either none or the note about a file, as `IsPartUnread` says
 abbrev pub AreNotesOfFailedRead : Options → List ℕ → Type 0
 AreNotesOfFailedRead options notes = (options.mode.explain ≡ false → notes ≡ []) × ((notes ≡ []) ⊎ IsPartUnread options notes)
 
--- the notes of a fault that occurs while the bytes of a job are read: after a failed read as in `AreNotesOfFailedRead`, and none after any other fault
+-- the notes of a fault that occurs while the bytes of a job are read: after a failed read, the notes that `AreNotesOfFailedRead` allows, and none after any other fault
 abbrev pub AreNotesOfInputFault : Options → RunFault → List ℕ → Type 0
 AreNotesOfInputFault options run.Read notes = AreNotesOfFailedRead options notes
 AreNotesOfInputFault options fault notes = notes ≡ []
 
--- NOTES FOR OPTIONS: the notes of a run with these options. After a fault of the second map, they are the notes of that map. After a failed read, they are the notes of a job that couldn't be read.
--- For any other result, they are the notes that any run has for this result. If they show a place, it is the place in the file from which the line comes.
+-- NOTES FOR OPTIONS: the notes of a run with these options. After a fault of the second map, they are the notes about the file of that map. After a failed read, they are the notes of a job that couldn't be read. For any other result, they are notes that every run may have for this result (`AreNotesOfResult`). If the notes give the place of a fault of the job, it is the place in the file from which the line with the fault comes.
 abbrev pub AreNotesForOptions : (List ℕ → Option (List ℕ)) → Options → Option (List ℕ) → Result Summary RunFault → List ℕ → Type 0
 AreNotesForOptions content options input (Err (run.SecondMap which fault)) notes = AreNotesOfOutputFault content options.mode.explain options.output_spec (run.SecondMap which fault) notes
 AreNotesForOptions content options input (Err run.Read) notes = AreNotesOfFailedRead options notes

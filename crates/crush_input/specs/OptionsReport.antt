@@ -8,7 +8,7 @@ use Rattle.crush_input.specs.Report.{run_fault}
 use Rattle.crush_input.specs.Words.{no_words}
 use Rattle.crush_input.specs.declared.fault.RunFault.TheVariants as run
 
--- the status: 0 or 3 if the help or the version was requested, 2 if the command line was rejected, and 4 if memory ran out
+-- the status: 2 if the command line was rejected, and 4 if memory ran out. If the help or the version was requested: 0 if all of it was written, and 3 if writing it failed (`IsHelpWhole`)
 abbrev pub IsOptionsStatus : OptionsFault → ℕ → Type 0
 IsOptionsStatus (Help text) status = (status ≡ 0) ⊎ (status ≡ 3)
 IsOptionsStatus (Refused text) status = status ≡ 2
@@ -26,8 +26,7 @@ options_error (Help text) = run_fault no_words run.Write
 options_error (Refused text) = text.bytes.items
 options_error Memory = run_fault no_words run.Memory
 
--- if the help ends with status 0, standard output has received all of it, and standard error nothing. If it ends with status 3, standard output
--- has received less than all of it
+-- if the help or the version was requested and the status is 0, then standard output has received all of its text, and standard error has received nothing. If the status is 3, then standard output has received less than all of the text
 abbrev pub IsHelpWhole : OptionsFault → ℕ → Option (List ℕ) → Option (List ℕ) → Option (List ℕ) → Option (List ℕ) → Type 0
 IsHelpWhole (Help text) status out new_out err new_err = (status ≡ 0 → Appends out new_out text.bytes.items × Keeps err new_err) × (status ≡ 3 → AppendsLess out new_out text.bytes.items)
 IsHelpWhole fault status out new_out err new_err = Unit {0}

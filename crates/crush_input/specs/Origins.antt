@@ -14,12 +14,12 @@ whole_of name = record { name = name; before = 0 }
 abbrev pub within : ScriptSpanData → OriginData
 within p = record { name = p.name; before = p.before }
 
--- the origin of a line, from the parts in their order: the last part that begins at the line or before it, or `found` if there is no such part
+-- the origin of a line, according to these parts in their order: that of the last part that begins at this line or before it, or `found` if there is no such part
 abbrev pub origin_in : OriginData → List ScriptSpanData → ℕ → OriginData
 origin_in found [] line = found
 origin_in found (p ∷ ps) line = origin_in (if nat_le p.from line then within p else found) ps line
 
--- the origin of a line, from the files that a run stores
+-- the origin of a line, according to the files that a run has stored in `Origins`
 abbrev pub origin_of : Origins → ℕ → OriginData
 origin_of o line = origin_in (whole_of o.first.now) (map script_span_data o.spans.items) line
 

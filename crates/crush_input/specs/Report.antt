@@ -51,7 +51,7 @@ refused_line count = codes "crushedit: refused " ++ decimal count ++ codes "\n"
 abbrev pub made_line : ℕ → List ℕ
 made_line count = codes "crushedit: made " ++ decimal count ++ codes "\n"
 
--- the line with the number of items that have a lost change. The line is printed if lost changes ended a run, and in the notes of a run that refused calls or created buckets ended
+-- the line with the number of items that have a lost change. If lost changes ended the run, it is the first line on standard error. If refused calls or created buckets ended the run, and there are lost changes, it is in the notes
 abbrev pub conflicts_line : ℕ → List ℕ
 conflicts_line count = codes "crushedit: conflicts " ++ decimal count ++ codes "\n"
 
@@ -113,7 +113,7 @@ abbrev pub unread_reason : SecondMap → List ℕ
 unread_reason second.Since = codes "  the file of --since can't be opened or can't be read to its end\n"
 unread_reason second.To = codes "  the file of --to can't be opened or can't be read to its end\n"
 
--- the reason for a fault of the second map; nothing for a flaw of its text, whose reason is in the notes
+-- the reason for a fault of the second map. There is none for a flaw of the map's text, because the notes have the reason for a flaw
 abbrev pub second_map_reason : SecondMap → SecondMapFault → List ℕ
 second_map_reason which (unread.Text f) = if is_out_of_memory f.kind then memory_reason else []
 second_map_reason which unread.TooLong = long_reason which
@@ -140,7 +140,7 @@ abbrev pub outcome_reason : Result Summary RunFault → List ℕ
 outcome_reason (Ok s) = []
 outcome_reason (Err f) = fault_reason f
 
--- the first line; with `--explain`, the reason follows
+-- the first line, and the reason after it if `--explain` is given
 abbrev pub report_lines : WordsData → Result Summary RunFault → List ℕ
 report_lines w outcome = report_line w outcome ++ (if w.explain then outcome_reason outcome else [])
 
@@ -170,9 +170,11 @@ fault_status run.NoType = 1
 fault_status run.NoClass = 1
 fault_status (run.SecondMap which f) = second_map_status f
 
--- STATUS: 0 if the run succeeded, or 6 if its summary says that there is something to report. If the run failed: 1 if the bytes aren't a job or the second map isn't a map, or
--- if the map lacks a name of the command line; 3 if reading or writing failed; 4 if memory ran out or a thread couldn't be started; 5 if calls of a strict
--- run were refused, differences remain after its plan, buckets were made in spite of `--no-make`, or changes were lost
+-- STATUS: 0 if the run succeeded, or 6 if it succeeded and its summary says that there is something to report. If the run failed, the status is:
+-- 1 if the bytes aren't a job, the second map isn't a map, or the map lacks a name of the command line;
+-- 3 if reading or writing failed;
+-- 4 if memory ran out, or a thread couldn't be started;
+-- 5 if calls of a strict run were refused, if differences remain after the plan of a strict run, if calls created buckets in spite of `--no-make`, or if changes were lost.
 abbrev pub status : Result Summary RunFault → ℕ
 status (Ok s) = if s.differs then 6 else 0
 status (Err f) = fault_status f

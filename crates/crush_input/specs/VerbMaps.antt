@@ -35,7 +35,7 @@ end_line = codes "# end crush map"
 abbrev pub is_text_byte : ℕ → Bool
 is_text_byte b = not (is_line_blank b || b == 10)
 
--- the number of bytes up to the last one that is neither a blank nor a line feed. `seen` bytes were tested before these bytes, and `best` is the number for them
+-- the number of bytes up to and including the last one that is neither a blank nor a line feed. `seen` is the number of bytes of the text before these bytes, and `best` is the result for those earlier bytes
 abbrev pub text_length : ℕ → ℕ → List ℕ → ℕ
 text_length seen best [] = best
 text_length seen best (b ∷ bs) = text_length (seen + 1) (if is_text_byte b then seen + 1 else best) bs
@@ -48,7 +48,7 @@ without_end bytes = take (text_length 0 0 bytes) bytes
 abbrev pub ends_in_end_line : List ℕ → Bool
 ends_in_end_line bytes = bytes_eq bytes end_line || ends_with (λ a b. a == b) bytes (codes "\n# end crush map")
 
--- WHOLE: whether the last line that has more than blanks is `# end crush map`; blanks may follow these words in the line
+-- WHOLE: whether the last line that isn't blank is `# end crush map`. Blanks may follow these words in the line
 abbrev pub is_whole : List ℕ → Bool
 is_whole bytes = ends_in_end_line (without_end bytes)
 
@@ -57,15 +57,15 @@ abbrev pub wants_whole : MapForm → Bool
 wants_whole form.WholeMap = true
 wants_whole other = false
 
--- CUT: whether a text without another fault counts as cut: it must be complete, and isn't
+-- CUT: whether the text of a map counts as cut, if it has no other fault: it must be complete, and isn't
 abbrev pub is_cut : MapForm → List ℕ → Bool
 is_cut maps bytes = wants_whole maps && not (is_whole bytes)
 
--- whether a text with a fault at this place counts as cut: it must be complete and isn't, and no line feed follows the place
+-- whether a text with a fault at this place counts as cut: it must be complete and isn't, and no line feed is at the place or after it
 abbrev pub is_cut_at : MapForm → List ℕ → ℕ → Bool
 is_cut_at maps bytes place = is_cut maps bytes && (line_feeds (drop (min place (length bytes)) bytes) == 0)
 
--- A MAP: there are at most as many bytes as a job may have, they are the text of a map, and this text is complete if it must be
+-- A MAP: the verb can use these bytes. There are at most as many bytes as a job may have, they are the text of a map, and this text is complete if it must be
 pub record IsVerbMap (maps : MapForm) (bytes : List ℕ) : Type 0 where
   pub short : length bytes ≤ LONGEST_JOB
   pub setting : SettingData
@@ -80,7 +80,7 @@ pub record MayBeVerbMap (maps : MapForm) (bytes : List ℕ) : Type 0 where
   pub single : map_part bytes ≡ bytes
   pub whole : is_cut maps bytes ≡ false
 
--- whether a run that ends with this fault may have ended before it parsed its maps
+-- whether a run that ends with this fault may have ended before it parsed all of its maps
 abbrev pub may_precede_maps : RunFault → Bool
 may_precede_maps (run.Job fault) = true
 may_precede_maps run.Read = true
@@ -88,7 +88,7 @@ may_precede_maps run.Memory = true
 may_precede_maps (run.SecondMap map fault) = true
 may_precede_maps other = false
 
--- the bytes count as cut: they are the text of a map that must be complete and isn't, or they have a flaw after whose place no line feed follows
+-- the bytes count as cut. They must be complete, but aren't (`is_cut`). Also, they are the text of a map, or they have a flaw for which no line feed is at its place or after it
 abbrev pub IsCutText : MapForm → List ℕ → Type 0
 IsCutText maps bytes =
     ((s : SettingData) × (t : List Row) × (n : ℕ) × IsMapText bytes s t n × (is_cut maps bytes ≡ true))
@@ -98,7 +98,7 @@ IsCutText maps bytes =
 abbrev pub IsCutMap : MapForm → List ℕ → Type 0
 IsCutMap maps bytes = (length bytes ≤ LONGEST_JOB) × IsCutText maps bytes
 
--- a flaw that is reported: the text has this flaw, and doesn't count as cut
+-- a flaw that is reported: the text isn't longer than a job may be, it has this flaw, and it doesn't count as cut
 abbrev pub IsToldFlaw : MapForm → List ℕ → TextFault → Type 0
 IsToldFlaw maps bytes fault = (length bytes ≤ LONGEST_JOB) × (IsMapFlaw bytes fault × (is_cut_at maps bytes fault.place ≡ false))
 
@@ -130,13 +130,13 @@ verb_flaw_notes shown bytes fault =
     if begins_script bytes fault then flaw_place_text (whole_of shown) bytes fault ++ codes "  scripts are files of their own here: crushedit apply MAP SCRIPT\n"
     else fault_text (whole_of shown) bytes (job.Text fault)
 
--- the reason for a fault that has no place. There is none for a failed read, whose reason is in the note about the file, and none if memory ran out
+-- the reason for a fault that isn't a flaw, so that it has no place. There is none for a failed read, because the note about the file has the reason, and none if memory ran out
 abbrev pub verb_map_reason : VerbMapFault → List ℕ
 verb_map_reason verb.Cut = codes "  the text doesn't end with `# end crush map`: was it cut? If it is whole, add that line\n"
 verb_map_reason verb.TooLong = codes "  the file of a map has at most 16777216 bytes\n"
 verb_map_reason fault = []
 
--- a flaw is in at most as many bytes as a job may have, so that its place has a line and a column; other faults have no place
+-- if the fault is a flaw, there are at most as many bytes as a job may have, so that the place of the flaw has a line and a column. Other faults have no place
 abbrev pub CanBeShown : VerbMapFault → List ℕ → Type 0
 CanBeShown (verb.Text fault) bytes = length bytes ≤ LONGEST_JOB
 CanBeShown fault bytes = Unit {0}
@@ -146,13 +146,13 @@ abbrev pub verb_map_notes : List ℕ → List ℕ → VerbMapFault → List ℕ
 verb_map_notes shown bytes (verb.Text fault) = verb_flaw_notes shown bytes fault
 verb_map_notes shown bytes fault = verb_map_reason fault
 
--- NOTES OF A FAULT of the file `name`, as in `verb_map_notes`. The notes of a flaw depend on the file's bytes; a failed read has the note about the file
+-- NOTES OF A FAULT of the file `name`. For a flaw, they are `verb_flaw_notes`, if the file's bytes are known. If the file can't be read, they are the note about the file. For any other fault they are the reason (`verb_map_reason`)
 abbrev pub AreNotesOfVerbMap : List ℕ → List ℕ → Option (List ℕ) → VerbMapFault → List ℕ → Type 0
 AreNotesOfVerbMap name shown all (verb.Text fault) notes = IfSome all (λ bytes. notes ≡ verb_flaw_notes shown bytes fault)
 AreNotesOfVerbMap name shown all verb.Read notes = IsNoteOfUnreadFile name notes
 AreNotesOfVerbMap name shown all fault notes = notes ≡ verb_map_reason fault
 
--- the words before a fault of a map, which say which map it is; nothing for the map from which a run begins
+-- the words before a fault of a map, which say which map has the fault; nothing for the map with which a run begins
 abbrev pub map_prefix : VerbMap → List ℕ
 map_prefix which.First = []
 map_prefix which.Old = codes "old: "

@@ -1,4 +1,4 @@
--- What the report on standard error needs to know of the command line.
+-- The values of a command line that the report on standard error needs.
 use Rattle.std.specs.Prelude.{ℕ, Bool, false, List, [], unwrap_or}
 use Rattle.crush_options.specs.declared.parsed_options.Options.{Options}
 use Rattle.crush_options.specs.OutputFlags.{flags_by}
@@ -15,11 +15,11 @@ pub record WordsData : Type 0 where
 abbrev pub words_data : Words → WordsData
 words_data w = record { explain = w.explain; under = w.under.now; down_to = w.down_to.now; class = w.class.now }
 
--- these values if no option is given
+-- these values for a command line that has none of these options
 abbrev pub no_words : WordsData
 no_words = record { explain = false; under = []; down_to = []; class = [] }
 
--- these values of a command line that has these options
+-- these values for a command line with these options
 abbrev pub words_of : Options → WordsData
 words_of options = record {
   explain = options.mode.explain;

@@ -8,24 +8,25 @@ use crush_script::Job;
 use std::alloc::Global;
 use thiserror::Error;
 
-/// What is stored of a job's text, from which notes about the text can be written later.
+/// The parts of a job's text that are stored, so that notes about the text can be written later.
 #[derive(Drop)]
 pub struct KeptText<'a> {
-    /// The bytes of the job. Without `explain` they are empty.
+    /// The bytes of the job. They are stored only with `explain`; otherwise this vector is empty.
     pub bytes: Vec<u8>,
-    /// For each script of the job, the numbers of the lines that have its edits.
+    /// For each script of the job, the numbers of the lines that have its edits, from 1.
     pub lines: Vec<Vec<u32>>,
-    /// The files that the lines of the job come from.
+    /// The files from which the lines of the job come.
     pub origins: Origins<'a>,
-    /// The notes on the map's text: about carriage returns in it, and about each bucket whose weight
-    /// in it isn't the sum of the devices below the bucket. Without `explain` they are empty.
+    /// The notes on the map's text: a warning if the text has carriage returns and no line feed,
+    /// and a line for each bucket whose weight in the text isn't the sum of the weights of the
+    /// devices below the bucket. Without `explain` this vector is empty.
     pub weights: Vec<u8>,
 }
 
-/// A parsed job, and what is stored of its text.
+/// A parsed job, and the stored parts of its text.
 #[derive(Drop)]
 pub struct ParsedJob<'a> {
-    /// The job. It doesn't have the line numbers of its edits, which are stored in `text`.
+    /// The job, but without the line numbers of its edits. These numbers are stored in `text`.
     pub job: Job,
     pub text: KeptText<'a>,
 }

@@ -405,19 +405,22 @@ pub struct ReportOutcome {
 
 /// Writes the text for standard error about a run, and returns the status of the program.
 ///
-/// The text begins with at most one line on the outcome of the run. With `--explain`, a line with
-/// the reason for a fault follows, unless the notes have the reason. The text ends with `notes`.
+/// The text begins with a line on the outcome of the run. It has no such line if the run has
+/// succeeded and has replaced no bucket weights. With `--explain`, a line with the reason for a
+/// fault follows, unless the notes have the reason. The text ends with `notes`.
 ///
 /// The status is:
 ///
 /// - 0: The run has succeeded.
 /// - 6: The run has succeeded, and with `--exit-code` there is something to report.
 /// - 1: The input isn't a job, the file of `--since` or `--to` isn't a map, or the map after the
-///   scripts lacks the item of `--under`, the type of `--down-to` or the class of `--class`.
+///   scripts lacks the item of `--under`, the type of `--down-to` or the class of `--class`. (For a
+///   tree of what has changed, it is enough that the map of `--since` has the class.)
 /// - 3: Reading or writing failed.
 /// - 4: Memory ran out, or a thread couldn't be started.
-/// - 5: The run was ended by refused calls, by calls that created buckets, by lost changes, or by
-///   differences that remain. The notes list them.
+/// - 5: The run ended because calls were refused, because calls created buckets in spite of
+///   `--no-make`, because changes were lost, or because differences remain after the plan of a
+///   strict run. The notes list these calls, changes or differences.
 ///
 /// If writing to standard error fails, `written` says so, and the status doesn't change.
 pub fn report<E: Write>(

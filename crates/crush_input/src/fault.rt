@@ -6,7 +6,7 @@ use crush_units::WriteFault;
 use std::alloc::{AllocError, AllocFailed};
 use thiserror::Error;
 
-/// The option for which a map other than the job's map is read.
+/// The option that names a second map, which is a map other than the job's map.
 #[derive(Clone, Copy, Debug, PartialEq, Eq)]
 pub enum SecondMap {
     /// `--since`: the changes since this map are printed.
@@ -18,8 +18,8 @@ pub enum SecondMap {
 /// Why the map of `--since` or `--to` could not be read.
 #[derive(Clone, Copy, Debug, PartialEq, Eq, Error)]
 pub enum SecondMapFault {
-    /// The map's text has this fault. The place of the fault is the 0-based index of a byte of the
-    /// file. The fault is never that memory ran out.
+    /// The map's text has this fault. The place of the fault is an index in the bytes of the file,
+    /// from 0. The fault is never that memory ran out.
     #[error("{0}")]
     Text(TextFault),
     /// The map's file has more than 16,777,216 bytes.
@@ -33,8 +33,8 @@ pub enum SecondMapFault {
 /// Why a run failed. Nothing was written, except in the case of [`RunFault::Write`].
 #[derive(Clone, Copy, Debug, PartialEq, Eq, Error)]
 pub enum RunFault {
-    /// The bytes that were read aren't a job. The `JobFault` is never the one that says that memory
-    /// ran out: that is [`RunFault::Memory`].
+    /// The bytes that were read aren't a job. The `JobFault` never says that memory ran out,
+    /// because the fault of the run is then [`RunFault::Memory`].
     #[error("{0}")]
     Job(JobFault),
     /// Standard input or a file of the job couldn't be opened or read.
@@ -51,10 +51,13 @@ pub enum RunFault {
     /// The run is strict, and this many of its calls were refused.
     #[error("refused {0}")]
     Refused(u32),
-    /// With `--no-make`, this many calls created more buckets than they have `add-bucket` commands.
+    /// The run has `--no-make`, and this many of its calls created more buckets than they have
+    /// `add-bucket` commands.
     #[error("made {0}")]
     Made(usize),
-    /// Scripts run without `--last-wins`, and this many items have a change that is lost.
+    /// The run looks for lost changes, and this many items have a lost change. A command line that
+    /// begins with `apply` looks for them if it has at least two scripts, and doesn't have
+    /// `--last-wins`.
     #[error("conflicts {0}")]
     Conflicts(usize),
     /// The job was read, but the map of `--since` or `--to` couldn't be read.

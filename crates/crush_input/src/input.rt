@@ -18,19 +18,19 @@ use crush_units::limits::LONGEST_JOB;
 use std::alloc::{AllocError, Global};
 use std::io::{self, Read};
 
-/// The largest number of bytes that are read. It is one more than a job may have, so that a job
-/// with too many bytes is noticed.
+/// The largest number of bytes that are read from one reader. It is one more than a job may have,
+/// so that a job with too many bytes is noticed.
 pub const MOST_BYTES: usize = LONGEST_JOB + 1;
 
 /// The largest number of bytes that one read requests.
 const PIECE: usize = 65_536;
 
-/// Reads the bytes of a job up to their end. If there are more bytes than a job may have, reads
-/// only one byte too many.
+/// Reads the bytes of a job up to their end. If there are more bytes than a job may have, the
+/// function reads one byte more than a job may have, and then stops.
 ///
 /// The function reads at most [`MOST_BYTES`] (16,777,217) bytes, with at most as many reads, even
-/// if it fails. It fails with [`RunFault::Read`] if a read fails; that read isn't repeated. It
-/// fails with [`RunFault::Memory`] if memory runs out.
+/// if it fails. If a read fails, the function doesn't repeat the read, and fails with
+/// [`RunFault::Read`]. If memory runs out, it fails with [`RunFault::Memory`].
 pub fn read_bytes<R: Read>(alloc: Global, reader: &mut R) -> Result<Vec<u8>, RunFault>
     ensures few { IfOk result (λ bytes. length bytes.items ≤ MOST_BYTES) }
     ensures fault { IfErr result IsInputFault }
@@ -125,8 +125,8 @@ fn read_without_notes<R: Read>(
     }
 }
 
-/// Reads at most `most` bytes of an open file. With `explain`, a note about a failed read has the
-/// file's name and the system's reason.
+/// Reads at most `most` bytes of the open file `name`. If a read fails and `explain` is set, a note
+/// has the file's name and the system's reason.
 fn read_named<R: Read>(
     alloc: Global,
     explain: bool,

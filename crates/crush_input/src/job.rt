@@ -22,8 +22,8 @@ use std::hash::RandomState;
 use std::io::Read;
 use std::random::RandomSource;
 
-/// Returns hashing with random keys from the system. If the system has none, returns hashing
-/// without keys.
+/// Returns the hashing of names with random keys from the system. If the system provides no keys,
+/// returns hashing without keys.
 pub(crate) fn drawn_hashing<H: RandomSource>(rt: &H) -> Hashing {
     match RandomState::new(rt) {
         Ok(keys) => Hashing::keyed(keys),
@@ -31,12 +31,14 @@ pub(crate) fn drawn_hashing<H: RandomSource>(rt: &H) -> Hashing {
     }
 }
 
-/// Parses the bytes of a job, whose lines come from the files in `origins`.
+/// Parses the bytes of a job. `origins` says from which file each line of the job comes.
 ///
-/// With `explain`, the bytes are stored, and there is a note about each bucket whose weight in the
-/// map's text isn't the sum of the devices below it. Fails with [`RunFault::Job`] if the bytes aren't a job; with
-/// `explain`, notes say where and why. Fails with [`RunFault::Memory`], without notes, if memory
-/// runs out.
+/// With `explain`, the result also has the bytes, and notes on the map's text: a line for each
+/// bucket whose weight in the text isn't the sum of the weights of the devices below it.
+///
+/// If the bytes aren't a job, the function fails with [`RunFault::Job`]. Then with `explain`, notes
+/// say where the fault is, and why it is one. If memory runs out, the function fails with
+/// [`RunFault::Memory`], without notes.
 pub fn job_of<'a, H: AllocGlobal + RandomSource>(
     rt: &H,
     explain: bool,
@@ -65,12 +67,14 @@ pub fn job_of<'a, H: AllocGlobal + RandomSource>(
     }
 }
 
-/// Reads and parses a job: the file that the options name, and the scripts of further files.
+/// Reads and parses a job: the file that the options name, followed by the scripts of the further
+/// files that they name.
 ///
 /// If the options name no file for the job, the job is read from `input`. At most 16,777,217 bytes
-/// are read from `input`, and none if the options name a file. Fails with [`RunFault::Read`] if a
-/// file or `input` can't be read. If they can be read, fails in the cases in which [`job_of`]
-/// fails. With `explain`, a note about a file that can't be opened or read has the system's reason.
+/// are read from `input`, and none if the options name a file. If a file or `input` can't be opened
+/// or read, the function fails with [`RunFault::Read`]. With `explain`, a note about such a file
+/// has the file's name and the system's reason. If everything can be read, the function fails in
+/// the cases in which [`job_of`] fails.
 pub fn read_whole<'a, H: AllocGlobal + RandomSource, F: Opens, R: Read>(
     rt: &H,
     files: &F,

@@ -40,8 +40,8 @@ pub(crate) fn is_line_blank(byte: u8) -> bool
     byte == b' ' || byte == b'\t' || byte == b'\r'
 }
 
-/// Whether the script begins a section itself: its first line that isn't empty or a comment begins
-/// with `%`.
+/// Whether the script begins a section itself. This is so if its first line that isn't blank and
+/// isn't only a comment begins with `%`.
 fn begins_section(script: &[u8]) -> bool
     ensures { result ≡ begins_section_in true false script.now }
 {
@@ -124,9 +124,9 @@ fn push_operator_line(name: &[u8], script: &[u8], bytes: &mut Vec<u8>) -> Result
     push_section_head(operator_of(name), bytes)
 }
 
-/// Appends a script to the bytes of a job, on a new line, and returns which lines of the job are
-/// the script. If the script doesn't begin a section itself, adds a line `%operator NAME` before
-/// it.
+/// Appends a script to the bytes of a job, on a new line. If the script doesn't begin a section
+/// itself, adds a line `%operator NAME` before it. Returns which lines of the job come from the
+/// script.
 pub(crate) fn push_script<'a>(
     name: &'a [u8],
     script: &[u8],

@@ -6,9 +6,9 @@ ghost use Rattle.crush_input.specs.VerbMapLaws.{FirstMapsAreMaps, OtherMapsAreMa
 /// [`read_verb_map`](crate::read_verb_map) returned for it are maps that the verb can use. Such a
 /// map is the text of a map without scripts, and the text is complete if the verb requires this.
 ///
-/// The contract of a run that succeeds says that the first map and the scripts after it are a job,
-/// and that the bytes of the second map are the text of a map. The law says what follows for the
-/// bytes.
+/// The contract of a run says that if the run succeeds, the first map and the scripts after it are
+/// a job, and the bytes of the second map are the text of a map. The law says what follows from
+/// this for the bytes.
 ///
 /// The law also states that the tests of `read_verb_map` refuse no map that the verb can use.
 pub fn maps_of_runs_are_verb_maps()

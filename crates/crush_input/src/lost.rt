@@ -1,4 +1,5 @@
-//! The changes of operators that a run has lost: whether they end the run, and the notes about them.
+//! The changes of operators that a run has lost: whether they end the run, and the notes about
+//! them.
 
 ghost use Rattle.std.specs.Prelude.{◌≡◌, ◌++◌, ◌≤◌, IfErr, IfOk, List, OnOk, is_some, length, true};
 ghost use Rattle.crush_model.specs.Table.{Row};
@@ -28,10 +29,10 @@ pub struct LostChanges {
     pub lines: Vec<u8>,
 }
 
-/// Checks, if `conflicts` is set, that no change is lost.
+/// With `conflicts`, checks that no change is lost.
 ///
-/// Fails with [`RunFault::Conflicts`], which has the number of items with a lost change, if there
-/// are any. Without `conflicts` it always succeeds.
+/// If changes are lost, fails with [`RunFault::Conflicts`], which has the number of items that have
+/// a lost change. Without `conflicts`, the function always succeeds.
 pub fn check_lost(conflicts: bool, lost: &LostChanges) -> Result<(), RunFault>
     ensures lossless { IsLossless conflicts (lost_data lost.now) result }
     ensures fault { IfErr result (IsConflictsFault conflicts) }
@@ -42,14 +43,15 @@ pub fn check_lost(conflicts: bool, lost: &LostChanges) -> Result<(), RunFault>
     Err(RunFault::Conflicts(lost.count))
 }
 
-/// Appends the line with the number of the lost changes.
+/// Appends the line with the number of items that have a lost change.
 fn push_conflicts_line(count: usize, text: &mut Vec<u8>) -> Result<(), AllocError>
     ensures { OnOk result (text.new.items ≡ text.old.items ++ conflicts_line count) }
 {
     write_conflicts(count, text).map_err(|_| AllocError)
 }
 
-/// Appends the line with the number of the lost changes, and their lines, if there are any.
+/// If changes are lost, appends the line with the number of items that have a lost change, and then
+/// the lines of these items.
 fn push_conflicts(lost: &LostChanges, text: &mut Vec<u8>) -> Result<(), AllocError>
     ensures { OnOk result (text.new.items ≡ text.old.items
         ++ conflict_notes (lost_data lost.now)) }
@@ -61,8 +63,8 @@ fn push_conflicts(lost: &LostChanges, text: &mut Vec<u8>) -> Result<(), AllocErr
     text.extend_from_slice(lost.lines.as_slice())
 }
 
-/// Returns `notes`, followed by the line with the number of the lost changes and by their lines, if
-/// there are any. Fails if memory runs out.
+/// Returns `notes`. If changes are lost, the line with the number of items that have a lost change
+/// follows, and then the lines of these items. Fails only if memory runs out.
 pub fn notes_with_lost(
     alloc: Global,
     notes: &[u8],
@@ -76,11 +78,12 @@ pub fn notes_with_lost(
     Ok(text)
 }
 
-/// Returns the notes of a run that refused calls ended.
+/// Returns the notes of a run that ended because of refused calls.
 ///
-/// These are `notes`, followed by the notes of two other things that end a run: with `no_make`, the
-/// calls that created buckets, and then the lost changes. With `explain`, there are hints below the
-/// line of a call that created buckets. Fails if memory runs out.
+/// These are `notes`, followed by the notes on two other things that can also end a run. First,
+/// with `no_make`, come the calls that created more buckets than they have `add-bucket` commands.
+/// With `explain`, hints follow the line of such a call. Then come the lost changes. The function
+/// fails only if memory runs out.
 pub fn notes_with_made_and_lost(
     alloc: Global,
     mode: Mode,
@@ -103,7 +106,7 @@ pub fn notes_with_made_and_lost(
     Ok(text)
 }
 
-/// Returns the lines of the lost changes, followed by `notes`. Fails if memory runs out.
+/// Returns the lines of the lost changes, followed by `notes`. Fails only if memory runs out.
 pub fn lost_notes(alloc: Global, lost: &LostChanges, notes: &[u8]) -> Result<Vec<u8>, AllocError>
     ensures { IfOk result (λ text. text.items ≡ (lost_data lost.now).lines ++ notes.now) }
 {

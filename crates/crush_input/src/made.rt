@@ -39,7 +39,8 @@ pub fn check_made(no_make: bool, entries: &[Entry]) -> Result<(), RunFault>
     Err(RunFault::Made(count))
 }
 
-/// Returns the history lines of the calls that [`check_made`] counts, with hints.
+/// Returns the history lines of the calls that [`check_made`] counts. Hints follow the line of a
+/// call, as [`made_notes`] says.
 fn hinted_lines(alloc: Global, history: History<'_>) -> Result<Vec<u8>, AllocError>
     requires few { length history.entries.now ≤ MOST_ENTRIES }
     requires operators { AreOf (length history.scripts.now) history.entries.now }
@@ -55,8 +56,8 @@ fn hinted_lines(alloc: Global, history: History<'_>) -> Result<Vec<u8>, AllocErr
     created_text(alloc, opening, history.scripts, history.entries)
 }
 
-/// Returns the history lines of the calls that [`check_made`] counts. With `explain`, there are
-/// hints below the line of a call.
+/// Returns the history lines of the calls that [`check_made`] counts. With `explain`, hints follow
+/// the line of a call.
 fn created_lines(alloc: Global, explain: bool, history: History<'_>) -> Result<Vec<u8>, AllocError>
     requires few { length history.entries.now ≤ MOST_ENTRIES }
     requires operators { AreOf (length history.scripts.now) history.entries.now }
@@ -73,8 +74,8 @@ fn created_lines(alloc: Global, explain: bool, history: History<'_>) -> Result<V
 }
 
 /// Returns the history lines of the calls that [`check_made`] counts, followed by `notes`. With
-/// `explain`, hints follow the line of a call. A hint has the name of an item that may have been
-/// meant by the name of a created bucket.
+/// `explain`, hints follow the line of a call. A hint names an item of the map whose name is
+/// similar to the name of a created bucket, because the operator may have meant this item.
 ///
 /// Without `no_make`, returns no bytes. Fails only if memory runs out.
 pub fn made_notes(
@@ -100,15 +101,15 @@ pub fn made_notes(
     Ok(lines)
 }
 
-/// Appends the line with the number of the calls that created buckets.
+/// Appends the line with the number of the calls that [`check_made`] counts.
 fn push_count(count: usize, text: &mut Vec<u8>) -> Result<(), AllocError>
     ensures { OnOk result (text.new.items ≡ text.old.items ++ made_line count) }
 {
     write_made(count, text).map_err(|_| AllocError)
 }
 
-/// Appends the line with the number of the calls that created buckets, and then `lines`, which are
-/// the history lines of these calls.
+/// Appends the line with the number of the calls that [`check_made`] counts, and then `lines`,
+/// which are the history lines of these calls.
 fn push_counted(count: usize, lines: &[u8], text: &mut Vec<u8>) -> Result<(), AllocError>
     ensures { OnOk result (text.new.items ≡ text.old.items ++ (made_line count ++ lines.now)) }
 {
@@ -116,9 +117,9 @@ fn push_counted(count: usize, lines: &[u8], text: &mut Vec<u8>) -> Result<(), Al
     text.extend_from_slice(lines)
 }
 
-/// Appends, with `no_make`, the line with the number of the calls that [`check_made`] counts, and
-/// the history lines of these calls, with hints if `explain` is set. Appends nothing if there are
-/// no such calls.
+/// With `no_make`, appends the line with the number of the calls that [`check_made`] counts, and
+/// then the history lines of these calls. If `explain` is set, hints follow the line of a call. If
+/// there are no such calls, or without `no_make`, appends nothing.
 pub(crate) fn push_created(
     alloc: Global,
     mode: Mode,

@@ -50,8 +50,8 @@ pub fn check_strict(strict: bool, entries: &[Entry]) -> Result<(), RunFault>
 /// The calls of a run, and the map before them.
 #[derive(Clone, Copy)]
 pub struct History<'a> {
-    /// The map before the first call. With `explain`, it is needed to find the reasons of refusals
-    /// and the hints for created buckets.
+    /// The map before the first call. It must be there with `explain`, because it is needed to find
+    /// the reasons of refusals and the hints for created buckets.
     pub opening: &'a Option<CrushMap<Global>>,
     /// The scripts from which the calls come.
     pub scripts: &'a [Script],
@@ -59,13 +59,13 @@ pub struct History<'a> {
     pub entries: &'a [Entry],
 }
 
-/// Returns the notes on a run's history. The lines of the refused calls come first, and then the
-/// notes on the map's text: a line for each bucket whose weight in the text isn't the sum of the
-/// weights of the devices below it.
+/// Returns the notes on a run's history. The lines of the refused calls come first. Then come the
+/// notes on the map's text that `text` has: with `explain`, a line for each bucket whose weight in
+/// the text isn't the sum of the weights of the devices below it; without `explain`, none.
 ///
-/// With `explain`, the lines of refused calls have reasons. In a strict run without `explain`, they
-/// have no reasons. In any other run, there are no lines of refused calls. Fails only if memory
-/// runs out.
+/// With `explain`, the lines of refused calls have reasons. Without `explain`, a strict run has
+/// these lines without reasons, and any other run doesn't have them. The function fails only if
+/// memory runs out.
 pub fn history_notes(
     alloc: Global,
     mode: Mode,
@@ -85,8 +85,8 @@ pub fn history_notes(
     Ok(lines)
 }
 
-/// Returns the lines of the refused calls, with reasons if `explain` is set. Without `explain`, a
-/// strict run gets the lines without reasons, and any other run gets no lines.
+/// Returns the lines of the refused calls, with reasons if `explain` is set. Without `explain`, the
+/// lines have no reasons, and only a strict run has them.
 fn refused_notes(
     alloc: Global,
     mode: Mode,
@@ -134,9 +134,9 @@ fn reasons_of(
     explained_job(alloc, lines, opening, history.scripts, history.entries)
 }
 
-/// Returns a line for each bucket whose weight in the map's text isn't the sum of the devices below
-/// it. If the text has carriage returns and no line feed, the first line is a warning. Without
-/// `explain`, returns nothing.
+/// Returns a line for each bucket whose weight in the map's text isn't the sum of the weights of
+/// the devices below it. If the text has carriage returns and no line feed, a warning comes before
+/// these lines. Without `explain`, returns nothing.
 fn weight_notes(
     alloc: Global,
     explain: bool,

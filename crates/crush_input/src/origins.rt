@@ -13,7 +13,7 @@ use std::alloc::Global;
 /// The files of a job: the file with which the job begins, and the files whose scripts follow.
 #[derive(Drop)]
 pub struct Origins<'a> {
-    /// The name of the first file. It is empty if notes don't name this file.
+    /// The name of the first file, as notes show it. It is empty if notes don't name this file.
     pub(crate) first: &'a [u8],
     pub(crate) spans: Vec<ScriptSpan<'a>>,
 }

@@ -1,4 +1,5 @@
-//! What a run prints, and the map of `--since` or `--to`, which the run may need for this.
+//! The output that a run prints. For this output, the run may need the map of `--since` or `--to`,
+//! which this module reads.
 
 ghost use Rattle.std.specs.Prelude.{◌≡◌, IfErr, IfOk, []};
 ghost use Rattle.crush_input.specs.Notes.{AreNotesOfSecondMap};
@@ -19,8 +20,8 @@ pub struct OldMap {
     pub map: CrushMap<Global>,
     /// Whether the items of both maps are matched by their names and not by their ids.
     pub by_name: bool,
-    /// The name of an item. Only the changes of this item, and of all items that are or were below
-    /// it, are printed. `None` for the changes of all items.
+    /// The name of an item. Only the changes of this item are printed, and the changes of all items
+    /// that are or were below it. If this is `None`, the changes of all items are printed.
     pub under: Option<String>,
 }
 
@@ -32,16 +33,16 @@ pub struct OldTree {
     pub part: TreePartSpec,
 }
 
-/// The map of `--to`, which a plan leads to, and how the plan is found and printed.
+/// The wanted map of `--to`, to which a plan leads, and how the plan is found and printed.
 #[derive(Drop)]
 pub struct TargetMap {
     pub map: CrushMap<Global>,
     /// Whether the commands are printed as Ceph's own commands.
     pub as_ceph: bool,
-    /// Whether the buckets of both maps are matched only by their names, and not by their ids.
+    /// Whether the buckets of both maps are matched by their names alone, and not by their ids.
     pub by_name: bool,
     /// The name of an item. The plan is limited to this item and to all items that are below it in
-    /// either map. `None` for a plan of all items.
+    /// either map. If this is `None`, the plan is for all items.
     pub under: Option<String>,
 }
 
@@ -58,7 +59,7 @@ pub enum Output {
     Changes(OldTree),
     /// The commands of the scripts that changed the map, as Ceph's own commands.
     AsCeph,
-    /// The commands of a plan that lead from the map to this wanted map.
+    /// The commands of a plan, which lead from the map toward this wanted map.
     To(TargetMap),
 }
 
@@ -177,12 +178,13 @@ fn target_of<H: AllocGlobal + RandomSource, F: Opens>(
     }
 }
 
-/// Returns what a run prints. If the command line names a second map (`--since` or `--to`), reads
-/// that map.
+/// Returns the output that a run prints. If the command line names a second map (`--since` or
+/// `--to`), this function reads that map.
 ///
-/// Fails with [`RunFault::SecondMap`] if the second map's file can't be opened or read, is too
-/// long, or isn't a map. With `explain`, notes then say where the map's fault is, or why its file
-/// can't be read. Fails with [`RunFault::Memory`], without notes, if memory runs out.
+/// If the second map's file can't be opened or read, is too long, or isn't a map, the function
+/// fails with [`RunFault::SecondMap`]. With `explain`, notes then say where the fault in the map is
+/// and why it is one, or why the file can't be read. If the file is too long, there are no notes.
+/// If memory runs out, the function fails with [`RunFault::Memory`], without notes.
 pub fn output_of<H: AllocGlobal + RandomSource, F: Opens>(
     rt: &H,
     files: &F,

@@ -8,8 +8,8 @@ use crush_reasons::shown_byte;
 use crush_units::{WriteFault, put};
 use std::io::Write;
 
-/// Writes the bytes of a name to `out`, each as [`shown_byte`] shows it. If writing fails, a proper
-/// prefix of these bytes has been written.
+/// Writes the bytes of a name to `out`, each in the form that [`shown_byte`] returns. If writing
+/// fails, a proper prefix of these bytes has been written: a beginning, but not all of them.
 pub(crate) fn put_shown<W: Write>(name: &[u8], out: &mut W) -> Result<(), WriteFault>
     ensures { Writes result (W.contents out.old) (W.contents out.new) (map shown_byte name.now) }
 {

@@ -1,9 +1,10 @@
-//! Reads the map files of a verb such as `diff` or `plan`. These files have no scripts, and some of
-//! them must be complete.
+//! Reads the map files of a verb. A verb is the first word of a command line such as `diff` or
+//! `plan`. These files have no scripts, and some verbs require them to be complete: the last line
+//! that isn't blank must be `# end crush map`.
 //!
-//! A map is parsed once, by the run. [`read_verb_map`] only tests what a run doesn't test: whether
-//! the map is complete, and whether a line of it begins a script. If the run fails,
-//! [`check_verb_map`] says whether one of the maps is the reason.
+//! A map is parsed only once, by the run of the verb. [`read_verb_map`] only tests what a run
+//! doesn't test: whether the map is complete, and whether a line of the map begins a script. If the
+//! run fails, [`check_verb_map`] says whether one of the maps is the reason.
 
 ghost use Rattle.std.specs.Prelude.{◌≡◌, ◌≤◌, ◌<◌, ◌^◌, ◌++◌, ℕ, List, [], Option, Some, IfErr, IfOk, IfSome, false, length, slice_index, true};
 ghost use Rattle.crush_text.specs.Flaw.{IsFlawOrOutOfMemory};
@@ -59,8 +60,9 @@ pub enum VerbMapFault {
     /// The text has this fault. The fault is never that memory ran out.
     #[error("{0}")]
     Text(TextFault),
-    /// The text seems to be cut: it doesn't end in the line `# end crush map`, and if it has
-    /// another fault, that fault is in its last line.
+    /// The text seems to be cut: its last line that isn't blank must be `# end crush map`, but
+    /// isn't. If the text also has another fault, it seems to be cut only if no line feed follows
+    /// after the place of this fault. Otherwise the other fault is reported.
     #[error("cut")]
     Cut,
     /// The file has more than 16,777,216 bytes.
@@ -122,7 +124,8 @@ fn is_cut_at(maps: MapForm, bytes: &[u8], place: usize) -> bool
     is_cut(maps, bytes) && line_feeds(rest) == 0
 }
 
-/// Checks whether the text of a map ends as it must, and fails if the text seems to be cut.
+/// Checks that the text of a map ends in the line `# end crush map`, if `maps` requires this. If
+/// the line is missing, the text seems to be cut, and the function fails.
 fn check_end(maps: MapForm, bytes: &[u8]) -> Result<(), VerbMapFault>
     ensures whole { IfOk result (λ _. is_cut maps bytes.now ≡ false) }
     ensures cut { IfErr result (λ fault. (fault ≡ VerbMapFault.Cut)
@@ -171,15 +174,15 @@ fn check_text<H: AllocGlobal + RandomSource>(
     }
 }
 
-/// Returns the byte at a place, or 0 if the text ends before this place.
+/// Returns the byte with the index `place`, or 0 if the text ends before this index.
 fn byte_at(bytes: &[u8], place: usize) -> u8
     ensures { result ≡ slice_index bytes.now place }
 {
     if place < bytes.len() { bytes[place] } else { 0 }
 }
 
-/// Whether the fault is at a `%` at the beginning of a line. This is so if a script follows the
-/// map.
+/// Whether the fault is a `%` at the beginning of a line. A text has such a fault if a script
+/// follows the map.
 fn begins_script(bytes: &[u8], fault: TextFault) -> bool
     ensures { result ≡ begins_script bytes.now fault }
 {
@@ -254,7 +257,9 @@ fn memory_refusal(alloc: Global, map: VerbMap) -> VerbMapRefusal
     }
 }
 
-/// Returns the [`VerbMapRefusal`] for a file that couldn't be opened or read.
+/// Returns the [`VerbMapRefusal`] for a file that couldn't be read into memory. The fault is
+/// [`VerbMapFault::Read`] if the file couldn't be opened or read, and [`VerbMapFault::Memory`] if
+/// memory ran out.
 fn aborted_refusal(alloc: Global, map: VerbMap, aborted: Aborted) -> VerbMapRefusal
     ensures map { result.map ≡ map }
     ensures fault { (maps : MapForm) (all : Option (List ℕ))
@@ -274,8 +279,8 @@ fn aborted_refusal(alloc: Global, map: VerbMap, aborted: Aborted) -> VerbMapRefu
     }
 }
 
-/// Returns the [`VerbMapRefusal`] for bytes with this fault. If there is no memory for its notes,
-/// the fault in it is that memory ran out.
+/// Returns the [`VerbMapRefusal`] for bytes with this fault. If there is no memory for the notes,
+/// the refusal has the fault [`VerbMapFault::Memory`] instead.
 fn text_refusal(
     alloc: Global,
     map: VerbMap,
@@ -296,16 +301,16 @@ fn text_refusal(
     }
 }
 
-/// Parses the text of a verb's map, and fails if the verb can't use it. It also fails if memory runs
-/// out.
+/// Parses the text of a verb's map. Fails if the verb can't use the map, or if memory runs out.
 ///
-/// The text may have at most 16,777,216 bytes, it must be the text of a map without scripts, and it
-/// must be complete if `maps` says so. If the text has a fault or seems to be cut, the notes say
-/// where the fault is, and why it is one. They use the name `shown` for the file, or no name if
-/// `shown` is empty.
+/// The text may have at most 16,777,216 bytes. It must be the text of a map without scripts, and it
+/// must be complete if `maps` says so. If the text has a fault, the notes say where the fault is,
+/// and why it is one. If the text seems to be cut or is too long, the notes say only why the verb
+/// can't use it. The notes call the file `shown`, or give it no name if `shown` is empty.
 ///
-/// A caller of [`read_verb_map`] calls this function if the run on the maps fails. Its refusal then
-/// takes the place of the fault of the run.
+/// If the run on the maps fails with a fault for which [`may_precede_maps`] is true, the caller of
+/// [`read_verb_map`] calls this function for each map. If this function then fails, the caller
+/// reports the refusal instead of the fault of the run.
 pub fn check_verb_map<H: AllocGlobal + RandomSource>(
     rt: &H,
     maps: MapForm,
@@ -325,8 +330,8 @@ pub fn check_verb_map<H: AllocGlobal + RandomSource>(
     }
 }
 
-/// Whether these bytes may be a map that the verb can use: a run that parses them finds each fault
-/// that they have.
+/// Whether these bytes may be a map that the verb can use. If they may be one, but aren't, then a
+/// run that parses them finds what is wrong with them.
 fn may_be_map(maps: MapForm, bytes: &[u8]) -> bool
     ensures yes { result ≡ true → MayBeVerbMap maps bytes.now }
     ensures no { result ≡ false → IsVerbMap maps bytes.now → ⊥ }
@@ -334,8 +339,8 @@ fn may_be_map(maps: MapForm, bytes: &[u8]) -> bool
     bytes.len() <= LONGEST_JOB && !is_cut(maps, bytes) && map_part(bytes).len() == bytes.len()
 }
 
-/// Returns the bytes of a verb's map unchanged. If it is certain without parsing that the verb can't
-/// use them, fails with the reason.
+/// Returns the bytes of a verb's map unchanged. If [`may_be_map`] says that the verb can't use
+/// them, parses them, and fails with the reason.
 fn screened_map<H: AllocGlobal + RandomSource>(
     rt: &H,
     maps: MapForm,
@@ -360,17 +365,19 @@ fn screened_map<H: AllocGlobal + RandomSource>(
     }
 }
 
-/// Reads the file of a verb's map, and doesn't parse it. The run of the verb parses the map anyway.
+/// Reads the file of a verb's map. If the function accepts the file, it doesn't parse it, because
+/// the run of the verb parses it.
 ///
-/// Returns the bytes of the file. There are at most 16,777,216 bytes, no line of them begins with
-/// `%`, as the line before a script does, and they end as a complete map does if `maps` says so. If
-/// a run on these bytes succeeds, they are the text of a map, as the law
-/// [`maps_of_runs_are_verb_maps`](crate::maps_of_runs_are_verb_maps) says. If the run fails,
-/// [`check_verb_map`] says whether they have a fault.
+/// Returns the bytes of the file. There are at most 16,777,216 bytes, and no line of them begins
+/// with `%`, because such a line would begin a script. If `maps` requires a complete map, their
+/// last line that isn't blank is `# end crush map`. If a run on these bytes succeeds, they are the
+/// text of a map, as the law [`maps_of_runs_are_verb_maps`](crate::maps_of_runs_are_verb_maps)
+/// says. If the run fails, [`check_verb_map`] says whether the bytes have a fault.
 ///
-/// Fails if the file can't be opened or read, or if its bytes aren't as above. In the second case
-/// the text is parsed, because the refusal says what is wrong with it, as a refusal of
-/// [`check_verb_map`] does. A note about a file that can't be read always has the file's name.
+/// Fails if the file can't be opened or read, if its bytes don't have these properties, or if
+/// memory runs out. If the bytes don't have these properties, the function parses them with
+/// [`check_verb_map`], whose refusal says what is wrong. The note about a file that can't be opened
+/// or read always has the file's name, even if `shown` is empty.
 pub fn read_verb_map<H: AllocGlobal + RandomSource, F: Opens>(
     rt: &H,
     files: &F,
@@ -394,8 +401,8 @@ pub fn read_verb_map<H: AllocGlobal + RandomSource, F: Opens>(
     }
 }
 
-/// Whether a run with this fault may have ended before it parsed all of its maps. Such a run has
-/// written nothing.
+/// Whether a run that ends with this fault may have ended before it parsed all of its maps. A run
+/// that ends with one of these faults has written nothing.
 pub fn may_precede_maps(fault: RunFault) -> bool
     ensures { result ≡ may_precede_maps fault }
 {
@@ -462,7 +469,9 @@ fn write_refusal<E: Write>(refusal: &VerbMapRefusal, err: &mut E) -> Result<(), 
     put(err, refusal.notes.as_slice())
 }
 
-/// Writes to `err` which map could not be used and why, and returns the status of the program.
+/// Writes to `err` which map could not be used, why, and the notes. Returns the status of the
+/// program: 1 if the map can't be used, 3 if its file couldn't be opened or read, and 4 if memory
+/// ran out. If writing to `err` fails, `written` says so, and the status doesn't change.
 pub fn report_verb_map<E: Write>(refusal: &VerbMapRefusal, err: &mut E) -> ReportOutcome
     ensures status { result.status ≡ verb_map_status refusal.now.fault }
     ensures writes { Writes result.written (E.contents err.old) (E.contents err.new)

@@ -1,4 +1,4 @@
-//! What the report on standard error needs to know of the command line.
+//! The values of a command line that the report on standard error needs.
 
 ghost use Rattle.std.specs.Prelude.{◌≡◌, [], Bool, unwrap_or};
 ghost use Rattle.crush_options.specs.OutputFlags.{name_text, flags_by};
@@ -6,7 +6,7 @@ ghost use Rattle.crush_input.specs.Words.{no_words, words_data, words_of};
 
 use crush_options::{Options, OutputSpec};
 
-/// What the report on standard error needs to know of the command line: whether `--explain` is
+/// The values of a command line that the report on standard error needs: whether `--explain` is
 /// given, and the names after `--under`, `--down-to` and `--class`.
 #[derive(Clone, Copy, Debug)]
 pub struct Words<'a> {
@@ -33,7 +33,7 @@ impl<'a> Words<'a> {
         }
     }
 
-    /// Returns what the report needs to know of a command line with these options.
+    /// Returns the values for a command line with these options.
     pub fn of(options: &'a Options) -> Words<'a>
         ensures { words_data result ≡ words_of options.now }
     {
