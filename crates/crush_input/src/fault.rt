@@ -43,6 +43,8 @@ pub enum RunFault {
     /// Writing the output failed. A prefix of the output was written, which may be empty.
     #[error("write fault")]
     Write,
+    /// Memory ran out. `run_at_once` of `crush_run` also fails with this fault if its scripts have
+    /// more calls than a history can have.
     #[error("out of memory")]
     Memory,
     /// A thread for an operator couldn't be started.

@@ -10,7 +10,8 @@ ghost use Rattle.crush_input.specs.VerbMapLaws.{FirstMapsAreMaps, OtherMapsAreMa
 /// a job, and the bytes of the second map are the text of a map. The law says what follows from
 /// this for the bytes.
 ///
-/// The law also states that the tests of `read_verb_map` refuse no map that the verb can use.
+/// The law also states that each map that the verb can use has the properties that `read_verb_map`
+/// tests. So these tests refuse no such map.
 pub fn maps_of_runs_are_verb_maps()
     ensures first { FirstMapsAreMaps }
     ensures other { OtherMapsAreMaps }

@@ -1,8 +1,8 @@
--- The ends of a run before there is a history.
+-- The faults with which a run may end before it has a history.
 use Rattle.crush_input.specs.declared.fault.RunFault.{RunFault}
 use Rattle.crush_input.specs.declared.fault.RunFault.TheVariants as run
 
--- the faults before there is a history: all but those of the checks and of the write
+-- the faults with which a run may end before it has a history: all faults except for those of the checks that follow after the scripts, and for the fault of a failed write. One of these faults is `Memory`. With `Memory`, a run may also end later, if memory runs out after the scripts
 abbrev pub IsEarlyFault : RunFault → Type 0
 IsEarlyFault run.Write = ⊥
 IsEarlyFault (run.Refused n) = ⊥

@@ -71,15 +71,13 @@ had_class what = false
 abbrev pub has_class_of : Output → List Row → Bool
 has_class_of what t = has_class (class_of what) t || had_class what
 
--- the item, the type and the class exist, if their names are given
+-- the item, the type and the class exist, if their names are given. For a tree of what has changed, it is enough that the class exists in the old map
 pub record AreThere (what : Output) (s : SettingData) (t : List Row) : Type 0 where
   pub item : has_item (under_of what) t ≡ true
   pub kind : has_kind (down_to_of what) s ≡ true
   pub class : has_class_of what t ≡ true
 
--- FOUND: the result of a run agrees with the names. If the run succeeds, fails to write, or ends because differences remain after its plan,
--- then all names exist. If it ends with NoItem, then no item has the name. If it ends with NoType, then the item exists and no type has
--- the name. If it ends with NoClass, then the item and the type exist and no device has the class. Nothing is said of any other end.
+-- FOUND: the result of a run agrees with the names of the item, the type and the class. If the run succeeds, fails to write, or ends because differences remain after its plan, then all of them exist (`AreThere`). If it ends with NoItem, then no item has the name. If it ends with NoType, then the item exists and no type has the name. If it ends with NoClass, then the item and the type exist and no device has the class (`has_class_of`). The definition says nothing about any other end.
 abbrev pub IsFound : {X : Type 0} → Output → SettingData → List Row → Result X RunFault → Type 0
 IsFound what s t (Ok x) = AreThere what s t
 IsFound what s t (Err run.Write) = AreThere what s t

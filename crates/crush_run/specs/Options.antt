@@ -11,19 +11,18 @@ use Rattle.crush_input.specs.Notes.{text_of}
 use Rattle.crush_run.specs.Run.{Ends, IsRunFault}
 use Rattle.crush_input.specs.Options.{IsOutputFault, IsOutputOf}
 
--- in which cases a run may end with this fault. A fault of the second map is possible only if the bytes are a job, and it must be a fault of that map's file. Any other fault is possible as in any run of a job.
+-- whether a run may end with this fault. A fault of the second map is possible only if the bytes are a job, and reading that map must be able to fail with it (`IsOutputFault`). Any other fault is possible in the same cases as in a run of a job (`IsRunFault`).
 abbrev pub IsOptionsFault : (List ℕ → Option (List ℕ)) → Options → Option (List ℕ) → RunFault → Type 0
 IsOptionsFault content options all (run.SecondMap which fault) = IfSome all HasJob × IsOutputFault content options.output_spec (run.SecondMap which fault)
 IsOptionsFault content options all fault = IsRunFault options.mode all fault
 
--- there is an output that is as the options select it, and the run of the job ends as Ends says for this output. The notes of the run refer to the text of these bytes. `origin` says from which file each line comes.
+-- there is an output that is as the options select it (`IsOutputOf`), and the run of the job ends as Ends says for this output. The notes of the run refer to the text of these bytes. `origin` says from which file each line comes.
 pub record EndsWithOutput (content : List ℕ → Option (List ℕ)) (options : Options) (origin : ℕ → OriginData) (bytes : List ℕ) (job : JobData) (result : Result Summary RunFault) (old new : Option (List ℕ)) (notes : List ℕ) : Type 0 where
   pub what : Output
   pub output : IsOutputOf content options.output_spec what
   pub ends : Ends options.mode what job (text_of options.mode.explain origin bytes job.table) result old new notes
 
--- ENDS AS SELECTED: the run ends as EndsWithOutput says, if it succeeds, fails to write, or ends because of refused calls, of differences that remain, of buckets that
--- were created in spite of `--no-make`, of lost changes, or of a name that the map doesn't have. Nothing is said of any other end.
+-- ENDS AS SELECTED: the run ends as EndsWithOutput says, if it succeeds, fails to write, or ends because of refused calls, of differences that remain, of buckets that were created in spite of `--no-make`, of lost changes, or of a name that the map doesn't have. The definition says nothing about any other end.
 abbrev pub EndsAsOptionsSay : (List ℕ → Option (List ℕ)) → Options → (ℕ → OriginData) → List ℕ → JobData → Result Summary RunFault → Option (List ℕ) → Option (List ℕ) → List ℕ → Type 0
 EndsAsOptionsSay content options origin bytes job (Ok s) old new notes = EndsWithOutput content options origin bytes job (Ok s) old new notes
 EndsAsOptionsSay content options origin bytes job (Err run.Write) old new notes = EndsWithOutput content options origin bytes job (Err run.Write) old new notes

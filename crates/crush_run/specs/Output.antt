@@ -90,7 +90,7 @@ person_text form history what plan s o t names h = main_text form what plan s o 
 abbrev pub history_if_requested : Bool → List (List ℕ) → List EntryData → Option Data
 history_if_requested history names h = if history then Some (history_document names h) else None
 
--- the document of what has changed between two maps: of all items, or of the part below one item. Items are matched by id, even if the text for a person matches them by name.
+-- the document of what has changed between two maps: of all items, or of the part below one item. Items are always matched by id in a document. No command line asks for a document of changes in which items are matched by name.
 abbrev pub since_program_text : Option Data → Option ItemId → PlainMap → PlainMap → List ℕ
 since_program_text history under old new = document_text (document_of_since history (since_document under old new))
 
@@ -115,7 +115,7 @@ IsWritten (Ok x) old new text = Appends old new text
 IsWritten (Err run.Write) old new text = AppendsLess old new text
 IsWritten (Err fault) old new text = Keeps old new
 
--- what the writer has received from one write within a run. If memory ran out, the writer has received nothing.
+-- what the writer has received from one write within a run. After success, it has received the whole text. After a failed write, it has received a proper prefix of the text. If memory ran out, it has received nothing.
 abbrev pub IsPut : {X : Type 0} → Result X WriteFault → Option (List ℕ) → Option (List ℕ) → List ℕ → Type 0
 IsPut (Ok x) old new text = Appends old new text
 IsPut (Err write.Write) old new text = AppendsLess old new text

@@ -29,7 +29,7 @@ IsWhole strict rest (Err run.Write) = strict ≡ true → rest ≡ []
 IsWhole strict rest (Err (run.Differs n)) = (strict ≡ true) × (n ≡ length rest) × (rest ≢ [])
 IsWhole strict rest (Err fault) = Unit {0}
 
--- the fault of the check for remaining differences. It is Differs, and only a strict run has it
+-- the fault with which the check for remaining differences may fail. It is Differs, and only a strict run can have it
 abbrev pub IsDiffersFault : Bool → RunFault → Type 0
 IsDiffersFault strict (run.Differs n) = strict ≡ true
 IsDiffersFault strict fault = ⊥

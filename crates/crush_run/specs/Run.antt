@@ -29,16 +29,13 @@ use Rattle.crush_run.specs.Lost.{AreLost}
 use Rattle.crush_run.specs.Output.{IsWritten, written_text}
 use Rattle.crush_run.specs.Planned.{IsPlanned, IsWhole}
 
--- RUN: h is the history of a run of the job. It is legal: each reply is what the rules say of the table at that point. The calls of each
--- operator are exactly those of its script, in order, and there are no other calls. If the run is in turn, then h is the one history in
--- which the scripts run one after the other.
+-- RUN: h is a possible history of a run of the job. It is legal (`IsLegal`): each reply is the one that the rules give for its call on the table after all earlier calls. The calls of each operator are exactly those of its script, in order, and there are no other calls. If the run is in turn, then h is the one history in which the scripts run one after the other.
 pub record IsRunOf (in_turn : Bool) (job : JobData) (h : List EntryData) : Type 0 where
   pub legal : IsLegal job.setting job.table h
   pub calls : (k : ℕ) → calls_of (of_operator k h) ≡ calls_at job.scripts k
   pub order : in_turn ≡ true → h ≡ turns job.setting job.table job.scripts
 
--- OUTPUT: the selected output of the map after the history, with the history if it is selected. Except for a plan, it is a function of the
--- job, its history and the selection.
+-- OUTPUT: the selected output of the map after the history, with the history if it is selected. Except for a plan, the output is a function of the job, its history and the options.
 abbrev pub output_of : Mode → Output → PlanData → JobData → List EntryData → List ℕ
 output_of mode what plan job h = written_text mode what plan job.setting job.table (table_after job.setting job.table h) (names_of job.scripts) h
 
@@ -75,10 +72,9 @@ summary_of mode what plan job h =
 -- ENDS: how a run of the job ends. There is a history of such a run, and a plan if one is selected, such that:
 -- `writes`: after success the whole output is written, after a failed write a proper prefix of it, otherwise nothing;
 -- `summary`: after success the summary is that of the history;
--- `losses`: unless the run ended before its scripts had run, `lost` has the changes that are lost;
--- `strict`, `no_make`, `lossless`, `found`, `whole`: the result agrees with the refused entries, the entries that made more buckets than they
--- ask for, the lost changes, the names that the map has, and the differences that remain after the plan;
--- `noted`: the notes are those of the history and this result, and refer to this text.
+-- `losses`: `lost` has the changes that are lost in the run, if the run looks for them. This isn't said if the run ended with a fault of `IsEarlyFault`: such a run has ended before its scripts had run to their end, or memory has run out, which may also happen after the scripts;
+-- `strict`, `no_make`, `lossless`, `found`, `whole`: the result agrees with the refused entries, the entries that created more buckets than their calls have `add-bucket` commands, the lost changes, the names that the map has, and the differences that remain after the plan;
+-- `noted`: the notes are those of the history and this result, and refer to the text `text`.
 pub record Ends (mode : Mode) (what : Output) (job : JobData) (text : TextData) (result : Result Summary RunFault) (old new : Option (List ℕ)) (notes : List ℕ) : Type 0 where
   pub history : List EntryData
   pub run : IsRunOf mode.in_turn job history
@@ -95,10 +91,15 @@ pub record Ends (mode : Mode) (what : Output) (job : JobData) (text : TextData) 
   pub whole : IsWhole mode.strict plan.rest result
   pub noted : AreNotesOfHistory mode text job.setting job.table (names_of job.scripts) history (text_of_lines plan.rest) lost result notes
 
--- when a run may end with this fault; `all` has the bytes, if they are known. Job: the bytes have this fault, which isn't out of memory. Write,
--- Thread, Refused, Made, Conflicts, Differs, NoItem, NoType, NoClass: the bytes are a job. Thread: the run isn't in turn. Refused and Differs:
--- the run is strict. Made: the run is to make no buckets. Conflicts: the run looks for lost changes. Read and Memory: always possible. A fault of another map: never, because a run of a job
--- reads no other map.
+-- whether a run may end with this fault; `all` has the bytes, if they are known.
+-- Read and Memory: always possible.
+-- Job: the bytes have this fault, and the fault isn't that memory ran out.
+-- Write, NoItem, NoType, NoClass: the bytes are a job.
+-- Thread: the bytes are a job, and the run isn't in turn.
+-- Refused and Differs: the bytes are a job, and the run is strict.
+-- Made: the bytes are a job, and the run has `no_make`, so that calls may create buckets only by `add-bucket`.
+-- Conflicts: the bytes are a job, and the run has `conflicts`, so that it looks for lost changes.
+-- A fault of a second map: never possible, because a run of a job reads no second map.
 abbrev pub IsRunFault : Mode → Option (List ℕ) → RunFault → Type 0
 IsRunFault mode all (run.Job fault) = IsRefusal all fault
 IsRunFault mode all run.Write = IfSome all HasJob

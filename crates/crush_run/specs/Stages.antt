@@ -51,7 +51,7 @@ IsOutcomeFault mode run.NoType = Unit {0}
 IsOutcomeFault mode run.NoClass = Unit {0}
 IsOutcomeFault mode fault = ⊥
 
--- the faults of the checks, which come after the history and before anything is written
+-- the faults with which the checks may fail. The checks are made after the scripts have run, and before anything is written
 abbrev pub IsCheckFault : Mode → RunFault → Type 0
 IsCheckFault mode (run.Refused n) = mode.strict ≡ true
 IsCheckFault mode (run.Made n) = mode.no_make ≡ true
@@ -62,7 +62,7 @@ IsCheckFault mode run.NoType = Unit {0}
 IsCheckFault mode run.NoClass = Unit {0}
 IsCheckFault mode fault = ⊥
 
--- the faults that are possible after there is a history
+-- the faults with which a run may end after it has a history
 abbrev pub IsWritingFault : Mode → RunFault → Type 0
 IsWritingFault mode run.Write = Unit {0}
 IsWritingFault mode run.Memory = Unit {0}
@@ -84,19 +84,21 @@ pub record HaveRun (in_turn : Bool) (job : JobData) (after : MapData) (h : List 
 abbrev pub RunsScripts : Bool → MapData → List ScriptData → MapData → List EntryData → Type 0
 RunsScripts in_turn map scripts after h = (job : JobData) → MapStands map job.setting job.table → scripts ≡ job.scripts → HaveRun in_turn job after h
 
--- whether a run needs the map as it was read after its scripts have run: to explain refusals and created buckets, to look for lost changes, or to print the commands that changed it
+-- whether a run still needs the map before its scripts when the scripts have run: to explain refusals and created buckets, to look for lost changes, or to print the commands that changed the map
 abbrev pub needs_opening : Mode → Output → Bool
 needs_opening mode output.AsCeph = true
 needs_opening mode what = mode.explain || mode.conflicts
 
--- OPENING: if a run needs the map as it was read, then that map is kept, has this setting, and represents this table
+-- OPENING: if a run needs the map before its scripts (`needs_opening`), then a copy of that map is kept, has this setting, and represents this table
 abbrev pub IsOpening : Mode → Output → Option MapData → SettingData → List Row → Type 0
 IsOpening mode what kept s t = needs_opening mode what ≡ true → IsKept kept s t
 
--- the notes that are prepared for the possible ends of a run, whose map had this setting and this table before the first call: `calls` are
--- the notes of its history; `refused` are these, followed by the notes of created buckets and by those of the changes `lost`; `made`, if the run has `--no-make`, are the lines
--- of the calls that created more buckets than they ask for, followed by the notes of its history and by those of the changes `lost`; `conflicts` are the lines of the lost
--- changes, followed by the notes of its history; `whole`, if the run is strict, are the notes of its history, followed by the lines of the differences that remain after its plan
+-- the notes that are prepared for the possible ends of a run. Before the first call, the map of the run had the setting s and the table t.
+-- `calls`: the notes of the history (`history_notes`);
+-- `refused`: the notes of the history, followed by the notes of created buckets and by the notes of the lost changes `lost`;
+-- `made`, if the run has `--no-make`: the lines of the calls that created more buckets than they have `add-bucket` commands, followed by the notes of the history and by the notes of the lost changes;
+-- `conflicts`: the lines of the lost changes, followed by the notes of the history;
+-- `whole`, if the run is strict: the notes of the history, followed by the lines of the differences that remain after the plan.
 pub record AreEndNotes (mode : Mode) (text : TextData) (s : SettingData) (t : List Row) (names : List (List ℕ)) (h : List EntryData) (rest : List (List ℕ)) (lost : LostData) (end_notes : EndNotes) : Type 0 where
   pub calls : end_notes.calls.items ≡ history_notes mode text s t names h
   pub refused : end_notes.refused.items ≡ history_notes mode text s t names h ++ (created_notes mode s t names h ++ conflict_notes lost)
@@ -121,11 +123,14 @@ abbrev pub notes_after : Result Summary RunFault → EndNotes → List ℕ
 notes_after (Ok s) end_notes = end_notes.calls.items
 notes_after (Err fault) end_notes = notes_after_fault fault end_notes
 
--- how a run ends that has a map m, a history h and a plan. `writes`: the output is written, or a part of it, as IsWritten says. `summary`:
--- after success the summary is that of the history. `nothing`: nothing is written unless the run succeeds or fails to write. `fault`: which
--- faults are possible. `strict`, `no_make`, `lossless`, `found`, `whole`: the result agrees with the refused entries, the entries that made more
--- buckets than they ask for, the changes that are lost, the names that the map has, and the differences that remain. `told`: the notes are those of this history and result.
--- `noted`: the notes are allowed for this result, wherever the lines come from.
+-- how a run ends that has, after its scripts, the map m, the history h and a plan.
+-- `writes`: the output is written, or a part of it, as IsWritten says;
+-- `summary`: after success the summary is that of the history;
+-- `nothing`: nothing is written unless the run succeeds or fails to write;
+-- `fault`: which faults are possible;
+-- `strict`, `no_make`, `lossless`, `found`, `whole`: the result agrees with the refused entries, the entries that created more buckets than their calls have `add-bucket` commands, the changes that are lost, the names that the map has, and the differences that remain;
+-- `told`: the notes are those of this history and this result;
+-- `noted`: without mention of the history, the notes are allowed for this result (`AreNotesOfResult`), from whichever files the lines of the job come.
 pub record CompletedRunEnds (mode : Mode) (what : Output) (plan : PlanData) (adjusted : ℕ) (kept : Option MapData) (m : MapData) (lost : LostData) (text : TextData) (names : List (List ℕ)) (h : List EntryData) (result : Result Summary RunFault) (old new : Option (List ℕ)) (notes : List ℕ) : Type 0 where
   pub writes : (o t : List Row) → IsOpening mode what kept m.setting o → Stands m.forest t → IsWritten result old new (written_text mode what plan m.setting o t names h)
   pub summary : IfOk result (λ (s : Summary). (t : List Row) → Stands m.forest t → s ≡ summed adjusted (mode.exit_code && differs_of what plan m.setting t h) h)

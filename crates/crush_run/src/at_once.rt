@@ -17,17 +17,18 @@ use std::marker::Brand;
 use std::sync::Wait;
 use std::thread::Threads;
 
-/// Runs the scripts at the same time, each in a thread of its own, and returns the history and the
-/// map after the scripts. Doesn't keep a copy of the map before them.
+/// Runs the scripts at the same time, each in a thread of its own. Returns the history, and the map
+/// after the scripts, but no copy of the map before them.
 ///
 /// The operator of the script with index k has the number k in the history. There are between 1 and
 /// [`MOST_OPERATORS`](crush_units::limits::MOST_OPERATORS) scripts. `gate` is called before and
 /// after each call of an operator; [`NoGate`](crate::NoGate) does nothing.
 ///
-/// If a thread can't be started, the threads that are already running finish their scripts, and the
-/// call fails with [`RunFault::Thread`]. The only other fault is [`RunFault::Memory`]: memory has
-/// run out, or the scripts together have more calls than a history can have,
-/// [`MOST_ENTRIES`](crush_units::limits::MOST_ENTRIES).
+/// If a thread can't be started, the function waits until the threads that are already running have
+/// finished, and fails with [`RunFault::Thread`]. The only other fault is [`RunFault::Memory`]:
+/// memory has run out, or the scripts together have more calls than a history can have,
+/// [`MOST_ENTRIES`](crush_units::limits::MOST_ENTRIES). After a fault, the caller doesn't get the
+/// map back.
 pub fn run_at_once<G: Gate + Sync, R: Threads + Wait + Sync>(
     rt: &R,
     alloc: Global,
@@ -80,9 +81,9 @@ fn operate<N: Desk + Send + Sync, G: Gate + Sync, R: Threads + Wait + Sync>(
     Ok(editor.close(seats))
 }
 
-/// Returns the seats of the workers, or [`RunFault::Memory`] if a worker stopped early. A worker
-/// stops early only if memory runs out or if the history is full. A history has room for all the
-/// calls of a job.
+/// Returns the seats of the workers. If a worker stopped early, fails with [`RunFault::Memory`]. A
+/// worker stops early only if memory runs out or if the history is full. The scripts of one job
+/// never have more calls than a history has room for.
 fn gather<N: Desk>(alloc: Global, finished: Vec<Finished<N>>) -> Result<Vec<Seat<N>>, RunFault>
     ensures count { IfOk result (λ seats. vec_len seats ≡ vec_len finished) }
     ensures each { IfOk result (λ seats. (k : ℕ) (d : _) (e : _) → k < vec_len seats

@@ -11,16 +11,17 @@ use std::alloc::Global;
 /// these results.
 #[derive(Drop)]
 pub(crate) struct CompletedRun<'a> {
-    /// How many bucket weights in the map's text weren't the sum of the bucket's items, and were
-    /// replaced by the sum.
+    /// The number of bucket weights in the map's text that weren't the sum of the weights of the
+    /// devices below the bucket, and were replaced by this sum.
     pub(crate) adjusted: Adjusted,
-    /// A copy of the map as it was read, if the run needs it.
+    /// A copy of the map before the scripts, if the run needs it.
     pub(crate) opening: &'a Option<CrushMap<Global>>,
     /// The map after the scripts.
     pub(crate) map: &'a CrushMap<Global>,
-    /// The changes of operators that the run has lost, if it looks for them.
+    /// The changes of operators that the run has lost. If the run doesn't look for lost changes,
+    /// there are none.
     pub(crate) lost: &'a LostChanges,
-    /// The plan that leads to the wanted map. If no map is wanted, the plan is empty.
+    /// The plan that leads toward the wanted map. If no map is wanted, the plan is empty.
     pub(crate) plan: &'a Plan,
     /// The scripts with their names, but without their calls, which are in `entries`.
     pub(crate) scripts: &'a [Script],

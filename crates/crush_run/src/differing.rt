@@ -57,9 +57,9 @@ fn has_changed(alloc: Global, old: &OldMap, map: &CrushMap<Global>) -> Result<bo
     is_changed_by_id(alloc, under, &old.map, map)
 }
 
-/// Whether there is something to report. For the changes since another map: whether anything has
-/// changed. For a plan: whether the plan has an edit or leaves a difference. For any other output:
-/// whether a call changed the map.
+/// Whether there is something to report. If the output is what has changed since another map, this
+/// is so if anything has changed. If the output is a plan, this is so if the plan has an edit or
+/// leaves a difference. With any other output, this is so if a call has changed the map.
 fn differs(alloc: Global, output: &Output, completed: &CompletedRun<'_>) -> Result<bool, AllocError>
     requires { length completed.now.entries.now ≤ MOST_ENTRIES }
     ensures { IfOk result (λ differs. (t : List Row) → Stands completed.now.map.now.forest t
@@ -84,7 +84,7 @@ fn differs(alloc: Global, output: &Output, completed: &CompletedRun<'_>) -> Resu
 }
 
 /// Whether there is something to report, as [`differs`] says. Returns `false` if the request
-/// doesn't have `--exit-code`.
+/// doesn't have `exit_code`.
 pub(crate) fn differs_if_requested(
     alloc: Global,
     request: &Request,

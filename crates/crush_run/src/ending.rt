@@ -10,10 +10,14 @@ use std::alloc::Global;
 pub struct Ending {
     /// What the run did, or why it failed.
     pub outcome: Result<Summary, RunFault>,
-    /// The lines that are printed on standard error after the first line. If the run has `explain`,
-    /// the lines explain a fault and each refused call, and list each bucket whose weight in the
-    /// map's text isn't the sum of the devices below it. If refused calls, created buckets or lost
-    /// changes ended the run, the lines list them. In all other cases there are no lines.
+    /// The lines that are printed on standard error after the first line. With `explain`, they
+    /// explain a fault of the job's bytes or of another map, a file that can't be read, and each
+    /// refused call. They also list each bucket whose weight in the map's text isn't the sum of the
+    /// weights of the devices below it. If refused calls, created buckets, lost changes or
+    /// differences that remain after the plan ended the run, the lines list them, even without
+    /// `explain`. If refused calls or created buckets ended the run, the lines also list the lost
+    /// changes. If refused calls ended the run, and it has `no_make`, the lines also list the calls
+    /// that created buckets. In all other cases there are no lines.
     pub notes: Vec<u8>,
 }
 

@@ -1,5 +1,6 @@
 //! Searches the map after the scripts for the names of `--under` (an item), `--down-to` (a type)
-//! and `--class` (a class). For a tree of what has changed, the class may be in the old map instead.
+//! and `--class` (a class of devices). For a tree of what has changed, it is enough that a device
+//! of the old map has the class.
 
 ghost use Rattle.std.specs.Prelude.{◌≡◌, ◌&&◌, List, IfErr, is_some};
 ghost use Rattle.std.specs.Option.{option_map};
@@ -77,7 +78,8 @@ fn named_kind(name: Option<&str>, map: &CrushMap<Global>) -> Option<TypeId>
     }
 }
 
-/// Returns the part of the tree that is printed. A name that the map doesn't have is ignored.
+/// Returns the part of the tree that is printed. A name that the map doesn't have is ignored, as if
+/// it weren't given.
 pub(crate) fn part_of(words: &TreePartSpec, map: &CrushMap<Global>) -> TreePart
     ensures { (t : List Row) → Stands map.now.forest t
         → result ≡ part_of words.now map.now.setting t }
@@ -148,8 +150,8 @@ fn has_class_of(output: &Output, map: &CrushMap<Global>) -> bool
     has_class(class_of(output), map) || had_class(output)
 }
 
-/// Fails if the map doesn't have a name that the output needs. The item is tested first, then the
-/// type, and then the class.
+/// Fails if the map doesn't have a name that the output needs. The item is looked up first, then
+/// the type, and then the class.
 pub(crate) fn check_found(output: &Output, map: &CrushMap<Global>) -> Result<(), RunFault>
     ensures found { (t : List Row) → Stands map.now.forest t
         → IsFound output.now map.now.setting t result }

@@ -6,7 +6,7 @@ use std::sync::Wait;
 /// the number of the call in the operator's script, both from 0. Tests use a gate to force an order
 /// of calls. No contract depends on the gate.
 pub trait Gate {
-    /// Runs before the call is submitted. It may wait, and so delay the call.
+    /// Runs before the call is submitted. This method may wait, which delays the call.
     fn before<R: Wait>(&self, rt: &R, operator: usize, number: usize);
 
     /// Runs after the call was submitted, even if the call failed.

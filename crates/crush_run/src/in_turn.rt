@@ -27,7 +27,8 @@ struct InTurn<'t, G, R> {
 
 impl<'t, G: Gate, R: Wait> InTurn<'t, G, R> {
     /// Makes the calls of one script in order. Stops with [`RunFault::Memory`] at the first call
-    /// for which there is no memory. Each call is moved into its entry of the history.
+    /// that can't be made, because memory has run out or the history is full. Each call is moved
+    /// into its entry of the history.
     fn run_script(
         &self,
         book: &mut Book<Global, WithoutSnapshot>,
@@ -60,8 +61,10 @@ impl<'t, G: Gate, R: Wait> InTurn<'t, G, R> {
     }
 }
 
-/// Runs the scripts one after the other on one book, without a lock and without threads. It fails
-/// only with [`RunFault::Memory`], because a history has room for all the calls of a job.
+/// Runs the scripts one after the other, without a lock and without threads. The calls are made on
+/// one book, which is a map with its history. The function fails only with [`RunFault::Memory`]:
+/// memory has run out, or the scripts together have more calls than a history has room for. The
+/// scripts of one job never have more.
 pub(crate) fn run_in_turn<G: Gate, R: Wait>(
     rt: &R,
     alloc: Global,

@@ -1,8 +1,10 @@
 //! Runs a job, from the bytes that are read to the bytes that are written.
 //!
 //! [`run_options`] runs the job that a command line selects, and [`run_job`] runs a job that it
-//! reads from a reader. [`run_at_once`] only runs scripts on a map, and writes nothing. `crush_script` parses a job, `crush_editor` runs its scripts, and
-//! `crush_print`, `crush_since`, `crush_reasons`, `crush_plan` or `crush_json` writes the output.
+//! reads from a reader. [`run_at_once`] only runs scripts on a map: it reads and writes no text.
+//!
+//! In a run, `crush_script` parses the job, and `crush_editor` runs its scripts. One of the crates
+//! `crush_print`, `crush_since`, `crush_reasons`, `crush_plan` and `crush_json` writes the output.
 //! `crush_input` reports how the run ended. `specs/Output.antt` defines what is written, and
 //! `specs/Run.antt` defines how a run ends.
 #![tactic(auto)]

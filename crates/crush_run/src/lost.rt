@@ -22,7 +22,8 @@ fn are_both(first: bool, second: bool) -> bool
     first && second
 }
 
-/// Whether the run looks for lost changes. One script alone can lose none to another.
+/// Whether the run looks for lost changes. A run with only one script doesn't look for them,
+/// because no other script can undo the changes of this script.
 fn looks_for_conflicts(conflicts: bool, scripts: &[Script]) -> bool
     ensures { result ≡ looks_for_conflicts conflicts (names_of (scripts_data scripts.now)) }
 {
@@ -44,8 +45,9 @@ fn count_lines(text: &[u8]) -> usize
 
 /// Returns the lost changes of a run, or none if the run doesn't look for them.
 ///
-/// `opening` is the map before the run, and `map` the map after the run, in which the operators of
-/// `scripts` made the calls of `entries`. An `Err` says that memory ran out.
+/// `opening` is the map before the run. It must be there if `conflicts` is set. `map` is the map
+/// after the run, in which the operators of `scripts` made the calls of `entries`. An `Err` says
+/// that memory ran out.
 pub(crate) fn lost_if_requested(
     alloc: Global,
     conflicts: bool,

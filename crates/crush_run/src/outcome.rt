@@ -39,19 +39,22 @@ use std::io::Write;
 /// The notes of a run. There are several texts because the notes depend on how the run ends.
 #[derive(Drop)]
 pub(crate) struct EndNotes {
-    /// The notes of any other end than those of the fields below: about the refused calls, and about
-    /// buckets whose weight in the map's text isn't the sum of the devices below them.
+    /// The notes of a run that succeeds, or ends because of a failed write or of a name that the
+    /// map doesn't have. They are about the refused calls, if the run has `explain` or `strict`.
+    /// With `explain`, they are also about buckets whose weight in the map's text isn't the sum of
+    /// the weights of the devices below them.
     pub(crate) calls: Vec<u8>,
     /// The notes of an end with [`RunFault::Refused`]: `calls`, followed by the calls that created
-    /// buckets, and by the lost changes.
+    /// buckets in spite of `no_make`, and by the lost changes.
     pub(crate) refused: Vec<u8>,
     /// The notes of an end with [`RunFault::Made`]: the calls that created more buckets than they
-    /// have `add-bucket` commands, followed by `calls` and by the lost changes.
+    /// have `add-bucket` commands, followed by `calls` and by the lost changes. They are empty if
+    /// the run doesn't have `no_make`.
     pub(crate) made: Vec<u8>,
     /// The notes of an end with [`RunFault::Conflicts`]: the lost changes, followed by `calls`.
     pub(crate) conflicts: Vec<u8>,
     /// The notes of an end with [`RunFault::Differs`]: `calls`, followed by the differences that
-    /// remain after the plan.
+    /// remain after the plan. They are empty if the run isn't strict.
     pub(crate) whole: Vec<u8>,
 }
 
@@ -67,9 +70,10 @@ fn summary_of(completed: &CompletedRun<'_>, differs: bool) -> Summary
     }
 }
 
-/// Checks the conditions of the request, in this order: no call was refused, no call created
-/// buckets without `add-bucket`, no change of an operator was lost, the map has all names, and no
-/// difference remains after the plan. A condition that the request doesn't have is not checked.
+/// Checks the conditions of the request, in this order: no call was refused, no call created more
+/// buckets than it has `add-bucket` commands, no change of an operator was lost, the map has each
+/// name that the output needs, and no difference remains after the plan. A condition that the
+/// request doesn't have isn't checked. Fails with the fault of the first condition that isn't true.
 fn check_conditions(request: &Request, completed: &CompletedRun<'_>) -> Result<(), RunFault>
     requires { length completed.now.entries.now ≤ MOST_ENTRIES }
     ensures fault { IfErr result (IsCheckFault request.now.mode) }
@@ -242,8 +246,8 @@ fn end_with(alloc: Global, outcome: Result<Summary, RunFault>, end_notes: EndNot
 }
 
 /// Creates the notes, checks the conditions of the request, and writes the output. The notes are
-/// created before anything is written, so that a run that has written something can't run out of
-/// memory for its notes.
+/// created before anything is written. So memory can't run out for the notes after a part of the
+/// output was written.
 pub(crate) fn end_run<W: Write>(
     alloc: Global,
     request: &Request,

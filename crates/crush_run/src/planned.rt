@@ -1,4 +1,4 @@
-//! Finds the plan of a run: the edits that lead from the map after the scripts to a wanted map.
+//! Finds the plan of a run: the edits that lead from the map after the scripts toward a wanted map.
 
 ghost use Rattle.std.specs.Prelude.{◌≡◌, ◌++◌, [], Err, IfErr, IfOk, List, true};
 ghost use Rattle.std.specs.Io.KnownBytes.{Keeps};
@@ -39,8 +39,8 @@ fn no_plan(alloc: Global) -> Plan
     }
 }
 
-/// Returns the plan that leads from the map to the wanted map. If no map is wanted, returns an
-/// empty plan.
+/// Returns the plan that leads from the map toward the wanted map. If no map is wanted, returns an
+/// empty plan. An `Err` says that memory ran out.
 pub(crate) fn plan_if_requested(
     alloc: Global,
     output: &Output,
@@ -70,8 +70,8 @@ pub(crate) fn check_whole(strict: bool, plan: &Plan) -> Result<(), RunFault>
     Err(RunFault::Differs(plan.rest.len()))
 }
 
-/// Returns the notes of a strict run: `notes`, followed by a line for each difference that remains
-/// after the plan. If the run isn't strict, returns no notes.
+/// Returns the notes of a strict run that ends because differences remain after the plan: `notes`,
+/// followed by a line for each of these differences. If the run isn't strict, returns no notes.
 pub(crate) fn whole_notes(
     alloc: Global,
     strict: bool,

@@ -62,8 +62,9 @@ fn copy_of(map: &CrushMap<Global>) -> Result<CrushMap<Global>, AllocError>
     map.try_copy()
 }
 
-/// Returns a copy of the map before its scripts run, if the run needs the copy after them. It needs
-/// it to explain refusals, to look for lost changes, and to print Ceph's own commands.
+/// Returns a copy of the map before the scripts run, if the run needs the copy after they have run.
+/// The run needs the copy to explain refusals and created buckets, to look for lost changes, and to
+/// print Ceph's own commands.
 fn opening_if_needed(
     request: &Request,
     map: &CrushMap<Global>,
@@ -194,10 +195,10 @@ where
 /// Reads a job, runs the scripts of its operators, and writes the output that the request selects.
 ///
 /// If the request has `in_turn`, the scripts run one after the other. Then the output is a function
-/// of the bytes that were read, unless the output is a plan. If the request doesn't have `in_turn`,
-/// each operator has a thread of its own. Then the calls of one operator are made in the order of
-/// its script, but the calls of different operators can be made in any order. The gate is called
-/// before and after each call.
+/// of the request and of the bytes that were read, unless the output is a plan. If the request
+/// doesn't have `in_turn`, each operator has a thread of its own. Then the calls of one operator
+/// are made in the order of its script, but the calls of different operators can be made in any
+/// order. The gate is called before and after each call.
 ///
 /// If the run fails, nothing was written, except after [`RunFault::Write`]. Then a proper prefix of
 /// the output was written: a beginning, but not all of it. The other faults are:
@@ -208,15 +209,18 @@ where
 /// - [`RunFault::Refused`]: the request has `strict`, and a call was refused.
 /// - [`RunFault::Made`]: the request has `no_make`, and a call created more buckets than it has
 ///   `add-bucket` commands.
-/// - [`RunFault::Conflicts`]: the run looks for lost changes, and a change that an operator's script
-///   makes alone is lost.
+/// - [`RunFault::Conflicts`]: the request has `conflicts`, and a change is lost: an operator's
+///   script makes the change if the script runs alone, but the map after all scripts doesn't have
+///   it.
 /// - [`RunFault::NoItem`], [`RunFault::NoType`], [`RunFault::NoClass`]: the map after the scripts
-///   doesn't have the item, the type or the class that the request names.
+///   doesn't have the item, the type or the class that the request names. If the output is a tree
+///   of what has changed, it is enough that the old map has the class.
 /// - [`RunFault::Differs`]: the request has `strict`, and differences remain after the plan.
 /// - [`RunFault::Memory`]: memory ran out.
 ///
-/// The checks from `Refused` to `Differs` are made after all calls. The run requests at most
-/// 16,777,217 bytes from the reader, in at most 16,777,217 reads.
+/// The checks from `Refused` to `Differs` are made in this order, after all calls and before
+/// anything is written. The run takes at most 16,777,217 bytes from the reader, with at most
+/// 16,777,217 reads.
 ///
 /// Names may come from an untrusted source, so they are hashed with random keys of the system. If
 /// the system provides no keys, the names are hashed without keys. The output doesn't depend on the

@@ -1,4 +1,4 @@
-//! The work of a worker, which makes the calls of one operator in order, and the data that all
+//! The work of a worker, which makes the calls of one operator in order, and the values that all
 //! workers share.
 
 ghost use Rattle.std.specs.Prelude.{◌≡◌, []};
@@ -36,7 +36,7 @@ impl<N: Desk> Promise<Finished<N>> for Task {
     ghost kept_by = { λ t r. HasRun t.operator t.calls.value.items r.seat r.fault };
 }
 
-/// What the workers of a run share.
+/// The values that the workers of a run share.
 #[derive(Drop)]
 pub(crate) struct Crew<'s, N: Desk, G, R> {
     pub(crate) rt: &'s R,

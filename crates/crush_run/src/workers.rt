@@ -49,8 +49,9 @@ impl<'s, N: Desk + Send + Sync, G: Gate + Sync, R: Threads + Wait + Sync> Crew<'
     }
 
     /// Starts a worker for each seat. The worker runs the script that has the same position as its
-    /// seat. If a worker can't be started, returns a fault, and the workers that were already
-    /// started continue.
+    /// seat. If a worker can't be started, fails with [`RunFault::Thread`], and the workers that
+    /// were already started continue. If there is no memory for the list of workers, fails with
+    /// [`RunFault::Memory`], and starts no worker.
     fn start_all<E>(
         &self,
         scope: &Scope<'s, E>,
@@ -83,8 +84,9 @@ impl<'s, N: Desk + Send + Sync, G: Gate + Sync, R: Threads + Wait + Sync> Crew<'
     }
 
     /// Starts a worker for each script, waits for all workers that were started, and returns their
-    /// results. If a worker couldn't be started, the fault is [`RunFault::Thread`], even if other
-    /// workers stopped with another fault.
+    /// results in the order of the scripts. If a worker couldn't be started, the fault is
+    /// [`RunFault::Thread`], even if other workers stopped with another fault. If memory runs out
+    /// for the lists of workers and of their results, the fault is [`RunFault::Memory`].
     pub(crate) fn run_all(
         &self,
         seats: Vec<Seat<N>>,
