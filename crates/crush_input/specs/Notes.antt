@@ -105,7 +105,7 @@ abbrev pub AreNotesOfSecondMap : Bool → List ℕ → Option (List ℕ) → Run
 AreNotesOfSecondMap explain name all (run.SecondMap which fault) notes = AreNotesOfSecondMapFault explain name all fault notes
 AreNotesOfSecondMap explain name all fault notes = notes ≡ []
 
--- NOTES OF A HISTORY: how the notes of a run depend on its end. If the run succeeds, or ends because of a failed write or of a name that the map doesn't have, the notes are `history_notes`: the notes of refused calls and of weights. If refused calls end the run, the notes of created buckets follow after `history_notes`, and then the lines of the lost changes `lost`, after a line with the number of items that have a lost change. If calls that created buckets end the run, the lines of these calls come before `history_notes`, and the lines of the lost changes follow after `history_notes` in the same way. If lost changes end the run, their lines come before `history_notes`. If differences that remain after a plan end the run, `rest`, the lines of these differences, follows after `history_notes`. The definition says nothing about other faults.
+-- NOTES OF A HISTORY: how the notes of a run depend on its end. If the run succeeds, or ends because of a failed write or of a name that the map doesn't have, the notes are `history_notes`: the notes of refused calls and of weights. If refused calls end the run, the notes of created buckets follow after `history_notes`, and then the lines of the lost changes `lost`, after a line with the number of items that have a lost change. If calls that created buckets end the run, the lines of these calls come before `history_notes`, and the lines of the lost changes follow after `history_notes` in the same way. If lost changes end the run, their lines come before `history_notes`. If differences that remain after a plan end the run, then `rest` has the lines of these differences, and these lines follow after `history_notes`. The definition says nothing about other faults.
 abbrev pub AreNotesOfHistory : {X : Type 0} → Mode → TextData → SettingData → List Row → List (List ℕ) → List EntryData → List ℕ → LostData → Result X RunFault → List ℕ → Type 0
 AreNotesOfHistory mode text s t names h rest lost (Ok x) notes = notes ≡ history_notes mode text s t names h
 AreNotesOfHistory mode text s t names h rest lost (Err run.Write) notes = notes ≡ history_notes mode text s t names h

@@ -1,4 +1,4 @@
--- The output that a command line selects, with the second map that this output may need. The faults that may occur when the maps and scripts of a command line are read, and the notes of these faults.
+-- The output that a command line selects, and the second map that this output may need; also the faults that may occur when the files of a command line are read, and the notes of these faults.
 use Rattle.std.specs.Prelude.{◌≡◌, ◌⊎◌, ℕ, ◌<◌, ◌≤◌, Bool, false, List, [], Option, None, Some, Result, Err, IfSome, String, length, option_map, slice_index_or}
 use Rattle.crush_model.specs.Table.{Row}
 use Rattle.crush_model.specs.Stands.{Stands}

@@ -11,7 +11,7 @@ use Rattle.crush_input.specs.Notes.{text_of}
 use Rattle.crush_run.specs.Run.{Ends, IsRunFault}
 use Rattle.crush_input.specs.Options.{IsOutputFault, IsOutputOf}
 
--- whether a run may end with this fault. A fault of the second map is possible only if the bytes are a job, and reading that map must be able to fail with it (`IsOutputFault`). Any other fault is possible in the same cases as in a run of a job (`IsRunFault`).
+-- whether a run may end with this fault. A fault of the second map is possible only if the bytes are a job, and if reading the second map may fail with this fault (`IsOutputFault`). Any other fault is possible in the same cases as in a run of a job (`IsRunFault`).
 abbrev pub IsOptionsFault : (List ℕ → Option (List ℕ)) → Options → Option (List ℕ) → RunFault → Type 0
 IsOptionsFault content options all (run.SecondMap which fault) = IfSome all HasJob × IsOutputFault content options.output_spec (run.SecondMap which fault)
 IsOptionsFault content options all fault = IsRunFault options.mode all fault

@@ -22,7 +22,7 @@ abbrev pub IsPlanned : Output → SettingData → List Row → PlanData → Type
 IsPlanned (output.To target) s t plan = IsPlan (name_text target.under) (plain_map s t) (plain_map target.map.setting (rows_of target.map.forest)) plan
 IsPlanned what s t plan = plan.rest ≡ []
 
--- WHOLE: the result of a run agrees with `rest`, the lines of the differences that remain after the run's plan. If a strict run succeeds or fails to write, then no differences remain. If a run ends with Differs n, then it is strict, differences remain, and n is their number. If the run ends in any other way, nothing is said.
+-- WHOLE: the result of a run agrees with `rest`, the lines of the differences that remain after the run's plan. If a strict run succeeds or fails to write, then no differences remain. If a run ends with Differs n, then it is strict, differences remain, and n is their number. The definition says nothing about any other end.
 abbrev pub IsWhole : {X : Type 0} → Bool → List (List ℕ) → Result X RunFault → Type 0
 IsWhole strict rest (Ok x) = strict ≡ true → rest ≡ []
 IsWhole strict rest (Err run.Write) = strict ≡ true → rest ≡ []

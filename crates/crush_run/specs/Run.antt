@@ -50,9 +50,7 @@ abbrev pub has_changed : Bool → Option (List ℕ) → PlainMap → PlainMap �
 has_changed false under old new = is_changed_by_id (named_item new.table under) old new
 has_changed true under old new = is_changed_by_name under old new
 
--- DIFFERS: whether there is something to report about the map that has this setting and this table after the history h. If the output is
--- the changes since another map: whether anything has changed. If it is a plan: whether the plan has an edit or leaves a difference. For any
--- other output: whether an entry of h changed the map.
+-- DIFFERS: whether there is something to report about the map that has this setting and this table after the history h. If the output is what has changed since another map, this is so if anything has changed in the selected part. If the output is a plan, this is so if the plan has an edit or leaves a difference. For any other output, this is so if an entry of h changed the map.
 abbrev pub differs_of : Output → PlanData → SettingData → List Row → List EntryData → Bool
 differs_of (output.Since old) plan s t h = has_changed old.by_name (name_text old.under) (plain_map old.map.setting (rows_of old.map.forest)) (plain_map s t)
 differs_of (output.Changes old) plan s t h = is_changed_by_id (named_item t (name_text old.part.under)) (plain_map old.map.setting (rows_of old.map.forest)) (plain_map s t)
@@ -64,7 +62,7 @@ differs_of what plan s t h = nat_lt 0 (changes h)
 abbrev pub summed : ℕ → Bool → List EntryData → Summary
 summed adjusted differs h = record { adjusted = adjusted; calls = length h; changes = changes h; differs = differs }
 
--- the summary of a run of the job with the history h. It says that there is something to report only if the exit status has to show this
+-- the summary of a run of the job with the history h. It says that there is something to report only if the run has `exit_code`
 abbrev pub summary_of : Mode → Output → PlanData → JobData → List EntryData → Summary
 summary_of mode what plan job h =
     summed job.adjusted (mode.exit_code && differs_of what plan job.setting (table_after job.setting job.table h) h) h
