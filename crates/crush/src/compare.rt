@@ -1,5 +1,6 @@
-//! How a comparison of two maps matches their items. These types aren't in the root of the crate,
-//! because other types with the names `Identity` and `Pair` are there: `Identity` for plans, and
-//! `Pair` for the pairs of a location.
+//! How a comparison of two maps matches their items. These types are in a module, because the root
+//! of the crate has other types with the names `Identity` and `Pair`. The type `Identity` of the
+//! root is for plans. The type `Pair` of the root is a pair such as `host=h1` in a command, which
+//! says where an item belongs.
 
 pub use crush_compare::{Devices, Identity, Pair};

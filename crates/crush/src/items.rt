@@ -1,5 +1,6 @@
-//! What a list of a map's items consists of: the position of an item, a range of positions, and
-//! what the map says about an item. `Place` isn't in the root of the crate, because another type
-//! with this name is there, for the places that hold items.
+//! What a list of a map's items consists of: the position of an item ([`Place`]), a range of
+//! positions ([`Run`]), and what the map says about an item ([`Seen`]). These types are in a
+//! module, because the root of the crate has another type with the name `Place`. The type `Place`
+//! of the root is a place that holds items, such as a bucket.
 
 pub use crush_items::{Place, Run, Seen};

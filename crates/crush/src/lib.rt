@@ -1,7 +1,7 @@
 //! Has all types and functions that a program needs to read, edit, compare and print CRUSH maps.
 //!
-//! This crate has no functions of its own. It re-exports the types and functions of the crates
-//! below it, so that a program can import all of them from one crate:
+//! This crate has no functions of its own. It re-exports types and functions of the other crates of
+//! the library, so that a program can import all of them from one crate:
 //!
 //! ```rust
 //! use crush::{Edit, Name, Weight, read_map, write_map};
@@ -10,29 +10,32 @@
 //! - **A map**: [`read_map`] reads a [`CrushMap`] from a text, and [`write_map`] writes the map's
 //! text. [`MapBuilder`] builds a map without a text.
 //! - **Edits**: `CrushMap::apply` applies one [`Edit`]. `CrushMap::apply_batch` applies all edits
-//! of a batch or none of them. [`make_call`] makes one [`Call`], and returns its [`Reply`].
-//! - **Several operators**: [`Editor`] owns a map, and gives each operator a [`Seat`], with which
-//! the operator makes its calls.
-//! - **Two maps**: [`Comparison`] pairs their items, [`write_since`] writes what has changed, and
-//! [`find_plan`] finds edits that lead from one map toward the other. [`rule_changes`] and
-//! [`class_changes`] return what has changed in rules and device classes. [`Identity`] says for
-//! [`find_plan`] how items are matched. The type of this name for a [`Comparison`] is
-//! `compare::Identity`.
+//! of a batch or none of them. A [`Call`] is an edit or a batch. [`make_call`] makes one call, and
+//! returns its [`Reply`], which says what the call did, or why it was refused.
+//! - **Several operators**: [`Editor`] owns a map that several operators edit at the same time. It
+//! gives each operator a [`Seat`], with which the operator makes its calls.
+//! - **Two maps**: [`Comparison`] pairs the items of two maps, [`write_since`] writes what has
+//! changed, and [`find_plan`] finds edits that lead from one map toward the other. [`rule_changes`]
+//! and [`class_changes`] return what has changed in rules and device classes. The caller of
+//! [`find_plan`] passes an [`Identity`], which says how buckets are matched. For a [`Comparison`],
+//! the type `compare::Identity` says this about items.
 //! - **JSON**: [`write_map_document`] and three similar functions write JSON documents.
-//! - **Reasons**: [`fault_text`] and [`explained_text`] say why a job or a call was refused.
-//! [`explained_job`] also says in which lines of the job the refused edits are.
-//! - **Several scripts**: [`lost_changes`] finds the changes of one script that the other scripts
-//! have undone.
+//! - **Reasons**: [`fault_text`] says why the text of a job is refused. [`explained_text`] says why
+//! calls were refused. If an edit of a batch was refused, [`explained_job`] also says in which line
+//! of the job this edit is.
+//! - **Several scripts**: [`lost_changes`] finds the changes that one script makes if it runs
+//! alone, and that the map after the run of all scripts doesn't have.
 //! - **A whole job**: [`read_job`] reads a map together with the scripts of its operators, and
-//! [`run_at_once`] runs the scripts at the same time, each in a thread of its own. [`Gate`] is code
-//! of the caller that runs before and after each call, and [`NoGate`] does nothing.
+//! [`run_at_once`] runs the scripts at the same time, each in a thread of its own. A [`Gate`] is
+//! code of the caller that runs before and after each call. [`NoGate`] is for callers that have no
+//! such code.
 //!
-//! If two types of the crates below have the same name, one of them is in the root of this crate,
-//! and the other one is in a module. The modules are [`compare`], [`items`], [`since`] and
-//! [`text`].
+//! If two types of the library have the same name, one of them is in the root of this crate, and
+//! the other one is in a module. The modules are [`compare`], [`items`], [`since`] and [`text`].
 //!
 //! The contract of a type or a function refers to definitions in the crate that defines the type or
-//! the function. So a program with contracts of its own must also name these crates in `crates.txt`.
+//! the function. So if your own program has contracts, its line in `crates.txt` must also name the
+//! crates that have the definitions in these contracts.
 #![tactic(auto)]
 
 pub mod compare;

@@ -1,5 +1,6 @@
-//! The numbers of buckets that have different ids in two maps. A plan has them in its field
-//! `aside`. The type isn't in the root of the crate, because another type with the name `Counts` is
-//! there, for the numbers of devices and buckets of a map.
+//! How many buckets have different ids, and how many have different class ids, in two maps. A
+//! [`Plan`](crate::Plan) has these numbers in its field `aside`. The type is in a module,
+//! because the root of the crate has another type with the name `Counts`. The type `Counts` of the
+//! root says how many devices and how many buckets a map has.
 
 pub use crush_since::Counts;
