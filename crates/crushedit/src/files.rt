@@ -1,16 +1,17 @@
-//! The files that a run of the program opens. A command line with a verb may name standard input as
-//! a file, and some of its files are read before the run.
+//! The files that a run of the program opens. A *verb* is the word `apply`, `diff`, `plan` or
+//! `tree` at the beginning of a command line. A command line with a verb may name standard input as
+//! a file. The files with the verb's maps are read before the run.
 
 use crush_input::{Opens, VerbMap};
 use std::fs::File;
 use std::io::{self, Read, Stdin};
 
-/// The file of a verb's map, which was read before the run.
+/// A file with a map of the verb, which was read before the run.
 #[derive(Drop)]
 pub(crate) struct Kept<'a> {
     pub(crate) map: VerbMap,
     pub(crate) name: &'a str,
-    /// The name that notes about the map's text have for the file. Empty if they have no name.
+    /// The name of the file in notes about the map's text. It is empty if these notes name no file.
     pub(crate) shown: &'a str,
     pub(crate) bytes: Vec<u8>,
 }
@@ -19,7 +20,8 @@ pub(crate) struct Kept<'a> {
 #[derive(Drop)]
 pub(crate) struct ProgramFiles<'a> {
     pub(crate) rt: &'a HostRuntime,
-    /// Whether the name `-` means standard input. It does so only on a command line with a verb.
+    /// Whether the name `-` means standard input. It means standard input only on a command line
+    /// with a verb.
     pub(crate) has_dash: bool,
     /// The files that were read before the run. Their bytes are kept because a pipe can't be read
     /// twice.
@@ -31,7 +33,7 @@ pub(crate) struct ProgramFiles<'a> {
 pub(crate) enum Opened<'a> {
     File(File),
     Input(Stdin),
-    /// The bytes of a file that was read before the run, without the bytes that the run has read.
+    /// The bytes of a file that was read before the run: those that the run hasn't read yet.
     Kept(&'a [u8]),
 }
 

@@ -22,7 +22,7 @@ use std::random::RandomSource;
 use std::sync::Wait;
 use std::thread::Threads;
 
-/// The name that messages have for standard output if a write to it fails.
+/// The name of standard output in messages about a failed write.
 const STANDARD_OUTPUT: &str = "standard output";
 
 fn main(rt: HostRuntime) -> ExitCode {
@@ -82,17 +82,19 @@ fn is_verb(options: &Options) -> bool {
     !matches!(options.maps, MapForm::Job)
 }
 
-/// If the command line has a verb, reads the maps of the verb. With a plain command line, reads
-/// nothing, because the run itself then reads the files.
+/// If the command line has a verb, reads the maps of the verb. If the command line has no verb,
+/// reads nothing, because the run itself then reads the files.
 ///
-/// The maps aren't parsed here, because the run parses them. If the run fails, [`check_maps`] finds
-/// the map that is the reason. Only if the run would wait for standard input first is the first map
-/// parsed at once: a person who types a script is told of a fault of the map before, and no byte of
-/// the input is used up.
+/// A map that the verb may be able to use isn't parsed here, because the run parses it. If the run
+/// fails, [`check_maps`] finds the map that is the reason. The exception is a command line by which
+/// a script or the other map is read from standard input. Then the first map is parsed before
+/// anything is read from standard input. So a person who types a script learns of a fault of the
+/// map before typing, and no byte of the input is lost.
 ///
-/// If the first map can't be read, returns no maps. The run then tries to read the map once more,
-/// and reports why that fails. If the other map is refused, a fault of the first map is reported
-/// before that of the other.
+/// If the first map can't be read, returns no maps. The run then tries to read this map once more,
+/// and reports the error. If the other map is refused, the first map is parsed too. If both maps
+/// have a fault, the fault of the first map is reported. If both maps have the same file name, the
+/// file is read only once.
 fn read_maps<'a>(rt: &HostRuntime, options: &'a Options) -> Result<Vec<Kept<'a>>, VerbMapRefusal> {
     let mut kept = Vec::new(rt.alloc());
     let (true, Some(name)) = (is_verb(options), &options.file) else {
@@ -121,7 +123,7 @@ fn read_maps<'a>(rt: &HostRuntime, options: &'a Options) -> Result<Vec<Kept<'a>>
     Ok(kept)
 }
 
-/// Whether standard input is read after the first map: it is a script, or the other map.
+/// Whether a script or the other map is read from standard input, after the first map.
 fn uses_input_later(options: &Options) -> bool {
     for script in options.scripts.as_slice() {
         if script.as_str() == "-" {
@@ -131,8 +133,8 @@ fn uses_input_later(options: &Options) -> bool {
     matches!(other_map(options), Some((_, "-")))
 }
 
-/// Parses the maps of a verb in the order in which they were read. Fails with the first map that
-/// the verb can't use.
+/// Parses the maps of a verb in the order in which they were read. If the verb can't use one of
+/// these maps, fails with the reason why it can't use the first such map.
 fn check_maps(
     rt: &HostRuntime,
     options: &Options,
@@ -187,8 +189,8 @@ fn keep<'a>(
     }
 }
 
-/// Returns which other map a run reads, and the name of that map's file. This is the old map of a
-/// comparison, or the wanted map of a plan. Returns `None` if the run reads no other map.
+/// Returns which other map a run reads, and the name of that map's file. The other map is the old
+/// map of a comparison, or the wanted map of a plan. Returns `None` if the run reads no other map.
 fn other_map(options: &Options) -> Option<(VerbMap, &str)> {
     match &options.output_spec {
         OutputSpec::Since(since) => Some((VerbMap::Old, since.map.as_str())),
@@ -224,8 +226,9 @@ fn run_to_stdout(
     }
 }
 
-/// Reports why the run failed, and returns the exit status. If one of the verb's maps is the
-/// reason, or if it has a fault that the run didn't come to, reports the fault of this map instead.
+/// Reports why the run failed, and returns the exit status. If the run may have failed before it
+/// parsed all of the verb's maps, parses these maps first. If the verb can't use one of them,
+/// reports the reason for the first such map instead.
 fn report_fault(
     rt: &HostRuntime,
     files: &ProgramFiles<'_>,
@@ -242,8 +245,8 @@ fn report_fault(
 }
 
 /// Reports that a write to standard output has failed, and returns the exit status. If standard
-/// output is a pipe that nobody reads any more, no message is printed, because a reader such as
-/// `head` ends as soon as it has read enough.
+/// output is a pipe that nobody reads any more, prints no message, because this is no error: a
+/// reader such as `head` ends as soon as it has read enough.
 fn report_write_fault(
     rt: &HostRuntime,
     options: &Options,
@@ -261,8 +264,8 @@ fn report_write_fault(
     }
 }
 
-/// Runs what the command line selects, with the output in memory. If the run succeeds, replaces the
-/// file `name` by the output. Returns the exit status.
+/// Runs what the command line selects, and keeps the output in memory. If the run succeeds,
+/// replaces the file `name` by the output. Returns the exit status.
 fn run_to_file(
     rt: &HostRuntime,
     workers: &(impl AllocGlobal + RandomSource + Threads + Wait + Sync),
@@ -294,8 +297,8 @@ fn run_to_file(
     report(words, &outcome, notes.as_slice(), &mut rt.stderr()).status
 }
 
-/// Reports that the output couldn't be written to this file, and returns the exit status. If the
-/// options ask for reasons, also reports the reason that the system gives.
+/// Reports that the output couldn't be written, and returns the exit status. `name` is the name of
+/// the output's file. If the options ask for reasons, also reports the error of the system.
 fn report_unwritten(
     rt: &HostRuntime,
     options: &Options,
@@ -312,8 +315,8 @@ fn report_unwritten(
     report(words, &unwritten, lines.as_slice(), &mut rt.stderr()).status
 }
 
-/// Parses the command line. If standard error is a terminal, a person reads it, so the options then
-/// ask for reasons even without `--explain`.
+/// Parses the command line. If standard error is a terminal, a person reads the messages. So the
+/// options then ask for reasons even without `--explain`.
 fn read_options(rt: &HostRuntime) -> Result<Options, OptionsFault> {
     let words = words_behind_name(rt)?;
     let mut options = options(rt.alloc(), words.as_slice())?;

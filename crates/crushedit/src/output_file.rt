@@ -4,24 +4,28 @@
 use std::fs::{self, File, Metadata, OpenOptions};
 use std::io::{self, ErrorKind, Write};
 
-/// How many symbolic links are followed from a file's name at most. Linux has the same limit.
+/// The greatest number of symbolic links that are followed from a file's name. Linux has the same
+/// limit.
 const MOST_LINKS: u32 = 40;
 
-/// How many names are tried for the new file at most.
+/// The greatest number of names that are tried for the new file.
 const MOST_NAMES: u32 = 100;
 
 /// Replaces the file `name` by a file with these bytes, or creates the file.
 ///
 /// First writes the bytes to a new file in the same folder, and waits until they are stored. Then
 /// renames the new file to `name`. So at any time, `name` leads to a file that has either its old
-/// bytes or all the new bytes. The new file gets the permissions of the old file. If `name` is a
-/// symbolic link, replaces the file to which the link leads. If `name` is a device, a pipe, or
-/// anything else that isn't a regular file, writes the bytes to it directly.
+/// bytes or all the new bytes. The new file gets the permissions of the old file, if there is one.
+/// If `name` is a symbolic link, replaces the file to which the link leads. If `name` is a device,
+/// a pipe, or anything else that isn't a regular file, writes the bytes to it directly.
 ///
-/// If the call fails, a regular file is as it was before the call, and the new file is removed. A
-/// device or a pipe may already have received a part of the bytes. If the program is killed, the
-/// new file may remain in the folder. The name of the new file is the name of the file that it
-/// replaces, followed by `.crushedit-N`.
+/// The name of the new file is the name of the file that it replaces, followed by `.crushedit-N`.
+/// N is the least number from 0 to 99 for which there is no such file. If there is none, the call
+/// fails with the error `AlreadyExists`.
+///
+/// If the call fails, a regular file is as it was before the call, and the call tries to remove the
+/// new file. A device or a pipe may already have received a part of the bytes. If the program is
+/// killed, the new file may remain in the folder.
 pub(crate) fn replace(rt: &HostRuntime, name: &str, bytes: &[u8]) -> io::Result<()> {
     match fs::metadata(rt, name) {
         Ok(old) => replace_found(rt, name, old, bytes),
@@ -38,7 +42,7 @@ fn replace_found(rt: &HostRuntime, name: &str, old: Metadata, bytes: &[u8]) -> i
 }
 
 /// Writes the bytes to a device or a pipe. No file may ever be renamed to the name of a device or a
-/// pipe, because it would replace the device or the pipe.
+/// pipe, because that file would replace the device or the pipe.
 fn write_to(rt: &HostRuntime, name: &str, bytes: &[u8]) -> io::Result<()> {
     OpenOptions::new()
         .write(true)
@@ -70,8 +74,9 @@ fn replace_plain(
     Err(ErrorKind::AlreadyExists.into())
 }
 
-/// Follows the symbolic links that begin at `name`, and returns the path at which they end. There
-/// needn't be a file at this path.
+/// If there is a symbolic link at `name`, follows it, and any links to which it leads. Returns the
+/// path at which the last link ends, or `name` if there is no link. There needn't be a file at the
+/// returned path. Follows at most [`MOST_LINKS`] links.
 fn link_target(rt: &HostRuntime, name: &str) -> io::Result<String> {
     let mut path = String::from_str(rt.alloc(), name)?;
     for _ in 0..MOST_LINKS {
@@ -86,7 +91,8 @@ fn link_target(rt: &HostRuntime, name: &str) -> io::Result<String> {
     Ok(path)
 }
 
-/// Returns the path to which the symbolic link `name` leads, if the link contains the path `link`.
+/// Returns the path to which the symbolic link at the path `name` leads. `link` is the path that
+/// the link contains. A relative `link` starts from the folder of `name`.
 fn beside_link(rt: &HostRuntime, name: &str, link: &str) -> io::Result<String> {
     match name.rfind('/') {
         Some(place) if !link.starts_with('/') => {
@@ -111,8 +117,8 @@ fn fill_and_rename(
     done
 }
 
-/// Gives the new file the permissions of the old file, writes the bytes, and waits until they are
-/// stored.
+/// Gives the new file at the path `beside` the permissions of the old file, if there is one. Then
+/// writes the bytes to the new file, and waits until they are stored.
 fn fill(
     rt: &HostRuntime,
     mut file: File,

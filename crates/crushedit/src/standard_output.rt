@@ -1,10 +1,10 @@
-//! Writes to standard output. Remembers why a write failed, and makes sure that a file to which
-//! standard output leads is stored.
+//! Writes to standard output. Keeps the error of a failed write. If standard output leads to a
+//! file, waits until the system has stored this file.
 
 use std::fs::{self, OpenOptions};
 use std::io::{self, ErrorKind, Write};
 
-/// A path with which the program can open its standard output once more.
+/// A path with which the program can open its standard output a second time.
 const PATH: &str = "/dev/stdout";
 
 /// A writer, and the error of its last write if that write failed.
@@ -48,8 +48,8 @@ impl<W: Write> Write for Remembering<W> {
     }
 }
 
-/// Returns an error with the same reason. This function is needed because an `io::Error` can't be
-/// copied.
+/// Returns an error with the same error code of the system. If the error has no such code, returns
+/// an error of the same kind. This function is needed because an `io::Error` can't be copied.
 fn same_error(error: &io::Error) -> io::Error {
     match error.raw_os_error() {
         Some(code) => io::Error::from_raw_os_error(code),
@@ -57,9 +57,10 @@ fn same_error(error: &io::Error) -> io::Error {
     }
 }
 
-/// Waits until the output is stored. Only a regular file is synced, because a pipe or a terminal
-/// stores nothing. If the file can't be opened once more, it isn't synced, and counts as stored.
-/// Some file systems report a failed write only when the file is synced.
+/// Waits until the system has stored the output. This call is needed because some file systems
+/// report a failed write only when the file is synced. Only a regular file is synced, because a
+/// pipe or a terminal stores nothing. If the file can't be examined or can't be opened a second
+/// time, it isn't synced, and the call succeeds.
 pub(crate) fn store(rt: &HostRuntime) -> io::Result<()> {
     match fs::metadata(rt, PATH) {
         Ok(metadata) if metadata.is_file() => sync(rt),
