@@ -1,7 +1,7 @@
-//! An example of a single-threaded program that uses the library. It reads the text of a map,
-//! applies one edit, and prints the new text. It does this with two edits, each time with the same
-//! text: the first edit succeeds, and the second edit is refused. After each edit it prints a line
-//! with the result.
+//! An example of a program with one thread that uses the library. The program makes two edits. For
+//! each edit, the program reads the same text of a map, applies the edit to the map, and prints the
+//! text of the edited map. Then it prints a line with the result of the edit. The first edit
+//! succeeds. The second edit is refused, so the program prints only the line with the result.
 #![tactic(auto)]
 
 ghost use Rattle.std.specs.Prelude.{◌≡◌, ℕ, List, IfOk};
@@ -24,8 +24,8 @@ use std::alloc::Global;
 use std::io::Write;
 use thiserror::Error;
 
-/// The text of the map that is edited. The printed text also has comment lines: a heading before
-/// each group of lines.
+/// The text of the map that is edited. The program prints maps in a longer form. For example, the
+/// printed text has comment lines, and a line `hash 0` in each bucket.
 const MAP: &[u8] = b"device 0 osd.0
 device 1 osd.1
 type 1 host
@@ -58,8 +58,8 @@ fn main(rt: HostRuntime) -> anyhow::Result<()> {
     print_edited(&rt, MAP, &Edit::Remove { name: host })
 }
 
-/// Edits the text, and prints the result. A refusal is an expected result, and it is printed like a
-/// success. Any other fault ends the program with an error.
+/// Edits the map of the text, and prints the result. A refusal is an expected result, and it is
+/// printed like a success. Any other fault is returned, and ends the program with an error.
 fn print_edited(rt: &HostRuntime, text: &[u8], asked: &Edit) -> anyhow::Result<()> {
     match edit_text(rt.alloc(), text, asked, &mut rt.stdout()) {
         Ok(done) => {
@@ -73,19 +73,22 @@ fn print_edited(rt: &HostRuntime, text: &[u8], asked: &Edit) -> anyhow::Result<(
     Ok(())
 }
 
-/// Reads the map of a text, applies one edit to it, writes the new text to `out`, and returns what
-/// the edit has changed. If the edit is refused or fails, nothing is written.
+/// Reads the map of a text, applies the edit `asked` to this map, and writes the text of the edited
+/// map to `out`. Returns what the edit has changed. If the text has a fault, or if the edit is
+/// refused or fails, nothing is written. If a write fails, a part of the text may be written.
 ///
-/// The clauses of the contract say what a caller can rely on:
+/// The clauses of the contract say what a caller can rely on. They describe a map by its setting
+/// (types, tunables and rules) and its table (a row for each device and each bucket):
 ///
 /// - `done`: if the text is the text of a map and the call succeeds, then the definition `edit`,
-/// which states the rules of edits, has the same result for this edit and the map's table. Exactly
-/// the text of the new table has been appended to `out`.
+/// which states the rules of edits, gives the same result for this map and this edit. Exactly the
+/// text of the edited map has been appended to `out`, with weights rounded to five digits after the
+/// point. The edited map has the new table and the old setting.
 /// - `refused`: if the text is the text of a map and the call fails with a refusal, then the
-/// definition `edit` refuses this edit of the map's table for the same reason.
-/// - `flaw`: if the call fails with a fault of the text, then the text has this fault, or memory
-/// has run out.
-/// - `nothing`: if the edit was refused, or memory for it ran out, then `out` is unchanged.
+/// definition `edit` refuses this edit of this map for the same reason.
+/// - `flaw`: if the call fails with `Fault::Text`, then the text has this fault, or memory has run
+/// out.
+/// - `nothing`: if the edit was refused, or if memory for the edit ran out, then `out` is unchanged.
 fn edit_text<W: Write>(alloc: Global, text: &[u8], asked: &Edit, out: &mut W) -> Result<Done, Fault>
     ensures done { (s : SettingData) (t : List Row) (n : ℕ) → IsMapText text.now s t n
         → IfOk result (λ d. (u : List Row) × (edit s t asked.now ≡ done d.changed d.made u)
@@ -97,8 +100,8 @@ fn edit_text<W: Write>(alloc: Global, text: &[u8], asked: &Edit, out: &mut W) ->
     ensures nothing { (f : DeclaredFault) → result ≡ Err (Fault.Edit f)
         → Keeps (W.contents out.old) (W.contents out.new) }
 {
-    // Parses the text. `_adjusted` counts the buckets whose weight in the text isn't the sum of
-    // their items. The map has the sums.
+    // Parses the text. `_adjusted` counts the buckets whose weight in the text isn't the sum of the
+    // weights of their items. In the map, each bucket has the weight that is this sum.
     let (mut map, _adjusted) = match read_map(alloc, text) {
         Ok(read) => read,
         Err(fault) => return Err(Fault::Text(fault)),
