@@ -88,7 +88,7 @@ fn print_edited(rt: &HostRuntime, text: &[u8], asked: &Edit) -> anyhow::Result<(
 /// definition `edit` refuses this edit of this map for the same reason.
 /// - `flaw`: if the call fails with `Fault::Text`, then the text has this fault, or memory has run
 /// out.
-/// - `nothing`: if the edit was refused, or if memory for the edit ran out, then `out` is unchanged.
+/// - `nothing`: if the edit was refused, or memory for the edit ran out, then `out` is unchanged.
 fn edit_text<W: Write>(alloc: Global, text: &[u8], asked: &Edit, out: &mut W) -> Result<Done, Fault>
     ensures done { (s : SettingData) (t : List Row) (n : ℕ) → IsMapText text.now s t n
         → IfOk result (λ d. (u : List Row) × (edit s t asked.now ≡ done d.changed d.made u)

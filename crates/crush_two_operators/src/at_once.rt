@@ -1,4 +1,4 @@
-//! Lets two operators work at the same time, each of which makes the calls of its own list.
+//! Lets two operators work at the same time. Each operator makes the calls of its own list.
 
 ghost use Rattle.std.specs.Prelude.{◌≡◌, IfOk, IfSome};
 ghost use Rattle.crush_editor.specs.Book.{MakesAll};
@@ -11,14 +11,19 @@ use std::marker::Brand;
 use std::sync::Wait;
 use std::thread::Threads;
 
-/// Lets two operators make their calls at the same time. Returns the map, the history, and the
-/// later one of the two operators' last readings. A reading has the number of changes so far and
-/// the map's total weight. The call fails if memory runs out or the history is full.
+/// Lets two operators make their calls at the same time. Operator 0 makes the calls of the list
+/// `first`, and operator 1 makes the calls of the list `second`. Returns the map, the history, and
+/// the later one of the two operators' last readings. A *reading* has two numbers: how many calls
+/// have changed the map so far, and the map's total weight. The function fails if memory runs out
+/// or the history is full.
 ///
-/// The contract says two things about a success. First (`all`), the history is legal for the map
-/// that was given, and the returned map is the map after this history. Second (`calls`), the first
-/// operator's calls in the history are exactly the calls of its list, in the same order, and the
-/// second operator's calls are those of its list. There are no other calls.
+/// The contract says two things about a success:
+///
+/// - `all`: the history is legal for the map that was given, which means that each reply is right
+/// for the map after all earlier calls. The returned map is the map after this history.
+/// - `calls`: the calls of operator 0 in the history are exactly the calls of `first`, in the same
+/// order. Those of operator 1 are exactly the calls of `second`, in the same order. The history has
+/// no other calls.
 pub fn edit_at_once<R: Threads + Wait + Sync>(
     rt: &R,
     alloc: Global,
@@ -29,19 +34,20 @@ pub fn edit_at_once<R: Threads + Wait + Sync>(
     ensures all { IfOk result (λ r. MakesAll map r.0.map r.0.history.items) }
     ensures calls { IfOk result (λ r. AreTheirs first.now second.now r.0.history.items) }
 {
-    // Prepares an editor for two operators. It takes the map.
+    // Prepares an editor for two operators. The editor will own the map.
     //
-    // In contracts, a type `N` stands for one editor. Through this type, contracts refer to the
-    // editor's gauge (the word that is read without a lock), its opening map and its ledger (which
-    // counts the calls of all seats). So `work_together` is generic over `N`. The code passes the
-    // placeholder type `Brand` for `N`, and proofs/at_once/edit_at_once/Invariants.antt says that
-    // in this call the gauge, the opening map and the ledger of `N` are those of `started`.
+    // In contracts, a type `N` stands for one editor. Through this type, contracts refer to three
+    // things of the editor: its gauge (the word that is read without a lock), its opening map (the
+    // map before the first call), and its ledger (which counts the calls of all seats). So
+    // `work_together` is generic over `N`. The code passes the placeholder type `Brand` for `N`.
+    // The file proofs/at_once/edit_at_once/Invariants.antt says that in this call the gauge, the
+    // opening map and the ledger of `N` are those of `started`.
     let started = Started::new(alloc, map, 2)?;
     work_together::<Brand, R, Call>(rt, alloc, started, first, second)
 }
 
-/// The work on a list of calls is to make these calls. The work fails if memory runs out or the
-/// history is full.
+/// The work on a list of calls is to make these calls in order. The work fails if memory runs out
+/// or the history is full.
 impl Work for Call {
     ghost use Rattle.crush_two_operators.specs.Calls.{HasMade};
 
@@ -58,7 +64,8 @@ impl Work for Call {
     }
 }
 
-/// Makes the calls in order. Reads the gauge before the first call and after each call.
+/// Makes the calls in order. Before the first call and after each call, reads the gauge, which has
+/// the number of changes and the total weight. Returns `None` if a call fails.
 fn make_each<N: Desk, R: Wait>(
     rt: &R,
     alloc: Global,

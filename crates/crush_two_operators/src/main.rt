@@ -1,13 +1,15 @@
-//! An example of a program with threads that uses the library. It reads a job with three scripts
-//! from standard input. The first two scripts are those of two operators, which run them at the
-//! same time, each in a thread of its own ([`at_once`]). Then both operators work through one plan,
-//! which is the batch of the third script ([`plan`]). Each step of the plan is made once, by the
-//! operator that is the first to submit it. The output doesn't depend on the order in which the
-//! calls are made.
+//! An example of a program with threads that uses the library. It reads a job from standard input:
+//! the text of a map, and three scripts. Each of two operators runs one of the first two scripts,
+//! at the same time as the other operator, in a thread of its own ([`at_once`]). Then both
+//! operators work through one plan, which is the batch of the third script ([`plan`]). Each step of
+//! the plan is made once, by the operator that is the first to submit it.
+//!
+//! The job in the file `stdin` has two scripts that don't affect each other. So the output for this
+//! job is always the same, in whichever order the operators' calls are made.
 //!
 //! A *call* is an edit or a batch of edits. An *editor* owns the map and makes one call at a time.
-//! Each operator has a *seat* at the editor. The *history* has an entry for each call, with its
-//! reply.
+//! Each operator has a *seat*, with which it submits its calls to the editor. The *history* has an
+//! entry for each call: the call and its reply.
 #![tactic(auto)]
 
 use anyhow::bail;
@@ -25,13 +27,14 @@ mod together;
 
 fn main(rt: HostRuntime) -> anyhow::Result<()> {
     let text = io::read_to_string(rt.alloc(), rt.stdin())?;
-    // The input comes from the program's own user, so names are hashed without random keys.
+    // The input comes from the program's own user. So this user can't harm somebody else with names
+    // that make lookups slow, and names are hashed without random keys.
     let job = read_job(rt.alloc(), Hashing::plain(), text.as_bytes())?;
     let Job { map, scripts, .. } = job;
     let [first, second, third] = scripts.as_slice() else {
         bail!("the job has not three scripts");
     };
-    // Lets each operator make the calls of its own script, at the same time as the other operator.
+    // Each operator makes the calls of its own script, at the same time as the other operator.
     let (closed, last) = edit_at_once(
         &rt,
         rt.alloc(),
@@ -40,11 +43,11 @@ fn main(rt: HostRuntime) -> anyhow::Result<()> {
         second.calls.as_slice(),
     )?;
     let Closed { map, history, .. } = closed;
-    // Lets both operators work through one plan. The plan starts from the map after the operators'
-    // own calls.
+    // Both operators work through one plan. The plan starts from the map after the operators' own
+    // calls.
     let followed = follow_at_once(&rt, rt.alloc(), map, steps(third))?;
     // Prints the map after the plan, the history of the operators' own calls, the last reading, and
-    // the history of the plan.
+    // the changes in the history of the plan.
     write_map(
         rt.alloc(),
         &followed.map,
@@ -66,8 +69,9 @@ fn steps(script: &Script) -> &[Edit] {
     }
 }
 
-/// Prints the entries of one operator, numbered from 1. It doesn't print the numbers that the
-/// entries have in the whole history, because these numbers differ from run to run.
+/// Prints the history's entries of one operator, numbered from 1. The function doesn't print the
+/// numbers that these entries have in the whole history, because those numbers differ from run to
+/// run.
 fn print_part(
     rt: &HostRuntime,
     history: &[Entry],
@@ -90,8 +94,8 @@ fn print_part(
     Ok(())
 }
 
-/// Prints the entries that changed the map, numbered from 1. It doesn't print the operator of an
-/// entry, because the operator that makes a change differs from run to run.
+/// Prints the history's entries that changed the map, numbered from 1. The function doesn't print
+/// the operator of an entry, because in each run another operator may make the change.
 fn print_changes(rt: &HostRuntime, history: &[Entry]) -> anyhow::Result<()> {
     let mut number = 0u32;
     for entry in history {

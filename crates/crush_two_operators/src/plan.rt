@@ -1,6 +1,6 @@
 //! Lets two operators work through one plan together. Each operator reads how many steps have been
 //! made, submits the next step, and reads again. If the other operator has already made this step,
-//! the submitted step changes nothing.
+//! then the submitted step changes nothing.
 
 ghost use Rattle.std.specs.Prelude.{◌≡◌, ◌∷◌, [], IfOk, IfSome};
 ghost use Rattle.crush_history.specs.declared.call.Call.TheVariants.{Guarded};
@@ -15,16 +15,19 @@ use std::marker::Brand;
 use std::sync::Wait;
 use std::thread::Threads;
 
-/// Lets two operators work through one plan at the same time. The steps are made in order, and each
-/// step is made once, by the operator that is the first to submit it. A step is only made if the
-/// map hasn't changed since the operator that submits the step last read it. Returns the map and
-/// the history. Fails if memory runs out, if the history is full, or if a step is refused or
-/// changes nothing.
+/// Lets two operators work through one plan at the same time. The edits of `plan` are the plan's
+/// steps. The steps are made in order, and each step is made once, by the operator that is the
+/// first to submit it. Before an operator submits a step, it reads how many changes the map has.
+/// The step is only made if the map still has this number of changes. Returns the map and the
+/// history. Fails if memory runs out, if the history is full, or if a step is refused or changes
+/// nothing.
 ///
-/// The contract says two things about a success. First (`all`), the history is legal for the map
-/// that was given, and the returned map is the map after this history. Second (`plan`), each call
-/// in the history is a step of the plan, and the calls that changed the map are all the steps of
-/// the plan, each once and in order.
+/// The contract says two things about a success:
+///
+/// - `all`: the history is legal for the map that was given, which means that each reply is right
+/// for the map after all earlier calls. The returned map is the map after this history.
+/// - `plan`: each call in the history is for a step of the plan. The calls that changed the map are
+/// the calls for all steps of the plan, each once and in order.
 pub fn follow_at_once<R: Threads + Wait + Sync>(
     rt: &R,
     alloc: Global,
@@ -57,11 +60,14 @@ impl Work for Edit {
     }
 }
 
-/// Submits steps until all steps have been made. Each change of the map is a step of the plan, so
-/// the number of changes so far is the index of the next step. The step is submitted as a guarded
-/// batch. Such a batch is made only if the number of changes is still the number that the operator
-/// has read. If the other operator has changed the map since then, the reply is `Stale`, nothing
-/// has changed, and the loop reads again.
+/// Submits steps until all steps have been made. Each change of the map is a step of the plan. So
+/// the number of changes so far is the index of the next step, from 0. The step is submitted as a
+/// guarded batch. Such a batch is made only if the number of changes is still the number that the
+/// operator has read. If the other operator has changed the map since then, the reply is `Stale`,
+/// the batch changes nothing, and the loop reads again.
+///
+/// Returns `None` if memory runs out, if the history is full, or if a step is refused or changes
+/// nothing.
 fn follow<N: Desk, R: Wait>(
     rt: &R,
     alloc: Global,
@@ -71,8 +77,8 @@ fn follow<N: Desk, R: Wait>(
 ) -> Option<Worked<N>>
     ensures { IfSome result (λ w. HasFollowed seat plan.now w.seat) }
 {
-    // Each iteration that doesn't return adds an entry to the history, which can have at most
-    // MOST_ENTRIES entries.
+    // Each iteration that doesn't return adds an entry to the history. The history can have at most
+    // MOST_ENTRIES entries, so the last iteration always returns.
     for _ in 0..=MOST_ENTRIES {
         let last = editor.reading(&mut seat);
         let seen = last.changes;
@@ -89,8 +95,8 @@ fn follow<N: Desk, R: Wait>(
     None
 }
 
-/// Returns the call for one step: a batch of this edit, which is made only if exactly `seen`
-/// changes have been made.
+/// Returns the call for one step: a guarded batch with only this edit, which is made only if the
+/// map has exactly `seen` changes. Returns `None` if memory runs out.
 fn step(alloc: Global, seen: u32, edit: &Edit) -> Option<Call>
     ensures { IfSome result (λ call. call ≡ Guarded seen (edit.now ∷ [])) }
 {

@@ -1,5 +1,5 @@
-//! Lets two operators use one editor, each in a thread of its own. [`crate::at_once`] and
-//! [`crate::plan`] define what the operators do.
+//! Lets two operators use one editor at the same time, each in a thread of its own.
+//! [`crate::at_once`] and [`crate::plan`] define what the operators do.
 
 ghost use Rattle.std.specs.Prelude.{◌≡◌, IfOk, IfSome, [], ◌∷◌};
 ghost use Rattle.crush_editor.specs.Book.{MakesAll};
@@ -11,7 +11,8 @@ use std::alloc::Global;
 use std::sync::Wait;
 use std::thread::{Threads, join};
 
-/// An element of the list that an operator works through: a call, or a step of a plan.
+/// The type of the elements of a list that an operator works through. There are two such types: a
+/// call, and an edit as a step of a plan.
 pub(crate) trait Work {
     ghost use Rattle.std.specs.Prelude.{◌≡◌, IfSome, List};
     ghost use Rattle.crush_editor.specs.Seat.{SeatData};
@@ -20,9 +21,9 @@ pub(crate) trait Work {
     // work.
     ghost done: { List Self → SeatData → SeatData → Type 0 };
 
-    /// Works through a list with an operator's seat, and reads the gauge after each call. A reading
-    /// acquires no lock, so it doesn't wait for a call of the other operator. Returns the seat and
-    /// the last reading, or `None` if the work couldn't be finished.
+    /// Works through the list `given` with an operator's seat, and reads the gauge after each call.
+    /// A reading acquires no lock, so it doesn't wait for a call of the other operator. Returns the
+    /// seat and the last reading. Returns `None` if the work couldn't be finished.
     fn work<N: Desk, R: Wait>(
         rt: &R,
         alloc: Global,
@@ -34,7 +35,7 @@ pub(crate) trait Work {
         ensures done { IfSome result (λ w. done given.now seat w.seat) };
 }
 
-/// The result of a thread: the operator's seat, and its last reading.
+/// The result of an operator's work: the operator's seat, and the operator's last reading.
 #[derive(Drop)]
 pub(crate) struct Worked<N: Desk> {
     pub(crate) seat: Seat<N>,
@@ -42,7 +43,17 @@ pub(crate) struct Worked<N: Desk> {
 }
 
 /// Lets two operators work at the same time, each through its own list. Returns the map, the
-/// history, and the later one of the two operators' last readings.
+/// history, and the later one of the two operators' last readings. Fails if memory runs out, or if
+/// an operator couldn't finish its work.
+///
+/// The contract requires that `started` has two seats, and that its gauge, its opening map and its
+/// ledger are those of `N`. It says two things about a success:
+///
+/// - `all`: the history is legal for the opening map, and the returned map is the map after this
+/// history.
+/// - `seats`: for each operator, the relation `done` holds between the operator's list, a new seat,
+/// and the operator's seat after its work. In the history, each operator has exactly the calls and
+/// replies that this last seat has (its *slips*).
 pub(crate) fn work_together<N: Desk + Send + Sync, R: Threads + Wait + Sync, W: Work + Sync>(
     rt: &R,
     alloc: Global,
@@ -59,15 +70,17 @@ pub(crate) fn work_together<N: Desk + Send + Sync, R: Threads + Wait + Sync, W: 
         × W.done first.now (seat_data 0 [] []) one × W.done second.now (seat_data 1 [] []) two
         × IsHistoryOfSeats N.opening r.0.map r.0.history.items (one ∷ two ∷ [])) }
 {
-    // The editor has a seat for each operator. An operator needs its seat for each call and each
-    // reading.
+    // `open` returns the editor with a seat for each operator. An operator needs its seat for each
+    // call and each reading.
     let (editor, mut seats) = Editor::<N>::open(alloc, started)?;
     let two = seats.pop().context("no seat")?;
     let one = seats.pop().context("no seat")?;
 
-    // Starts two threads, and waits for both. They share the editor, and each owns its seat while
-    // it works. proofs/Crossing.antt proves that everything that is passed to a thread may be sent
-    // to it.
+    // `join` runs the first operator's work in a new thread, runs the second operator's work in the
+    // current thread, and waits for both. If no thread can be started, `join` runs the first
+    // operator's work after the second operator's work. Both operators share the editor, and each
+    // owns its seat during its work. proofs/Crossing.antt proves that everything that is passed to
+    // the new thread may be sent to it.
     let shared = &editor;
     let (one, two) = join(
         rt,
@@ -84,8 +97,8 @@ pub(crate) fn work_together<N: Desk + Send + Sync, R: Threads + Wait + Sync, W: 
     let two = two.context("not all was made")?;
     let last = later(one.last, two.last);
 
-    // `close` needs all seats, in the order in which `open` returned them. It returns the map and
-    // the history.
+    // `close` needs all seats, in the order in which `open` returned them. `close` returns the map
+    // and the history.
     seats.push(one.seat)?;
     seats.push(two.seat)?;
     Ok((editor.close(seats), last))
