@@ -1,6 +1,6 @@
-//! Holds the expected results of the runs: one part for each run, in the order of the runs.
+//! The expected results of the runs. There is one part for each run, in the order of the runs.
 
-/// The expected parts, and how many of them have been compared with runs so far.
+/// The expected parts, one for each run, and how many of them have been compared with runs so far.
 #[derive(Clone, Copy)]
 pub struct Expected<'e> {
     parts: &'e [&'e [u8]],
@@ -13,8 +13,8 @@ impl<'e> Expected<'e> {
         Expected { parts, taken: 0 }
     }
 
-    /// Takes the next part, and returns whether it equals what a run wrote. If no part is left,
-    /// returns `false`.
+    /// Takes the next part, and returns whether it equals `written`, which is what a run has
+    /// written. If no part is left, returns `false`.
     pub fn takes(&mut self, written: &[u8]) -> bool {
         match self.parts.get(self.taken) {
             Some(part) => {
@@ -25,7 +25,7 @@ impl<'e> Expected<'e> {
         }
     }
 
-    /// Returns the number of parts that are left.
+    /// Returns the number of parts that haven't been compared yet.
     pub fn left(&self) -> usize {
         self.parts.len().saturating_sub(self.taken)
     }

@@ -1,8 +1,9 @@
-//! Runs jobs whose output is known. In each run, one of the requests for memory that the job's map
-//! makes is refused: the first request in the first run, the second request in the next run, and so
-//! on. Each job is run in two ways: on a map alone, and with a `Book`, which keeps a map and its
-//! history. An operation that fails because memory ran out is repeated, so each run must end with
-//! the known output.
+//! Runs jobs whose output is known. Each job is run many times. The first run refuses the first
+//! request for memory that the job's map makes. The second run refuses the second request, and so
+//! on. In the last run, the number of the refused request is greater than the number of requests,
+//! so no request is refused. Each job is run in two ways: on a map alone, and with a `Book`, which
+//! is a map with its history. An operation that fails because memory ran out is repeated. So each
+//! run must end with the known output.
 
 use crate::jobs::RECORD_SEPARATOR;
 use anyhow::{Context, ensure};
@@ -17,7 +18,8 @@ mod map;
 mod refusing;
 mod run;
 
-/// Runs the job of each record, and prints the job's name after the job has passed.
+/// Runs the job of each record, in both ways. Prints the job's name before the runs of the job, and
+/// prints the result after them. Fails if a record lacks a part, or if a job doesn't pass.
 pub fn run_growths(rt: &HostRuntime, records: &[u8]) -> anyhow::Result<()> {
     for record in records.split(|byte| *byte == RECORD_SEPARATOR) {
         let parts = read_parts(record).context("a part is missing")?;
@@ -29,8 +31,9 @@ pub fn run_growths(rt: &HostRuntime, records: &[u8]) -> anyhow::Result<()> {
     Ok(())
 }
 
-/// Runs a job several times. Each run refuses a different one of the job's requests for memory.
-/// Fails if fewer runs report that memory ran out than the job's map makes requests.
+/// Runs a job many times ([`run_each`]), and counts the runs that report that memory ran out. Let N
+/// be a number of requests for memory that each run makes at least. The function fails if there are
+/// fewer than N such runs. It also fails if a run ends with another output.
 fn run_record(rt: &HostRuntime, parts: &Parts, maker: Maker) -> anyhow::Result<()> {
     let memory = Refusing::new(rt.alloc());
     let (told, fewest) = run_each(rt.alloc(), &memory, parts, maker)?;

@@ -1,6 +1,6 @@
-//! Runs jobs as `crushedit` does: first the jobs of the file `jobs`, then those of the file
-//! `records`. The file `expected` has a part for each run. The run's output, summary, standard
-//! error and status must equal this part.
+//! Runs jobs as `crushedit` does. The file `jobs` has command lines, which are run first. The file
+//! `records` has jobs, which are run next. The file `expected` has a part for each run. The run's
+//! output, summary, standard error and status must equal this part.
 
 use crate::expected::Expected;
 use crush_input::{Words, report};
@@ -16,8 +16,9 @@ const PART_SEPARATOR: u8 = 0;
 
 pub const RECORD_SEPARATOR: u8 = 0x1e;
 
-/// Runs all jobs, and prints which of them end as expected. If there are more expected parts than
-/// runs, also prints how many parts are left.
+/// Runs all jobs, and prints which runs end as expected. If there are more expected parts than
+/// runs, also prints how many parts are left. Fails if a file can't be read, if a line can't be
+/// printed, or if memory runs out.
 pub fn run_jobs(
     rt: &HostRuntime,
     workers: &(impl AllocGlobal + RandomSource + Threads + Wait + Sync),
@@ -51,7 +52,8 @@ fn run_files(
     }
 }
 
-/// Runs each line as a command line. The line has the words that follow the program's name.
+/// Runs each line as a command line, without the program's name. Prints for each line whether its
+/// run ended as expected. If the run didn't, also prints what the run has written.
 fn run_lines(
     rt: &HostRuntime,
     workers: &(impl AllocGlobal + RandomSource + Threads + Wait + Sync),
@@ -72,8 +74,8 @@ fn run_lines(
     Ok(())
 }
 
-/// Runs one command line. If the command line is rejected, the outcome of the run is
-/// `RunFault::Read`.
+/// Runs one command line, and appends what the run writes to `written`. If the command line is
+/// rejected, nothing is run, and the outcome counts as `RunFault::Read`.
 fn run_line(
     rt: &HostRuntime,
     workers: &(impl AllocGlobal + RandomSource + Threads + Wait + Sync),
@@ -101,8 +103,8 @@ fn run_line(
     write_end(words, &ending, written)
 }
 
-/// Runs the jobs of `records`, between which there are record separators, and prints how many of
-/// them end as expected.
+/// Runs the jobs of `records`, between which there are record separators. Prints how many of these
+/// runs end as expected, and prints what each other run has written.
 fn run_records(
     rt: &HostRuntime,
     workers: &(impl AllocGlobal + RandomSource + Threads + Wait + Sync),
@@ -149,7 +151,7 @@ fn run_record(
     run_job(workers, &NoGate, &request, &mut reader, written)
 }
 
-/// Writes the summary, the text for standard error, and the status.
+/// Appends the summary of a run, the text for standard error, and the exit status to `written`.
 fn write_end(words: Words<'_>, ending: &Ending, written: &mut Vec<u8>) -> io::Result<()> {
     match &ending.outcome {
         Ok(done) => writeln!(

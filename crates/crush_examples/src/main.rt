@@ -1,5 +1,6 @@
-//! Runs the jobs of the examples, and prints for each run whether it ended as expected. Then runs
-//! other jobs, and refuses one of their requests for memory in each run (`growths`).
+//! Runs the jobs of the examples, and prints which runs ended as expected ([`jobs`]). Then runs
+//! some jobs many times. In each run of such a job, except for the last run, a different one of the
+//! job's requests for memory is refused ([`growths`]).
 #![tactic(auto)]
 
 use growths::run_growths;

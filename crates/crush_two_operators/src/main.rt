@@ -4,8 +4,8 @@
 //! operators work through one plan, which is the batch of the third script ([`plan`]). Each step of
 //! the plan is made once, by the operator that is the first to submit it.
 //!
-//! The job in the file `stdin` has two scripts that don't affect each other. So the output for this
-//! job is always the same, in whichever order the operators' calls are made.
+//! In the job of the file `stdin`, the first two scripts don't affect each other. So the output for
+//! this job is always the same, in whichever order the operators' calls are made.
 //!
 //! A *call* is an edit or a batch of edits. An *editor* owns the map and makes one call at a time.
 //! Each operator has a *seat*, with which it submits its calls to the editor. The *history* has an

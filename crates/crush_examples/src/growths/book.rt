@@ -1,6 +1,7 @@
-//! Commits the calls of a job to a `Book`, which is a map with the history of its calls. An
-//! allocator that refuses one request has the memory for the book's maps. `answers` counts the
-//! operations that report that memory ran out.
+//! Commits the calls of a job to a `Book`, which is a map with the history of its calls. To
+//! *commit* a call is to make the call and to add it to the history. The memory for the book's maps
+//! comes from an allocator that refuses one request. The parameter `answers` counts the operations
+//! that report that memory ran out.
 
 ghost use Rattle.std.specs.Prelude.{◌≡◌, ◌<◌, IfOk};
 ghost use Rattle.crush_units.specs.declared.limits.TheConstants.{MOST_OPERATORS};
@@ -15,9 +16,9 @@ use crush_units::limits::MOST_OPERATORS;
 use std::alloc::{Allocator, Global};
 use std::io::Write;
 
-/// Commits the calls of all scripts to a book of the map. Returns the least number of requests for
-/// memory that such a run makes. Fails if the book's map and history, when they are printed, aren't
-/// the job's known output.
+/// Commits the calls of all scripts to a book of the map. Returns how many requests for memory such
+/// a run makes at least ([`fewest_requests`]). Fails if the text of the book's map, followed by the
+/// lines of the book's history, isn't the job's known output.
 pub fn run_by_book<A: Allocator + Clone>(
     alloc: Global,
     map: CrushMap<A>,
@@ -39,8 +40,8 @@ pub fn run_by_book<A: Allocator + Clone>(
     Ok(fewest_requests(book.map()))
 }
 
-/// Creates a book of the map. If memory runs out, the failed call returns the map, and the function
-/// tries once more with this map.
+/// Creates a book of the map. If memory runs out, the failed call gives the map back, and this
+/// function tries once more with this map. `printed` is the text of the map.
 fn open_again<A: Allocator + Clone>(
     alloc: Global,
     map: CrushMap<A>,
@@ -58,7 +59,8 @@ fn open_again<A: Allocator + Clone>(
     }
 }
 
-/// Checks that a map which was returned is unchanged, and creates a book of it.
+/// Checks that a map that a failed call has given back is unchanged, and creates a book of this
+/// map. `printed` is the text that the map must have.
 fn open_returned<A: Allocator + Clone>(
     alloc: Global,
     map: CrushMap<A>,
@@ -99,8 +101,8 @@ impl Committing<'_> {
         Ok(())
     }
 
-    /// Commits a call, and returns whether memory ran out. If it did, the book must be unchanged,
-    /// and the call is committed again.
+    /// Commits a call, and returns whether memory ran out. If memory ran out, checks that the book
+    /// is unchanged, and commits the call again.
     fn commit_again<A: Allocator + Clone>(
         &self,
         book: &mut Book<A>,

@@ -1,16 +1,18 @@
-//! Splits a stored example into its parts: a job, and its known output.
+//! Splits a stored example into its parts: a name, a map, a job, and the known outputs.
 
 const UNIT_SEPARATOR: u8 = 0x1f;
 
-/// The parts of a stored example (a *record*), in the order in which the record has them.
+/// The parts of a stored example (a *record*), in the order in which the record has them. In the
+/// record, a unit separator follows each part except for the last part.
 #[derive(Clone, Copy)]
 pub struct Parts<'a> {
     pub name: &'a [u8],
     pub map: &'a [u8],
-    /// The text that the program prints for the map.
+    /// The text that is printed for the map, before any call.
     pub printed: &'a [u8],
     pub job: &'a [u8],
-    /// The output of the job if no request for memory is refused.
+    /// The output of the job: the text of the map after all calls, followed by the lines of the
+    /// history.
     pub output: &'a [u8],
 }
 

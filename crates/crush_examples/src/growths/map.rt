@@ -1,5 +1,5 @@
-//! Makes the calls of a job on a map. The map's allocator refuses one request. `answers` counts the
-//! operations that report that memory ran out.
+//! Makes the calls of a job on a map. The map's allocator refuses one request. The parameter
+//! `answers` counts the operations that report that memory ran out.
 
 use anyhow::ensure;
 use crush_history::{Call, Line, Reply, Script, is_change, make_call};
@@ -9,8 +9,9 @@ use crush_text::{TextFaultKind, read_map_in};
 use std::alloc::{Allocator, Global};
 use std::io::Write;
 
-/// Makes the calls of all scripts. Returns the least number of requests for memory that such a run
-/// makes. Fails if the printed map, followed by the lines of the history, isn't `output`.
+/// Makes the calls of all scripts. Returns how many requests for memory such a run makes at least
+/// ([`fewest_requests`]). Fails if the printed map, followed by the lines of the history, isn't
+/// `output`.
 pub fn run_on_map<A: Allocator + Clone>(
     alloc: Global,
     map: CrushMap<A>,
@@ -27,15 +28,17 @@ pub fn run_on_map<A: Allocator + Clone>(
     Ok(fewest_requests(&map))
 }
 
-/// Returns the least number of requests for memory that a run makes if it ends with this map: one
-/// for the items of each bucket, and one for the table of devices. The number is right for the jobs
-/// of these tests. It isn't right for every map, because an empty bucket needs no memory for items.
+/// Returns how many requests for memory a run makes at least, if it ends with this map: one for the
+/// items of each bucket, and one for the table of devices, if the map has devices. The number is
+/// right for the jobs of these tests. It isn't right for every map, because an empty bucket needs
+/// no memory for items.
 pub fn fewest_requests<A: Allocator>(map: &CrushMap<A>) -> usize {
     let counts = map.counts();
     counts.buckets as usize + usize::from(counts.devices > 0)
 }
 
-/// Reads the text of a map. If memory runs out, reads it again.
+/// Reads the text of a map. If memory runs out, reads the text again. The map gets its memory from
+/// `memory`.
 pub fn read_again<A: Allocator + Clone>(
     alloc: Global,
     memory: A,
@@ -85,8 +88,8 @@ fn make_calls<A: Allocator + Clone>(
     Ok(lines)
 }
 
-/// Makes a call, and returns its reply. If memory runs out, the map must be unchanged, and the call
-/// is made again.
+/// Makes a call, and returns its reply. If memory runs out, checks that the map is unchanged, and
+/// makes the call again. `changes` is the number of earlier calls that changed the map.
 fn make_again<A: Allocator + Clone>(
     alloc: Global,
     map: &mut CrushMap<A>,

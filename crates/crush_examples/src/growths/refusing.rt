@@ -3,14 +3,15 @@
 use std::alloc::{AllocError, Allocator};
 use std::cell::Cell;
 
-/// An allocator that refuses one request, whose number a test sets. All collections share the
-/// allocator by reference, so their requests are counted together. A collection that grows makes
-/// one request for its new block. Freeing a block isn't a request.
+/// An allocator that refuses one request, whose number a test sets. It passes all other requests on
+/// to another allocator. All collections share this allocator by reference, so their requests are
+/// counted together. A collection that grows makes one request for its new block. Freeing a block
+/// isn't a request.
 #[derive(Drop)]
 pub struct Refusing<M: Allocator> {
     memory: M,
-    /// The number of the request that is refused: 1 for the next request, or 0 if no request is
-    /// refused.
+    /// The number of the request that is refused, counted from now: 1 for the next request, or 0 if
+    /// no request is refused.
     left: Cell<usize>,
 }
 
@@ -23,8 +24,8 @@ impl<M: Allocator> Refusing<M> {
         }
     }
 
-    /// Sets the number of the request that is refused: 1 for the next request, or 0 if no request
-    /// is refused.
+    /// Sets the number of the request that is refused, counted from now: 1 for the next request, or
+    /// 0 if no request is refused.
     pub fn refuse(&self, number: usize) {
         self.left.set(number);
     }
@@ -44,7 +45,7 @@ fn counts_down(left: &Cell<usize>) -> bool {
 }
 
 // SAFETY: the wrapped allocator allocates each block and frees it. So the right to free a block is
-// the right that the wrapped allocator gave.
+// the right that the wrapped allocator has given for this block.
 unsafe impl<M: Allocator> Allocator for Refusing<M> {
     ghost dealloc_token = { λ r ty ptr. M.dealloc_token r.memory ty ptr };
 
@@ -57,7 +58,8 @@ unsafe impl<M: Allocator> Allocator for Refusing<M> {
 
     unsafe fn deallocate(&self, ptr: *mut u8, size: usize, align: usize) {
         // SAFETY: the wrapped allocator allocated the block, for the type `ty` of the contract of
-        // `deallocate`. The caller passes on the right to free the block.
+        // `deallocate`. The caller passes the right to free the block to this function, which
+        // passes it on to the wrapped allocator.
         self.memory.deallocate(ptr, size, align);
     }
 }

@@ -1,4 +1,5 @@
-//! Runs a job many times. In each run another request for memory is refused.
+//! Runs a job many times. Each run, except for the last run, refuses a different request for
+//! memory.
 
 use crate::growths::book::run_by_book;
 use crate::growths::job::Parts;
@@ -18,11 +19,16 @@ pub enum Maker {
     Book,
 }
 
-/// Runs a job repeatedly, until a run ends in which no request was refused. Each run refuses the
-/// request after the one that the run before refused. Returns two numbers: how many runs had an
-/// operation that reported that memory ran out, and how many requests for memory a run makes at
-/// least ([`fewest_requests`]). If a list can use a smaller block after a refusal, no operation
-/// reports that memory ran out.
+/// Runs a job repeatedly, until a run ends in which no request was refused. The first run refuses
+/// its first request, the second run refuses its second request, and so on. Returns two numbers:
+/// how many runs had an operation that reported that memory ran out, and how many requests for
+/// memory a run makes at least (`fewest_requests` of the module `map`).
+///
+/// Not every refused request leads to such a report. A list may request a smaller block for the
+/// same items. If this request is refused, the list keeps its larger block.
+///
+/// Fails if a run doesn't end with the known output, or if more than one operation of a run reports
+/// that memory ran out.
 pub fn run_each(
     alloc: Global,
     memory: &Refusing<Global>,
@@ -44,8 +50,9 @@ pub fn run_each(
     bail!("no end of requests")
 }
 
-/// Runs a job once. Returns how many operations reported that memory ran out, and a lower bound for
-/// the requests for memory of a run, which `fewest_requests` computes from the map at the end.
+/// Runs a job once. Returns how many operations reported that memory ran out, and how many requests
+/// for memory a run makes at least. `fewest_requests` computes the second number from the map at
+/// the end of the run.
 fn run_refused(
     alloc: Global,
     memory: &Refusing<Global>,
