@@ -1,4 +1,4 @@
--- WHICH TEXTS ARE LAWFUL: each word has the form that is due at its place, and the lines build a map that is lawful after each of them. These definitions don't mention faults.
+-- WHICH TEXTS ARE LAWFUL: each word has the form that the grammar requires at its place, and the map that the lines have built is lawful after each line. These definitions don't mention faults. What the lines have built so far is called a *draft*.
 use Rattle.std.specs.Prelude.{◌≡◌, ◌⊎◌, ℕ, ◌<◌, Bool, true, false, nat_eq, List, [], ◌∷◌, Some, Ok, codes, drop, slice_index}
 use Rattle.std.specs.List.{starts_with}
 use Rattle.crush_units.specs.declared.alg.Alg.{Alg}
@@ -17,27 +17,24 @@ use Rattle.crush_text.specs.Grammar.{next}
 use Rattle.crush_text.specs.Flow.{State, between, amid, arrive}
 use Rattle.crush_text.specs.Document.{IsMap, IsWhole, start}
 
--- the table is lawful, the setting fits it, and what was read of a bucket that isn't in the table yet can be put there
+-- a draft is lawful: its table is lawful, its setting fits the table, and an incomplete bucket is consistent with both (`IsPending`)
 pub record IsLawfulDraft (d : Draft) : Type 0 where
   pub map : IsMap d
   pub pending : IsPending d.setting d.table d.pending
 
--- the word begins a statement: `tunable`, `device` or `type`, if no bucket or rule has begun before (`late`); or `rule`; or the name of a
--- type other than type 0, which begins a bucket
+-- the word w begins a statement: it is `tunable`, `device` or `type`, and no bucket or rule was read before (`late` is false); or it is `rule`; or it is the name of a type other than type 0, which begins a bucket
 abbrev pub BeginsStatement : Draft → Bool → List ℕ → Type 0
 BeginsStatement d late w = ((late ≡ false) × ((w ≡ codes "tunable") ⊎ ((w ≡ codes "device") ⊎ (w ≡ codes "type")))) ⊎ ((w ≡ codes "rule") ⊎ (0 < kind_of_word d w))
 
--- the word begins a step of a rule: `take`, `choose`, `chooseleaf`, `emit`, or a word that starts with `set_`
+-- the word w begins a step of a rule: it is `take`, `choose`, `chooseleaf` or `emit`, or it starts with `set_`
 abbrev pub BeginsStep : List ℕ → Type 0
 BeginsStep w = (w ≡ codes "take") ⊎ ((w ≡ codes "choose") ⊎ ((w ≡ codes "chooseleaf") ⊎ ((w ≡ codes "emit") ⊎ (starts_with nat_eq w (codes "set_") ≡ true))))
 
--- the word names an item that can be listed: a device, or a bucket whose lines have ended, that is in no bucket
+-- the word w is the name of a device, or of a bucket whose closing brace was read; and no bucket holds this item, so that a bucket can list it
 abbrev pub IsFree : Draft → List ℕ → Type 0
 IsFree d w = (item_named d w ≡ Some (item_of d w)) × (is_placed d.table (item_of d w) ≡ false)
 
--- the word w has the form r that is due: a given word of the grammar, a number, digits, `-` and digits, an item that can be listed, a
--- bucket whose lines have ended, or a weight. Limits, the forms of names, and whether a name or an id is already used are not checked here:
--- they are conditions on the map that the line builds.
+-- the word w has the form that the role r requires. (The role of a word is what the word is for.) For example, w is a given word of the grammar, a number, digits, `-` and digits, the name of an item that can be listed, the name of a bucket whose closing brace was read, or a weight. A word of the role `number`, `step_count` or `weight` is also in its range. Other limits, the forms of names, and whether a name or an id is already used are not checked here: they are conditions on the map that the line builds.
 abbrev pub IsFor : Draft → Role → List ℕ → Type 0
 IsFor d (key k) w = w ≡ k
 IsFor d (any_word e) w = Unit {0}
@@ -66,19 +63,19 @@ IsFor d step_order w = (w ≡ codes "firstn") ⊎ (w ≡ codes "indep")
 IsFor d step_count w = is_signed w ≡ true
 IsFor d step_type w = Unit {0}
 
--- the word w, followed by the words `rest`, leads from the form that is due to the state m: w has this form, and w's value says which form is due next
+-- the word w, followed by the words `rest`, leads from a form of the rest of a line to the state m: w has the form that its role requires, and m is the state after w. The form that is required after w can depend on the value of w
 abbrev pub LeadsFrom : Draft → Form → List ℕ → List Word → State → Type 0
 LeadsFrom d (word r more) w rest m = IsFor d r w × (m ≡ arrive d rest (more (value d r w)))
 LeadsFrom d (done p) w rest m = ⊥
 LeadsFrom d (optional k f g) w rest m = ⊥
 LeadsFrom d (ahead k f g) w rest m = ⊥
 
--- the word leads from a state to the state m. Between two lines, the forms of the next line are due
+-- the word w, followed by the words `rest`, leads from a state to the state m. Between two lines, w is the first word of the next line
 abbrev pub WordLeads : State → List ℕ → List Word → State → Type 0
 WordLeads (between p) w rest m = LeadsFrom p.draft (next p) w rest m
 WordLeads (amid d f) w rest m = LeadsFrom d f w rest m
 
--- in the middle of a rule: the map is lawful with the steps of the rule that were read so far
+-- between two lines of a rule, the map that also has this rule, with the steps that were read so far, is lawful. In any other mode, nothing is required
 abbrev pub IsLawfulMode : Draft → Mode → Type 0
 IsLawfulMode d first = Unit {0}
 IsLawfulMode d second = Unit {0}
@@ -87,17 +84,17 @@ IsLawfulMode d numbered = Unit {0}
 IsLawfulMode d (filling any) = Unit {0}
 IsLawfulMode d (ruled r) = IsMap (add_rule d r)
 
--- at the end of a line, what was built so far is lawful; within a line nothing is required
+-- between two lines, what was built so far is lawful; within a line, nothing is required
 abbrev pub IsLawfulState : State → Type 0
 IsLawfulState (between p) = IsLawfulDraft p.draft × IsLawfulMode p.draft p.mode
 IsLawfulState (amid d f) = Unit {0}
 
--- WORDS BUILD the draft d from the state s: each word leads to the next state, which is lawful, and the last line is whole and has built d
+-- WORDS BUILD the draft d from the state s: each word leads to the next state, and each of these states is lawful (`IsLawfulState`). The text may end after the last word, and its lines have built d
 abbrev pub Build : State → List Word → Draft → Type 0
 Build s [] d = IsWhole s d
 Build s (w ∷ ws) d = (u : State) × WordLeads s w.text ws u × IsLawfulState u × Build u ws d
 
--- A LAWFUL TEXT: its words build, from an empty draft, this setting, this table and this number of adjusted weights
+-- A LAWFUL TEXT: the bytes can be split into words up to their end, and the words build, from the empty draft, a draft with this setting, this table and this number of adjusted weights
 pub record IsLawfulText (bytes : List ℕ) (s : SettingData) (t : List Row) (adjusted : ℕ) : Type 0 where
   pub draft : Draft
   pub built : Build start (words 0 bytes).words draft

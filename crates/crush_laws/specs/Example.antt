@@ -1,5 +1,4 @@
--- A SMALL DOCUMENT, worked by hand. It has two devices; a host that lists one of them with a weight and one without; a root that lists the
--- host with a weight that isn't the host's sum; and a rule with each kind of step.
+-- A SMALL DOCUMENT, whose setting and table were worked out by hand. The document has two devices. It has a host that lists one of these devices with a weight, and the other one without a weight. It has a root that lists the host with a weight that isn't the sum of the weights of the host's devices. It also has a rule with each kind of step.
 use Rattle.std.specs.Prelude.{◌≡◌, ℕ, pos, neg_ℤ, List, [], ◌∷◌, true, false, Some, None, codes}
 use Rattle.crush_units.specs.declared.alg.Alg.TheVariants.{Straw2}
 use Rattle.crush_units.specs.declared.id.ItemId.TheVariants.{Device, Bucket}
@@ -48,7 +47,7 @@ example = record {
       ∷ [];
 }
 
--- the setting that the document means
+-- the setting of the document
 abbrev pub example_setting : SettingData
 example_setting = record {
   kinds = record { number = 1; name = codes "host" } ∷ record { number = 11; name = codes "root" } ∷ [];
@@ -63,7 +62,7 @@ example_setting = record {
   } ∷ [];
 }
 
--- the table that the document means: the host's row comes after the root's, which lists it, and the devices' rows are in the order in which the host lists them
+-- the table of the document. The root lists the host, so the host's row comes after the root's row. The rows of the devices are in the order in which the host lists the devices
 abbrev pub example_table : List Row
 example_table =
     record { id = Device 1; kind = 0; name = codes "osd.1"; parent = Some 2; weight = 32768; class = None; alg = None; class_ids = [] }
@@ -72,7 +71,7 @@ example_table =
     ∷ record { id = Bucket 2; kind = 1; name = codes "h1"; parent = Some 1; weight = 0; class = None; alg = Some Straw2; class_ids = record { id = 3; class = codes "ssd" } ∷ [] }
     ∷ []
 
--- the words spell the document; the document means this setting and this table, and one weight is adjusted
+-- the words spell the document; the document has this setting and this table, and one weight of the document is adjusted
 pub record ExampleIsRight : Type 0 where
   pub spelled : Spells example_words example
   pub setting : setting_of example ≡ example_setting

@@ -1,4 +1,4 @@
--- The laws that bytes either are the text of one map or have one flaw.
+-- The laws that bytes either are the text of one map or have one flaw. A flaw is the first fault of a text, with its place.
 use Rattle.std.specs.Prelude.{◌≡◌, ◌⊎◌, ◌↔◌, ℕ, List, ◌∷◌, ◌++◌, Err, codes}
 use Rattle.crush_model.specs.Table.{Row}
 use Rattle.crush_edits.specs.Setting.{SettingData}
@@ -31,20 +31,19 @@ AFlawExcludesTheMap = (bytes : List ℕ) (f : TextFault) (s : SettingData) (t : 
 abbrev pub AtMostOneFlaw : Type 0
 AtMostOneFlaw = (bytes : List ℕ) (f g : TextFault) → IsMapFlaw bytes f → IsMapFlaw bytes g → f ≡ g
 
--- the flaw doesn't depend on what follows the word w that has the fault, except for whether the next word is `weight`. If other bytes
--- have the same words up to and including w, and `weight` follows w in both or in neither, then these bytes have the same flaw.
+-- the flaw doesn't depend on what follows the word w that has the fault, except for whether the next word is `weight`. Suppose that other bytes have the same words up to and including w, and that `weight` follows w in both texts or in neither of them. Then the other bytes have the same flaw.
 abbrev pub SameWordsSameFlaw : Type 0
 SameWordsSameFlaw = (bytes others : List ℕ) (f : TextFault) (x : IsMapFlaw bytes f) (w : Word) (next more : List Word) → x.next ≡ w ∷ next → (words 0 others).words ≡ x.before ++ w ∷ more → begins_with_key (codes "weight") next ≡ begins_with_key (codes "weight") more → IsMapFlaw others f
 
--- a flaw says what is expected in the state to which the words before it lead
+-- the words before a flaw lead to a state (`so_far`), and the field `expected` of the flaw says what is expected in this state
 abbrev pub FlawsSayWhatIsExpected : Type 0
 FlawsSayWhatIsExpected = (bytes : List ℕ) (f : TextFault) (x : IsMapFlaw bytes f) → f.expected ≡ expected_at x.so_far
 
--- after each word that may follow in that state, the text can go on: neither the words before the flaw nor this word have a fault, if suitable words follow
+-- with each word that may follow in the state before the flaw, the text can go on: if suitable words follow this word, then neither this word nor a word before it has a fault
 abbrev pub ExpectedWordsGoOn : Type 0
 ExpectedWordsGoOn = (bytes : List ℕ) (f : TextFault) (x : IsMapFlaw bytes f) (w : Word) → MayFollow x.so_far w.text → GoesOn x.before w
 
--- after any other word the text can't go on
+-- with any other word, the text can't go on: whatever words follow this word, this word or a word before it has a fault
 abbrev pub NoOtherWordGoesOn : Type 0
 NoOtherWordGoesOn = (bytes : List ℕ) (f : TextFault) (x : IsMapFlaw bytes f) (w : Word) → GoesOn x.before w → MayFollow x.so_far w.text
 
@@ -56,15 +55,15 @@ AtMostOneMap = (bytes : List ℕ) (s r : SettingData) (t u : List Row) (n m : �
 abbrev pub EachMapIsLawful : Type 0
 EachMapIsLawful = (bytes : List ℕ) (s : SettingData) (t : List Row) (n : ℕ) → IsMapText bytes s t n → Lawful t × Fits s t
 
--- bytes are the text of a map if and only if their words build that map line by line, and what is built is lawful after each line. So a lawful text has no fault, and a text without a fault is lawful.
+-- bytes are the text of a map if and only if their words build that map line by line, and what has been built is lawful after each line. So a lawful text has no fault, and a text without a fault is lawful.
 abbrev pub MapsAreTheLawfulTexts : Type 0
 MapsAreTheLawfulTexts = (bytes : List ℕ) (s : SettingData) (t : List Row) (n : ℕ) → IsMapText bytes s t n ↔ IsLawfulText bytes s t n
 
--- bytes are the text of a map if and only if the forms of their words lead to that map, and the map is lawful in the end. So no line is rejected if the lines after it would make the map lawful.
+-- bytes are the text of a map if and only if each of their words has the form that the grammar requires, the words lead to that map, and the map is lawful at the end of the text. So no line of a text is rejected if the map is lawful at the end of the text.
 abbrev pub MapsAreTheLawfulEnds : Type 0
 MapsAreTheLawfulEnds = (bytes : List ℕ) (s : SettingData) (t : List Row) (n : ℕ) → IsMapText bytes s t n ↔ EndsLawfully bytes s t n
 
--- a word that is read as r has the fault f if and only if the row of f in the table of faults holds and the row of no lesser fault does
+-- the reader finds the fault f in a word w of the role r if and only if, in the table of faults, the row of f applies to w and no row of a fault with a smaller number applies (`IsFault`)
 abbrev pub WordsAreJudgedByTheTable : Type 0
 WordsAreJudgedByTheTable = (d : Draft) (r : Role) (w : List ℕ) (f : TextFaultKind) → (word_for d r w ≡ Err f) ↔ IsFault f d r w
 

@@ -1,4 +1,4 @@
--- The laws that the sentence about a fault of a text names, between backquotes, the words that may follow.
+-- The laws that the sentence about a fault of a text names, between backquotes, the words that may follow the words before the fault.
 use Rattle.std.specs.Prelude.{◌≡◌, ◌≢◌, ◌⊎◌, ℕ, ◌==◌, true, nat_eq, List, [], ◌∷◌, ◌++◌, Option, None, Some, codes, if◌then◌else◌}
 use Rattle.std.specs.List.{starts_with}
 use Rattle.crush_builder.specs.Built.{Draft}
@@ -12,7 +12,7 @@ use Rattle.crush_text.specs.Flaw.{FaultyNext, IsMapFlaw}
 use Rattle.crush_text.specs.Follows.{IsOneOf, MayFollow}
 use Rattle.crush_reasons.specs.Flaws.{expected_text, word_sentence}
 
--- the words that the rest of a text has between backquotes (96). The first argument is `None` outside of backquotes; after an opening backquote, it is the word so far
+-- the words that the rest of a text has between backquotes. A backquote is the byte 96. The first argument is `None` outside of backquotes. After an opening backquote, it is the part of the word that was read so far
 abbrev pub quoted_next : Option (List ℕ) → List ℕ → List (List ℕ)
 quoted_next word [] = []
 quoted_next None (b ∷ rest) = if b == 96 then quoted_next (Some []) rest else quoted_next None rest
@@ -22,22 +22,22 @@ quoted_next (Some word) (b ∷ rest) = if b == 96 then word ∷ quoted_next None
 abbrev pub quoted : List ℕ → List (List ℕ)
 quoted text = quoted_next None text
 
--- the words that the sentence about a fault names as expected: in the part that says what is expected, it has each of them between backquotes
+-- the words that the sentence about a fault names as expected. These are the words between backquotes in the part of the sentence that says what is expected (`expected_text`)
 abbrev pub named : Expected → List (List ℕ)
 named e = quoted (expected_text e)
 
--- the draft that the lines before the state have built
+-- the draft that the lines before this state have built
 abbrev pub draft_at : State → Draft
 draft_at (between p) = p.draft
 draft_at (amid d f) = d
 
--- a sentence that names words also describes the word w: the words `the name of a type` describe the first word of a bucket, and `set_..` describes each word that begins with `set_`
+-- the sentence describes the word w without naming it. In the sentence about the first word of a statement, `the name of a type` describes the first word of a bucket. In the sentence about the first word of a step, `set_..` describes each word that begins with `set_`
 abbrev pub IsDescribed : Draft → Expected → List ℕ → Type 0
 IsDescribed d (expect.Statement late or) w = BeginsBucket d w
 IsDescribed d expect.StepWord w = IsOneOf (named expect.StepWord) (codes "set_..") × (starts_with nat_eq w (codes "set_") ≡ true)
 IsDescribed d e w = ⊥
 
--- each word that the sentence names may follow the words before the flaw, unless the word begins a further thing of which the map, the bucket or the rule already has the allowed number
+-- each word that the sentence names may follow the words before the flaw. The exception is a word with the fault `TooMany`: it begins one more thing, such as a tunable or a step, although the map, the bucket or the rule already has as many of these things as it may have
 abbrev pub NamedWordsMayFollow : Type 0
 NamedWordsMayFollow = (bytes : List ℕ) (f : TextFault) (x : IsMapFlaw bytes f) (w : List ℕ) → IsOneOf (named f.expected) w → MayFollow x.so_far w ⊎ FaultyNext TooMany x.so_far w
 

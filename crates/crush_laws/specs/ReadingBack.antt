@@ -16,24 +16,24 @@ pub record SameSetting (s r : SettingData) : Type 0 where
   pub tunables : s.tunables ≡ r.tunables
   pub rules : s.rules ≡ r.rules
 
--- the bytes are the text of a map with the setting s and a table that is the same as t. Each written weight of a bucket is the sum of its items
+-- the bytes are the text of a map with the setting s and a table that is the same as t (`Same`): its rows may be in another order, but each bucket has the same items in the same order. Each weight that the text gives for a bucket is the sum of the weights of the bucket's items
 pub record IsTextOf (bytes : List ℕ) (s : SettingData) (t : List Row) : Type 0 where
   pub table : List Row
   pub text : IsMapText bytes s table 0
   pub same : Same table t
 
--- READ AS: the bytes are the text of a map with such a table and with a setting that is the same as s, except for the order of its types. In each form of weights, the printed text of this map is the printed text of s and t
+-- READ AS: the bytes are the text of a map whose table is the same as t (`Same`), and whose setting is the same as s, except for the order of its types. If this map is printed, with rounded or with exact weights, then the result is the printed text of s and t
 pub record IsReadAs (bytes : List ℕ) (s : SettingData) (t : List Row) : Type 0 where
   pub setting : SettingData
   pub settings : SameSetting s setting
   pub map : IsTextOf bytes setting t
   pub again : (form : WeightForm) → map_text form setting map.table ≡ map_text form s t
 
--- READING BACK: the printed text of a lawful table, with a setting that fits it, is read back as that map, in whichever form its weights are printed
+-- READING BACK: if a map has a lawful table and a setting that fits this table, then its printed text is read back as that map. The weights in the text may be rounded or exact
 abbrev pub PrintedTextsAreReadBack : Type 0
 PrintedTextsAreReadBack = (form : WeightForm) (s : SettingData) (t : List Row) → Lawful t → Fits s t → IsReadAs (map_text form s t) s t
 
--- the type with this number, with the name that is printed for it
+-- the type with the number n, and with the name that is printed for this type
 abbrev pub printed_kind : SettingData → ℕ → KindData
 printed_kind s n = record { number = n; name = kind_text s n }
 
@@ -41,25 +41,25 @@ printed_kind s n = record { number = n; name = kind_text s n }
 abbrev pub in_order : SettingData → SettingData
 in_order s = record s { kinds = map (printed_kind s) (kind_numbers s) }
 
--- a setting that fits a table and the same setting with its types in order are the same, as SameSetting says
+-- if a setting fits a table, then this setting and the same setting with its types in order are the same, as `SameSetting` says
 abbrev pub InOrderIsTheSame : Type 0
 InOrderIsTheSame = (s : SettingData) (t : List Row) → Fits s t → SameSetting s (in_order s)
 
--- the types of a printed text are read in the order of their numbers
+-- if a printed text is read, then the types of the map that is read are in the order of their numbers
 abbrev pub TypesAreReadInOrder : Type 0
 TypesAreReadInOrder = (form : WeightForm) (s : SettingData) (t : List Row) → Lawful t → Fits s t → IsTextOf (map_text form s t) (in_order s) t
 
--- the setting with its types in order, together with any table that is the same as t, has the same printed text as the setting s and t
+-- the setting with its types in order, together with any table u that is the same as t (`Same`), has the same printed text as s and t
 abbrev pub ReadBackPrintsAlike : Type 0
 ReadBackPrintsAlike = (form : WeightForm) (s : SettingData) (t u : List Row) → Lawful t → Fits s t → Same u t → map_text form (in_order s) u ≡ map_text form s t
 
--- whether the bytes are whole lines that begin with `#`; the first argument says whether the bytes begin within such a line
+-- whether the bytes are whole lines that begin with `#`, each with its line feed. The first argument says whether the bytes begin within such a line
 abbrev pub are_comments : Bool → List ℕ → Bool
 are_comments inside [] = not inside
 are_comments false (b ∷ bs) = b == 35 && are_comments true bs
 are_comments true (b ∷ bs) = are_comments (not (b == 10)) bs
 
--- COMMENT LINES: the bytes are whole lines that begin with `#`
+-- COMMENT LINES: the bytes are whole lines that begin with `#`, or there are no bytes
 abbrev pub AreCommentLines : List ℕ → Type 0
 AreCommentLines bytes = are_comments false bytes ≡ true
 

@@ -1,6 +1,4 @@
--- WHICH WORDS SPELL A DOCUMENT: one definition for each production of the grammar, which is written above it. Each says that `words` are the
--- words of that production, followed by the words `rest`. A name, a class or a WORD can be any word here. Lawful documents require the form of
--- names, so that none of them is a brace, and that no type has the name of a word that begins a statement.
+-- WHICH WORDS SPELL A DOCUMENT. There is one definition for each production of the grammar, and the comment above the definition has this production. In a production, [x] is an optional x, {x} is any number of x, and | separates alternatives. Each definition says that `words` are the words of its production, followed by the words `rest`. A name, a class or a WORD can be any word here. Lawful documents require that each of these words has the form of a name, so that none of them is a brace. They also require that no type has the name of a word that begins a statement.
 use Rattle.std.specs.Prelude.{◌≡◌, ◌⊎◌, ℕ, ℤ, Bool, true, false, nat_eq, List, [], ◌∷◌, Option, Some, None, Ok, codes, drop}
 use Rattle.std.specs.List.{starts_with}
 use Rattle.std.specs.Str.Parse.{digits_value}
@@ -11,19 +9,19 @@ use Rattle.crush_model.specs.Items.{ShadowData}
 use Rattle.crush_units.specs.Numbers.{is_number, is_negative, is_signed, signed_value}
 use Rattle.crush_laws.specs.Document.{ItemLine, BucketLines, StepLine, takes, chooses, sets, emits, RuleLines, First, tunable, kind, device, Second, bucket, rule, Document}
 
--- N: the word w is the number n, which is at most `most`
+-- N: the word w is written with digits and is the number n, which is at most `most`
 abbrev pub IsNumber : ℕ → ℕ → List ℕ → Type 0
 IsNumber most n w = (is_number most w ≡ true) × (digits_value 10 w ≡ n)
 
--- NEG: the word w is the negative number -n
+-- NEG: the word w is the negative number -n, which is in the range of bucket ids
 abbrev pub IsBucketNumber : ℕ → List ℕ → Type 0
 IsBucketNumber n w = (is_negative w ≡ true) × (digits_value 10 (drop 1 w) ≡ n)
 
--- INT: the word w is the integer n
+-- INT: the word w is the integer n, which is in the range of a step's count
 abbrev pub IsSigned : ℤ → List ℕ → Type 0
 IsSigned n w = (is_signed w ≡ true) × (signed_value w ≡ n)
 
--- {x}: any number of x, one after the other, each spelled as S says
+-- {x}: any number of things, one after the other. S says how each of them is spelled
 abbrev pub SpellsEach : {A : Type 0} → (A → List (List ℕ) → List (List ℕ) → Type 0) → List A → List (List ℕ) → List (List ℕ) → Type 0
 SpellsEach S [] words rest = words ≡ rest
 SpellsEach S (x ∷ xs) words rest = (more : List (List ℕ)) × S x words more × SpellsEach S xs more rest
@@ -52,12 +50,12 @@ SpellsClassId c words rest = (w : List ℕ) × IsBucketNumber c.id w × (words �
 abbrev pub SpellsHash : List (List ℕ) → List (List ℕ) → Type 0
 SpellsHash words rest = (words ≡ rest) ⊎ ((w : List ℕ) × IsNumber 0 0 w × (words ≡ codes "hash" ∷ w ∷ rest))
 
--- `item` NAME [`weight` WEIGHT], with the name and the weight, if there is one
+-- `item` NAME [`weight` WEIGHT]: an item with this name, and with this weight in units, if the line gives a weight
 abbrev pub SpellsWeighed : List ℕ → Option ℕ → List (List ℕ) → List (List ℕ) → Type 0
 SpellsWeighed name None words rest = words ≡ codes "item" ∷ name ∷ rest
 SpellsWeighed name (Some units) words rest = (w : List ℕ) × (weight_of_text w ≡ Ok units) × (words ≡ codes "item" ∷ name ∷ codes "weight" ∷ w ∷ rest)
 
--- the same for an `ItemLine` of the document
+-- the same, with the name and the weight of an `ItemLine` of the document
 abbrev pub SpellsItem : ItemLine → List (List ℕ) → List (List ℕ) → Type 0
 SpellsItem i words rest = SpellsWeighed i.name i.weight words rest
 
@@ -73,12 +71,12 @@ pub record SpellsBucket (b : BucketLines) (words rest : List (List ℕ)) : Type 
   pub hash : SpellsHash behind_alg behind_hash
   pub items : SpellsEach SpellsItem b.items behind_hash (codes "}" ∷ rest)
 
--- the word for what is chosen: items themselves, or the devices below them
+-- the word for what a step chooses: items of a type (`choose`), or devices below such items (`chooseleaf`)
 abbrev pub choice_word : Bool → List ℕ
 choice_word false = codes "choose"
 choice_word true = codes "chooseleaf"
 
--- the word for the order in which they are chosen
+-- the word that says how the step chooses them: `firstn` or `indep`
 abbrev pub order_word : Bool → List ℕ
 order_word true = codes "firstn"
 order_word false = codes "indep"

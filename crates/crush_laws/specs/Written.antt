@@ -22,7 +22,7 @@ use Rattle.crush_history.specs.Script.{ScriptData}
 use Rattle.crush_script.specs.Job.{JobData, IsJob}
 use Rattle.crush_script.specs.ScriptsText.{AreScripts, scripts_text}
 
--- the names of an edit have the form of names, and its location has the form of a location; the types of the code ensure that
+-- the names of an edit have the form of names, and the location of an edit, if it has one, has the form of a location. The types of the code ensure this for each edit
 abbrev pub IsNamed : Edit → Type 0
 IsNamed (Place how d n w l) = IsName n × IsLocation l
 IsNamed (Move n l) = IsName n × IsLocation l
@@ -35,21 +35,21 @@ IsNamed (Rename from to) = IsName from × IsName to
 IsNamed (SetClass n c) = IsName n × IsName c
 IsNamed (RemoveClass n) = IsName n
 
--- the same for each edit of a call
+-- the definition `IsNamed` holds for each edit of a call
 abbrev pub IsNamedCall : Call → Type 0
 IsNamedCall (One e) = IsNamed e
 IsNamedCall (Batch es) = All IsNamed es
 IsNamedCall (Guarded seen es) = All IsNamed es
 
--- the same for each call of a history
+-- the definition `IsNamedCall` holds for each call of a history
 abbrev pub IsNamedHistory : List EntryData → Type 0
 IsNamedHistory h = All (λ (e : EntryData). IsNamedCall e.call) h
 
--- HISTORY LINES ARE COMMENTS: the lines of a history are whole lines that begin with `#`
+-- HISTORY LINES ARE COMMENTS: the lines of a history are whole lines that begin with `#`, if the names of the operators and the history have the form that the types of the code ensure
 abbrev pub HistoryLinesAreComments : Type 0
 HistoryLinesAreComments = (names : List (List ℕ)) (number : ℕ) (h : List EntryData) → All IsName names → IsNamedHistory h → AreCommentLines (entries_text names number h)
 
--- WHAT IS WRITTEN IS READ BACK: the printed text of a lawful map, followed by the lines of any history, is read back as that map
+-- WHAT IS WRITTEN IS READ BACK: the printed text of a lawful map, followed by the lines of any history, is read back as that map, if the names of the operators and the history have the form that the types of the code ensure
 abbrev pub WhatIsWrittenIsReadBack : Type 0
 WhatIsWrittenIsReadBack = (form : WeightForm) (s : SettingData) (t : List Row) (names : List (List ℕ)) (number : ℕ) (h : List EntryData) → Lawful t → Fits s t
     → All IsName names → IsNamedHistory h → IsReadAs (map_text form s t ++ entries_text names number h) s t
@@ -58,7 +58,7 @@ WhatIsWrittenIsReadBack = (form : WeightForm) (s : SettingData) (t : List Row) (
 abbrev pub text_after : WeightForm → SettingData → List Row → List (List ℕ) → List EntryData → List ℕ
 text_after form s t names h = map_text form s (table_after s t h) ++ entries_text names 1 h
 
--- THE TEXT OF ANY HISTORY: the map after a history of a lawful map, followed by the history's lines, is read back as that map, if the calls meet `IsNamedHistory` and `IsCall`
+-- THE TEXT OF ANY HISTORY: take a history that begins with a lawful map. The printed text of the map after the history, followed by the lines of the history, is read back as the map after the history, if the names of the operators are names and the calls meet `IsNamedHistory` and `IsCall`
 abbrev pub HistoryTextsAreReadBack : Type 0
 HistoryTextsAreReadBack = (form : WeightForm) (s : SettingData) (t : List Row) (names : List (List ℕ)) (h : List EntryData) → Lawful t → Fits s t
     → All IsName names → IsNamedHistory h → All (λ (e : EntryData). IsCall e.call) h → IsReadAs (text_after form s t names h) s (table_after s t h)
@@ -67,17 +67,17 @@ HistoryTextsAreReadBack = (form : WeightForm) (s : SettingData) (t : List Row) (
 abbrev pub JobsStayLawful : Type 0
 JobsStayLawful = (bytes : List ℕ) (job : JobData) → IsJob bytes job → Keeps job.setting (table_after job.setting job.table (turns job.setting job.table job.scripts))
 
--- THE OUTPUT OF A JOB with the lines of its history is read back as the map after the job
+-- THE OUTPUT OF A JOB, with the lines of its history, is read back as the map after the job. The scripts of the job have run one after the other
 abbrev pub JobTextsAreReadBack : Type 0
 JobTextsAreReadBack = (form : WeightForm) (bytes : List ℕ) (job : JobData) → IsJob bytes job
     → let h = turns job.setting job.table job.scripts in IsReadAs (text_after form job.setting job.table (names_of job.scripts) h) job.setting (table_after job.setting job.table h)
 
--- the output of a job without the lines of its history is read back as the map after the job
+-- the output of a job, without the lines of its history, is read back as the map after the job
 abbrev pub JobMapsAreReadBack : Type 0
 JobMapsAreReadBack = (form : WeightForm) (bytes : List ℕ) (job : JobData) → IsJob bytes job
     → let u = table_after job.setting job.table (turns job.setting job.table job.scripts) in IsReadAs (map_text form job.setting u) job.setting u
 
--- RUNS ON: the bytes are read as the map with the setting s and the table t. If the sections of any scripts are appended, and the result isn't longer than a job may be, then the result is the job of that map with these scripts.
+-- RUNS ON: the bytes are read as the map with the setting s and the table t, as `IsReadAs` says. If the sections of any valid scripts are appended, and the result isn't longer than a job may be, then the result is a job. It is the job of the map that is read, with these scripts.
 pub record RunsOn (bytes : List ℕ) (s : SettingData) (t : List Row) : Type 0 where
   pub read : IsReadAs bytes s t
   pub job : (scripts : List ScriptData) → AreScripts scripts → length (bytes ++ scripts_text scripts) ≤ LONGEST_JOB

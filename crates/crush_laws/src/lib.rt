@@ -1,10 +1,15 @@
-//! Laws of map texts. Each law is the contract of a function that does nothing and needs no call.
+//! Laws about the texts of maps, the outputs of runs, and plans. Each law is the contract of a
+//! function that does nothing. No code has to call these functions.
 //!
-//! Each sequence of bytes either is the text of exactly one map or has exactly one flaw, which is a
-//! fault with its place. The text of a map is a lawful document; `specs/Document.antt`,
-//! `specs/Spells.antt` and `specs/Meaning.antt` define what that is. The sentence about a flaw names
-//! the words that may be at its place. If the printed text of a map, or the output of a run, is read
-//! again, the result is the same map. The text of a plan is a script.
+//! - Each sequence of bytes either is the text of exactly one map or has exactly one flaw. A *flaw*
+//! is the first fault of a text, with its place.
+//! - The texts of maps are exactly the lawful documents. `specs/Document.antt`,
+//! `specs/Spells.antt` and `specs/Meaning.antt` define what a lawful document is.
+//! - If the sentence about a flaw names words, then these are the words that may be at the place of
+//! the flaw. [`a_sentence_names_the_expected_words`] has the exceptions.
+//! - If the printed text of a map, or the output of a run, is read again, the result is the same
+//! map, except that its types may be in another order.
+//! - The text of a plan is a script.
 #![tactic(auto)]
 
 mod documents;
