@@ -1,4 +1,4 @@
-//! Has all types and functions that a program needs to read, edit, compare and print CRUSH maps.
+//! The types and functions that a program needs to read, edit, compare and print CRUSH maps.
 //!
 //! This crate has no functions of its own. It re-exports types and functions of the other crates of
 //! the library, so that a program can import all of them from one crate:
@@ -11,9 +11,9 @@
 //! text. [`MapBuilder`] builds a map without a text.
 //! - **Edits**: `CrushMap::apply` applies one [`Edit`]. `CrushMap::apply_batch` applies all edits
 //! of a batch or none of them. A [`Call`] is an edit or a batch. [`make_call`] makes one call, and
-//! returns its [`Reply`], which says what the call did, or why it was refused.
+//! returns a [`Reply`], which says what the call did, or why it was refused.
 //! - **Several operators**: [`Editor`] owns a map that several operators edit at the same time. It
-//! gives each operator a [`Seat`], with which the operator makes its calls.
+//! gives each operator a [`Seat`], which the operator needs to make a call.
 //! - **Two maps**: [`Comparison`] pairs the items of two maps, [`write_since`] writes what has
 //! changed, and [`find_plan`] finds edits that lead from one map toward the other. [`rule_changes`]
 //! and [`class_changes`] return what has changed in rules and device classes. The caller of

@@ -40,7 +40,7 @@ enum Fault {
     /// The text isn't the text of a map, or there was no memory for the map.
     #[error("{0}")]
     Text(TextFault),
-    /// The edit was refused, or there was no memory for it.
+    /// The edit was refused, or there was no memory for the edit.
     #[error("{0}")]
     Edit(EditFault),
     /// The writer failed, or there was no memory for the text that is printed.
@@ -101,7 +101,7 @@ fn edit_text<W: Write>(alloc: Global, text: &[u8], asked: &Edit, out: &mut W) ->
         → Keeps (W.contents out.old) (W.contents out.new) }
 {
     // Parses the text. `_adjusted` counts the buckets whose weight in the text isn't the sum of the
-    // weights of their items. In the map, each bucket has the weight that is this sum.
+    // weights of their items. In the map, the weight of each bucket is this sum.
     let (mut map, _adjusted) = match read_map(alloc, text) {
         Ok(read) => read,
         Err(fault) => return Err(Fault::Text(fault)),

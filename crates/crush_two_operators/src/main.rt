@@ -95,7 +95,7 @@ fn print_part(
 }
 
 /// Prints the history's entries that changed the map, numbered from 1. The function doesn't print
-/// the operator of an entry, because in each run another operator may make the change.
+/// the operator of an entry, because a different operator may make the change in the next run.
 fn print_changes(rt: &HostRuntime, history: &[Entry]) -> anyhow::Result<()> {
     let mut number = 0u32;
     for entry in history {

@@ -6,7 +6,7 @@ use crush_input::{Opens, VerbMap};
 use std::fs::File;
 use std::io::{self, Read, Stdin};
 
-/// A file with a map of the verb, which was read before the run.
+/// A file with one of the verb's maps. The file was read before the run.
 #[derive(Drop)]
 pub(crate) struct Kept<'a> {
     pub(crate) map: VerbMap,

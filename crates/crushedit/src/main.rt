@@ -92,9 +92,9 @@ fn is_verb(options: &Options) -> bool {
 /// map before typing, and no byte of the input is lost.
 ///
 /// If the first map can't be read, returns no maps. The run then tries to read this map once more,
-/// and reports the error. If the other map is refused, the first map is parsed too. If both maps
-/// have a fault, the fault of the first map is reported. If both maps have the same file name, the
-/// file is read only once.
+/// and reports the error. If the other map is refused, the first map is parsed too. If the verb
+/// can't use the first map either, the reason for the first map is returned. If both maps have the
+/// same file name, the file is read only once.
 fn read_maps<'a>(rt: &HostRuntime, options: &'a Options) -> Result<Vec<Kept<'a>>, VerbMapRefusal> {
     let mut kept = Vec::new(rt.alloc());
     let (true, Some(name)) = (is_verb(options), &options.file) else {
@@ -245,8 +245,8 @@ fn report_fault(
 }
 
 /// Reports that a write to standard output has failed, and returns the exit status. If standard
-/// output is a pipe that nobody reads any more, prints no message, because this is no error: a
-/// reader such as `head` ends as soon as it has read enough.
+/// output is a pipe that nobody reads any more, prints no message, but returns the same status. For
+/// example, `head` ends as soon as it has read enough, and nobody needs a message about that.
 fn report_write_fault(
     rt: &HostRuntime,
     options: &Options,

@@ -17,11 +17,11 @@ const MOST_NAMES: u32 = 100;
 /// renames the new file to `name`. So at any time, `name` leads to a file that has either its old
 /// bytes or all the new bytes. The new file gets the permissions of the old file, if there is one.
 /// If `name` is a symbolic link, replaces the file to which the link leads. If `name` is a device,
-/// a pipe, or anything else that isn't a regular file, writes the bytes to it directly.
+/// a pipe, or anything else that isn't a regular file, writes the bytes directly to `name`.
 ///
 /// The name of the new file is the name of the file that it replaces, followed by `.crushedit-N`.
-/// N is the least number from 0 to 99 for which there is no such file. If there is none, the call
-/// fails with the error `AlreadyExists`.
+/// N is the least number from 0 to 99 for which there is no such file. If all 100 files exist, the
+/// call fails with the error `AlreadyExists`.
 ///
 /// If the call fails, a regular file is as it was before the call, and the call tries to remove the
 /// new file. A device or a pipe may already have received a part of the bytes. If the program is
