@@ -38,18 +38,28 @@ use std::io::Write;
 
 /// Writes the tree of what has changed from the old map to the new map, or a part of this tree.
 ///
-/// The rows are the items of the new map's tree for which [`write_since`](crate::write_since)
-/// writes a line, and all buckets above these items. After the items of a bucket come rows for the
-/// items that the bucket held in the old map and doesn't hold in the new map. If the new map
-/// doesn't have such an item at all, rows for all that was below the item follow. Each row has two
-/// weights: the weight that the item had in this place, and the weight that it has there now. After
-/// the rows come the lines that `write_since` writes after its items.
+/// An item of the new map has a row if [`write_since`](crate::write_since) writes a line for the
+/// item, or if any row is below the item. After the items of a bucket come rows for the items that
+/// the bucket held in the old map and doesn't hold in the new map. In the same way, rows for the
+/// items that were roots or unplaced devices only in the old map follow after the new map's roots
+/// and unplaced devices. Such an item may be a bucket that the new map doesn't have at all. Then a
+/// row for each item that this bucket held follows, and so on for each of these items that is
+/// itself a bucket which the new map doesn't have.
 ///
-/// If the part has a top item, there are only the rows of this item, with the depth 0, and of what
-/// is or was below it, and no lines follow. The top item's own row is in the place where the new
-/// map has the item. If the new map doesn't have the item, the row is in the place where the old
-/// map had it. The rows below a bucket of the type `down_to` are left out, but such a bucket has a
-/// row if anything below it has changed. The columns are as wide as the rows of the part need.
+/// Each row has two weights: the weight that the item had in this place in the old map, and the
+/// weight that the item has in this place in the new map. A `-` says that the item wasn't or isn't
+/// in this place. After the rows come the lines that `write_since` writes after its lines about
+/// items.
+///
+/// If the part has a top item, the text has only the headings, the row of this item with the depth
+/// 0, and the rows below this row. The top item may have two rows in the whole tree: one in the
+/// place where the old map had the item, and one in the place where the new map has it. Then the
+/// part begins with the row in the new place. If the part has a type `down_to`, the rows below each
+/// bucket of this type are left out. The bucket's own row stays, even if only the rows below the
+/// bucket differ. The columns are as wide as the rows of the part need.
+///
+/// If a write fails, the writer has received a beginning of the text, but not the whole text. If
+/// memory runs out, nothing is written.
 pub fn write_changes<A: Allocator, B: Allocator, W: Write>(
     alloc: Global,
     old: &CrushMap<A>,
@@ -70,13 +80,17 @@ pub fn write_changes<A: Allocator, B: Allocator, W: Write>(
     }
 }
 
-/// Writes the tree of what has changed from the old map to the new, or a part of it, as
-/// [`write_changes`] does, but only the devices of one class count.
+/// Writes the tree of [`write_changes`], or a part of this tree, but only the weights of the
+/// devices of one class count.
 ///
-/// The weights of a row are the sums of the weights of all devices of the class that are the item or
-/// below it: 0 if there is no such device. An item has no row if in neither map the item is such a
-/// device or has such a device below it. The only exceptions are buckets above an item that has a
-/// row. The lines after the rows are those of `write_changes`: they count all devices.
+/// Each weight of a row is the sum of the weights of the devices of the class that are the row's
+/// item or below it. The weight is 0 if there is no such device, and `-` if the item wasn't or
+/// isn't in the row's place. A row of `write_changes` is left out if in neither map the row's item
+/// is a device of the class or has such a device below it. But a row stays if it is above a row
+/// that stays. The lines after the rows are those of `write_changes`, and count all devices.
+///
+/// If a write fails, the writer has received a beginning of the text, but not the whole text. If
+/// memory runs out, nothing is written.
 pub fn write_changes_of_class<A: Allocator, B: Allocator, W: Write>(
     alloc: Global,
     old: &CrushMap<A>,
@@ -99,8 +113,9 @@ pub fn write_changes_of_class<A: Allocator, B: Allocator, W: Write>(
     }
 }
 
-/// If a lawful map is compared with itself, the tree has no row. The text has only the headings,
-/// the map's total weight and counts that are all 0.
+/// If a map is compared with itself, and its table is lawful (definition `Lawful` of crush_model),
+/// the tree has no row. The text has only the headings, the line with the map's total weight, and
+/// the line with counts that are all 0.
 pub fn no_row_changes_since_itself()
     ensures { NoRowSinceItself }
 {}

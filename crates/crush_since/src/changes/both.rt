@@ -19,9 +19,9 @@ use std::alloc::{AllocError, Allocator, Global};
 #[derive(Drop)]
 pub(crate) struct Both<'a, A: Allocator, B: Allocator> {
     pub maps: Comparison<'a, A, B>,
-    /// The places of the old map's items, sorted by id.
+    /// The positions of the old map's items in the list of items, sorted by the items' ids.
     pub before: ById,
-    /// The places of the new map's items, sorted by id.
+    /// The positions of the new map's items in the list of items, sorted by the items' ids.
     pub after: ById,
     /// The old map's buckets, sorted by id.
     pub buckets: Buckets<'a, A>,
@@ -52,7 +52,7 @@ impl<'a, A: Allocator, B: Allocator> Both<'a, A, B> {
         })
     }
 
-    /// Returns the positions of the item with this id in both maps.
+    /// Returns the position of the item with this id in the list of each map's items.
     pub(super) fn pair_of(&self, id: &ItemId) -> Pair
         ensures { (t u : List Row) → AreTables t u self.now
             → pair_entries self.now.maps result ≡ id_entries t u id.now }

@@ -120,8 +120,9 @@ fn push_if_left<A: Allocator, B: Allocator>(
     push_stood(both, node, depth, rows)
 }
 
-/// Appends the row of a node that is no longer in its place. If the new map doesn't have the item
-/// at all, appends the rows of all items that were below it too.
+/// Appends the row of a node of the old map whose item is no longer in its place. If the node is a
+/// bucket that the new map doesn't have at all, also appends the rows of the items that this bucket
+/// held, in the same way. So the rows end at each bucket that the new map still has.
 fn push_stood<A: Allocator, B: Allocator>(
     both: &Both<'_, A, B>,
     node: &Node<A>,
@@ -172,8 +173,8 @@ fn push_row<A: Allocator, B: Allocator>(
     Ok(())
 }
 
-/// Whether the new map has the item in this place: in the bucket, or in no bucket if `place` is
-/// `None`.
+/// Whether the new map has the item in this place: in the bucket `place`, or in no bucket if
+/// `place` is `None`.
 fn stands_in<A: Allocator, B: Allocator>(
     both: &Both<'_, A, B>,
     id: ItemId,

@@ -23,8 +23,8 @@ use crush_print::words::{push_all, push_indent, push_kind, push_row};
 use crush_units::{ItemId, Weight};
 use std::alloc::{AllocError, Allocator, Global};
 
-/// Appends the headings and the lines of the rows. If there are weights of a class, then the lines
-/// have these weights.
+/// Appends the headings and the lines of the rows. If `weights` has the weights of a class, the
+/// lines show these weights in place of the items' own weights.
 #[tactic(auto, unfolding(crate::specs::ChangeText::rows_text))]
 pub(super) fn push_rows<A: Allocator, B: Allocator>(
     alloc: Global,
@@ -161,8 +161,8 @@ fn name_column(
     Ok(column)
 }
 
-/// Appends the type and the name of a row's item. They come from the map that has the item in this
-/// place.
+/// Appends the type and the name of a row's item. They are those in the new map if the new map has
+/// the item in this place, and otherwise those in the old map.
 fn push_name(
     old: &Setting,
     new: &Setting,

@@ -18,8 +18,9 @@ use crush_tree::View;
 use crush_units::Weight;
 use std::alloc::{AllocError, Allocator, Global};
 
-/// What the devices of a class weigh at each item of two maps, in the order of the items: `None` if
-/// the item is no device of the class and no such device is below it.
+/// The weight of a class at each item of two maps. It is the sum of the weights of the class's
+/// devices that are the item or below it, and `None` if there is no such device. Each vector is in
+/// the order of the list of its map's items.
 #[derive(Drop)]
 pub(crate) struct ClassWeights {
     pub before: Vec<Option<Weight>>,
@@ -27,8 +28,8 @@ pub(crate) struct ClassWeights {
 }
 
 impl ClassWeights {
-    /// Returns the weights of a class. It visits each item of both maps once. An `Err` says that
-    /// memory ran out.
+    /// Returns the weights of a class. The call visits each item of both maps once. It fails only
+    /// if memory runs out.
     pub(super) fn of<A: Allocator, B: Allocator>(
         alloc: Global,
         both: &Both<'_, A, B>,
@@ -43,8 +44,9 @@ impl ClassWeights {
     }
 }
 
-/// Returns the rows of items that are devices of the class in at least one of the maps, or that have
-/// such devices below them, and the rows above such rows. An `Err` says that memory ran out.
+/// Returns the rows of items that are devices of the class in at least one of the maps, or that
+/// have such devices below them, and the rows above such rows. The call fails only if memory runs
+/// out.
 pub(super) fn rows_of_class(
     alloc: Global,
     weights: &ClassWeights,
@@ -58,8 +60,10 @@ pub(super) fn rows_of_class(
     Ok(kept)
 }
 
-/// Returns the same rows from the last to the first. In this order, it is known of each row whether
-/// a row below it stays: then the row that was kept last is deeper.
+/// Returns the rows that [`rows_of_class`] returns, but in the reverse order. The code visits the
+/// rows from the last to the first. So when the code visits a row, it has already decided about all
+/// rows below this row. If at least one of them stays, then the row that was kept last is deeper
+/// than this row.
 fn backward(
     alloc: Global,
     weights: &ClassWeights,
@@ -84,8 +88,8 @@ fn row_at(rows: &[TreeRow], at: usize) -> &TreeRow
     &rows[at]
 }
 
-/// Appends the row to `kept` if the row stays. Before the call, `kept` has those of the rows after
-/// this row that stay, from the last to the first.
+/// Appends the row to `kept` if the row stays. Before the call, `kept` has all rows after this row
+/// that stay, from the last to the first.
 fn keep_before(
     weights: &ClassWeights,
     row: &TreeRow,
@@ -119,8 +123,8 @@ fn is_above(depth: u32, kept: &[TreeRow]) -> bool
     }
 }
 
-/// Returns what both maps have of the item of a row. If only the devices of a class count, then the
-/// weights of the item are those of the class.
+/// Returns what both maps say about the item of a row. If `weights` has the weights of a class,
+/// then they replace the item's own weights.
 pub(super) fn shown_change<'a, A: Allocator, B: Allocator>(
     maps: &Comparison<'a, A, B>,
     weights: &Option<ClassWeights>,
@@ -152,7 +156,8 @@ fn weighed_change<'a>(change: &Change<'a>, weights: &ClassWeights, pair: Pair) -
     }
 }
 
-/// Returns the item with this weight in place of its own, or with the weight 0.
+/// Returns the item with this weight in place of its own weight. If `weight` is `None`, the new
+/// weight is 0.
 fn with_weight<'a>(weight: Option<Weight>, item: &Option<Seen<'a>>) -> Option<Seen<'a>>
     ensures { option_map seen_data result
         ≡ option_map (with_weight weight) (option_map seen_data item.now) }
@@ -183,7 +188,8 @@ fn weight_or_0(weight: Option<Weight>) -> Weight
     }
 }
 
-/// Returns the weight at a position, if there is a position and a weight is there.
+/// Returns the weight at the position `at`. Returns `None` if there is no position, or no weight at
+/// this position.
 fn weight_at(weights: &[Option<Weight>], at: Option<u32>) -> Option<Weight>
     ensures { result ≡ weight_at weights.now at }
 {

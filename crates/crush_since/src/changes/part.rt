@@ -17,21 +17,22 @@ use crush_print::TreePart;
 use crush_units::{ItemId, TypeId};
 use std::alloc::{AllocError, Allocator, Global};
 
-/// Where a walk over the rows is: before the rows of an item and all below it, in them, or after
-/// them.
+/// Where a walk over the rows is: before a part of the rows, within this part, or after it. The
+/// part consists of an item's own row and of the rows below this row.
 #[derive(Clone, Copy, Debug)]
 pub(crate) enum Reached {
-    /// The item's own row hasn't come yet.
+    /// The walk hasn't reached the item's own row yet.
     Before,
-    /// The walk is among the rows of the item and of all items below it. The item's own row has
-    /// this depth.
+    /// The walk is at the item's own row, or at a row below it. The number is the depth of the
+    /// item's own row.
     Within(u32),
-    /// All these rows have come.
+    /// The walk has passed the last row of the part.
     After,
 }
 
-/// Returns the rows of the part: those of its top item and below, without those below buckets of
-/// its type.
+/// Returns the rows of a part of the tree. If the part has a top item, these are the top item's own
+/// row and the rows below this row. If the part has a type, the rows below each bucket of this type
+/// are left out.
 pub(super) fn part_of<A: Allocator, B: Allocator>(
     alloc: Global,
     maps: &Comparison<'_, A, B>,
@@ -60,7 +61,8 @@ fn under<A: Allocator, B: Allocator>(
     }
 }
 
-/// Returns the item's own row, and the rows of all that is or was below the item.
+/// Returns the item's own row, and the rows below this row. Returns no rows if the item has no own
+/// row.
 fn rows_at<A: Allocator, B: Allocator>(
     alloc: Global,
     maps: &Comparison<'_, A, B>,
@@ -78,7 +80,7 @@ fn rows_at<A: Allocator, B: Allocator>(
     Ok(kept)
 }
 
-/// Appends the row to `kept` if it is in the part. Returns where the walk is after the row.
+/// Appends the row to `kept` if the row is in the part. Returns where the walk is at this row.
 fn keep_from<A: Allocator, B: Allocator>(
     maps: &Comparison<'_, A, B>,
     item: &ItemId,
@@ -96,8 +98,8 @@ fn keep_from<A: Allocator, B: Allocator>(
     Ok(now)
 }
 
-/// Appends the row if the walk is in the part when it comes to this row. The row's new depth is
-/// counted from the part's top item.
+/// Appends the row to `kept` if `now` says that the row is in the part. The depth of the part's top
+/// item is subtracted from the row's depth.
 fn push_reached(now: Reached, row: &TreeRow, kept: &mut Vec<TreeRow>) -> Result<(), AllocError>
     ensures { OnOk result (kept.new.items ≡ kept.old.items ++ rows_reached now row.now) }
 {
@@ -107,7 +109,7 @@ fn push_reached(now: Reached, row: &TreeRow, kept: &mut Vec<TreeRow>) -> Result<
     }
 }
 
-/// Appends a copy of the row that has this depth.
+/// Appends a copy of the row to `kept`. The copy has this id and this depth.
 fn push_row(
     id: &ItemId,
     row: &TreeRow,
@@ -126,7 +128,7 @@ fn push_row(
     Ok(())
 }
 
-/// Returns where the walk is when it comes to this row.
+/// Returns where the walk is at this row. `reached` says where the walk was at the row before.
 fn reach<A: Allocator, B: Allocator>(
     maps: &Comparison<'_, A, B>,
     item: &ItemId,
@@ -154,8 +156,8 @@ fn reach<A: Allocator, B: Allocator>(
     }
 }
 
-/// Whether this is the item's own row: the row where the new map has the item or, if the new map
-/// doesn't have the item, where the old map had it.
+/// Whether this is the item's own row. That is the row in the place where the new map has the item.
+/// If the new map doesn't have the item, it is the row in the place where the old map had the item.
 fn is_own_row<A: Allocator, B: Allocator>(
     maps: &Comparison<'_, A, B>,
     item: &ItemId,
@@ -199,8 +201,9 @@ fn down_to<A: Allocator, B: Allocator>(
     Ok(kept)
 }
 
-/// Appends the row to `kept`, unless it is below a bucket of the type `kind`. Such a bucket has the
-/// depth `closed`; `None` says that no such bucket is open. Returns `closed` for the next row.
+/// Appends the row to `kept`, unless the row is below a bucket of the type `kind`. `closed` is the
+/// depth of the row that was kept last if the item of that row has the type `kind`, and otherwise
+/// `None`. Returns `closed` for the next row.
 fn keep_open<A: Allocator, B: Allocator>(
     maps: &Comparison<'_, A, B>,
     kind: TypeId,
@@ -220,7 +223,8 @@ fn keep_open<A: Allocator, B: Allocator>(
     Ok(closed_by(maps, kind, row))
 }
 
-/// Whether a row of this depth is deeper than `closed`, and so is below the bucket of that depth.
+/// Whether a row of this depth is deeper than `closed`, which means that the row is below the
+/// bucket with the depth `closed`. The result is false if `closed` is `None`.
 fn is_closed(closed: Option<u32>, depth: u32) -> bool
     ensures { result ≡ is_closed closed depth }
 {
@@ -254,7 +258,8 @@ fn same_kind(own: Option<TypeId>, kind: TypeId) -> bool
     }
 }
 
-/// Returns the type of the row's item. It comes from the map that has the item in this place.
+/// Returns the type of the row's item. The type is the one in the new map if the new map has the
+/// item in this place, and otherwise the one in the old map.
 fn kind_of<A: Allocator, B: Allocator>(maps: &Comparison<'_, A, B>, row: &TreeRow) -> Option<TypeId>
     ensures { result ≡ row_kind (row_change maps.now row.now) }
 {

@@ -24,16 +24,17 @@ use std::alloc::{AllocError, Allocator, Global};
 #[derive(Clone, Copy, Debug)]
 pub(crate) struct TreeRow {
     pub id: ItemId,
-    /// The positions of the item in both maps.
+    /// The position of the item in the list of each map's items.
     pub pair: Pair,
     /// The number of buckets above the item.
     pub depth: u32,
     pub stands: bool,
 }
 
-/// Returns the rows of the tree. First come the new map's roots from -1 downward, each followed by
-/// the rows below it. After them come the old map's roots that aren't roots in the new map. After
-/// the roots come the unplaced devices, in the same way, by ascending id.
+/// Returns the rows of the tree. First come the rows of the new map's roots, by id from -1
+/// downward. Each of these rows is followed by the rows below it. After them come the rows of the
+/// old map's roots that aren't roots in the new map, and then the rows of the unplaced devices. The
+/// unplaced devices come in the same way, by ascending id.
 #[tactic(auto, unfolding(crate::specs::Changes::change_rows))]
 pub(crate) fn rows_of<A: Allocator, B: Allocator>(
     alloc: Global,
@@ -157,8 +158,8 @@ fn push_told<A: Allocator, B: Allocator>(
     Ok(is_told(&both.maps, pair))
 }
 
-/// Removes the row at the position `at` if it is the last row and `is_listed` is false. So a row
-/// stays only if its own item differs or if other rows follow it.
+/// Removes the row at the position `at` if this row is the last row and `is_listed` is false. As a
+/// result, a row stays only if its item differs, or if there are rows below it.
 fn settle(at: usize, is_listed: bool, rows: &mut Vec<TreeRow>)
     ensures { (see : TreeRow → ChangeData) (before below : List ChangeData) (row : ChangeData)
         → length before ≡ at → each see rows.old.items ≡ before ++ row ∷ below

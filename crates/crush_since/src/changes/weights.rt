@@ -13,7 +13,9 @@ use crush_print::words::{bytes_of, push_all, push_weight};
 use crush_units::Weight;
 use std::alloc::{AllocError, Global};
 
-/// Returns the class of a row's item. It comes from the map that has the item in this place.
+/// Returns the class of a row's item, or an empty text if the item has no class. The class is the
+/// one in the new map if the new map has the item in this place, and otherwise the one in the old
+/// map.
 pub(super) fn class_bytes<'a>(change: &Change<'a>) -> &'a [u8]
     ensures { result.now ≡ class_word (change_data change.now) }
 {
@@ -35,7 +37,7 @@ fn class_of<'a>(item: &Option<Seen<'a>>) -> &'a [u8]
 
 /// Returns what the item weighed in this place in the old map. Returns `None` if the old map had
 /// the item in another place or didn't have it. If the new map has the item in this place, the old
-/// map had it here too exactly if the item has the same parent in both maps.
+/// map had the item in this place too if and only if the item has the same parent in both maps.
 pub(super) fn weighed(change: &Change<'_>) -> Option<Weight>
     ensures { result ≡ weighed (change_data change.now) }
 {
