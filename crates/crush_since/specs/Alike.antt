@@ -21,8 +21,7 @@ AreOne i j = ⊥
 abbrev pub place_of : List Row → Row → Option (List ℕ)
 place_of t r = option_and_then (λ p. name_of t (Bucket p)) r.parent
 
--- ROWS ALIKE: the two rows are of the same item, and they have the same type, place, class and algorithm, and weights that are at most one unit apart.
--- The row of a bucket has the weight 0
+-- ROWS ALIKE: the two rows are of the same item. They have the same type, place, class and algorithm, and weights that are at most one unit (1/65536 TiB) apart. The row of a bucket has the weight 0, so this condition is about the weights of devices only
 pub record AreAlike (old new : PlainMap) (x y : Row) : Type 0 where
   pub one : AreOne x.id y.id
   pub kind : type_word old.setting x.id x.kind ≡ type_word new.setting y.id y.kind
@@ -32,7 +31,7 @@ pub record AreAlike (old new : PlainMap) (x y : Row) : Type 0 where
   pub class : x.class ≡ y.class
   pub alg : x.alg ≡ y.alg
 
--- for one name: either neither map has a row with this name, or both maps have one and the two rows are alike
+-- for one name: either neither map has a row with this name, or each map has a row with this name and the two rows are alike
 abbrev pub HaveAlike : PlainMap → PlainMap → Option Row → Option Row → Type 0
 HaveAlike old new None None = Unit {0}
 HaveAlike old new (Some x) (Some y) = AreAlike old new x y
@@ -44,11 +43,11 @@ pub record SettingsAgree (old new : PlainMap) : Type 0 where
   pub kinds : (n : ℕ) → kind_name old.setting n ≡ kind_name new.setting n
   pub rules : pointwise (named_rule old.table new.table) old.setting.rules new.setting.rules ≡ true
 
--- ALIKE BY NAMES: for each name, the rows with this name are alike or neither map has one, and the settings of the maps agree
+-- ALIKE BY NAMES: the settings of the maps agree. For each name, either neither map has a row with this name, or the two rows with this name are alike
 pub record AreAlikeByNames (old new : PlainMap) : Type 0 where
   pub items : (n : List ℕ) → HaveAlike old new (row_named old.table n) (row_named new.table n)
   pub settings : SettingsAgree old new
 
--- NOTHING STAYS: no difference remains between two maps if and only if they are alike by names
+-- NOTHING STAYS: if the tables of two maps are lawful, no difference remains between the maps if and only if they are alike by names
 abbrev pub NothingStaysWhereAlike : Type 0
 NothingStaysWhereAlike = (old new : PlainMap) → Lawful old.table → Lawful new.table → (stays old new ≡ []) ↔ AreAlikeByNames old new

@@ -33,7 +33,7 @@ other_id t u step = has_other_id (counterpart ById t (step_item u step)) (step_i
 abbrev pub other_class_ids : List Row → List Row → WalkStepData → Bool
 other_class_ids t u step = has_other_class_ids t u (counterpart ById t (step_item u step)) (step_item u step)
 
--- for each test, the number of wanted items that meet the test and that are in the part `under` of at least one of the tables
+-- whether an item of the wanted table meets a test and is in the part `under` of at least one of the tables. For each test, the record below has the number of such items
 abbrev pub is_aside : (List Row → List Row → WalkStepData → Bool) → Option (List ℕ) → List Row → List Row → WalkStepData → Bool
 is_aside test under t u step = test t u step && is_of_part ById under t u (step_item u step)
 
@@ -44,7 +44,7 @@ pub record CountsAsideOf (under : Option (List ℕ)) (t u : List Row) (counts : 
 abbrev pub CountsAside : List Row → List Row → Counts → Type 0
 CountsAside t u counts = CountsAsideOf None t u counts
 
--- ASIDE: the text of the counts, with a line for each count that is not 0
+-- ASIDE: the text of the counts. It has a line for each count that isn't 0
 abbrev pub aside_line : List ℕ → ℕ → List ℕ
 aside_line what n = if n == 0 then [] else what ++ decimal n ++ codes " buckets differ\n"
 

@@ -11,18 +11,18 @@ use Rattle.crush_print.specs.ItemsText.{buckets_among}
 use Rattle.crush_since.specs.Changes.{ChangeData, change_at, stands_in, left_from, is_listed, with_below}
 use Rattle.crush_since.specs.Since.{PlainMap}
 
--- the rows of a list of the old map's items that were in this place. If the new map doesn't have an item, the rows of the items below it follow the item's row
+-- the rows of a list of the old map's items, in the place where the old map had them. If an item is a bucket that the new map doesn't have, the rows of the items that the bucket held follow the bucket's row
 abbrev pub stood_of : List Row → List Row → ℕ → Items → List ChangeData
 stood_of t u depth none = []
 stood_of t u depth (device d rest) = change_at t u false depth (Device d.id) ∷ stood_of t u depth rest
 stood_of t u depth (bucket h w m k rest) =
     change_at t u false depth (Bucket h.id) ∷ ((if is_there u (Bucket h.id) then [] else stood_of t u (depth + 1) k) ++ stood_of t u depth rest)
 
--- the rows for one node of the old map; none if the new map has the item in the same place
+-- the rows for one node of the old map; no rows if the new map has the node's item in the same place
 abbrev pub left_of : {A : _} → List Row → List Row → ℕ → Option ℕ → Node A → List ChangeData
 left_of t u depth place node = if stands_in u place (node_id node) then [] else stood_of t u depth (items_of (node ∷ []))
 
--- the rows of a list of the new map's items that are in this place
+-- the rows of a list of the new map's items, in the place where the new map has them
 abbrev pub stands_of : PlainMap → PlainMap → ℕ → Items → List ChangeData
 stands_of old new depth none = []
 stands_of old new depth (device d rest) = with_below (is_listed old new (Device d.id)) (change_at old.table new.table true depth (Device d.id)) [] ++ stands_of old new depth rest

@@ -1,4 +1,4 @@
--- A part of the tree that shows what has changed: an item and all that is below it, down to the buckets of a given type. docs/user/FORMATS.md describes it in words.
+-- A part of the tree that shows what has changed: the row of an item and the rows below it, down to the buckets of a given type. docs/user/FORMATS.md describes the part in words.
 use Rattle.std.specs.Prelude.{◌≡◌, ℕ, ◌-◌, Bool, false, not, ◌&&◌, ◌||◌, List, [], ◌∷◌, ◌++◌, Option, None, Some, if◌then◌else◌, is_some, nat_lt}
 use Rattle.std.specs.Option.{option_map}
 use Rattle.crush_units.specs.declared.id.ItemId.{ItemId}
@@ -12,7 +12,7 @@ use Rattle.crush_since.specs.Equal.{same_option}
 use Rattle.crush_since.specs.Since.{PlainMap, all_ids, last_lines}
 use Rattle.crush_since.specs.Tallies.{tally_of}
 
--- UNDER an item. This test says whether a row is at the item's own place: the place where the item is now or, if the new map doesn't have the item, the place where it was
+-- UNDER an item. This test says whether a row is at the item's own place. This is the place where the new map has the item or, if the new map doesn't have the item, the place where the old map had it
 abbrev pub is_own_row : ItemId → ChangeData → Bool
 is_own_row i x = same_id x.id i && (x.stands || not (is_some x.is))
 
@@ -25,17 +25,17 @@ abbrev pub rows_below : ℕ → List ChangeData → List ChangeData
 rows_below top [] = []
 rows_below top (x ∷ rest) = if nat_lt top x.depth then in_part top x ∷ rows_below top rest else []
 
--- the row at the item's own place, with the depth 0, followed by the rows of all items that are or were below it; nothing if the item has no row at its own place
+-- the row at the item's own place, with the depth 0, followed by the rows below it; nothing if the item has no row at its own place
 abbrev pub rows_at : ItemId → List ChangeData → List ChangeData
 rows_at i [] = []
 rows_at i (x ∷ rest) = if is_own_row i x then in_part x.depth x ∷ rows_below x.depth rest else rows_at i rest
 
--- the rows at and below the item if an item is given, and otherwise all rows
+-- if an item is given, the row at the item's own place and the rows below it; otherwise all rows
 abbrev pub rows_under : Option ItemId → List ChangeData → List ChangeData
 rows_under None rows = rows
 rows_under (Some i) rows = rows_at i rows
 
--- DOWN TO a type. This is the number of the type of a row's item, in the map in which the item is at the row's place
+-- DOWN TO a type. This is the number of the type that a row's item has: in the new map if the new map has the item in the row's place, and otherwise in the old map
 abbrev pub row_kind : ChangeData → Option ℕ
 row_kind x = option_map (λ (v : ItemData). v.view.kind) (if x.stands then x.is else x.was)
 

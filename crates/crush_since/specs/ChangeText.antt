@@ -64,7 +64,7 @@ abbrev pub brackets : List (List ℕ) → List ℕ
 brackets [] = []
 brackets (p ∷ rest) = brackets_text (p ++ behind rest)
 
--- WORDS of the columns. They come from the map that has the item in the row's place
+-- WORDS of the columns. If the new map has the item in the row's place, the class, the type and the name are those in the new map, and otherwise those in the old map
 abbrev pub id_word : ChangeData → List ℕ
 id_word x = id_text x.id
 
@@ -93,7 +93,7 @@ kind_and_name s i (Some v) = kind_prefix s i v.view.kind ++ v.view.name
 abbrev pub name_word : SettingData → SettingData → ChangeData → List ℕ
 name_word s p x = if x.stands then kind_and_name p x.id x.is else kind_and_name s x.id x.was
 
--- LINES: two columns with two spaces between them
+-- LINES. This definition puts two columns next to each other, with two spaces between them
 abbrev pub side_by_side : List ℕ → List ℕ → List ℕ
 side_by_side was weight = was ++ codes "  " ++ weight
 
@@ -115,7 +115,7 @@ name_column s p x = indent x.depth ++ name_word s p x ++ brackets (notes s p x)
 unfoldable pub change_line : SettingData → SettingData → ChangeWidths → ChangeData → List ℕ
 change_line s p w x = row_text (at_right w.id (id_word x)) (at_right w.class (class_word x)) (weights_column w x) (name_column s p x)
 
--- the headings and a line for each row, in columns that are wide enough for all of them
+-- the headings and a line for each row. Each column is wide enough for its heading and for its words in all rows
 unfoldable pub rows_text : SettingData → SettingData → List ChangeData → List ℕ
 rows_text s p rows = heading (widths_of rows) ++ flat_map (change_line s p (widths_of rows)) rows
 

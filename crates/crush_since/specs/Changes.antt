@@ -10,8 +10,7 @@ use Rattle.crush_items.specs.ItemData.{ItemData, item_of}
 use Rattle.crush_since.specs.Since.{PlainMap, same_class_ids, id_line}
 use Rattle.crush_print.specs.Tree.{unplaced_numbers}
 
--- a row of the tree: an item that the new map has in the row's place (`stands`), or that only the old map had in this place. `depth` is the number of buckets
--- above the item, and `was` and `is` are what the old map and the new map say about the item's id
+-- a row of the tree. If `stands` is true, the new map has the item in the row's place, and otherwise only the old map had the item in this place. `depth` is the number of buckets above the item. `was` is what the old map says about the item's id, and `is` is what the new map says about it
 pub record ChangeData : Type 0 where
   pub id : ItemId
   pub depth : ℕ
@@ -23,7 +22,7 @@ pub record ChangeData : Type 0 where
 abbrev pub change_at : List Row → List Row → Bool → ℕ → ItemId → ChangeData
 change_at t u stands depth i = record { id = i; depth = depth; stands = stands; was = item_of t i; is = item_of u i; same_class_ids = same_class_ids t u i }
 
--- WHAT WAS HERE: the row of an item that only the old map had in this place. If the new map doesn't have the item at all, the rows of all items that were below it follow, at most n levels deep
+-- WHAT WAS HERE: the row of an item that only the old map had in this place. If the item is a bucket that the new map doesn't have at all, the rows of the items that this bucket held follow, in the same way. These rows are at most n levels deep
 unfoldable pub stood_at : List Row → List Row → ℕ → ℕ → ItemId → List ChangeData
 stood_at t u n depth (Device d) = change_at t u false depth (Device d) ∷ []
 stood_at t u zero depth (Bucket b) = []
@@ -33,7 +32,7 @@ stood_at t u (suc n) depth (Bucket b) = change_at t u false depth (Bucket b) ∷
 abbrev pub stands_in : List Row → Option ℕ → ItemId → Bool
 stands_in u place i = option_map_or (λ (x : ItemData). same_option x.view.parent place) (item_of u i) false
 
--- the rows of an item of the old map, and of a list of such items in their order. An item that the new map has in this place has no rows
+-- the rows of an item that the old map had in this place, and of a list of such items in their order. There are no rows if the new map has the item in the same place. `place` is the parent; none means that the item had no parent
 abbrev pub left_at : List Row → List Row → ℕ → Option ℕ → ItemId → List ChangeData
 left_at t u depth place i = if stands_in u place i then [] else stood_at t u (length t) depth i
 
@@ -60,8 +59,7 @@ stands_at old new (suc n) depth (Bucket b) =
     with_below (is_listed old new (Bucket b)) (change_at old.table new.table true depth (Bucket b))
     (flat_map (stands_at old new n (depth + 1)) (kids new.table b) ++ left_from old.table new.table (depth + 1) (Some b) (kids old.table b))
 
--- CHANGE ROWS: first come the rows of the new map's roots, from -1 downward, and then those of the old map's roots that the new map doesn't have as roots. The rows of the
--- unplaced devices follow in the same way, by ascending number
+-- CHANGE ROWS: first come the rows of the new map's roots, by id from -1 downward, and then the rows of the old map's roots that aren't roots in the new map. The rows of the unplaced devices follow in the same way, by ascending id
 unfoldable pub root_rows : PlainMap → PlainMap → List ChangeData
 root_rows old new =
     flat_map (λ b. stands_at old new (length new.table) 0 (Bucket b)) (root_numbers new.table) ++ left_from old.table new.table 0 None (map Bucket (root_numbers old.table))

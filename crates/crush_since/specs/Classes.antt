@@ -32,11 +32,11 @@ step_class emit = []
 abbrev pub rule_classes : List RuleData → List ClassData
 rule_classes rules = flat_map (λ (r : RuleData). flat_map step_class r.steps) rules
 
--- CLASSES that a device of at least one table has or that a rule takes. Each class comes once with its amounts, in ascending order of the names
+-- CLASSES that a device of at least one table has, or that a rule takes. Each class comes once, with the sums of its amounts. The classes are in ascending order of their names
 unfoldable pub classes : List Row → List Row → List RuleData → List ClassData
 classes t u rules = collected (flat_map (row_class Old t) t ++ flat_map (row_class New u) u ++ rule_classes rules)
 
--- a class that has changed: its name, the weights of its devices in the old map and in the new map, whether the class is new (a device of the new map has it, and no device of the old map), and whether a step of a rule takes it
+-- a class: its name, the total weights of its devices in the old map (`was`) and in the new map (`is`), whether the class is new, and whether a step of a rule takes it. A class is new if a device of the new map has it, and no device of the old map has it
 pub record ClassChangeData : Type 0 where
   pub name : List ℕ
   pub was : ℕ

@@ -32,7 +32,7 @@ abbrev pub put_class : ClassData → List ClassData → List ClassData
 put_class x [] = x ∷ []
 put_class x (y ∷ ys) = put_at (slice_cmp nat_cmp x.name y.name) x y ys (put_class x ys)
 
--- CLASSES of a list, each once with the sums of its amounts, in ascending order of the names
+-- CLASSES of a list. Each class comes once, with the sums of its amounts. The classes are in ascending order of their names
 abbrev pub collected : List ClassData → List ClassData
 collected [] = []
 collected (x ∷ xs) = put_class x (collected xs)

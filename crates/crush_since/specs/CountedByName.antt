@@ -12,7 +12,7 @@ use Rattle.crush_compare.specs.Named.{counterpart}
 use Rattle.crush_compare.specs.NamedPairs.{PairData, step_item}
 use Rattle.crush_since.specs.Stays.{same_place}
 
--- TESTS: whether both tables have an item, in buckets with different names; and whether the item that a step of the old table's tree visits has no counterpart in the new table
+-- TESTS. The first says whether both tables have an item, in different places. A place is the name of the parent, or `(root)` or `(unplaced)` if the item has no parent. The second says whether the item that a step of the old table's tree visits has no counterpart in the new table
 abbrev pub is_moved_by_name : Option ItemData → Option ItemData → Bool
 is_moved_by_name before after = in_both (λ x y. not (same_place x y)) before after
 
@@ -23,7 +23,7 @@ is_gone_by_name t u step = not (is_some (counterpart ByName u (step_item t step)
 abbrev pub both_meet : (Option ItemData → Option ItemData → Bool) → List Row → List Row → WalkStepData → Bool
 both_meet test t u step = test (counterpart ByName t (step_item u step)) (Some (step_item u step))
 
--- the result of a test for the items of a pair, and for each test the number of pairs that meet it. No item is renamed, because items are matched by their names
+-- the result of a test for the items of a pair; and, for each test, the number of pairs that meet the test. The count of renamed items is 0, because items are matched by their names
 abbrev pub pair_meets : (Option ItemData → Option ItemData → Bool) → PairData → Bool
 pair_meets test p = test p.before p.after
 

@@ -12,25 +12,25 @@ use Rattle.crush_print.specs.RuleLines.{bucket_name}
 use Rattle.crush_since.specs.Rules.{RuleChangeData, rule_takes_nothing, rule_change_lines}
 use Rattle.crush_edits.specs.Stops.{bucket_named}
 
--- what an item weighs. If a class is given, what the item's devices of this class weigh
+-- the weight of an item. If a class is given, the weight of the item's devices of this class
 abbrev pub weight_as : List Row → Option (List ℕ) → ItemId → Option ℕ
 weight_as t None i = weight_of t i
 weight_as t (Some c) i = class_weight_of t i c
 
--- what the bucket b weighs, or what its devices of the class c weigh; 0 if the table doesn't have the bucket
+-- the weight of the bucket b or, if a class c is given, of its devices of this class; 0 if the table doesn't have the bucket
 abbrev pub taken_weight : List Row → ℕ → Option (List ℕ) → ℕ
 taken_weight t b c = unwrap_or (weight_as t c (Bucket b)) 0
 
--- the old table's bucket that is matched with the new table's bucket b: the bucket with the same id or the bucket with the same name, as `identity` says; none if there is no such bucket
+-- the id of the old table's bucket that matches the new table's bucket b. `identity` says which bucket matches. With `Ids`, the result is the same id, even if the old table has no bucket with this id. With `Names`, the bucket with the same name matches; none if there is no such bucket
 abbrev pub old_bucket : Identity → List Row → List Row → ℕ → Option ℕ
 old_bucket Ids t u b = Some b
 old_bucket (Names devices) t u b = option_and_then (bucket_named t) (name_of u (Bucket b))
 
--- what the bucket b, or its devices of the class c, weighed in the old table; 0 if the old table doesn't have the bucket
+-- the weight in the old table of the bucket that matches b or, if a class c is given, of its devices of this class; 0 if the old table has no matching bucket
 abbrev pub weight_before : Identity → List Row → List Row → ℕ → Option (List ℕ) → ℕ
 weight_before identity t u b c = option_map_or (λ o. taken_weight t o c) (old_bucket identity t u b) 0
 
--- whether the bucket weighed something in the old table and weighs nothing in the new one
+-- whether this weight is above 0 in the old table, and 0 in the new table
 abbrev pub is_emptied : Identity → List Row → List Row → ℕ → Option (List ℕ) → Bool
 is_emptied identity t u b c = (taken_weight u b c == 0) && not (weight_before identity t u b c == 0)
 

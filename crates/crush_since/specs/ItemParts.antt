@@ -10,7 +10,7 @@ pub use Rattle.crush_compare.specs.SameItem.{same_algs, same_class_id}
 use Rattle.crush_items.specs.ItemData.{ItemData}
 use Rattle.crush_since.specs.ItemWords.{item_word, place_word, type_word, class_or_none, alg_word, whole_word}
 
--- PARTS: a text that tells a difference, as a list: one part of a line, or a whole line. The list is empty if the maps are the same in this respect
+-- PARTS: a list that has the text about one difference. The text is one part of a line, or a whole line. The list is empty if `same` is true, which says that there is no such difference
 abbrev pub part : Bool → List ℕ → List (List ℕ)
 part same text = if same then [] else text ∷ []
 
@@ -18,7 +18,7 @@ part same text = if same then [] else text ∷ []
 abbrev pub change : Bool → List ℕ → List ℕ → List ℕ → List (List ℕ)
 change same word a b = part same (word ++ a ++ codes " to " ++ b)
 
--- the parts of an item that both maps have. There is a definition for each column
+-- the parts of the line of an item that both maps have. There is one definition for each column, and then one for all columns
 abbrev pub name_part : ViewData → ViewData → List (List ℕ)
 name_part a b = part (bytes_eq a.name b.name) (codes "was " ++ a.name)
 
@@ -45,7 +45,7 @@ changes old new a b same =
     name_part a.view b.view ++ type_part old new a.view b.view ++ place_part a b ++ weight_part a.view b.view ++ class_part a.view b.view ++ alg_part a.view b.view
     ++ class_ids_part same
 
--- all parts of an item, given what both tables say about its id and whether its class ids are the same; none if nothing differs
+-- all parts of an item's line, given what both tables say about the item's id, and whether its class ids are the same; no parts if nothing differs
 abbrev pub parts : SettingData → SettingData → Option ItemData → Option ItemData → Bool → List (List ℕ)
 parts old new None None same = []
 parts old new None (Some b) same = (codes "made as " ++ whole_word new b) ∷ []

@@ -22,7 +22,7 @@ place_in (Bucket b) holder None = codes "(root)"
 abbrev pub place_word : ItemData → List ℕ
 place_word x = place_in x.view.id x.holder x.view.parent
 
--- the name of a type; `osd` for a device if no type 0 is declared
+-- the name of an item's type. If the setting declares no type with this number, it is `osd` for a device, and the empty text for a bucket
 abbrev pub default_kind : ItemId → List ℕ
 default_kind (Device d) = codes "osd"
 default_kind (Bucket b) = []

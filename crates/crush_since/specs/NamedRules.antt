@@ -5,6 +5,6 @@ use Rattle.crush_since.specs.ItemParts.{part}
 use Rattle.crush_since.specs.RulesByName.{named_rule}
 use Rattle.crush_since.specs.Since.{PlainMap}
 
--- the line that says that the rules differ, if they do
+-- a list that has the line which says that the rules differ; the empty list if the rules are the same
 unfoldable pub named_rules_line : PlainMap → PlainMap → List (List ℕ)
 named_rules_line old new = part (pointwise (named_rule old.table new.table) old.setting.rules new.setting.rules) (codes "rules differ")

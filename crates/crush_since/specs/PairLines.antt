@@ -17,7 +17,7 @@ use Rattle.crush_since.specs.declared.since.tally.Tally.{Tally}
 abbrev pub entry_item : Option EntryData → Option ItemData
 entry_item o = option_map (λ e. e.item) o
 
--- the id of a pair's item: the id that the new map's item has, or that the old map's item has if the new map doesn't have the item
+-- the id of a pair's item: the id of the new map's item or, if the new map doesn't have the item, the id of the old map's item; none if neither map has the item
 abbrev pub told_id : Option ItemData → Option ItemData → Option ItemId
 told_id before (Some b) = Some b.view.id
 told_id None None = None

@@ -1,4 +1,4 @@
--- A walk over the rows of the tree that shows what has changed. The walk finds the rows of a part.
+-- A walk over the rows of the tree that shows what has changed. The walk finds the rows of a part, which are an item's own row and the rows below it.
 use Rattle.std.specs.Prelude.{ℕ, ◌-◌, List, [], ◌∷◌, if◌then◌else◌, nat_lt}
 use Rattle.crush_units.specs.declared.id.ItemId.{ItemId}
 use Rattle.crush_since.specs.ChangePart.{in_part, is_own_row, rows_at, rows_below}
@@ -29,7 +29,7 @@ rows_reached Before r = []
 rows_reached (Within top) r = row_at r.id r (r.depth - top) ∷ []
 rows_reached After r = []
 
--- the rows of the part that the walk has still to visit
+-- those rows of the part that are among the rows which the walk hasn't visited yet
 abbrev pub rows_from : ItemId → Reached → List ChangeData → List ChangeData
 rows_from i Before rows = rows_at i rows
 rows_from i (Within top) rows = rows_below top rows

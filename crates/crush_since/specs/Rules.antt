@@ -3,7 +3,7 @@ use Rattle.std.specs.Prelude.{ℕ, Bool, List, [], ◌∷◌, ◌++◌, Option, 
 use Rattle.std.specs.Cmp.Lexicographic.{pointwise}
 use Rattle.crush_edits.specs.Setting.{RuleData}
 
--- a difference in the rules of two maps: a rule, by its name, which only the new map has, which differs, or which only the old map has; another order of the rules; or a rule, by its name, that takes nothing, with the name of the bucket and the class that one of its steps takes
+-- a difference between the rules of two maps. The first three are about a rule, given by its name: only the new map has the rule, the rule differs, or only the old map has the rule. The fourth says that the rules are in another order. The last is about a rule that takes nothing. It has the name of the rule, and the name of the bucket and the class that one of the rule's steps takes
 pub data RuleChangeData : Type 0 where
   rule_new : List ℕ → RuleChangeData
   rule_differs : List ℕ → RuleChangeData
@@ -18,7 +18,7 @@ change_unless same change = if same then [] else change ∷ []
 abbrev pub rule_named : List ℕ → List RuleData → Option RuleData
 rule_named n rules = find (λ (r : RuleData). bytes_eq r.name n) rules
 
--- the difference for a rule of the new map, given the old map's rule of the same name; none if the two are the same
+-- the difference for a rule of the new map, given the old map's rule of the same name, if there is one; no difference if the two rules are the same
 abbrev pub beside : (RuleData → RuleData → Bool) → Option RuleData → RuleData → List RuleChangeData
 beside same None y = rule_new y.name ∷ []
 beside same (Some x) y = change_unless (same x y) (rule_differs y.name)
@@ -39,7 +39,7 @@ abbrev pub or_order : List RuleChangeData → List RuleChangeData
 or_order [] = rules_in_other_order ∷ []
 or_order (x ∷ xs) = x ∷ xs
 
--- RULES THAT DIFFER, or the difference that the rules are in another order. There is no difference if both maps have the same rules in the same order
+-- RULE DIFFERENCES: the rules that are new, differ or are gone. If there is no such rule, but the rules are in another order, there is only this difference. There is no difference if both maps have the same rules in the same order
 abbrev pub rule_differences : (RuleData → RuleData → Bool) → List RuleData → List RuleData → List RuleChangeData
 rule_differences same a b = if pointwise same a b then [] else or_order (changed_rules same a b)
 

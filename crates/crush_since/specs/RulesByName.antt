@@ -13,7 +13,7 @@ use Rattle.crush_since.specs.Settings.{same_step, same_rule}
 abbrev pub same_bucket : List Row → List Row → ℕ → ℕ → Bool
 same_bucket t u b c = same_text (name_of t (Bucket b)) (name_of u (Bucket c))
 
--- whether two steps are the same. If both take a bucket, the buckets must have the same name and the classes must be the same; any other steps must be equal
+-- whether two steps are the same. If both take a bucket, the buckets must have the same name, and the classes must be the same. For other steps, `same_step` decides
 abbrev pub named_step : List Row → List Row → StepData → StepData → Bool
 named_step t u (take b c) (take d e) = same_bucket t u b d && same_text c e
 named_step t u x y = same_step x y

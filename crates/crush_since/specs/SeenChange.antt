@@ -1,4 +1,4 @@
--- How a row of the tree of what has changed is seen as plain data, and to which tables rows belong.
+-- How a row of the tree that shows what has changed is seen as plain data, and which two tables its two maps have.
 use Rattle.std.specs.Prelude.{◌≡◌, ℕ, Bool, List, map}
 use Rattle.std.specs.Cmp.Lexicographic.{pointwise}
 use Rattle.std.specs.Option.{option_map}
@@ -42,7 +42,7 @@ entries_change e stands depth i = record {
 abbrev pub row_change : {A B : _} → Comparison A B → TreeRow → ChangeData
 row_change maps r = entries_change (pair_entries maps r.pair) r.stands r.depth r.id
 
--- the two maps have these tables, and the places are those of their items
+-- the two maps of `both` have the tables t and u. The lists of places in `both` belong to the items of these maps, and its list of buckets belongs to the old map
 pub record AreTables {A B : Type 0} (t u : List Row) (both : Both A B) : Type 0 where
   pub old : Stands both.maps.old.map.now.forest t
   pub new : Stands both.maps.new.map.now.forest u

@@ -21,7 +21,7 @@ agree_on a b n = same_text (kind_name a n) (kind_name b n)
 abbrev pub same_kinds : SettingData → SettingData → Bool
 same_kinds a b = list_all (agree_on a b) (kind_numbers a) && list_all (agree_on a b) (kind_numbers b)
 
--- whether two rules are the same. A bucket that a step takes is compared by its id, whatever its name is
+-- whether two rules are the same. The buckets that steps take are compared by their ids, and not by their names
 abbrev pub same_bool : Bool → Bool → Bool
 same_bool true b = b
 same_bool false true = false
@@ -48,7 +48,7 @@ tunables_line a b = listed_if_not (pointwise same_tunable a.tunables b.tunables)
 unfoldable pub kinds_line : SettingData → SettingData → List ℕ
 kinds_line a b = listed_if_not (same_kinds a b) (codes "types differ\n")
 
--- the lines for rules that differ
+-- the lines about rules that are new, differ or are gone, or the line that says that the rules are in another order
 unfoldable pub rules_line : SettingData → SettingData → List ℕ
 rules_line a b = rule_change_lines (rule_differences same_rule a.rules b.rules)
 

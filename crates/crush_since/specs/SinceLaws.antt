@@ -12,11 +12,11 @@ use Rattle.crush_since.specs.Tallies.{counts_line, no_tally}
 abbrev pub NothingSinceItself : Type 0
 NothingSinceItself = (s : SettingData) (t : List Row) → since_text (plain_map s t) (plain_map s t) ≡ totals_line (total t) (total t) ++ counts_line no_tally
 
--- no item has a line if and only if both tables have equal rows. The order of the rows doesn't matter
+-- if two tables are lawful, no item has a line if and only if the tables have equal rows. The order of the rows doesn't matter
 abbrev pub NoItemWhereRowsAreEqual : Type 0
 NoItemWhereRowsAreEqual = (s p : SettingData) (t u : List Row) → Lawful t → Lawful u → (item_lines (plain_map s t) (plain_map p u) ≡ []) ↔ ((i : ItemId) → row_of t i ≡ row_of u i)
 
--- if a map is compared with itself, the tree has no row: the text has only the headings and the last two lines
+-- if a map whose table is lawful is compared with itself, the tree has no row. The text has only the headings and the last two lines, and all counts are 0
 abbrev pub NoRowSinceItself : Type 0
 NoRowSinceItself = (s : SettingData) (t : List Row) → Lawful t
     → changes_text (plain_map s t) (plain_map s t) ≡ codes "ID  CLASS  WAS  WEIGHT  TYPE NAME\n" ++ (totals_line (total t) (total t) ++ counts_line no_tally)

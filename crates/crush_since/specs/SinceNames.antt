@@ -38,7 +38,7 @@ changed_parts s p (Some x) (Some y) = changed s p x y
 changed_parts s p (Some x) None = (codes "removed, was " ++ whole_word s x) ∷ []
 changed_parts s p None None = []
 
--- LINES: the line of an item, which is its name with its parts, with `; ` between the parts; nothing if there are no parts
+-- LINES: the line of an item. It is the item's name, followed by the parts with `; ` between them. There is no line if there are no parts
 unfoldable pub changed_pair : SettingData → SettingData → PairData → List ℕ
 changed_pair s p pair = text_of_lines (stay_line (pair_name pair.before pair.after) (changed_parts s p pair.before pair.after))
 
@@ -54,7 +54,7 @@ since_names_part under old new = changed_lines under old new ++ lines_beside_par
 unfoldable pub since_names_text : PlainMap → PlainMap → List ℕ
 since_names_text old new = since_names_part None old new ++ totals_line (total old.table) (total new.table) ++ counts_line (tally_by_name old.table new.table)
 
--- if a name is given, whether an item of this part has a line; otherwise whether there is any line about an item, tunable, type, rule or class
+-- if a name is given, this says whether an item of the part with this name has a line. Otherwise it says whether there is any line about items, tunables, types, rules or classes
 abbrev pub is_changed_by_name : Option (List ℕ) → PlainMap → PlainMap → Bool
 is_changed_by_name under old new = has_some (since_names_part under old new)
 

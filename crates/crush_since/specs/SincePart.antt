@@ -1,4 +1,4 @@
--- The text that says what has changed in a part of two maps, and whether anything has changed.
+-- The text that says what has changed in a part of two maps, and the tests whether anything has changed.
 use Rattle.std.specs.Prelude.{Bool, ℕ, List, ◌++◌, flat_map}
 use Rattle.crush_units.specs.declared.id.ItemId.{ItemId}
 use Rattle.crush_compare.specs.PartIds.{part_ids}
@@ -7,11 +7,11 @@ use Rattle.crush_since.specs.Changes.{has_some}
 use Rattle.crush_since.specs.Settings.{setting_lines}
 use Rattle.crush_since.specs.Since.{PlainMap, id_line, item_lines}
 
--- SINCE PART TEXT: the lines of the part's ids. The lines that follow the items of whole maps are left out
+-- SINCE PART TEXT: the lines about the item i, and about all items that are below it in at least one of the maps. The lines that follow the items of whole maps are left out
 unfoldable pub since_part_text : ItemId → PlainMap → PlainMap → List ℕ
 since_part_text i old new = flat_map (id_line old new) (part_ids old.table new.table i)
 
--- WHETHER an item or a setting has a line; and for a part, whether one of its items has a line
+-- TESTS. The first says whether there is a line about an item or a setting. The second says whether there is a line about an item of a part
 unfoldable pub is_changed : PlainMap → PlainMap → Bool
 is_changed old new = has_some (item_lines old new ++ setting_lines old.setting new.setting)
 

@@ -34,7 +34,7 @@ item_type s x = type_word s x.view.id x.view.kind
 unfoldable pub same_place : ItemData → ItemData → Bool
 same_place x y = bytes_eq (place_word x) (place_word y)
 
--- PARTS: the part `WORD A, wanted B`. The text `between` can replace `, wanted `. There is no part if the column is the same
+-- PARTS: the part `WORD A, wanted B`, or with another text `between` in place of `, wanted `. There is no part if `same` is true, which says that the column is the same in both maps
 abbrev pub both : Bool → List ℕ → List ℕ → List ℕ → List ℕ → List (List ℕ)
 both same word a between b = part same (word ++ a ++ between ++ b)
 
@@ -97,7 +97,7 @@ pair_name before (Some y) = y.view.name
 pair_name (Some x) None = x.view.name
 pair_name None None = []
 
--- LINES without their line feeds: the line of an item is its name with its parts, with `; ` between the parts. There is no line if there are no parts
+-- LINES without their line feeds. The line of an item is the item's name, followed by the parts with `; ` between them. There is no line if there are no parts
 abbrev pub stay_line : List ℕ → List (List ℕ) → List (List ℕ)
 stay_line name [] = []
 stay_line name (p ∷ rest) = (name ++ codes ": " ++ (p ++ behind rest)) ∷ []
@@ -112,7 +112,7 @@ stay_text_line name (b ∷ c ∷ text) = (name ++ codes ": " ++ text) ∷ []
 abbrev pub text_of_lines : List (List ℕ) → List ℕ
 text_of_lines lines = flat_map (λ line. line ++ codes "\n") lines
 
--- the lines of vectors of bytes
+-- the lines of a list of vectors of bytes, as plain data
 abbrev pub line_texts : {Z : Type 0} → List (Vec ℕ Z) → List (List ℕ)
 line_texts lines = map (λ line. line.items) lines
 
@@ -133,7 +133,7 @@ abbrev pub settings_beside : Option (List ℕ) → PlainMap → PlainMap → Lis
 settings_beside None old new = named_setting_lines old new
 settings_beside (Some n) old new = []
 
--- STAYS: a line for each item of the part that differs. If no part is given, lines about tunables, types and rules that differ follow
+-- STAYS: a line for each item of the part that differs. If no part is given, this list covers all items, and lines about tunables, types and rules that differ follow
 unfoldable pub stays_part : Option (List ℕ) → PlainMap → PlainMap → List (List ℕ)
 stays_part under old new = stay_lines under old new ++ settings_beside under old new
 

@@ -6,7 +6,7 @@ use Rattle.crush_model.specs.Table.{Row}
 use Rattle.crush_since.specs.Emptied.{is_emptied}
 use Rattle.crush_since.specs.declared.since.taken.Taken.{Taken}
 
--- a cached result is right if it says whether its bucket, or the bucket's devices of its class, lost all weight from the old table t to the new table u
+-- a cached result has a bucket and perhaps a class. The result is right if it says whether the bucket has lost all its weight from the old table t to the new table u. If there is a class, only the bucket's devices of this class count
 abbrev pub IsRight : Identity → List Row → List Row → Taken → Type 0
 IsRight identity t u k = k.is_emptied ≡ is_emptied identity t u k.bucket (option_map (λ c. c.now) k.class)
 

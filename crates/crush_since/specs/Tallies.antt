@@ -17,7 +17,7 @@ is_made (Some a) b = false
 abbrev pub is_removed : Option ItemData → Option ItemData → Bool
 is_removed before after = is_made after before
 
--- whether both tables have the item, and the items differ
+-- whether both tables have the item, and the test is true for what they say about it. The tests that follow are about the name, the parent, the weight and the class
 abbrev pub in_both : (ItemData → ItemData → Bool) → Option ItemData → Option ItemData → Bool
 in_both test (Some a) (Some b) = test a b
 in_both test (Some a) None = false
@@ -35,7 +35,7 @@ is_reweighed before after = in_both (λ a b. not (a.view.weight == b.view.weight
 abbrev pub is_reclassed : Option ItemData → Option ItemData → Bool
 is_reclassed before after = in_both (λ a b. not (same_text a.view.class b.view.class)) before after
 
--- the number of the ids about which what the two tables say meets a test
+-- the number of ids for which a test is true. The test is about what the two tables say about the id
 abbrev pub count : (Option ItemData → Option ItemData → Bool) → List Row → List Row → List ItemId → ℕ
 count test t u ids = count_by (λ i. test (item_of t i) (item_of u i)) ids
 

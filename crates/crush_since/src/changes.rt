@@ -41,10 +41,11 @@ use std::io::Write;
 /// An item of the new map has a row if [`write_since`](crate::write_since) writes a line for the
 /// item, or if any row is below the item. After the items of a bucket come rows for the items that
 /// the bucket held in the old map and doesn't hold in the new map. In the same way, rows for the
-/// items that were roots or unplaced devices only in the old map follow after the new map's roots
-/// and unplaced devices. Such an item may be a bucket that the new map doesn't have at all. Then a
-/// row for each item that this bucket held follows, and so on for each of these items that is
-/// itself a bucket which the new map doesn't have.
+/// buckets that were roots only in the old map come after the new map's roots. Rows for the devices
+/// that were unplaced only in the old map come after the new map's unplaced devices. If the new map
+/// doesn't have one of these buckets at all, the bucket's row is followed by a row for each item
+/// that the bucket held. The same holds for each of these items that is itself a bucket which the
+/// new map doesn't have.
 ///
 /// Each row has two weights: the weight that the item had in this place in the old map, and the
 /// weight that the item has in this place in the new map. A `-` says that the item wasn't or isn't

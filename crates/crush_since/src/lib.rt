@@ -1,12 +1,12 @@
 //! Finds and writes what has changed from one map to another map.
 //!
 //! [`write_since`] writes one line for each item that differs, and [`write_changes`] writes the
-//! items that differ as a tree or as a part of a tree. [`write_changes_of_class`] writes such a tree
-//! for the devices of one class. These three functions match the items of the two maps by their
-//! ids, by which CRUSH itself knows them. [`write_since_by_name`] matches items by their names.
-//! [`stays`] lists what differs between a map and a wanted map, and [`count_aside`] counts the ids
-//! that differ. Each text is built in memory as a whole before its first byte is written. An
-//! `AllocError` says that memory ran out.
+//! items that differ as a tree or as a part of a tree. [`write_changes_of_class`] writes such a
+//! tree for the devices of one class. These three functions match the items of the two maps by
+//! their ids, by which CRUSH itself knows them. [`write_since_by_name`] matches items by their
+//! names. [`stays`] lists what differs between a map and a wanted map, and [`count_aside`] counts
+//! the buckets whose ids differ between the two maps. Each text is built in memory as a whole
+//! before its first byte is written. A call fails with an `AllocError` only if memory runs out.
 #![tactic(auto)]
 
 mod changes;

@@ -54,12 +54,14 @@ pub(crate) use tally::{is_made, is_reclassed, is_reweighed};
 pub(crate) use words::{alg_bytes, push_counts, push_totals, push_with_class, weight_of};
 pub use words::{class_bytes, type_bytes};
 
-/// Writes what has changed from the old map to the new map. The output begins with a line for each
-/// item that differs: the buckets by id from -1 downward, and then the devices by ascending id.
-/// After these lines there may be a line that says that the tunables differ, and a line that says
-/// that the types differ. The lines about rules and the lines about classes follow. The last two
-/// lines have the total weight of each map, and for each kind of difference the number of items
-/// that have it. If memory runs out, nothing is written.
+/// Writes what has changed from the old map to the new map. The items of the two maps are matched
+/// by their ids. The output begins with a line for each item that differs: first the buckets by id
+/// from -1 downward, and then the devices by ascending id. After these lines there may be a line
+/// that says that the tunables differ, and a line that says that the types differ. The lines about
+/// rules and the lines about classes follow. The last two lines have the total weight of each map,
+/// and for each kind of difference the number of items that have it. If a write fails, the writer
+/// has received a beginning of the text, but not the whole text. If memory runs out, nothing is
+/// written.
 pub fn write_since<A: Allocator, B: Allocator, W: Write>(
     alloc: Global,
     old: &CrushMap<A>,
@@ -79,14 +81,15 @@ pub fn write_since<A: Allocator, B: Allocator, W: Write>(
     }
 }
 
-/// If a lawful map is compared with itself, the text has only its last two lines: the map's total
-/// weight, and counts that are all 0.
+/// If a map is compared with itself, the text of [`write_since`] has only its last two lines: the
+/// line with the map's total weight, and the line with counts that are all 0.
 pub fn nothing_changes_since_itself()
     ensures { NothingSinceItself }
 {}
 
-/// No item has a line if and only if the two maps' tables have equal rows. A table has a row for
-/// each item of its map. The order of the rows doesn't matter.
+/// If the tables of two maps are lawful (definition `Lawful` of crush_model), then [`write_since`]
+/// writes no line about an item if and only if the two tables have equal rows. A table has a row
+/// for each item of its map. The order of the rows doesn't matter.
 pub fn no_item_is_told_where_rows_are_equal()
     ensures { NoItemWhereRowsAreEqual }
 {}

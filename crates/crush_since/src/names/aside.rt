@@ -31,8 +31,8 @@ pub struct Counts {
 
 /// Counts the buckets that both maps have and whose ids or class ids differ. The buckets are
 /// matched by their names. If `under` is a name, the call counts only some buckets: the bucket with
-/// this name, and the buckets that are below the item with this name in at least one of the maps.
-/// It fails only if memory runs out.
+/// this name, and the buckets that are below the bucket with this name in at least one of the maps.
+/// The call fails only if memory runs out.
 pub fn count_aside<A: Allocator, B: Allocator>(
     alloc: Global,
     under: Option<&str>,
@@ -73,8 +73,9 @@ fn more(count: usize, test: bool) -> usize
     if test { count + 1 } else { count }
 }
 
-/// Whether both maps have the item of a pair, and its ids differ. The result is always false for a
-/// device, because two devices are matched only if they have the same id.
+/// Whether both maps have the item of a pair, with different ids. The result is always false for a
+/// device, because this comparison (`Devices::ById`) matches two devices only if they have the same
+/// id.
 fn has_other_id<A: Allocator, B: Allocator>(both: &Comparison<'_, A, B>, pair: &Pair) -> bool
     ensures { result ≡ of_pair has_other_id (pair_items both.now pair.now) }
 {
@@ -96,7 +97,7 @@ fn is_other_id(before: &Option<Seen<'_>>, after: &Option<Seen<'_>>) -> bool
     }
 }
 
-/// Whether both maps have the item of a pair, and its class ids differ. The result is always false
+/// Whether both maps have the item of a pair, with different class ids. The result is always false
 /// for a device, because a device has no class ids.
 fn has_other_class_ids<A: Allocator, B: Allocator>(both: &Comparison<'_, A, B>, pair: &Pair) -> bool
     ensures { (t u : List Row)
@@ -115,7 +116,7 @@ fn is_in_both(before: &Option<Seen<'_>>, after: &Option<Seen<'_>>) -> bool
     before.is_some() && after.is_some()
 }
 
-/// Appends a line for each of the counts that isn't 0.
+/// Appends a line for each of the counts that isn't 0. The call fails only if memory runs out.
 #[tactic(auto, unfolding(crate::specs::Aside::aside_text))]
 pub fn push_aside(counts: Counts, lines: &mut Vec<u8>) -> Result<(), AllocError>
     ensures { OnOk result (lines.new.items ≡ lines.old.items ++ aside_text counts) }

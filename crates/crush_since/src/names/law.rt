@@ -4,17 +4,20 @@
 ghost use Rattle.crush_since.specs.Alike.{NothingStaysWhereAlike};
 ghost use Rattle.crush_since.specs.SinceNamesLaws.{NothingByNamesSinceItself};
 
-/// No difference remains between two lawful maps if and only if three conditions hold. First, each
+/// If the tables of two maps are lawful (definition `Lawful` of crush_model), then
+/// [`stays`](crate::stays) lists no difference if and only if three conditions hold. First, each
 /// item name of either map is also an item name of the other map. Second, any two items of the same
-/// name have the same type, place, class and algorithm; two devices of the same name also have the
-/// same id, and weights that are at most one unit apart. Third, the settings of the maps agree:
-/// their tunables, types and rules.
+/// name are both devices or both buckets, and have the same type, place, class and algorithm. Two
+/// devices of the same name also have the same id, and weights that are at most one unit (1/65536
+/// TiB) apart. Third, the settings of the maps agree: their tunables, types and rules. The buckets
+/// that rules take are compared by their names.
 pub fn nothing_stays_where_maps_are_alike()
     ensures { NothingStaysWhereAlike }
 {}
 
-/// If a lawful map is compared with itself by names, the text has only its last two lines: the
-/// map's total weight, and counts that are all 0.
+/// If a map whose table is lawful is compared with itself by names, the text of
+/// [`write_since_by_name`](crate::write_since_by_name) has only its last two lines: the line with
+/// the map's total weight, and the line with counts that are all 0.
 pub fn nothing_changes_by_names_since_itself()
     ensures { NothingByNamesSinceItself }
 {}

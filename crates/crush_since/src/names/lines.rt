@@ -1,5 +1,5 @@
-//! Appends lines to a list of lines, and such a list to a text. The lines of a list have no line
-//! feeds.
+//! Appends lines to a list of lines, and appends a list of lines to a text. In a list, the lines
+//! have no line feeds.
 
 ghost use Rattle.std.specs.Prelude.{◌≡◌, ◌∷◌, [], ◌++◌, OnOk, codes, flat_map};
 ghost use Rattle.crush_since.specs.ItemParts.{part};
@@ -8,8 +8,9 @@ ghost use Rattle.crush_since.specs.Stays.{line_texts, stay_text_line, text_of_li
 use crush_units::put_all;
 use std::alloc::{AllocError, Global};
 
-/// Appends the line of an item, or no line if `parts` is empty. In `parts`, a semicolon and a space
-/// come before each part.
+/// Appends the line of an item: the item's name, a colon, a space, and the parts. Appends no line
+/// if `parts` is empty. In `parts`, a semicolon and a space come before each part. The line leaves
+/// out the first semicolon and the space after it.
 pub(crate) fn push_item_line(
     alloc: Global,
     name: &[u8],
@@ -52,7 +53,8 @@ pub(crate) fn push_unless(
     push_joined(alloc, &[text], lines)
 }
 
-/// Appends the lines of [`stays`](crate::stays) to a text, each followed by a line feed.
+/// Appends the lines of [`stays`](crate::stays) to a text. A line feed follows each line. The call
+/// fails only if memory runs out.
 pub fn push_stays(lines: &[Vec<u8>], text: &mut Vec<u8>) -> Result<(), AllocError>
     ensures { OnOk result (text.new.items ≡ text.old.items
         ++ text_of_lines (line_texts lines.now)) }

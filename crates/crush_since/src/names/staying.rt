@@ -1,4 +1,5 @@
-//! Lists what still differs between a map and a wanted map. Their items are matched by their names.
+//! Lists what still differs between a map and a wanted map. The items of the two maps are matched
+//! by their names.
 
 ghost use Rattle.std.specs.Prelude.{◌≡◌, ◌++◌, List, OnOk, IfOk, flat_map};
 ghost use Rattle.std.specs.Option.{option_map};
@@ -23,14 +24,16 @@ use crush_map::{CrushMap, Setting};
 use rules::push_rules;
 use std::alloc::{AllocError, Allocator, Global};
 
-/// Returns what differs between a map and the wanted map: a line of text for each difference,
-/// without its line feed. The items of the two maps are matched by their names. The list begins
-/// with a line for each item of the wanted map that the map doesn't have or that differs in the
-/// map, in the order of the wanted map's tree. A line for each item that only the map has follows,
-/// in the order of the map's tree. After these lines there may be a line that says that the
-/// tunables differ, a line that says that the types differ, and a line that says that the rules
-/// differ. Two kinds of differences are not listed: different ids, and weights of a device that are
-/// at most one unit (1/65536 TiB) apart. The call fails only if memory runs out.
+/// Returns the differences between a map and the wanted map, as lines of text without line feeds.
+/// The items of the two maps are matched by their names. But two devices match only if they also
+/// have the same id, and a device never matches a bucket. The list begins with a line for each item
+/// of the wanted map that has no match in the map, or that differs from its match. These lines are
+/// in the order of the wanted map's tree. Then comes a line for each item of the map that has no
+/// match in the wanted map, in the order of the map's tree. After these lines there may be a line
+/// that says that the tunables differ, a line that says that the types differ, and a line that says
+/// that the rules differ. Some differences are not listed: different ids, class ids and weights of
+/// buckets, and weights of a device that are at most one unit (1/65536 TiB) apart. The call fails
+/// only if memory runs out.
 pub fn stays<A: Allocator, B: Allocator>(
     alloc: Global,
     map: &CrushMap<A>,
@@ -193,8 +196,8 @@ fn push_differing(
     Ok(())
 }
 
-/// Returns the name of the item of a pair: the wanted map's name or, if only the map has the item,
-/// the map's name.
+/// Returns the name of the item of a pair. If the new (or wanted) map has the item, this is the
+/// name in this map, and otherwise the name in the other map.
 pub(crate) fn pair_name<'a>(before: &Option<Seen<'a>>, after: &Option<Seen<'a>>) -> &'a [u8]
     ensures { result.now
         ≡ pair_name (option_map seen_data before.now) (option_map seen_data after.now) }

@@ -1,5 +1,5 @@
-//! Appends the lines that aren't about single items: about tunables, types, rules and classes that
-//! differ between two maps.
+//! Appends the lines that aren't about single items. They are about tunables, types, rules and
+//! classes that differ between two maps.
 
 ghost use Rattle.std.specs.Prelude.{◌≡◌, ◌++◌, List, OnOk};
 ghost use Rattle.std.specs.Option.{option_map};
@@ -38,8 +38,9 @@ pub(crate) fn push_lines_beside<A: Allocator, B: Allocator>(
     push_classes(old, new, out)
 }
 
-/// Appends the lines of [`push_lines_beside`] if `under` is `None`, so that whole maps are
-/// compared. If `under` is a name, only a part of the maps is compared, and nothing is appended.
+/// If `under` is `None`, whole maps are compared, and the call appends the lines of
+/// [`push_lines_beside`]. If `under` is a name, only a part of the maps is compared, and the call
+/// appends nothing.
 pub fn push_lines_beside_part<A: Allocator, B: Allocator>(
     identity: Identity,
     under: Option<&str>,

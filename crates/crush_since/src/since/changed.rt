@@ -15,8 +15,10 @@ use crush_map::{CrushMap, Setting};
 use crush_units::ItemId;
 use std::alloc::{AllocError, Allocator, Global};
 
-/// Whether [`write_since`](crate::write_since) writes a line for an item, or a line that says that
-/// tunables, types or rules differ. It fails only if memory runs out.
+/// Whether [`write_since`](crate::write_since) writes a line about an item, or a line which says
+/// that tunables, types or rules differ, or that the order of rules differs. Its other lines don't
+/// count: those about rules that take nothing, classes, total weights and counts. The call fails
+/// only if memory runs out.
 pub fn is_changed<A: Allocator, B: Allocator>(
     alloc: Global,
     old: &CrushMap<A>,
@@ -33,8 +35,8 @@ pub fn is_changed<A: Allocator, B: Allocator>(
     Ok(is_different(&both))
 }
 
-/// Whether [`since_part_text`](crate::since_part_text) returns any line. It fails only if memory
-/// runs out.
+/// Whether [`since_part_text`](crate::since_part_text) returns any line. The call fails only if
+/// memory runs out.
 pub fn is_part_changed<A: Allocator, B: Allocator>(
     alloc: Global,
     old: &CrushMap<A>,

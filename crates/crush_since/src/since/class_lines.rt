@@ -9,8 +9,8 @@ use crate::since::words::push_units;
 use crush_print::words::push_all;
 use std::alloc::AllocError;
 
-/// Appends a line for each class whose devices weigh more or less in total in the new map than in
-/// the old map. Then appends a line for each class that is new and that no rule takes.
+/// Appends a line for each class whose total weight differs between the two maps. Then appends a
+/// line for each class that is new and that no rule takes.
 pub(crate) fn push_class_lines<'a>(
     changes: &[ClassChange<'a>],
     out: &mut Vec<u8>,

@@ -8,8 +8,7 @@ ghost use Rattle.crush_since.specs.Grouped.{grouped, with_first};
 
 use std::alloc::{AllocError, Global};
 
-/// Where a class is named: at a device of the old map, at a device of the new map, or in a step of
-/// a rule.
+/// What uses a class: a device of the old map, a device of the new map, or a step of a rule.
 #[derive(Clone, Copy, Debug)]
 pub(crate) enum Source {
     Old,
@@ -92,8 +91,8 @@ impl<'a> ClassUse<'a> {
     }
 }
 
-/// Returns the classes that the items use. Each class comes once, in ascending order of the names,
-/// with the sums over its items.
+/// Returns the classes that the items use. Each class comes once, with the sums of what its items
+/// add to each field of [`ClassUse`]. The classes are in ascending order of their names.
 pub(crate) fn collected<'a>(
     alloc: Global,
     items: Vec<ClassItem<'a>>,

@@ -21,8 +21,8 @@ use std::alloc::{AllocError, Allocator, Global};
 
 /// Appends a difference for each step of the new map's rules that takes a bucket which weighed
 /// something in the old map and weighs nothing in the new map. If the step takes a class, only the
-/// bucket's devices of this class count for both weights. `identity` says whether the bucket of the
-/// old map is the one with the same id or the one with the same name.
+/// bucket's devices of this class count for both weights. `identity` says which bucket of the old
+/// map is compared: the bucket with the same id, or the bucket with the same name.
 pub(crate) fn push_emptied<'a, A: Allocator, B: Allocator>(
     alloc: Global,
     identity: Identity,
@@ -167,8 +167,8 @@ fn push_if<'a>(
 }
 
 /// Whether the bucket has lost all its weight. If the cache has no result for this bucket and
-/// class, computes the result and stores it in the cache. The cache saves time, because the sum of
-/// the weights of a class visits each item below the bucket.
+/// class, computes the result and stores it in the cache. The cache saves time, because the code
+/// visits each item below the bucket to add up the weights of a class.
 fn is_emptied_cached<'a, A: Allocator, B: Allocator>(
     identity: Identity,
     old: &CrushMap<A>,
@@ -208,8 +208,9 @@ fn is_emptied<A: Allocator, B: Allocator>(
         && !(weight_before(identity, old, new, bucket, class).units() == 0)
 }
 
-/// Returns what the bucket weighed in the old map. If `class` is a class, returns what the bucket's
-/// devices of this class weighed. Returns 0 if the old map doesn't have the bucket.
+/// Returns the weight in the old map of the bucket that matches this bucket of the new map. If
+/// `class` is a class, returns the weight of the bucket's devices of this class. Returns 0 if the
+/// old map has no matching bucket.
 fn weight_before<A: Allocator, B: Allocator>(
     identity: Identity,
     old: &CrushMap<A>,
@@ -226,7 +227,9 @@ fn weight_before<A: Allocator, B: Allocator>(
     }
 }
 
-/// Returns the bucket of the old map that is matched with this bucket of the new map, or `None`.
+/// Returns the id of the old map's bucket that matches this bucket of the new map. With
+/// `Identity::Ids` this is the same id, even if the old map has no bucket with this id. With
+/// `Identity::Names`, returns `None` if the old map has no bucket with the same name.
 fn old_bucket<A: Allocator, B: Allocator>(
     identity: Identity,
     old: &CrushMap<A>,

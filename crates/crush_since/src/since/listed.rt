@@ -1,4 +1,4 @@
-//! Tests whether an item has a line in the text about what has changed.
+//! Tests whether [`write_since`](crate::write_since) writes a line about an item.
 
 ghost use Rattle.std.specs.Prelude.{◌≡◌};
 ghost use Rattle.std.specs.Option.{option_map};

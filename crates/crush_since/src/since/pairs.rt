@@ -1,5 +1,6 @@
-//! Appends the line of each pair of a comparison, and tests whether any pair differs. A pair is an
-//! item that both maps have, or that only one of them has.
+//! Appends the line of each pair of a comparison, and tests whether any pair differs. A pair has
+//! the old map's item and the new map's item with the same id, or one item whose id only one of the
+//! maps has.
 
 ghost use Rattle.std.specs.Prelude.{◌≡◌, ◌++◌, List, OnOk, flat_map, map as each};
 ghost use Rattle.std.specs.Option.{option_map};
@@ -83,8 +84,8 @@ fn push_compared(item: &Compared<'_>, out: &mut Vec<u8>) -> Result<(), AllocErro
     }
 }
 
-/// Returns the id of the item, or `None` if neither map has the item. If both maps have it, its id
-/// is the same in both.
+/// Returns the id of the item, or `None` if neither map has the item. If both maps have the item,
+/// it has the same id in both.
 fn told_id(before: &Option<Seen<'_>>, after: &Option<Seen<'_>>) -> Option<ItemId>
     ensures { result
         ≡ told_id (option_map seen_data before.now) (option_map seen_data after.now) }

@@ -17,7 +17,8 @@ use crush_tree::View;
 use crush_units::ItemId;
 use std::alloc::{AllocError, Global};
 
-/// What two maps say about an item, which has the same id in both.
+/// What two maps say about the item with a certain id. `before` or `after` is `None` if the old or
+/// the new map doesn't have the item.
 #[derive(Clone, Copy)]
 pub(crate) struct Compared<'a> {
     pub old: &'a Setting,
@@ -83,8 +84,9 @@ fn listed_name<'a>(before: &'a Option<Seen<'_>>, after: &'a Option<Seen<'_>>) ->
     }
 }
 
-/// Appends the parts of an item's line: one part for each column that differs. A semicolon and a
-/// space come before each part.
+/// Appends the parts of an item's line. If both maps have the item, there is one part for each
+/// column that differs. If only one map has the item, there is one part, which describes the item.
+/// A semicolon and a space come before each part.
 fn push_parts(alloc: Global, item: &Compared<'_>, parts: &mut Vec<u8>) -> Result<(), AllocError>
     ensures { OnOk result (parts.new.items ≡ parts.old.items
         ++ behind (all_parts item.now.old.now item.now.new.now
@@ -130,7 +132,8 @@ fn push_changes(
     Ok(())
 }
 
-/// Appends a part: a semicolon, a space, and the words `words`. If `same` is true, appends nothing.
+/// Appends a part: a semicolon, a space, and the texts in `words`, one after the other. If `same`
+/// is true, appends nothing.
 pub(crate) fn push_part(same: bool, words: &[&[u8]], parts: &mut Vec<u8>) -> Result<(), AllocError>
     ensures { OnOk result (parts.new.items ≡ parts.old.items
         ++ behind (part same (flat_map (λ w. w.now) words.now))) }

@@ -42,14 +42,15 @@ pub enum RuleChange<'a> {
 
 /// Returns the differences between the rules of two maps. First come the rules of the new map that
 /// are new or differ, in the new map's order, and then the rules that are gone, in the old map's
-/// order. If the two maps have the same rules in another order, the list begins with `OtherOrder`,
-/// and no rule is new, differs or is gone. Last comes a `TakesNothing` for each step that takes a
-/// bucket which has lost all its weight, in the order of the new map's rules.
+/// order. If the two maps have the same rules in another order, the list begins with `OtherOrder`
+/// instead. Last comes a `TakesNothing` for each step of the new map's rules that takes a bucket
+/// which has lost all its weight. These are in the order of the new map's rules and their steps.
 ///
 /// `identity` says how buckets are matched: by their ids or by their names. Two steps that take a
-/// bucket are the same only if the two buckets are matched. A bucket has lost all its weight if it
-/// weighs nothing in the new map, and the bucket of the old map that is matched with it weighed
-/// something. The call fails only if memory runs out.
+/// bucket are the same only if the two buckets match, and if both steps take the same class or
+/// neither takes a class. A bucket has lost all its weight if its weight in the new map is 0, and
+/// the matching bucket of the old map had a weight above 0. If the step takes a class, only the
+/// bucket's devices of this class count for both weights. The call fails only if memory runs out.
 pub fn rule_changes<'a, A: Allocator, B: Allocator>(
     alloc: Global,
     identity: Identity,
@@ -65,8 +66,8 @@ pub fn rule_changes<'a, A: Allocator, B: Allocator>(
     Ok(changes)
 }
 
-/// Returns a difference for each rule that differs. If no rule differs, but the rules are in
-/// another order, returns only `OtherOrder`.
+/// Returns a difference for each rule that is new, differs or is gone. If there is no such rule,
+/// but the rules are in another order, returns only `OtherOrder`.
 fn rule_differences<'a, A: Allocator, B: Allocator>(
     alloc: Global,
     identity: Identity,
@@ -87,8 +88,9 @@ fn rule_differences<'a, A: Allocator, B: Allocator>(
     Ok(changes)
 }
 
-/// Returns a difference for each rule that differs. First come the rules of the new map that are
-/// new or differ, in the new map's order, and then the rules that are gone, in the old map's order.
+/// Returns a difference for each rule that is new, differs or is gone. First come the rules of the
+/// new map that are new or differ, in the new map's order, and then the rules that are gone, in the
+/// old map's order.
 fn changed_rules<'a, A: Allocator, B: Allocator>(
     alloc: Global,
     identity: Identity,
@@ -164,8 +166,8 @@ fn push_gone_rules<'a>(
     Ok(())
 }
 
-/// `rule` is a rule of the old map. If the new map has no rule with its name, appends a
-/// [`RuleChange::Gone`].
+/// Appends a [`RuleChange::Gone`] if the new map has no rule with the name of `rule`, which is a
+/// rule of the old map.
 fn push_gone_rule<'a>(
     after: &'a [KeptRule],
     rule: &'a KeptRule,

@@ -1,5 +1,5 @@
-//! A cache for the buckets and classes that steps of rules take. It says which of these buckets
-//! have lost all their weight.
+//! A cache for the buckets and classes that steps of rules take. The cache says which of these
+//! buckets have lost all their weight.
 
 ghost use Rattle.std.specs.Prelude.{◌≡◌, ◌==◌, ◌&&◌, ◌<◌, List, IfSome, OnOk, get_or, length};
 ghost use Rattle.std.specs.Option.{option_map};
@@ -13,8 +13,8 @@ use crate::since::columns::same_class;
 use crush_units::BucketId;
 use std::alloc::AllocError;
 
-/// An entry of the cache: a bucket and the class that a step of a rule takes, with the result for
-/// them.
+/// An entry of the cache: the bucket and the class that a step of a rule takes, with the result for
+/// this bucket and this class.
 #[derive(Clone, Copy, Debug)]
 pub(crate) struct Taken<'a> {
     /// The distance of the bucket's id below 0.
@@ -25,8 +25,8 @@ pub(crate) struct Taken<'a> {
     pub is_emptied: bool,
 }
 
-/// Returns the cached result for this bucket and class, or `None` if the cache has no result for
-/// them.
+/// Returns the cached result for this bucket and this class, or `None` if the cache has no such
+/// result.
 pub(crate) fn cached_result(
     cache: &[Taken<'_>],
     bucket: BucketId,

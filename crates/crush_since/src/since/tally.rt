@@ -17,7 +17,8 @@ use crush_compare::{Comparison, Pair};
 use std::alloc::Allocator;
 
 /// The number of items that have each kind of difference. The fields `renamed`, `moved`,
-/// `reweighed` and `reclassed` count only items that both maps have.
+/// `reweighed` and `reclassed` count the items that both maps have, but with different names,
+/// places, weights or classes. One item can count in several of these fields.
 #[derive(Clone, Copy, Debug)]
 pub struct Tally {
     /// The number of items that only the new map has.
@@ -31,8 +32,8 @@ pub struct Tally {
 }
 
 impl Tally {
-    /// `both` is a comparison by ids. Returns, for each kind of difference, the number of items
-    /// that have it.
+    /// Returns, for each kind of difference, the number of items that have it. `both` must be a
+    /// comparison by ids.
     pub fn of<A: Allocator, B: Allocator>(both: &Comparison<'_, A, B>) -> Tally
         ensures { (t u : List Row) (ids : List Id)
             → each (pair_entries both.now) both.now.pairs.items ≡ each (id_entries t u) ids
@@ -102,7 +103,7 @@ fn more(count: usize, test: bool) -> usize
     if test { count + 1 } else { count }
 }
 
-/// Whether only the new map has the item.
+/// Whether `before` is `None` and `after` is an item, so that only the new map has the item.
 pub(crate) fn is_made(before: &Option<Seen<'_>>, after: &Option<Seen<'_>>) -> bool
     ensures { result
         ≡ is_made (option_map seen_data before.now) (option_map seen_data after.now) }

@@ -59,7 +59,8 @@ pub(crate) fn weight_of(alloc: Global, weight: Weight) -> Result<Vec<u8>, AllocE
     Ok(text)
 }
 
-/// Returns the name of an item's type. For a device it is `osd` if the map's setting has no type 0.
+/// Returns the name of an item's type. If the map's setting has no type with the number `kind`,
+/// returns `osd` for a device, and an empty text for a bucket.
 pub fn type_bytes(setting: &Setting, id: ItemId, kind: TypeId) -> &[u8]
     ensures { result.now ≡ type_word setting.now id kind }
 {
@@ -133,8 +134,8 @@ pub(crate) fn push_whole(
 pub(crate) fn push_units(units: u128, out: &mut Vec<u8>) -> Result<(), AllocError>
     ensures { OnOk result (out.new.items ≡ out.old.items ++ weight_text units) }
 {
-    // `units * 200000` might not fit into 128 bits. The same product always fits for the units
-    // below 1.0.
+    // The product `units * 200000` might not fit into 128 bits. So only `units % 65536`, the part
+    // of the weight below 1.0, is multiplied. This product always fits.
     let parts = (units % 65536 * 200000 + 65536) / 131072;
     let mut buffer = Buffer::new();
     let whole = buffer.format(units / 65536 + parts / 100000).as_bytes();
@@ -149,7 +150,8 @@ pub(crate) fn push_units(units: u128, out: &mut Vec<u8>) -> Result<(), AllocErro
     push_all(&[whole, &fraction], out)
 }
 
-/// Appends the line with the total weights of the old map and of the new map.
+/// Appends the line with the total weights of the old map and of the new map. Both are in units of
+/// 1/65536.
 #[tactic(auto, unfolding(crate::specs::Since::totals_line))]
 pub(crate) fn push_totals(before: u64, after: u64, out: &mut Vec<u8>) -> Result<(), AllocError>
     ensures { OnOk result (out.new.items ≡ out.old.items ++ totals_line before after) }

@@ -63,7 +63,8 @@ fn more(count: usize, test: bool) -> usize
     if test { count + 1 } else { count }
 }
 
-/// Whether both maps have the item, in buckets with different names.
+/// Whether both maps have the item, in different places. The place of an item is the name of the
+/// bucket that holds the item, or `(root)` or `(unplaced)` if no bucket holds the item.
 fn is_moved(before: &Option<Seen<'_>>, after: &Option<Seen<'_>>) -> bool
     ensures { result
         ≡ is_moved_by_name (option_map seen_data before.now) (option_map seen_data after.now) }

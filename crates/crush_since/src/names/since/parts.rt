@@ -36,8 +36,9 @@ pub(crate) fn push_changed_pair(
     push_line(pair_name(before, after), parts.as_slice(), out)
 }
 
-/// Appends the line of an item, with a line feed, or nothing if `parts` is empty. In `parts`, a
-/// semicolon and a space come before each part.
+/// Appends the line of an item: the item's name, a colon, a space, the parts, and a line feed.
+/// Appends nothing if `parts` is empty. In `parts`, a semicolon and a space come before each part.
+/// The line leaves out the first semicolon and the space after it.
 fn push_line(name: &[u8], parts: &[u8], out: &mut Vec<u8>) -> Result<(), AllocError>
     ensures { OnOk result (out.new.items ≡ out.old.items
         ++ text_of_lines (stay_text_line name.now parts.now)) }
@@ -51,8 +52,9 @@ fn push_line(name: &[u8], parts: &[u8], out: &mut Vec<u8>) -> Result<(), AllocEr
     }
 }
 
-/// Appends the parts of an item's line: one part for each column that differs. A semicolon and a
-/// space come before each part.
+/// Appends the parts of an item's line. If both maps have the item, there is one part for each
+/// column that differs. If only one map has the item, there is one part, which describes the item.
+/// A semicolon and a space come before each part.
 fn push_parts(
     alloc: Global,
     old: &Setting,

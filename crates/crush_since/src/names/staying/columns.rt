@@ -1,5 +1,6 @@
-//! Builds the parts of an item's line: one part for each column in which the map and the wanted map
-//! differ.
+//! Builds the parts of an item's line: one part for each column in which the two maps differ. A
+//! line about a wanted map says `A, wanted B`, and a line about what has changed says `A to B`. The
+//! argument `between` has the text between the two values.
 
 ghost use Rattle.std.specs.Prelude.{◌≡◌, ◌++◌, OnOk};
 ghost use Rattle.std.specs.Option.{option_map};
@@ -15,8 +16,9 @@ use crush_map::Setting;
 use crush_units::{BucketId, ItemId, put_all};
 use std::alloc::{AllocError, Global};
 
-/// Returns the name of the bucket that holds an item; or `(root)` if no bucket holds it, and
-/// `(unplaced)` if it is a device that no bucket holds.
+/// Returns the name of the bucket that holds an item. If no bucket holds the item, returns `(root)`
+/// for a bucket, and `(unplaced)` for a device. `parent` is the id of the bucket that holds the
+/// item, and `holder` is the name of this bucket.
 pub fn place_in<'a>(id: ItemId, parent: Option<BucketId>, holder: Option<&'a str>) -> &'a [u8]
     ensures { result.now ≡ place_in id parent (option_map (λ n. n.now) holder.entry) }
 {
@@ -45,7 +47,8 @@ fn type_of<'a>(setting: &'a Setting, item: &Seen<'_>) -> &'a [u8]
     type_bytes(setting, item.view.id, item.view.kind)
 }
 
-/// Whether the types of two items have the same name. For two devices the result is always true.
+/// Whether the types of two items have the same name. For two devices, the result is always true.
+/// `id` is the id of one of the items.
 fn same_type(id: ItemId, here: &[u8], there: &[u8]) -> bool
     ensures { result ≡ same_type id here.now there.now }
 {
