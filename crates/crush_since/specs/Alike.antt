@@ -21,7 +21,7 @@ AreOne i j = ⊥
 abbrev pub place_of : List Row → Row → Option (List ℕ)
 place_of t r = option_and_then (λ p. name_of t (Bucket p)) r.parent
 
--- ROWS ALIKE: the two rows are of the same item. They have the same type, place, class and algorithm, and weights that are at most one unit (1/65536 TiB) apart. The row of a bucket has the weight 0, so this condition is about the weights of devices only
+-- ROWS ALIKE: the two rows are of the same item. They have the same type, place, class and algorithm, and weights that are at most one unit (1/65536 TiB) apart. The row of a bucket has the weight 0, so the condition on weights matters only for devices
 pub record AreAlike (old new : PlainMap) (x y : Row) : Type 0 where
   pub one : AreOne x.id y.id
   pub kind : type_word old.setting x.id x.kind ≡ type_word new.setting y.id y.kind

@@ -12,7 +12,7 @@ use Rattle.crush_print.specs.RuleLines.{bucket_name}
 use Rattle.crush_since.specs.Rules.{RuleChangeData, rule_takes_nothing, rule_change_lines}
 use Rattle.crush_edits.specs.Stops.{bucket_named}
 
--- the weight of an item. If a class is given, the weight of the item's devices of this class
+-- the weight of an item. If a class is given, the weight of the devices of this class that are the item or below it. There is no weight if the table doesn't have the item
 abbrev pub weight_as : List Row → Option (List ℕ) → ItemId → Option ℕ
 weight_as t None i = weight_of t i
 weight_as t (Some c) i = class_weight_of t i c
@@ -30,7 +30,7 @@ old_bucket (Names devices) t u b = option_and_then (bucket_named t) (name_of u (
 abbrev pub weight_before : Identity → List Row → List Row → ℕ → Option (List ℕ) → ℕ
 weight_before identity t u b c = option_map_or (λ o. taken_weight t o c) (old_bucket identity t u b) 0
 
--- whether this weight is above 0 in the old table, and 0 in the new table
+-- whether the bucket b or, if a class c is given, its devices of this class have lost all their weight: the weight was above 0 in the old table, and it is 0 in the new table
 abbrev pub is_emptied : Identity → List Row → List Row → ℕ → Option (List ℕ) → Bool
 is_emptied identity t u b c = (taken_weight u b c == 0) && not (weight_before identity t u b c == 0)
 

@@ -62,7 +62,7 @@ listed_name (Some a) None = a.view.name
 abbrev pub behind : List (List ℕ) → List ℕ
 behind ps = flat_map (λ p. codes "; " ++ p) ps
 
--- LINES: the line of an item with its parts, with `; ` between the parts; nothing if there are no parts
+-- LINES: the line of an item. It begins with `NAME (ID): `, and then has the parts with `; ` between them. There is no line if there are no parts
 abbrev pub line_text : List ℕ → ItemId → List ℕ → List ℕ
 line_text name i text = item_word name i ++ codes ": " ++ text ++ codes "\n"
 

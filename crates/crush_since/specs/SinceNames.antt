@@ -54,7 +54,7 @@ since_names_part under old new = changed_lines under old new ++ lines_beside_par
 unfoldable pub since_names_text : PlainMap → PlainMap → List ℕ
 since_names_text old new = since_names_part None old new ++ totals_line (total old.table) (total new.table) ++ counts_line (tally_by_name old.table new.table)
 
--- if a name is given, this says whether an item of the part with this name has a line. Otherwise it says whether there is any line about items, tunables, types, rules or classes
+-- if a name is given, this says whether there is a line about the item with this name or about an item below it. Otherwise it says whether there is any line about items, tunables, types, rules or classes
 abbrev pub is_changed_by_name : Option (List ℕ) → PlainMap → PlainMap → Bool
 is_changed_by_name under old new = has_some (since_names_part under old new)
 

@@ -69,7 +69,7 @@ class_part x y = both_classes (codes ", wanted ") x y
 abbrev pub alg_part : ItemData → ItemData → List (List ℕ)
 alg_part x y = both_algs (codes ", wanted ") x y
 
--- the parts of an item that both maps have, one for each column that differs
+-- the parts of the line of an item that both maps have: one part for each column that differs
 abbrev pub differing : SettingData → SettingData → ItemData → ItemData → List (List ℕ)
 differing s p x y = type_part s p x y ++ place_part x y ++ weight_part x y ++ class_part x y ++ alg_part x y
 
@@ -80,12 +80,12 @@ wanted_word p y = item_type p y ++ codes " in " ++ place_word y
 abbrev pub lacking : SettingData → ItemData → List (List ℕ)
 lacking p y = (codes "wanted as " ++ wanted_word p y) ∷ []
 
--- the parts of an item of the wanted map, given the map's item with the same name, if there is one
+-- the parts of the line of an item of the wanted map, given the item of the map that matches it, if there is one
 abbrev pub wanted_parts : SettingData → SettingData → Option ItemData → ItemData → List (List ℕ)
 wanted_parts s p None y = lacking p y
 wanted_parts s p (Some x) y = differing s p x y
 
--- the parts of a pair, which has an item of the wanted map or an item that only the map has
+-- the parts of the line of a pair. A pair has an item of the wanted map, with the map's matching item if there is one, or an item that only the map has
 abbrev pub stay_parts : SettingData → SettingData → Option ItemData → Option ItemData → List (List ℕ)
 stay_parts s p before (Some y) = wanted_parts s p before y
 stay_parts s p (Some x) None = codes "not wanted" ∷ []

@@ -54,7 +54,7 @@ pub(super) fn change_of<'a, A: Allocator, B: Allocator>(
     }
 }
 
-/// Whether the item of a pair differs between the maps.
+/// Whether the item of a pair differs between the maps, or only one of the maps has it.
 pub(super) fn is_told<A: Allocator, B: Allocator>(maps: &Comparison<'_, A, B>, pair: Pair) -> bool
     ensures { (s p : SettingData) (i : Id) → result ≡ has_some (item_line s p i
         (option_map (λ e. e.item) (pair_entries maps.now pair).before)

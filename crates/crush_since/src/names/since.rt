@@ -54,9 +54,9 @@ pub fn write_since_by_name<A: Allocator, B: Allocator, W: Write>(
 
 /// Writes only some lines of [`write_since_by_name`]: those about the item with the name `under`,
 /// and about all items that are below this item in at least one of the maps. The lines about
-/// settings, classes, total weights and counts are left out. So the text may be empty. If a write
-/// fails, the writer has received a beginning of the text, but not the whole text. If memory runs
-/// out, nothing is written.
+/// settings, classes, total weights and counts are left out. The text is empty if no such line is
+/// left. If a write fails, the writer has received a beginning of the text, but not the whole text.
+/// If memory runs out, nothing is written.
 pub fn write_since_by_name_part<A: Allocator, B: Allocator, W: Write>(
     alloc: Global,
     old: &CrushMap<A>,

@@ -19,10 +19,11 @@ use crush_map::{CrushMap, KeptRule, KeptStep};
 use crush_units::{BucketId, ItemId, Weight};
 use std::alloc::{AllocError, Allocator, Global};
 
-/// Appends a difference for each step of the new map's rules that takes a bucket which weighed
-/// something in the old map and weighs nothing in the new map. If the step takes a class, only the
-/// bucket's devices of this class count for both weights. `identity` says which bucket of the old
-/// map is compared: the bucket with the same id, or the bucket with the same name.
+/// Appends a difference for each step of the new map's rules that takes a bucket which has lost all
+/// its weight: its weight was above 0 in the old map, and is 0 in the new map. If the step takes a
+/// class, only the bucket's devices of this class count for both weights. `identity` says which
+/// bucket of the old map is compared: the bucket with the same id, or the bucket with the same
+/// name.
 pub(crate) fn push_emptied<'a, A: Allocator, B: Allocator>(
     alloc: Global,
     identity: Identity,

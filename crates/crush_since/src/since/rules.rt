@@ -29,9 +29,9 @@ pub enum RuleChange<'a> {
     Gone(&'a str),
     /// Both maps have the same rules, but in another order.
     OtherOrder,
-    /// The rule `rule` of the new map has a step that takes a bucket which weighed something in the
-    /// old map and weighs nothing in the new map. If the step takes a class, only the bucket's
-    /// devices of this class count for both weights.
+    /// The rule `rule` of the new map has a step that takes a bucket which has lost all its weight:
+    /// its weight was above 0 in the old map, and is 0 in the new map. If the step takes a class,
+    /// only the bucket's devices of this class count for both weights.
     TakesNothing {
         rule: &'a str,
         /// The bucket's name in the new map.

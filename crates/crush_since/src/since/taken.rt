@@ -20,8 +20,8 @@ pub(crate) struct Taken<'a> {
     /// The distance of the bucket's id below 0.
     pub bucket: u32,
     pub class: Option<&'a str>,
-    /// Whether the bucket weighed something in the old map and weighs nothing in the new map. If
-    /// `class` is a class, only the bucket's devices of this class count for both weights.
+    /// Whether the bucket's weight was above 0 in the old map, and is 0 in the new map. If `class`
+    /// is a class, only the bucket's devices of this class count for both weights.
     pub is_emptied: bool,
 }
 
