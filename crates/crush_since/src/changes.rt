@@ -42,15 +42,15 @@ use std::io::Write;
 /// item, or if any row is below the item. After the items of a bucket come rows for the items that
 /// the bucket held in the old map and doesn't hold in the new map. In the same way, rows for the
 /// buckets that were roots only in the old map come after the new map's roots. Rows for the devices
-/// that were unplaced only in the old map come after the new map's unplaced devices. If the new map
-/// doesn't have one of these buckets at all, the bucket's row is followed by a row for each item
-/// that the bucket held. The same holds for each of these items that is itself a bucket which the
-/// new map doesn't have.
+/// that were unplaced only in the old map come after the new map's unplaced devices. If any of
+/// these rows is for a bucket that the new map doesn't have at all, a row for each item that the
+/// bucket held follows. If such an item is also a bucket that the new map doesn't have, the rows of
+/// the items that it held follow in the same way.
 ///
 /// Each row has two weights: the weight that the item had in this place in the old map, and the
-/// weight that the item has in this place in the new map. A `-` says that the item wasn't or isn't
-/// in this place. After the rows come the lines that `write_since` writes after its lines about
-/// items.
+/// weight that the item has in this place in the new map. If the item wasn't in this place in the
+/// old map, or isn't in this place in the new map, the line has a `-` in place of this weight.
+/// After the rows come the lines that `write_since` writes after its lines about items.
 ///
 /// If the part has a top item, the text has only the headings, the row of this item with the depth
 /// 0, and the rows below this row. The top item may have two rows in the whole tree: one in the

@@ -42,9 +42,10 @@ pub enum RuleChange<'a> {
 
 /// Returns the differences between the rules of two maps. First come the rules of the new map that
 /// are new or differ, in the new map's order, and then the rules that are gone, in the old map's
-/// order. If the two maps have the same rules in another order, the list begins with `OtherOrder`
-/// instead. Last comes a `TakesNothing` for each step of the new map's rules that takes a bucket
-/// which has lost all its weight. These are in the order of the new map's rules and their steps.
+/// order. If there is no such rule, but the two maps have the same rules in different orders, the
+/// list begins with `OtherOrder`. Last comes a `TakesNothing` for each step of the new map's rules
+/// that takes a bucket which has lost all its weight. These elements are in the order of the rules
+/// and of their steps.
 ///
 /// `identity` says how buckets are matched: by their ids or by their names. Two steps that take a
 /// bucket are the same only if the two buckets match, and if both steps take the same class or
