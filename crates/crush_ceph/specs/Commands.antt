@@ -1,4 +1,4 @@
--- Steps that one command of Ceph does, and the line of this command.
+-- Which steps one command of Ceph does, and the line of this command. A step is an edit, or `reweight-all`.
 use Rattle.std.specs.Prelude.{ℕ, List, [], ◌∷◌, ◌++◌, Bool, true, false, bytes_eq, codes, flat_map, if◌then◌else◌}
 use Rattle.std.specs.List.{list_any}
 use Rattle.crush_edits.specs.declared.edit.Edit.{Edit}
@@ -23,66 +23,67 @@ abbrev pub gives_class : List ℕ → Edit → Bool
 gives_class c (SetClass n d) = bytes_eq c d
 gives_class c e = false
 
--- whether the command that does the first edit may do the second edit, too: `add-bucket` the `move` of its bucket, `rm-device-class` that of
--- another device, and `set-device-class` that of another device with the same class
+-- whether one command may do both edits, the first edit before the second. There are three cases: an `add-bucket` and the `move` of the same bucket, two edits `rm-device-class`, and two edits `set-device-class` with the same class. The devices of two edits may be the same device or different devices
 abbrev pub edits_join : Edit → Edit → Bool
 edits_join (AddBucket n kind) f = moves n f
 edits_join (RemoveClass n) f = takes_class_away f
 edits_join (SetClass n c) f = gives_class c f
 edits_join e f = false
 
--- the same for steps: `reweight-all` is always a command of its own
+-- whether one command may do an edit and the step after it. No command does `reweight-all` together with another step
 abbrev pub joins_edit : Edit → CephStep → Bool
 joins_edit e (Does f) = edits_join e f
 joins_edit e ReweightAll = false
 
+-- whether one command may do both steps, the first step before the second
 abbrev pub joins : CephStep → CephStep → Bool
 joins (Does e) step = joins_edit e step
 joins ReweightAll step = false
 
--- whether the command that does the first step may do the second step, too
+-- whether there are at least two steps, and one command may do the first two of them
 abbrev pub second_joins : List CephStep → Bool
 second_joins [] = false
 second_joins (step ∷ []) = false
 second_joins (step ∷ next ∷ more) = joins step next
 
--- a step before commands: it becomes the first step of the first command if this command can do it, too, and otherwise a command of its own
+-- puts a step before the steps of commands. If one command may do both this step and the first step of the first command, then this step becomes the first step of that command. Otherwise this step becomes a new command, which is before all others
 abbrev pub with_step : CephStep → List (List CephStep) → List (List CephStep)
 with_step step [] = (step ∷ []) ∷ []
 with_step step (c ∷ cs) = if second_joins (step ∷ c) then (step ∷ c) ∷ cs else (step ∷ []) ∷ c ∷ cs
 
--- CUT: the commands that do these steps, each with all steps that it does
+-- CUT: the commands that do these steps, in the same order. Each command is given as the list of the steps that it does
 abbrev pub cut : List CephStep → List (List CephStep)
 cut [] = []
 cut (step ∷ steps) = with_step step (cut steps)
 
--- whether a word of the step could be read as an option
+-- whether the step is an edit that has a word, after its first word, that begins with `-`. Ceph would read such a word as an option
 abbrev pub has_option : CephStep → Bool
 has_option (Does e) = has_dash e
 has_option ReweightAll = false
 
--- the line of a step that is a command of its own
+-- the line of a command that does only this step
 abbrev pub step_line : CephStep → List ℕ
 step_line (Does e) = ceph_line e
 step_line ReweightAll = codes "ceph osd crush reweight-all\n"
 
--- the words of the first step of a command with several steps
+-- the words that the first step gives to the line of a command with several steps. `reweight-all` is never such a step
 abbrev pub first_words : CephStep → List ℕ
 first_words (Does e) = edit_text e
 first_words ReweightAll = []
 
--- the words that an edit adds to the command that also does the edit before it
+-- the words that an edit adds to the line of a command that also does the previous edit. Each of these words follows a space
 abbrev pub words_added : Edit → List ℕ
 words_added (Move n at) = pairs_text at
 words_added (RemoveClass n) = codes " " ++ n
 words_added (SetClass n c) = codes " " ++ n
 words_added e = []
 
+-- the words that a step adds to the line of a command that also does the previous step. `reweight-all` is never such a step
 abbrev pub more_words : CephStep → List ℕ
 more_words (Does e) = words_added e
 more_words ReweightAll = []
 
--- the words before a command with several steps. They end in `--` if a word of the command could be read as an option
+-- the beginning of the line of a command with several steps, up to the space before the command. This beginning has `--` if the command has a word that Ceph would otherwise read as an option
 abbrev pub joined_head : List CephStep → List ℕ
 joined_head c = if list_any has_option c then codes "ceph osd crush -- " else codes "ceph osd crush "
 
@@ -90,7 +91,7 @@ joined_head c = if list_any has_option c then codes "ceph osd crush -- " else co
 abbrev pub joined_line : CephStep → List CephStep → List ℕ
 joined_line first more = joined_head (first ∷ more) ++ (first_words first ++ (flat_map more_words more ++ codes "\n"))
 
--- COMMAND as a line for a shell
+-- COMMAND LINE: the line for a shell of the command that does these steps; nothing if there is no step
 abbrev pub command_line : List CephStep → List ℕ
 command_line [] = []
 command_line (step ∷ []) = step_line step

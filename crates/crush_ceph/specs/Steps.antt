@@ -1,4 +1,4 @@
--- The steps that Ceph is asked to do for a list of edits.
+-- The steps that Ceph does for a list of edits. A step is an edit in the form in which Ceph accepts it, or the command `reweight-all`.
 use Rattle.std.specs.Prelude.{List, [], ◌∷◌, ◌++◌, ◌&&◌, Bool, false, not, if◌then◌else◌}
 use Rattle.crush_model.specs.Table.{Row}
 use Rattle.crush_edits.specs.declared.edit.Edit.{Edit}
@@ -11,14 +11,12 @@ use Rattle.crush_ceph.specs.declared.steps.CephStep.TheVariants.{Does, ReweightA
 abbrev pub reweight_if : Bool → List CephStep
 reweight_if is_due = if is_due then ReweightAll ∷ [] else []
 
--- whether there is a first edit, and it leaves an old name
+-- whether the list has a first edit, and this edit leaves an old name (`leaves_old_name`)
 abbrev pub first_leaves_old_name : SettingData → List Row → List Edit → Bool
 first_leaves_old_name s t [] = false
 first_leaves_old_name s t (e ∷ es) = leaves_old_name s t e
 
--- STEPS: each edit as Ceph is asked to do it. After an edit that leaves an old name comes `reweight-all`, unless the next edit leaves an
--- old name, too: so after several such edits in a row, `reweight-all` comes once. This is the table before the first edit. The table before
--- any other edit is the one that the edits before it have made
+-- STEPS: each edit in the form in which Ceph accepts it. The step `reweight-all` follows an edit that leaves an old name, unless the next edit leaves an old name, too. So after several such edits in a row, `reweight-all` follows only the last of them. The map has the setting s, and t is the table before the first edit. The table before each later edit is the one after all earlier edits
 unfoldable pub ceph_steps : SettingData → List Row → List Edit → List CephStep
 ceph_steps s t [] = []
 ceph_steps s t (e ∷ es) =

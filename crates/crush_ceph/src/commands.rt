@@ -1,4 +1,4 @@
-//! Steps that one command of Ceph does, and the line of this command.
+//! Which steps one command of Ceph does, and the line of this command.
 
 ghost use Rattle.std.specs.Prelude.{◌≡◌, ◌≤◌, ◌<◌, ◌+◌, ◌∷◌, ◌++◌, OnOk, codes, drop, flat_map, length, take, true};
 ghost use Rattle.std.specs.List.{list_any};
@@ -35,7 +35,7 @@ fn gives_class(class: &Name<Global>, edit: &Edit) -> bool
     }
 }
 
-/// Whether the command that does the first edit can do the second edit, too.
+/// Whether one command of Ceph can do both edits, the first edit before the second.
 fn edits_join(first: &Edit, second: &Edit) -> bool
     ensures { result ≡ edits_join first.now second.now }
 {
@@ -65,7 +65,8 @@ fn joins(first: &CephStep, second: &CephStep) -> bool
     }
 }
 
-/// Whether the command that does the step at the index can do the next step, too.
+/// Whether one command of Ceph can do both the step at the index and the next step. If no step
+/// follows, the result is false.
 fn joins_next(steps: &[CephStep], index: usize) -> bool
     requires { index < length steps.now }
     ensures value { result ≡ second_joins (drop index steps.now) }
@@ -79,7 +80,8 @@ fn joins_next(steps: &[CephStep], index: usize) -> bool
     }
 }
 
-/// Returns the number of steps that the first command does.
+/// Returns how many of the steps the first command does, if the steps are cut into commands. The
+/// first command does the steps at the beginning of the list.
 pub(crate) fn first_command(steps: &[CephStep]) -> usize
     requires { 0 < length steps.now }
     ensures some { 0 < result }
@@ -93,7 +95,8 @@ pub(crate) fn first_command(steps: &[CephStep]) -> usize
     last + 1
 }
 
-/// Whether the step has a word that Ceph would read as an option.
+/// Whether the step is an edit that has a word, after its first word, that begins with `-`. Ceph
+/// would read such a word as an option.
 fn has_option(step: &CephStep) -> bool
     ensures { result ≡ has_option step.now }
 {
@@ -170,8 +173,8 @@ fn push_feed(text: &mut Vec<u8>) -> Result<(), AllocError>
     text.extend_from_slice(b"\n")
 }
 
-/// Appends the line of a command that does the first step and more steps. `head` is the beginning
-/// of the line.
+/// Appends the line of a command that does several steps. `head` is the beginning of the line, up
+/// to the space before the command. `first` is the first step, and `more` are the other steps.
 fn push_joined(
     head: &[u8],
     first: &CephStep,
@@ -196,7 +199,7 @@ fn push_step_line(step: &CephStep, text: &mut Vec<u8>) -> Result<(), AllocError>
     }
 }
 
-/// Appends the line of a command that does these steps.
+/// Appends the line of the command that does these steps. If there is no step, appends nothing.
 pub(crate) fn push_command(command: &[CephStep], text: &mut Vec<u8>) -> Result<(), AllocError>
     ensures { OnOk result (text.new.items ≡ text.old.items ++ command_line command.now) }
 {

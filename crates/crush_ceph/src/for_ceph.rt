@@ -1,4 +1,4 @@
-//! An edit as Ceph is asked to do it.
+//! The form in which Ceph accepts an edit, and edits after which Ceph keeps an old name.
 
 ghost use Rattle.std.specs.Prelude.{◌≡◌, IfOk, List, OnErr, OnOk};
 ghost use Rattle.std.specs.List.{list_any};
@@ -26,7 +26,8 @@ fn sets_unplaced(map: &CrushMap<Global>, edit: &Edit) -> bool
     }
 }
 
-/// Returns the way of `add` for the way of `set`, and any other way unchanged.
+/// Turns the way in which `set` places a device into the way of `add`. Returns any other way
+/// unchanged.
 fn added_way(how: Placing) -> Placing
     ensures { result ≡ added_way how }
 {
@@ -36,7 +37,7 @@ fn added_way(how: Placing) -> Placing
     }
 }
 
-/// Turns a `set` into an `add` with the same values. Returns any other edit unchanged.
+/// Turns a `set` of a device into an `add` with the same values. Returns any other edit unchanged.
 fn added(edit: Edit) -> Edit
     ensures { result ≡ added edit }
 {
@@ -60,9 +61,10 @@ fn added(edit: Edit) -> Edit
 
 /// Returns the edit that Ceph accepts in place of this edit, if Ceph has the same map.
 ///
-/// If no bucket holds the device of a `set`, then the edit is an `add`. Ceph's `set` refuses a
-/// device that isn't in Ceph's map, and Ceph's `add` gives a device that is in its map a second
-/// place.
+/// If the edit is a `set` of a device that no bucket holds, returns an `add` with the same values,
+/// because Ceph's `set` refuses a device that isn't in Ceph's map. Returns any other edit
+/// unchanged. A `set` of a device that a bucket holds must stay a `set`, because Ceph's `add` would
+/// give this device a second place.
 pub(crate) fn edit_for_ceph(
     alloc: Global,
     map: &CrushMap<Global>,
@@ -106,7 +108,7 @@ fn rules_take_with_class(rules: &[KeptRule], bucket: BucketId) -> bool
     rules.iter().any(|rule| rule_takes_with_class(rule, bucket))
 }
 
-/// Whether a rule of the map takes the bucket with a class.
+/// Whether a rule of the map has a step `take` with this bucket and a class of devices.
 fn is_taken_with_class(map: &CrushMap<Global>, bucket: BucketId) -> bool
     ensures { result ≡ is_taken_with_class map.now.setting bucket }
 {
@@ -122,8 +124,10 @@ fn bucket_named(map: &CrushMap<Global>, name: &Name<Global>) -> Option<BucketId>
     }
 }
 
-/// Whether the edit renames a bucket that a rule takes with a class. Ceph then keeps the old name on
-/// the tree that it has for the bucket and the class, until `reweight-all`.
+/// Whether the edit leaves an old name. An edit does so if it renames a bucket, and a rule of the
+/// map has a step `take` with this bucket and a class. For such a rule, Ceph has a copy of the
+/// bucket with only the devices of this class. After the edit, this copy keeps the old name until
+/// `reweight-all`.
 pub(crate) fn leaves_old_name(map: &CrushMap<Global>, edit: &Edit) -> bool
     ensures { (t : List Row) → Stands map.now.forest t
         → result ≡ leaves_old_name map.now.setting t edit.now }
@@ -137,8 +141,9 @@ pub(crate) fn leaves_old_name(map: &CrushMap<Global>, edit: &Edit) -> bool
     }
 }
 
-/// Applies an edit of a history or of a plan once more. If the edit is refused, the map stays as it
-/// is. Fails only if memory runs out, and then also leaves the map as it is.
+/// Applies an edit of a history or of a plan to a map. Callers use this function to repeat such
+/// edits. If the edit is refused, the function succeeds, and the map is unchanged. Fails only if
+/// memory runs out, and the map is then unchanged, too.
 pub fn redo_edit(map: &mut CrushMap<Global>, edit: &Edit) -> Result<(), AllocError>
     ensures stands { OnOk result ((t : List Row) → Stands map.old.forest t
         → Stands map.new.forest (table_after_edit map.old.setting t edit.now)) }

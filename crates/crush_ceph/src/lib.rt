@@ -1,8 +1,8 @@
-//! Prints edits as Ceph's own commands.
+//! Writes edits as Ceph's own commands.
 //!
-//! [`ceph_text`] takes a list of edits, and the map before the first edit. It returns the number of
-//! commands, and a line for each command. If one command of Ceph can do several edits that follow
-//! one another, these edits have one line together.
+//! [`ceph_text`] takes a list of edits, and the map before the first edit. It returns a text with
+//! the number of commands, and a line for each command. If one command of Ceph can do several edits
+//! that follow one another, these edits have one line together.
 #![tactic(auto)]
 
 mod commands;

@@ -1,4 +1,4 @@
-//! The steps that Ceph is asked to do for a list of edits.
+//! The steps that Ceph does for a list of edits. A step is an edit, or the command `reweight-all`.
 
 ghost use Rattle.std.specs.Prelude.{◌≡◌, ◌∷◌, [], ◌++◌, ◌&&◌, IfOk, List, OnOk, not};
 ghost use Rattle.crush_model.specs.Stands.{Stands};
@@ -12,13 +12,15 @@ use crush_edits::Edit;
 use crush_map::CrushMap;
 use std::alloc::{AllocError, Global};
 
-/// Something that Ceph is asked to do.
+/// A step that Ceph does: an edit, or `reweight-all`.
 #[derive(Debug, Drop)]
 pub(crate) enum CephStep {
-    /// To do an edit.
+    /// An edit, in the form in which Ceph accepts it.
     Does(Edit),
-    /// To weigh all buckets again (`reweight-all`). Ceph then also gives each tree of a bucket and a
-    /// class the name of the bucket.
+    /// The command `reweight-all`, with which Ceph computes the weights of all buckets again. For a
+    /// rule that takes a bucket with a class, Ceph has a copy of this bucket with only the devices
+    /// of the class. With `reweight-all`, Ceph also gives each such copy the present name of its
+    /// bucket.
     ReweightAll,
 }
 
@@ -46,8 +48,9 @@ fn push_edit(
 }
 
 /// Appends the step of an edit, and then applies the edit to the map. `is_due` says whether the
-/// previous edit leaves an old name. If the previous edit leaves an old name and this edit doesn't,
-/// first appends `reweight-all`. Returns whether this edit leaves an old name.
+/// previous edit leaves an old name, as [`leaves_old_name`] defines this. If `is_due` is true and
+/// this edit leaves no old name, first appends `reweight-all`. Returns whether this edit leaves an
+/// old name.
 fn push_step(
     alloc: Global,
     map: &mut CrushMap<Global>,
@@ -72,8 +75,9 @@ fn push_step(
     Ok(leaves)
 }
 
-/// Returns the steps that Ceph is asked to do for the edits, which are applied to the map one after
-/// the other.
+/// Returns the steps that Ceph does for the edits. `map` is the map before the first edit. This
+/// function applies the edits to `map`, one after the other. Fails if memory runs out, and some of
+/// the edits may then have been applied.
 pub(crate) fn ceph_steps(
     alloc: Global,
     map: &mut CrushMap<Global>,
