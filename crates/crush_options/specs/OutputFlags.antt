@@ -1,4 +1,4 @@
--- Which words of a command line say what is printed, and which of them can be given together.
+-- Which flags and options of a plain command line say what is printed, and which of them can be given together. (A plain command line is one that doesn't begin with a verb.)
 use Rattle.std.specs.Prelude.{◌≡◌, Bool, true, false, not, ◌&&◌, ◌||◌, Option, Some, None, String, codes, if◌then◌else◌, is_some, option_map}
 use Rattle.clap.specs.Words.{Row, Text, first_of, one_of}
 use Rattle.std.specs.Prelude.{List}
@@ -6,7 +6,7 @@ use Rattle.crush_options.specs.declared.parsed_options.OutputSpec.{OutputSpec}
 use Rattle.crush_options.specs.declared.parsed_options.OutputSpec.TheVariants.{Map, Tree, Since, Changes, AsCeph, To}
 use Rattle.crush_options.specs.declared.command_line.OutputFlags.{OutputFlags}
 
--- the value of a flag, if this is the text that the parser has for the flag: true for "true", and false for "false" or if there is no text
+-- `flag` is the value of a flag for which the parser has this text: true if the text is "true", and false if the text is "false" or if there is no text
 pub record IsFlag (text : Option Text) (flag : Bool) : Type 0 where
   pub given : text ≡ Some (codes "true") → flag ≡ true
   pub absent : text ≡ Some (codes "false") → flag ≡ false
@@ -25,7 +25,7 @@ pub record OutputFlagsData : Type 0 where
   pub class : Option Text
   pub exact : Bool
 
--- the flags and values among the parsed words are these
+-- the parsed words give these flags, and these values of options
 pub record AreOutputFlags (rows : List Row) (flags : OutputFlagsData) : Type 0 where
   pub tree : IsFlag (one_of (codes "tree") rows) flags.tree
   pub since : first_of (codes "since") rows ≡ flags.since
@@ -42,7 +42,7 @@ pub record AreOutputFlags (rows : List Row) (flags : OutputFlagsData) : Type 0 w
 abbrev pub name_text : {Z : Type 0} → Option (String Z) → Option Text
 name_text name = option_map (λ n. n.bytes.items) name
 
--- the flags and values of the program, as data
+-- the fields of the Rust type `OutputFlags`, as data
 abbrev pub flags_data : OutputFlags → OutputFlagsData
 flags_data s = record {
   tree = s.tree;
@@ -57,11 +57,11 @@ flags_data s = record {
   exact = s.exact;
 }
 
--- the flags and values if none of these words is given, except that `--json` and `--exact` may be given
+-- the flags and values if no word is given except for `--json` and `--exact`. The two arguments say whether `--json` and `--exact` are given
 abbrev pub no_output_flags : Bool → Bool → OutputFlagsData
 no_output_flags json exact = record { tree = false; since = None; as_ceph = false; to = None; by_name = false; json = json; under = None; down_to = None; class = None; exact = exact }
 
--- the flags and values of the words that ask to print this, with or without `--json` and `--exact`
+-- the flags and values of those words that ask to print the given output. The first two arguments say whether `--json` and `--exact` are also given
 abbrev pub flags_by : Bool → Bool → OutputSpec → OutputFlagsData
 flags_by json exact Map = no_output_flags json exact
 flags_by json exact (Tree part) = record (no_output_flags json exact) { tree = true; under = name_text part.under; down_to = name_text part.down_to; class = name_text part.class }
@@ -70,19 +70,19 @@ flags_by json exact (Changes tree) = record (no_output_flags json exact) { tree 
 flags_by json exact AsCeph = record (no_output_flags json exact) { as_ceph = true }
 flags_by json exact (To target) = record (no_output_flags json exact) { as_ceph = target.as_ceph; to = Some target.map.bytes.items; by_name = target.by_name; under = name_text target.under }
 
--- whether the words ask to print two things. `--tree` with `--since` asks for one thing, and so does `--as-ceph` with `--to`
+-- whether the words ask for two different outputs. `--tree` with `--since` asks for one output, and so does `--as-ceph` with `--to`
 abbrev pub ask_for_two : OutputFlagsData → Bool
 ask_for_two flags = (flags.tree || is_some flags.since) && (flags.as_ceph || is_some flags.to)
 
--- whether the words ask for a tree of changes whose items are matched by names, which doesn't exist
+-- whether the words ask for a tree of changes whose items are matched by names. The program has no such output
 abbrev pub ask_for_tree_of_names : OutputFlagsData → Bool
 ask_for_tree_of_names flags = flags.tree && is_some flags.since && flags.by_name
 
--- whether `--by-name` is given although there is no other map, that is, neither `--since` nor `--to` is given
+-- whether `--by-name` is given, but neither `--since` nor `--to`, so that there is no other map
 abbrev pub have_names_alone : OutputFlagsData → Bool
 have_names_alone flags = flags.by_name && not (is_some flags.since) && not (is_some flags.to)
 
--- whether `--under` is given although nothing is printed of which a part can be selected, that is, none of `--tree`, `--since` and `--to` is given
+-- whether `--under` is given, but none of `--tree`, `--since` and `--to`. Only with one of these three can `--under` select a part of the output
 abbrev pub have_part_alone : OutputFlagsData → Bool
 have_part_alone flags = is_some flags.under && not flags.tree && not (is_some flags.since) && not (is_some flags.to)
 
@@ -94,27 +94,27 @@ have_type_alone flags = is_some flags.down_to && not flags.tree
 abbrev pub have_class_alone : OutputFlagsData → Bool
 have_class_alone flags = is_some flags.class && not flags.tree
 
--- whether the words ask for a JSON document of one class of devices, which doesn't exist
+-- whether the words ask for a JSON document about one class of devices. The program has no such output
 abbrev pub json_of_class : OutputFlagsData → Bool
 json_of_class flags = flags.json && is_some flags.class
 
--- whether the words ask for a JSON document of Ceph's own commands, which doesn't exist
+-- whether the words ask for a JSON document with Ceph's own commands. The program has no such output
 abbrev pub json_of_lines : OutputFlagsData → Bool
 json_of_lines flags = flags.json && flags.as_ceph
 
--- whether the words ask for a JSON document of changes between items that are matched by names, which doesn't exist
+-- whether the words ask for a JSON document of changes between items that are matched by names. The program has no such output
 abbrev pub json_of_names : OutputFlagsData → Bool
 json_of_names flags = flags.json && is_some flags.since && flags.by_name
 
--- whether the words ask for a JSON document of the upper levels of a tree of changes, which doesn't exist
+-- whether the words ask for a JSON document of the upper levels of a tree of changes. The program has no such output
 abbrev pub json_of_levels : OutputFlagsData → Bool
 json_of_levels flags = flags.json && is_some flags.since && is_some flags.down_to
 
--- whether the words ask for exact weights, but for another output than the text of the map
+-- whether the words ask for exact weights, but the output isn't the text of the map
 abbrev pub exact_of_other : OutputFlagsData → Bool
 exact_of_other flags = flags.exact && ((flags.tree || is_some flags.since || flags.as_ceph || is_some flags.to) || flags.json)
 
--- WORDS THAT CAN'T BE GIVEN TOGETHER: the error line of the first of these conditions that is true; none if no condition is true, so that the words can be given together
+-- WORDS THAT CAN'T BE GIVEN TOGETHER: the line of an error if some words can't be given together, or if a word needs another that isn't given. If several of the conditions are true, this is the line of the first of them. If no condition is true, there is no line, and the words can be given together
 abbrev pub complaint : OutputFlagsData → Option Text
 complaint flags =
     if ask_for_two flags then Some (codes "error: use only one of --tree, --since, --as-ceph and --to, or --tree with --since, or --to with --as-ceph\n") else (
@@ -129,12 +129,12 @@ complaint flags =
     if json_of_levels flags then Some (codes "error: --json with --since can't be used with --down-to\n") else (
     if exact_of_other flags then Some (codes "error: --exact can be used only when the text of the map is printed\n") else None))))))))))
 
--- WHAT IS PRINTED: the parsed words are exactly those that ask to print this, and they can be given together
+-- WHAT IS PRINTED: among the parsed words, the flags and options about the output are exactly those that ask for this output, and they can be given together. `json` and `exact` say whether `--json` and `--exact` are given
 pub record IsOutputSpec (rows : List Row) (json exact : Bool) (output_spec : OutputSpec) : Type 0 where
   pub flags : AreOutputFlags rows (flags_by json exact output_spec)
   pub together : complaint (flags_by json exact output_spec) ≡ None
 
--- some of the parsed words can't be given together, for the reason in the line `why`
+-- some of the parsed words can't be given together (`complaint`), for the reason in the line `why`
 pub record AreApart (rows : List Row) (why : Text) : Type 0 where
   pub flags : OutputFlagsData
   pub are : AreOutputFlags rows flags

@@ -1,4 +1,4 @@
--- The verbs: which words each verb takes, and for which plain command line each verb is short.
+-- The verbs: which words the command line of each verb can have, and for which plain command line it is short. (A plain command line is one that doesn't begin with a verb.)
 use Rattle.std.specs.Prelude.{◌≡◌, ◌⊎◌, ◌+◌, ◌++◌, ◌&&◌, ◌||◌, Bool, true, false, not, ℕ, List, [], ◌∷◌, Option, Some, None, codes, if◌then◌else◌, is_some, map, nat_lt, option_map, drop}
 use Rattle.std.specs.List.{count_by}
 use Rattle.std.specs.Str.{bytes_eq}
@@ -16,7 +16,7 @@ use Rattle.crush_options.specs.declared.verb_words.VerbWords.{VerbWords}
 use Rattle.crush_options.specs.Options.{AreOptionsOf, HasFault, IsFaultIn, IsRefusedFor, all_named, flag, option, output}
 use Rattle.crush_options.specs.OutputFlags.{IsFlag}
 
--- an argument that must be given once
+-- an argument that must be given exactly once
 abbrev pub needed : Text → Rule
 needed name = record (new_rule name) { action = Some Set; required = true }
 
@@ -24,7 +24,7 @@ needed name = record (new_rule name) { action = Some Set; required = true }
 abbrev pub more_scripts : Rule
 more_scripts = record (new_rule (codes "SCRIPT")) { action = Some Append; range = Some (record { start_inclusive = 0; end_inclusive = usize_max }) }
 
--- a verb's command line before flags, options and arguments are added to it. The words that are parsed don't include the verb
+-- a verb's command line before flags, options and arguments are added to this command line. The words that are parsed don't include the verb. No word asks for the version
 abbrev pub verb_of : Text → App
 verb_of name = record (new_app name) { top = record (new_app name).top { no_binary_name = true } }
 
@@ -32,7 +32,7 @@ verb_of name = record (new_app name) { top = record (new_app name).top { no_bina
 abbrev pub apply_flags : App
 apply_flags = with_rule (with_rule (with_rule (with_rule (verb_of (codes "crushedit apply")) (flag (codes "dry-run"))) (flag (codes "make"))) (flag (codes "last-wins"))) (flag (codes "tree"))
 
--- the same, and the words that say what a dry run prints
+-- `apply_flags`, and four words that need `--dry-run`. Three of them say what a dry run prints, and `--exit-code` lets the exit status report a change
 abbrev pub apply_shown : App
 apply_shown = with_rule (with_rule (with_rule (with_rule apply_flags (flag (codes "json"))) (option (codes "under"))) (option (codes "down-to"))) (flag (codes "exit-code"))
 
@@ -40,7 +40,7 @@ apply_shown = with_rule (with_rule (with_rule (with_rule apply_flags (flag (code
 abbrev pub apply : App
 apply = with_rule (with_rule (with_rule apply_shown output) (needed (codes "MAP"))) more_scripts
 
--- `diff` with the words that say what is printed
+-- `diff` with the first four of its flags and options, which say what is printed and how items are matched
 abbrev pub diff_shown : App
 diff_shown = with_rule (with_rule (with_rule (with_rule (verb_of (codes "crushedit diff")) (flag (codes "tree"))) (flag (codes "json"))) (flag (codes "by-name"))) (option (codes "under"))
 
@@ -48,7 +48,7 @@ diff_shown = with_rule (with_rule (with_rule (with_rule (verb_of (codes "crushed
 abbrev pub diff : App
 diff = with_rule (with_rule (with_rule (with_rule (with_rule (with_rule diff_shown (option (codes "down-to"))) (option (codes "class"))) (flag (codes "exit-code"))) output) (needed (codes "OLD"))) (needed (codes "NEW"))
 
--- `plan` with the words that say what is printed
+-- `plan` with the first four of its flags, which say how the plan is printed, whether a remaining difference is an error, and how buckets are matched
 abbrev pub plan_shown : App
 plan_shown = with_rule (with_rule (with_rule (with_rule (verb_of (codes "crushedit plan")) (flag (codes "as-ceph"))) (flag (codes "strict"))) (flag (codes "json"))) (flag (codes "by-name"))
 
@@ -72,12 +72,12 @@ abbrev pub map_argument : Verb → Text
 map_argument Diff = codes "NEW"
 map_argument verb = codes "MAP"
 
--- the name of the argument for the other map. If the verb reads no other map, the verb has no argument with the name that is given here
+-- the name of the argument for the other map: OLD of `diff`, and WANTED of `plan`. The verbs `apply` and `tree` have no argument for another map. For them, the definition gives the name WANTED, which none of their arguments has
 abbrev pub other_argument : Verb → Text
 other_argument Diff = codes "OLD"
 other_argument verb = codes "WANTED"
 
--- what the parser found on a verb's command line: which flags are given, and which values the options and arguments have. A flag that the verb doesn't have is false, and an option or argument that it doesn't have has no value.
+-- what the parser found on a verb's command line: which flags are given, and which values the options and arguments have. A flag that the verb doesn't have is false, and an option or argument that the verb doesn't have has no value. The fields `map`, `other` and `scripts` are names of files: of the map with which the run begins, of the other map, and of the scripts.
 pub record VerbData : Type 0 where
   pub dry_run : Bool
   pub make : Bool
@@ -96,7 +96,7 @@ pub record VerbData : Type 0 where
   pub other : Option Text
   pub scripts : List Text
 
--- the flags and values among the parsed words of this verb are these
+-- the parsed words of this verb give these flags, and these values of options and arguments
 pub record AreVerbWords (verb : Verb) (rows : List Row) (words : VerbData) : Type 0 where
   pub dry_run : IsFlag (one_of (codes "dry-run") rows) words.dry_run
   pub make : IsFlag (one_of (codes "make") rows) words.make
@@ -115,7 +115,7 @@ pub record AreVerbWords (verb : Verb) (rows : List Row) (words : VerbData) : Typ
   pub other : first_of (other_argument verb) rows ≡ words.other
   pub scripts : all_named (codes "SCRIPT") rows ≡ words.scripts
 
--- the flags and values of the program, as data
+-- the fields of the Rust type `VerbWords`, as data
 abbrev pub verb_data : VerbWords → VerbData
 verb_data w = record {
   dry_run = w.dry_run;
@@ -136,36 +136,36 @@ verb_data w = record {
   scripts = map (λ name. name.now) w.scripts.now;
 }
 
--- this word if it is given; otherwise nothing
+-- a list with only this word if the flag is given; otherwise the empty list
 abbrev pub word_if : Bool → Text → List Text
 word_if given word = if given then word ∷ [] else []
 
--- if the value is given, an option and its value as one word, such as `--under=NAME`; otherwise nothing. `start` is the part of the word before the value
+-- if there is a value, a list with one word, which has an option and its value, such as `--under=NAME`; otherwise the empty list. `start` is the part of the word before the value
 abbrev pub word_with : Text → Option Text → List Text
 word_with start None = []
 word_with start (Some value) = (start ++ value) ∷ []
 
--- the words of a plain command line that say what is printed
+-- the words of a plain command line that say what is printed, how items are matched, and whether the exit status reports a change. The verb's command line has the same flags and options
 abbrev pub shown_words : VerbData → List Text
 shown_words w =
     word_if w.tree (codes "--tree") ++ (word_if w.json (codes "--json") ++ (word_if w.by_name (codes "--by-name") ++ (word_if w.as_ceph (codes "--as-ceph")
     ++ (word_with (codes "--under=") w.under ++ (word_with (codes "--down-to=") w.down_to ++ (word_with (codes "--class=") w.class
     ++ word_if w.exit_code (codes "--exit-code")))))))
 
--- the words of a plain command line with the names of files: the files of scripts, the file for the output, and the file of the map with which the run begins
+-- the words of a plain command line with the names of files: the files of scripts, the file for the output, and the file of the map with which the run begins. The word `--` is before the last of these names, so that a name that begins with `-` isn't read as an option
 abbrev pub file_words : VerbData → List Text
 file_words w =
     map (λ name. codes "--script=" ++ name) w.scripts ++ (word_with (codes "--output=") w.output ++ (codes "--" ∷ word_with [] w.map))
 
--- the name of the map's file with which `apply` compares the map after the scripts: with `--dry-run` the map MAP; otherwise none
+-- the name of the file of the old map, from which `apply` prints the changes to the map after the scripts. With `--dry-run`, this file is MAP. Without `--dry-run`, `apply` prints no changes, and there is no name
 abbrev pub since_of_apply : VerbData → Option Text
 since_of_apply w = if w.dry_run then w.map else None
 
--- the words that the plain command line for `tree` has because of the verb
+-- the words that the plain command line for `tree` always has, in addition to `--explain` and `--`
 abbrev pub tree_words : List Text
 tree_words = word_if true (codes "--no-history") ++ word_if true (codes "--tree")
 
--- the words that the plain command line for a verb has because of the verb itself
+-- the words of the plain command line for a verb that are different for each verb: words that the verb always has, and words that depend on its flags and on the file of the old or wanted map
 abbrev pub own_words : Verb → VerbData → List Text
 own_words Apply w =
     word_if true (codes "--in-turn") ++ (word_if true (codes "--strict") ++ (word_if (not w.make) (codes "--no-make")
@@ -174,7 +174,7 @@ own_words Diff w = word_if true (codes "--no-history") ++ word_with (codes "--si
 own_words Plan w = word_if true (codes "--no-history") ++ (word_if w.strict (codes "--strict") ++ word_with (codes "--to=") w.other)
 own_words Tree w = tree_words
 
--- WORDS OF A VERB: the plain command line for which a verb's command line is short. It always has `--explain`
+-- WORDS OF A VERB: the words of the plain command line for which a verb's command line is short. This plain command line always has `--explain`
 abbrev pub words_of_verb : Verb → VerbData → List Text
 words_of_verb verb w = own_words verb w ++ (word_if true (codes "--explain") ++ (shown_words w ++ file_words w))
 
@@ -187,26 +187,26 @@ abbrev pub dashes_of : Option Text → ℕ
 dashes_of None = 0
 dashes_of (Some name) = if is_dash name then 1 else 0
 
--- how many of the files of a verb are standard input
+-- how many of the files that a verb reads are standard input
 abbrev pub dashes : VerbData → ℕ
 dashes w = (dashes_of w.map + dashes_of w.other) + count_by is_dash w.scripts
 
--- whether words that say what a dry run prints are given without `--dry-run`
+-- whether at least one of the words that need `--dry-run` is given without `--dry-run`
 abbrev pub shows_without_dry_run : VerbData → Bool
 shows_without_dry_run w = not w.dry_run && ((w.tree || w.json || w.exit_code) || (is_some w.under || is_some w.down_to))
 
--- why the words of `apply` are refused although each of them is right; none if they can be given together
+-- the line of an error if some words of `apply` can't be given together, or if a word needs `--dry-run`, which isn't given; none if there is no such error
 abbrev pub apply_complaint : VerbData → Option Text
 apply_complaint w =
     if w.dry_run && is_some w.output then Some (codes "error: --output can't be used with --dry-run\n") else (
     if shows_without_dry_run w then Some (codes "error: --tree, --json, --under, --down-to and --exit-code need --dry-run\n") else None)
 
--- the same for each verb; only `apply` has such rules
+-- the line of an error that only this verb can have: for `apply`, the line of `apply_complaint`. Other verbs have no such errors
 abbrev pub own_complaint : Verb → VerbData → Option Text
 own_complaint Apply w = apply_complaint w
 own_complaint verb w = None
 
--- WORDS OF A VERB THAT CAN'T BE GIVEN TOGETHER: the error line if more than one file is standard input, or if the words break a rule above; none if the words can be given together
+-- WORDS OF A VERB THAT CAN'T BE GIVEN TOGETHER: the line of an error if more than one file that the verb reads is standard input, or otherwise the line of `own_complaint`; none if the words can be given together. The plain command line for which the verb is short can still be refused
 abbrev pub verb_complaint : Verb → VerbData → Option Text
 verb_complaint verb w = if nat_lt 1 (dashes w) then Some (codes "error: only one file can be -, which is standard input\n") else own_complaint verb w
 
@@ -215,18 +215,18 @@ abbrev pub maps_of_verb : Verb → MapForm
 maps_of_verb Tree = form.Map
 maps_of_verb verb = form.WholeMap
 
--- whether conflicts end the run
+-- whether lost changes end the run: only if the verb is `apply` and `--last-wins` isn't given
 abbrev pub has_conflicts : Verb → VerbData → Bool
 has_conflicts Apply w = not w.last_wins
 has_conflicts verb w = false
 
--- SHORT FOR: the options are those of the plain command line for which the verb is short, except that the verb says what its files must contain, and whether conflicts end the run
+-- SHORT FOR: the options are those of the plain command line for which the verb's command line is short, with two exceptions. The verb decides what its files must contain. The verb and `--last-wins` decide whether lost changes end the run
 pub record AreShortFor (verb : Verb) (w : VerbData) (options : Options) : Type 0 where
   pub maps : options.maps ≡ maps_of_verb verb
   pub conflicts : options.mode.conflicts ≡ has_conflicts verb w
   pub plain : AreOptionsOf (words_of_verb verb w) (record options { maps = form.Job; mode = record options.mode { conflicts = false } })
 
--- the words after a verb have no error, can be given together, and ask for these options
+-- the parser finds no error in the words after a verb, these words can be given together, and they ask for these options
 pub record AreOptionsOfVerb (verb : Verb) (words : List Text) (options : Options) : Type 0 where
   pub right : fault_of (app_of_verb verb) words ≡ []
   pub given : VerbData
@@ -234,19 +234,19 @@ pub record AreOptionsOfVerb (verb : Verb) (words : List Text) (options : Options
   pub together : verb_complaint verb given ≡ None
   pub short : AreShortFor verb given options
 
--- the fault if each word after a verb is right: the reason why some of them can't be given together, if there is such a reason; otherwise a fault of the plain command line for which the verb is short
+-- a fault that is possible if the parser finds no error in the words after a verb. If there is a reason why some of the words can't be given together, the fault is a refusal with this reason, or out of memory. Otherwise the fault is one of the plain command line for which the verb's command line is short
 abbrev pub IsShortFault : Option Text → List Text → OptionsFault → Type 0
 IsShortFault (Some why) plain fault = IsRefusedFor why fault
 IsShortFault None plain fault = IsFaultIn plain fault
 
--- each word after the verb is right, and the fault is as above
+-- the parser finds no error in the words after the verb, and the fault is one that `IsShortFault` allows
 pub record HasShortFault (verb : Verb) (words : List Text) (fault : OptionsFault) : Type 0 where
   pub right : fault_of (app_of_verb verb) words ≡ []
   pub given : VerbData
   pub read : AreVerbWords verb (matches_of (app_of_verb verb) words) given
   pub told : IsShortFault (verb_complaint verb given) (words_of_verb verb given) fault
 
--- the fault for the words after a verb: out of memory; the fault for an error in a word, or for a word that asks for the help; or a fault although each word is right, as above
+-- the fault is possible for the words after a verb. There are three cases: the fault is out of memory; it is the fault for an error that the parser finds, or for a word that asks for the help; or the parser finds no error, and `HasShortFault` allows the fault
 abbrev pub IsFaultOfVerb : Verb → List Text → OptionsFault → Type 0
 IsFaultOfVerb verb words fault = (fault ≡ Memory) ⊎ (HasFault (fault_of (app_of_verb verb) words) fault ⊎ HasShortFault verb words fault)
 
@@ -263,7 +263,7 @@ abbrev pub AreOptionsBy : Option Verb → List Text → Options → Type 0
 AreOptionsBy None words options = AreOptionsOf words options
 AreOptionsBy (Some verb) words options = AreOptionsOfVerb verb (drop 1 words) options
 
--- in the same way, the fault of a command line: that of the words after the verb, or that of a plain command line
+-- the fault is possible for a command line: if its first word is a verb, for the words after the verb; otherwise for a plain command line
 abbrev pub IsFaultBy : Option Verb → List Text → OptionsFault → Type 0
 IsFaultBy None words fault = IsFaultIn words fault
 IsFaultBy (Some verb) words fault = IsFaultOfVerb verb (drop 1 words) fault

@@ -1,5 +1,6 @@
 //! Parses a plain command line with `clap`, and defines the text of the help. A plain command line
-//! is one that doesn't begin with a verb.
+//! is one that doesn't begin with a verb, that is, with one of the words `apply`, `diff`, `plan`
+//! and `tree`.
 
 ghost use Rattle.std.specs.Prelude.{◌≡◌, ◌≤◌, IfErr, IfOk, None, Some, codes, false, length, map, option_map, true};
 ghost use Rattle.clap.specs.declared.error.kind.ErrorKind.{ErrorKind};
@@ -15,8 +16,9 @@ use clap::{Arg, ArgAction, ArgMatches, Command, Error};
 use std::alloc::{AllocError, Global};
 use std::convert::AsStr;
 
-/// The part of the help before the usage line of the plain command line: the sentence that says what
-/// the program does, the verbs and examples. `tools/manual.py` makes the manual page from the help.
+/// The part of the help before the usage line of the plain command line: the sentence that says
+/// what the program does, the verbs and examples. `tools/manual.py` makes the manual page from the
+/// help.
 const ABOUT: &str = "\
 Edits the hierarchy of a Ceph CRUSH map offline, by commands of ceph osd crush
 
@@ -43,12 +45,12 @@ Examples:
 
 A command line without a verb is for programs, and for tasks that no verb does:";
 
-/// The version of the program, followed by the logic of the toolchain that checked the proofs.
-/// `rt version` prints this logic too.
+/// The version of the program. In brackets follows the *logic* of the Rattle toolchain that checked
+/// the proofs. The logic is the version of the prover's rules. `rt version` prints the logic too.
 const VERSION: &str = "0.2.0 (rattle logic dac8208d650f15bf)";
 
-/// The part of the help after the list of flags. The lines of the help have at most 80 columns,
-/// which leaves 55 columns for the text about a flag.
+/// The part of the help after the list of options. The lines of the help have at most 80 columns.
+/// In the list of options, this leaves 55 columns for the text about an option.
 const MORE: &str = "\
 The input of a command line without a verb is a job. A job is the text of a
 CRUSH map, as `crushtool -d` prints it, followed by the scripts of up to 16
@@ -204,7 +206,8 @@ const JSON_LEVELS: &str = "error: --json with --since can't be used with --down-
 
 const EXACT_OTHER: &str = "error: --exact can be used only when the text of the map is printed\n";
 
-/// The text about verbs that follows the error for a second file on a plain command line.
+/// A text about the verbs. If a plain command line has a second file, this text follows after the
+/// error.
 const VERBS: &str = "
 Commands that take several files:
     crushedit apply MAP SCRIPT ..    the map after scripts
@@ -213,12 +216,13 @@ Commands that take several files:
     crushedit tree MAP               the tree of a map
 ";
 
-/// The most files with scripts on one command line: as many as a job may have operators.
+/// The largest number of files with scripts on one command line. A job may have at most as many
+/// operators.
 const MOST_SCRIPTS: usize = 16;
 
 const MANY_SCRIPTS: &str = "error: --script can be used at most 16 times\n";
 
-/// A flag `--NAME`, without a value.
+/// Returns the flag `--NAME`, which has no value. `help` is the flag's text in the help.
 pub(crate) fn flag<'a>(alloc: Global, name: &'a str, help: &'a str) -> Arg<'a>
     ensures rule { rule_of result ≡ flag name.entry.now }
     ensures own { result.global ≡ false }
@@ -229,7 +233,8 @@ pub(crate) fn flag<'a>(alloc: Global, name: &'a str, help: &'a str) -> Arg<'a>
         .help(help)
 }
 
-/// An option `--NAME VALUE`, which can be given once.
+/// Returns the option `--NAME VALUE`, which can be given at most once. `value` is the name of the
+/// value in the help, and `help` is the option's text in the help.
 pub(crate) fn option<'a>(alloc: Global, name: &'a str, value: &'a str, help: &'a str) -> Arg<'a>
     ensures rule { rule_of result ≡ option name.entry.now }
     ensures own { result.global ≡ false }
@@ -253,7 +258,7 @@ fn scripts<'a>(alloc: Global) -> Arg<'a>
         .help("Append the script in this file; up to 16 times")
 }
 
-/// The option `-o FILE` or `--output FILE`, which can be given once.
+/// Returns the option `-o FILE` or `--output FILE`, which can be given at most once.
 pub(crate) fn output<'a>(alloc: Global) -> Arg<'a>
     ensures rule { rule_of result ≡ output }
     ensures own { result.global ≡ false }
@@ -359,7 +364,8 @@ pub(crate) fn refused(alloc: Global, text: &str) -> OptionsFault
     }
 }
 
-/// The flags and options of a command line that say what is printed.
+/// The flags and options of a plain command line that say what is printed. A field of a flag says
+/// whether the flag is given. A field of an option has the option's value, if the option is given.
 #[derive(Clone, Copy)]
 struct OutputFlags<'a> {
     tree: bool,
@@ -434,8 +440,9 @@ fn exact_of_other(flags: OutputFlags<'_>) -> bool
     flags.exact && (other || flags.json)
 }
 
-/// Returns the error line if some of these flags and options can't be given together, and `None` if
-/// they can.
+/// Returns the line of an error if some of these flags and options can't be given together, or if
+/// one of them needs another that isn't given. If several errors apply, returns the first of them
+/// in the order of the code. Returns `None` if there is no such error.
 fn complaint(flags: OutputFlags<'_>) -> Option<&'static str>
     ensures { option_map (λ text. text.now) result ≡ complaint (flags_data flags.entry) }
 {
@@ -475,7 +482,7 @@ fn copy_of(alloc: Global, name: Option<&str>) -> Result<Option<String>, AllocErr
     }
 }
 
-/// Returns the part of a tree that these words select.
+/// Returns the part of a tree that the options `--under`, `--down-to` and `--class` select.
 fn part_by(alloc: Global, flags: OutputFlags<'_>) -> Result<TreePartSpec, AllocError>
     ensures under { IfOk result (λ part. name_text part.under ≡ (flags_data flags.entry).under) }
     ensures down_to { IfOk result (λ part. name_text part.down_to
@@ -603,7 +610,8 @@ fn output_of(alloc: Global, matches: &ArgMatches<'_>) -> Result<Option<String>, 
     copy_of(alloc, matches.get_str("output"))
 }
 
-/// Returns how the job is run. A run of a plain command line never looks for conflicts.
+/// Returns how the job is run. `json` and `exact` say whether `--json` and `--exact` are given. The
+/// run of a plain command line never looks for lost changes, so the field `conflicts` is false.
 fn mode_of(matches: &ArgMatches<'_>, json: bool, exact: bool) -> Mode
     requires json { IsFlag (one_of (codes "json") (rows_of (found_of matches.now))) json }
     requires exact { IsFlag (one_of (codes "exact") (rows_of (found_of matches.now))) exact }
@@ -644,7 +652,9 @@ fn options_of(alloc: Global, matches: &ArgMatches<'_>) -> Result<Options, Option
     })
 }
 
-/// Returns the fault for an error of `clap`, with the error's text.
+/// Returns the fault for an error of `clap`, with the error's text. If a word asks for the help or
+/// the version, `clap` also returns an error, whose text is the help or the version. If memory runs
+/// out, returns `Memory`, which has no text.
 pub(crate) fn fault_of(alloc: Global, error: &Error) -> OptionsFault
     ensures { IsFaultOf (kind_of error.now) result }
 {
@@ -658,8 +668,9 @@ pub(crate) fn fault_of(alloc: Global, error: &Error) -> OptionsFault
     }
 }
 
-/// If the fault is the error for a second file, appends a text about the verbs, because the user
-/// may have forgotten a verb. Returns any other fault unchanged.
+/// If the fault is the refusal of a second file, appends a text about the verbs, because the user
+/// may have forgotten a verb. If memory runs out, returns `Memory`. Returns any other fault
+/// unchanged.
 fn with_verbs(fault: OptionsFault) -> OptionsFault
     ensures { (kind : ErrorKind) → IsFaultOf kind fault → IsFaultOf kind result }
 {
@@ -670,16 +681,17 @@ fn with_verbs(fault: OptionsFault) -> OptionsFault
     }
 }
 
-/// Returns the same fault as [`fault_of`]. If the error is for a second file, the text about the
-/// verbs follows after the error's text.
+/// Returns the fault for an error of `clap` on a plain command line. This fault is that of
+/// [`fault_of`], except that a text about the verbs follows after the error for a second file.
 fn plain_fault_of(alloc: Global, error: &Error) -> OptionsFault
     ensures { IsFaultOf (kind_of error.now) result }
 {
     with_verbs(fault_of(alloc, error))
 }
 
-/// Whether `clap` gives this text to the error for a second file, that is, for a second word that
-/// isn't an option.
+/// Whether this is the text of the error that `clap` returns for a second file. If the name of the
+/// second file begins with `-`, the result is false, because the text then looks like that for an
+/// unknown option.
 fn is_of_second_file(text: &str) -> bool {
     text.starts_with("error: unexpected argument '")
         && !text.starts_with("error: unexpected argument '-")
@@ -697,7 +709,7 @@ fn told_verbs(mut text: String) -> OptionsFault
     }
 }
 
-/// Parses the words of a plain command line, which doesn't begin with a verb.
+/// Parses the words of a plain command line. The words don't include the program's name.
 pub(crate) fn plain_options<S: AsStr>(alloc: Global, words: &[S]) -> Result<Options, OptionsFault>
     ensures parsed { IfOk result (AreOptionsOf (map S.text words.now)) }
     ensures fault { IfErr result (IsFaultIn (map S.text words.now)) }

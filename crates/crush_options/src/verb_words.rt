@@ -1,4 +1,5 @@
-//! The words of a verb's command line, and the plain command line for which they are short.
+//! The words of a verb's command line, and the plain command line for which these words are short.
+//! A plain command line is one that doesn't begin with a verb.
 
 ghost use Rattle.std.specs.Prelude.{◌≡◌, ◌++◌, IfOk, OnOk, codes, map, nat_lt, option_map};
 ghost use Rattle.std.specs.List.{count_by};
@@ -35,10 +36,12 @@ pub(crate) struct VerbWords<'a> {
     pub(crate) down_to: Option<&'a str>,
     pub(crate) class: Option<&'a str>,
     pub(crate) output: Option<&'a str>,
-    /// The map with which the run begins: MAP, or NEW of `diff`.
+    /// The name of the file with the map with which the run begins: the argument MAP, or NEW of
+    /// `diff`.
     pub(crate) map: Option<&'a str>,
-    /// The other map: OLD of `diff`, or WANTED of `plan`.
+    /// The name of the file with the other map: the argument OLD of `diff`, or WANTED of `plan`.
     pub(crate) other: Option<&'a str>,
+    /// The names of the files with scripts: the arguments SCRIPT of `apply`.
     pub(crate) scripts: &'a [&'a str],
 }
 
@@ -143,8 +146,9 @@ fn apply_complaint(words: VerbWords<'_>) -> Option<&'static str>
     }
 }
 
-/// Returns the error line if some words of a verb's command line can't be given together, and
-/// `None` if they can.
+/// Returns the line of an error if some words of a verb's command line can't be given together, or
+/// if one of them needs another that isn't given. Returns `None` if there is no such error. Each
+/// verb refuses a second file `-`, because there is only one standard input.
 pub(crate) fn verb_complaint(verb: Verb, words: VerbWords<'_>) -> Option<&'static str>
     ensures { option_map (λ text. text.now) result
         ≡ verb_complaint verb (verb_data words.entry) }
@@ -233,9 +237,9 @@ fn push_files(
     push_with(alloc, "", words.map, plain)
 }
 
-/// In a dry run, `apply` compares the map before the scripts with the map after the scripts, and
-/// this function returns the name of the file of the map before the scripts. Otherwise it returns
-/// `None`.
+/// Returns the name of the file of the old map, from which `apply` prints the changes to the map
+/// after the scripts. With `--dry-run`, the old map is the map before the scripts, which is in the
+/// file MAP. Without `--dry-run`, `apply` prints no changes, and the result is `None`.
 fn since_of_apply<'a>(words: VerbWords<'a>) -> Option<&'a str>
     ensures { option_map (λ name. name.now) result ≡ since_of_apply (verb_data words.entry) }
 {
@@ -308,7 +312,8 @@ fn push_own(
     }
 }
 
-/// Returns the words of the plain command line for which a verb's command line is short.
+/// Returns the words of the plain command line for which a verb's command line is short. The words
+/// don't include the program's name.
 pub(crate) fn plain_words(
     alloc: Global,
     verb: Verb,

@@ -1,5 +1,5 @@
 //! The verbs: commands with safe defaults. Each command line with a verb is short for a plain
-//! command line.
+//! command line, which is one that doesn't begin with a verb.
 
 ghost use Rattle.std.specs.Prelude.{◌≡◌, IfOk, IfErr, None, codes, false, map};
 ghost use Rattle.clap.specs.Words.{app_of, rule_of};
@@ -13,12 +13,12 @@ use clap::{Arg, ArgAction, Command};
 use std::alloc::{AllocError, Global};
 use std::convert::AsStr;
 
-/// A command with safe defaults. The first word of a command line can be its name.
+/// A command with safe defaults. A command line has a verb if its first word is the name of a verb.
 #[derive(Clone, Copy, Debug, PartialEq, Eq)]
 pub(crate) enum Verb {
-    /// `apply` prints the map after scripts.
+    /// `apply` prints the map after scripts or, with `--dry-run`, what the scripts would change.
     Apply,
-    /// `diff` prints what differs between two maps.
+    /// `diff` prints what has changed from one map to another map.
     Diff,
     /// `plan` prints the commands that lead from one map to another map.
     Plan,
@@ -120,8 +120,9 @@ fn more_scripts<'a>(alloc: Global) -> Arg<'a>
         .help("Files of scripts, which run in this order")
 }
 
-/// Returns the command line of a verb, before its options and arguments are added to it. The words
-/// that are parsed don't include the verb itself.
+/// Returns the command line of a verb, before options and arguments are added to this command line.
+/// The words that are parsed don't include the verb itself. `about` and `more` are the texts of the
+/// help before and after the list of options.
 fn new_verb<'a>(alloc: Global, name: &'a str, about: &'a str, more: &'a str) -> Command<'a>
     ensures { app_of result ≡ verb_of name.entry.now }
 {
@@ -258,9 +259,9 @@ fn has_conflicts(verb: Verb, words: VerbWords<'_>) -> bool
     }
 }
 
-/// Returns the options of the plain command line for which a verb's command line is short. The only
-/// differences are that the verb says what the files must contain, and whether conflicts end the
-/// run.
+/// Returns the options of the plain command line for which a verb's command line is short, except
+/// for two fields. The verb decides what the files must contain (`maps`). The verb and
+/// `--last-wins` decide whether lost changes end the run (`conflicts`).
 fn short_for(alloc: Global, verb: Verb, words: VerbWords<'_>) -> Result<Options, OptionsFault>
     ensures read { IfOk result (AreShortFor verb (verb_data words.entry)) }
     ensures fault { IfErr result (IsFaultIn (words_of_verb verb (verb_data words.entry))) }
@@ -272,7 +273,8 @@ fn short_for(alloc: Global, verb: Verb, words: VerbWords<'_>) -> Result<Options,
     Ok(options)
 }
 
-/// Returns the same options as [`short_for`], but refuses words that can't be given together.
+/// Returns the options of [`short_for`]. If some words of the verb can't be given together, returns
+/// a refusal instead.
 fn checked(alloc: Global, verb: Verb, words: VerbWords<'_>) -> Result<Options, OptionsFault>
     ensures together { IfOk result (λ _. verb_complaint verb (verb_data words.entry) ≡ None) }
     ensures read { IfOk result (AreShortFor verb (verb_data words.entry)) }
@@ -325,18 +327,21 @@ fn verb_of_words<S: AsStr>(words: &[S]) -> Option<Verb>
     }
 }
 
-/// Parses the words of a command line, without the program's name, by the rules that the help
-/// shows.
+/// Parses the words of a command line, by the rules that the help shows. The words don't include
+/// the program's name.
 ///
 /// If the first word is `apply`, `diff`, `plan` or `tree`, it is a verb, and the other words are
-/// the command line of this verb. The result has the options of the plain command line for which
-/// this verb's command line is short. Otherwise all words are a plain command line. Options and
-/// file names may be mixed in any order. No word is ignored: a word that the command line doesn't
-/// have is refused.
+/// the command line of this verb. A command line of a verb is short for a plain command line. The
+/// result then has the options of that plain command line, except for two fields, which the verb
+/// decides: `maps`, and `conflicts` of the mode. If the first word isn't a verb, or if there is no
+/// word, all words are a plain command line. Options and file names may be mixed in any order. No
+/// word is ignored: a word that is neither an option nor an argument of the command line is
+/// refused.
 ///
-/// Fails with [`OptionsFault::Help`] if a word asks for the help or the version, with
-/// [`OptionsFault::Refused`] if a word is wrong or some words can't be given together, and with
-/// [`OptionsFault::Memory`] if memory runs out.
+/// Fails with [`OptionsFault::Help`] if a word asks for the help or, on a plain command line, for
+/// the version. Fails with [`OptionsFault::Refused`] if the words aren't a valid command line: for
+/// example, a word is wrong, an argument is missing, or some words can't be given together. Fails
+/// with [`OptionsFault::Memory`] if memory runs out.
 pub fn options<S: AsStr>(alloc: Global, words: &[S]) -> Result<Options, OptionsFault>
     ensures parsed { IfOk result (AreOptionsBy (verb_of_words (map S.text words.now)) (map S.text words.now)) }
     ensures fault { IfErr result (IsFaultBy (verb_of_words (map S.text words.now)) (map S.text words.now)) }
