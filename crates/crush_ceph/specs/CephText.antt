@@ -12,6 +12,6 @@ use Rattle.crush_ceph.specs.declared.steps.CephStep.{CephStep}
 abbrev pub commands_text : List (List CephStep) → List ℕ
 commands_text cs = ceph_heading (length cs) ++ flat_map command_line cs
 
--- CEPH TEXT: the edits es as Ceph's own commands. Before the first edit, the map has the setting s and the table t
+-- CEPH TEXT: the edits es as Ceph's own commands. Before the first edit, the map has the setting s (its types, tunables and rules) and the table t
 unfoldable pub ceph_text : SettingData → List Row → List Edit → List ℕ
 ceph_text s t es = commands_text (cut (ceph_steps s t es))

@@ -32,7 +32,7 @@ added e = e
 abbrev pub edit_for_ceph : List Row → Edit → Edit
 edit_for_ceph t e = if sets_unplaced t e then added e else e
 
--- the table after the edit e, if the map has the setting s and the table t before the edit. If the edit is refused, the table is unchanged
+-- the table after the edit e, if the map has the setting s (its types, tunables and rules) and the table t before the edit. If the edit is refused, the table is unchanged
 abbrev pub table_after_edit : SettingData → List Row → Edit → List Row
 table_after_edit s t e = (edit_outcome t (edit s t e)).table
 

@@ -1,4 +1,4 @@
--- The law about the commands into which `cut` cuts steps: the commands do exactly the given edits, in the same order.
+-- The law about the commands into which `cut` cuts the steps for a list of edits: the commands do exactly these edits, in the same order.
 use Rattle.std.specs.Prelude.{◌≡◌, List, [], ◌∷◌, flat_map}
 use Rattle.crush_model.specs.Table.{Row}
 use Rattle.crush_edits.specs.declared.edit.Edit.{Edit}

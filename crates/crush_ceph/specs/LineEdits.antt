@@ -122,7 +122,7 @@ edits_by (Some key.SetDeviceClass) words = classes_given words
 edits_by (Some key.RmDeviceClass) words = classes_taken words
 edits_by None words = None
 
--- the edits of a command, given all its words. The command `reweight-all` makes no edit, and words after `reweight-all` have no effect
+-- the edits of a command, given all its words. The command `reweight-all` makes no edit, whatever words follow
 abbrev pub edits_said : List (List ℕ) → Option (List Edit)
 edits_said [] = None
 edits_said (word ∷ words) = if bytes_eq word (codes "reweight-all") then Some [] else edits_by (keyword_of word) words
