@@ -1,4 +1,4 @@
-//! The map that the script of an operator makes if it runs alone.
+//! The map that results if only the script of one operator runs.
 
 ghost use Rattle.std.specs.Prelude.{◌≡◌, IfOk, List, OnOk};
 ghost use Rattle.crush_model.specs.Table.{Row};
@@ -10,10 +10,13 @@ use crush_history::{Call, Entry, make_call};
 use crush_map::CrushMap;
 use std::alloc::{AllocError, Allocator};
 
-/// Returns a copy of the map, after the calls that the history has of one operator, in their order.
+/// Returns the map that results if only the calls of one operator are applied to a copy of `map`.
 ///
-/// `operator` is the operator's index, from 0. A call that is refused changes nothing. A guarded
-/// batch is made as a batch. An `Err` says that memory ran out.
+/// `entries` are the entries of a history, which also has the calls of other operators. `operator`
+/// is the operator's index in this history, from 0. The operator's calls are applied in the order
+/// of the history. A call that is refused changes nothing. A guarded batch is applied as if it were
+/// a batch without a guard, because the number in the guard counts the changes of all operators.
+/// The function fails only if memory runs out.
 pub fn map_alone<A: Allocator + Clone>(
     map: &CrushMap<A>,
     operator: usize,
@@ -29,7 +32,8 @@ pub fn map_alone<A: Allocator + Clone>(
     Ok(alone)
 }
 
-/// Makes the call of an entry, if it is one of this operator.
+/// Applies the call of an entry to the map if this operator made the call. Otherwise changes
+/// nothing.
 fn make_if_own<A: Allocator + Clone>(
     map: &mut CrushMap<A>,
     operator: usize,
@@ -45,7 +49,7 @@ fn make_if_own<A: Allocator + Clone>(
     }
 }
 
-/// Makes a call on the map of one operator.
+/// Applies a call to the map of one operator. A guarded batch is applied as if it had no guard.
 fn make_alone<A: Allocator + Clone>(map: &mut CrushMap<A>, call: &Call) -> Result<(), AllocError>
     ensures { OnOk result ((s : SettingData) (t : List Row) → MapStands map.old s t
         → MapStands map.new s (table_after_call s t call.now)) }
@@ -54,6 +58,8 @@ fn make_alone<A: Allocator + Clone>(map: &mut CrushMap<A>, call: &Call) -> Resul
     Ok(())
 }
 
+/// Returns the number of changes for which a call is not refused as stale. For a guarded batch,
+/// this is the number in the guard. Any number would do for the other calls.
 fn expected_changes(call: &Call) -> u32
     ensures { result ≡ expected_changes call.now }
 {

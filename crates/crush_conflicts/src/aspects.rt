@@ -3,13 +3,14 @@
 ghost use Rattle.std.specs.Prelude.{◌≡◌};
 ghost use Rattle.crush_conflicts.specs.Aspects.{is_some_aspect, no_aspects, of_both, of_either, of_first_alone, only_presence};
 
-/// A set of aspects of an item. An aspect is one thing that a map says about an item: that it
-/// exists, its type, place, weight, name or class. Each field says whether the set has the aspect
-/// of the field's name.
+/// A set of aspects of an item. An aspect is one of the six things that a map says about an item:
+/// whether the item exists, its type, its place, its weight, its name or its class. Each field is
+/// true if the set has the aspect for which the field stands.
 #[derive(Clone, Copy, Debug, PartialEq, Eq)]
 pub(crate) struct Aspects {
-    /// That the map has the item.
+    /// Whether the map has the item.
     pub presence: bool,
+    /// The type of the item.
     pub kind: bool,
     /// The bucket that holds the item.
     pub place: bool,
@@ -33,7 +34,8 @@ impl Aspects {
         }
     }
 
-    /// The one aspect that an item has which is gone.
+    /// Returns the set that has only the aspect `presence`. These are the aspects of an item that a
+    /// map doesn't have.
     pub(crate) fn presence() -> Aspects
         ensures { result ≡ only_presence }
     {
@@ -71,7 +73,7 @@ impl Aspects {
         }
     }
 
-    /// Returns the aspects that are in this set, and not in the other.
+    /// Returns the aspects that are in this set, but not in the other set.
     pub(crate) fn without(self, other: Aspects) -> Aspects
         ensures { result ≡ of_first_alone self other }
     {
@@ -85,7 +87,7 @@ impl Aspects {
         }
     }
 
-    /// Whether the set has an aspect.
+    /// Whether the set has at least one aspect.
     pub(crate) fn is_some(self) -> bool
         ensures { result ≡ is_some_aspect self }
     {

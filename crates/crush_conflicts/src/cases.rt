@@ -1,4 +1,4 @@
-//! What there is to tell of an item: which changes of operators are lost.
+//! What the maps of a run say about one item, and which changes of this item are lost.
 
 ghost use Rattle.std.specs.Prelude.{◌≡◌, ◌||◌, List, is_some, not};
 ghost use Rattle.std.specs.Option.{option_map};
@@ -14,12 +14,13 @@ use crate::items::{KnownItems, seen_of};
 use crush_items::{Item, Seen};
 use std::alloc::Allocator;
 
-/// What the map that an operator's script makes alone has of an item.
+/// What one operator's map says about an item. An operator's map is the map that results if only
+/// the operator's script runs.
 #[derive(Drop)]
 pub(crate) struct Found<'r, 'a, A: Allocator> {
     /// The name of the operator.
     pub name: &'a str,
-    /// The item in the list of the map's items.
+    /// The item in this map, or `None` if the map doesn't have the item.
     pub item: Option<&'r Item<'a, A>>,
 }
 
@@ -32,21 +33,23 @@ impl<'r, 'a, A: Allocator> Found<'r, 'a, A> {
     }
 }
 
-/// An item, and what the maps have of it.
+/// An item, and what the maps of a run say about it. `None` stands for a map that doesn't have the
+/// item.
 #[derive(Drop)]
 pub(crate) struct Case<'r, 'a, A: Allocator> {
-    /// The name that is told of the item.
+    /// The name with which the item's line begins.
     pub name: &'a str,
-    /// The item before the run.
+    /// What the map before the run says about the item.
     pub before: Option<Seen<'a>>,
-    /// The item that each operator's script makes alone.
+    /// What each operator's map says about the item.
     pub alone: Vec<Found<'r, 'a, A>>,
-    /// The item after the run.
+    /// What the map after the run says about the item.
     pub after: Option<Seen<'a>>,
 }
 
 impl<'r, 'a, A: Allocator> Case<'r, 'a, A> {
-    /// Returns the aspects that an operator changes.
+    /// Returns the aspects that an operator changes. In these aspects, the item in the operator's
+    /// map differs from the item before the run.
     fn changes_of(&self, known: &KnownItems<'_, A>, found: &Found<'_, '_, A>) -> Aspects
         ensures { (t : List Row) → Stands known.now t
             → result ≡ changes_of t (case_data self.now) (found_data found.now) }
@@ -55,7 +58,9 @@ impl<'r, 'a, A: Allocator> Case<'r, 'a, A> {
         differences(known, &item, &self.before)
     }
 
-    /// Returns the aspects that an operator changes and that the item after the run hasn't.
+    /// Returns the aspects in which an operator has lost a change. The operator changes these
+    /// aspects, and the item in the operator's map also differs in them from the item after the
+    /// run.
     fn lost_of(&self, known: &KnownItems<'_, A>, found: &Found<'_, '_, A>) -> Aspects
         ensures { (t : List Row) → Stands known.now t
             → result ≡ lost_of t (case_data self.now) (found_data found.now) }
@@ -66,7 +71,7 @@ impl<'r, 'a, A: Allocator> Case<'r, 'a, A> {
         changes.and(missing)
     }
 
-    /// Returns the aspects in which some operator has lost a change.
+    /// Returns the aspects in which at least one operator has lost a change.
     pub(crate) fn lost_aspects(&self, known: &KnownItems<'_, A>) -> Aspects
         ensures { (t : List Row) → Stands known.now t
             → result ≡ lost_aspects t (case_data self.now) }
@@ -80,8 +85,9 @@ impl<'r, 'a, A: Allocator> Case<'r, 'a, A> {
         lost
     }
 
-    /// Returns what is told of an operator: its changes of lost aspects; and that it removes the
-    /// item, if it does.
+    /// Returns the aspects whose values the item's line shows for an operator. These are the
+    /// aspects in `lost` that the operator changes. If the operator removes the item, the aspect
+    /// `presence` is also returned. `lost` must be what `lost_aspects` returns.
     pub(crate) fn told_of(
         &self,
         known: &KnownItems<'_, A>,
@@ -97,8 +103,9 @@ impl<'r, 'a, A: Allocator> Case<'r, 'a, A> {
         with_presence(is_gone(&self.before, &item), lost.and(changes))
     }
 
-    /// Returns what is told of the item after the run: the lost aspects that it has; and that it is
-    /// gone, if it is.
+    /// Returns the aspects whose values the item's line shows after `in the end`. These are the
+    /// aspects in `lost` that the item after the run has. If the map after the run doesn't have the
+    /// item, the aspect `presence` is also returned. `lost` must be what `lost_aspects` returns.
     pub(crate) fn told_at_end(&self, lost: Aspects) -> Aspects
         ensures { (t : List Row) → lost ≡ lost_aspects t (case_data self.now)
             → result ≡ told_at_end t (case_data self.now) }
@@ -107,7 +114,8 @@ impl<'r, 'a, A: Allocator> Case<'r, 'a, A> {
         with_presence(is_missing(&self.after), lost.and(aspects))
     }
 
-    /// Whether the item after the run has a value that is told of this operator.
+    /// Whether the item after the run has at least one of the values that the item's line shows for
+    /// this operator.
     fn is_kept_of(&self, known: &KnownItems<'_, A>, lost: Aspects, found: &Found<'_, '_, A>) -> bool
         ensures { (t : List Row) → Stands known.now t
             → lost ≡ lost_aspects t (case_data self.now)
@@ -119,7 +127,8 @@ impl<'r, 'a, A: Allocator> Case<'r, 'a, A> {
         told.without(missing).is_some()
     }
 
-    /// Whether the item after the run has a value that is told of an operator.
+    /// Whether the item after the run has at least one of the values that the item's line shows for
+    /// any operator.
     pub(crate) fn is_some_kept(&self, known: &KnownItems<'_, A>, lost: Aspects) -> bool
         ensures { (t : List Row) → Stands known.now t
             → lost ≡ lost_aspects t (case_data self.now)
@@ -141,7 +150,7 @@ fn is_either(first: bool, second: bool) -> bool
     first || second
 }
 
-/// Whether one map has an item, and a later map doesn't.
+/// Whether one map has an item (`before`), and another map doesn't have it (`after`).
 fn is_gone(before: &Option<Seen<'_>>, after: &Option<Seen<'_>>) -> bool
     ensures { result ≡ is_gone (option_map seen_data before.now) (option_map seen_data after.now) }
 {
@@ -160,7 +169,7 @@ fn is_missing(item: &Option<Seen<'_>>) -> bool
     }
 }
 
-/// Returns the aspects, with the presence of the item if it is gone.
+/// Returns the aspects. If `is_gone` is true, the aspect `presence` is added to them.
 fn with_presence(is_gone: bool, aspects: Aspects) -> Aspects
     ensures { result ≡ with_presence is_gone aspects }
 {

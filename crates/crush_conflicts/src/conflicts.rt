@@ -25,23 +25,26 @@ use crush_history::{Entry, Script};
 use crush_map::{CrushMap, Setting};
 use std::alloc::{AllocError, Allocator, Global};
 
-/// The map that an operator's script makes if it runs alone, with the operator's name.
+/// An operator's name, and the map that results if only this operator's script runs.
 #[derive(Drop)]
 pub(crate) struct MapAlone<'a, A: Allocator> {
     pub name: &'a str,
     pub map: CrushMap<A>,
 }
 
-/// Returns a line for each item of which a change is lost: a change that an operator's script makes
-/// if it runs alone, and that the map after the run doesn't have.
+/// Returns the text of the lost changes, which has a line for each item with a lost change. A
+/// change is lost if an operator's script makes it when only this script runs, and the map after
+/// the run doesn't have it.
 ///
-/// `before` is the map before the run, and `after` the map after the run, in which the operators of
-/// `scripts` made the calls of `entries`. Only the names of the scripts are used. The lines of the
-/// items of `before` come first, in the order of its tree. The lines of new items follow, sorted by
-/// name. An `Err` says that memory ran out.
+/// `before` is the map before the run, and `after` is the map after the run. In this run, the
+/// operators of `scripts` made the calls of `entries`. Of each script, the function uses only the
+/// name. The lines of the items of `before` come first, in the order of the tree of `before`. The
+/// lines of new items follow, in ascending order of their names. `specs/Lines.antt` describes the
+/// form of a line. The function fails only if memory runs out.
 ///
-/// Each item of `before` is looked up once in each other map by its id, in logarithmic time. New
-/// items are looked up by their names.
+/// For each operator, the function applies the operator's calls to a copy of `before`. Then it
+/// looks up each item of `before` by its id, once in each of these maps and once in `after`. Each
+/// of these lookups is a binary search. The function looks up new items by their names.
 pub fn lost_changes<'a, A: Allocator + Clone>(
     alloc: Global,
     before: &'a CrushMap<A>,
@@ -58,9 +61,11 @@ pub fn lost_changes<'a, A: Allocator + Clone>(
     lines_of(alloc, before, after, maps.as_slice())
 }
 
-/// Returns the lines of the lost changes of the operators whose scripts make these maps alone.
+/// Returns the text of the lost changes. `maps` has the map of each operator, which results if only
+/// this operator's script runs.
 ///
-/// It borrows all maps for one lifetime. [`lost_changes`] can't, because it owns some of them.
+/// This function borrows all maps for the same lifetime `'a`. [`lost_changes`] can't do this in its
+/// own body, because there it owns the maps of the operators.
 fn lines_of<'a, A: Allocator>(
     alloc: Global,
     before: &'a CrushMap<A>,
@@ -79,7 +84,8 @@ fn lines_of<'a, A: Allocator>(
     conflict_lines(alloc, before.setting(), &items)
 }
 
-/// Returns the map that each operator's script makes alone.
+/// Returns the map of each operator, in the order of `scripts`. An operator's map results if only
+/// this operator's script runs.
 fn maps_alone<'a, A: Allocator + Clone>(
     alloc: Global,
     before: &CrushMap<A>,
@@ -104,7 +110,7 @@ fn maps_alone<'a, A: Allocator + Clone>(
     Ok(maps)
 }
 
-/// Returns the operators, with the items of their maps.
+/// Returns each operator with the items of its map.
 fn operators_of<'a, A: Allocator>(
     alloc: Global,
     maps: &'a [MapAlone<'_, A>],
@@ -147,8 +153,8 @@ fn conflict_lines<A: Allocator>(
     Ok(lines)
 }
 
-/// Appends a line for each item that the map had before the run and that has a lost change, in the
-/// order of this map's tree.
+/// Appends a line for each item of the map before the run that has a lost change. The lines are in
+/// the order of this map's tree.
 fn push_old_lines<'a, A: Allocator>(
     alloc: Global,
     naming: &Naming<'_, 'a, A>,
@@ -171,8 +177,8 @@ fn push_old_lines<'a, A: Allocator>(
     Ok(())
 }
 
-/// Appends a line for each new item whose name is in `names` and of which a change was lost. Equal
-/// names that follow one another count once.
+/// Appends a line for each new item whose name is in `names` and that has a lost change. If equal
+/// names follow one another in `names`, only the first of them counts.
 fn push_new_lines<'a, A: Allocator>(
     alloc: Global,
     naming: &Naming<'_, 'a, A>,
@@ -194,7 +200,8 @@ fn push_new_lines<'a, A: Allocator>(
     Ok(())
 }
 
-/// Appends the line of a new item, unless its name is the last one.
+/// Appends the line of the new item with this name if the item has a lost change. If `last` is the
+/// same name, appends nothing. `last` is the name before this one in the list.
 fn push_new_line<'a, A: Allocator>(
     alloc: Global,
     naming: &Naming<'_, 'a, A>,

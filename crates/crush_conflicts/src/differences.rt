@@ -15,8 +15,10 @@ use crush_items::Seen;
 use crush_units::{BucketId, ItemId, Weight};
 use std::alloc::Allocator;
 
-/// Returns the aspects of `here` that `there` hasn't, or has otherwise. Buckets that the map
-/// `known` has go by their ids, and others by their names.
+/// Returns the aspects of `here` that `there` doesn't have, or for which `there` has another value.
+/// If a map doesn't have the item (`None`), the item has only the aspect `presence` in this map.
+/// `known` has the items of the map before the run. `same_bucket` uses them to find out whether the
+/// two items are in the same bucket.
 pub(crate) fn differences<A: Allocator>(
     known: &KnownItems<'_, A>,
     here: &Option<Seen<'_>>,
@@ -37,7 +39,8 @@ pub(crate) fn differences<A: Allocator>(
     }
 }
 
-/// Returns the aspects that an item has, which may be gone.
+/// Returns the aspects that an item has. An item that a map doesn't have (`None`) has only the
+/// aspect `presence`.
 pub(crate) fn aspects_of(item: &Option<Seen<'_>>) -> Aspects
     ensures { result ≡ aspects_of (option_map seen_data item.now) }
 {
@@ -102,8 +105,9 @@ fn same_place<A: Allocator>(known: &KnownItems<'_, A>, here: &Seen<'_>, there: &
     }
 }
 
-/// Whether two buckets are one: by their ids if the known map has one of them, and otherwise by
-/// their names.
+/// Whether two buckets of two maps are the same bucket. If `known` has at least one of the two ids,
+/// the buckets are the same if their ids are equal. Otherwise they are the same if their names are
+/// equal.
 fn same_bucket<A: Allocator>(
     known: &KnownItems<'_, A>,
     here: BucketId,
@@ -122,7 +126,9 @@ fn same_bucket<A: Allocator>(
     }
 }
 
-/// Whether the item `there` has the weight of `here`. A bucket has no weight of its own.
+/// Whether the item `there` has the weight of the item `here`. If `here` is a bucket, this is true,
+/// because a bucket has no weight of its own. If `here` is a device and `there` is a bucket, this
+/// is false.
 fn has_weight(here: ItemId, there: ItemId, weight: Weight, other: Weight) -> bool
     ensures { result ≡ has_weight here there weight other }
 {

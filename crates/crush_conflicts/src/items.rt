@@ -16,10 +16,10 @@ use crush_units::ItemId;
 use std::alloc::{AllocError, Allocator, Global};
 use std::marker::Model;
 
-/// The items of a map, in the order of its tree and by their ids.
+/// The items of a map in the order of the map's tree, with an index that finds an item by its id.
 ///
-/// An item is found by binary search. The map itself would go from the item up to its root, which
-/// takes long in deeply nested buckets.
+/// The index makes a binary search. The map has a lookup of its own, which goes from the item up to
+/// its root. This takes long if the buckets are deeply nested.
 #[derive(Drop)]
 pub(crate) struct KnownItems<'a, A: Allocator> {
     items: Items<'a, A>,
@@ -41,8 +41,8 @@ impl<'a, A: Allocator> Model for KnownItems<'a, A> {
 }
 
 impl<'a, A: Allocator> KnownItems<'a, A> {
-    /// Returns the items of a map. It visits each item once, and sorts the items once. An `Err`
-    /// says that memory ran out.
+    /// Returns the items of a map. The call visits each item once, and sorts the items once. It
+    /// fails only if memory runs out.
     pub(crate) fn of(alloc: Global, map: &'a CrushMap<A>) -> Result<KnownItems<'a, A>, AllocError>
         ensures { IfOk result (λ known. known ≡ map.now.forest) }
     {
@@ -103,7 +103,7 @@ impl<'a, A: Allocator> KnownItems<'a, A> {
     }
 }
 
-/// Returns what a map says about an item that it may have.
+/// Returns what a map says about an item, or `None` if `item` is `None`.
 pub(crate) fn seen_of<'a, A: Allocator>(item: Option<&Item<'a, A>>) -> Option<Seen<'a>>
     ensures { option_map seen_data result
         ≡ option_map (λ x. (item_entry x.now).item) item.entry }

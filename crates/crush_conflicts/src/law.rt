@@ -2,13 +2,15 @@
 
 ghost use Rattle.crush_conflicts.specs.Laws.{CountZeroNoLoss, NoLineNoLoss};
 
-/// If there is no line, then each change that a script makes alone is in the map after the run.
+/// If the text of the lost changes is empty, then no change is lost: the map after the run has each
+/// change that an operator's script makes when only this script runs.
 pub fn no_line_means_no_loss()
     ensures { NoLineNoLoss }
 {}
 
-/// If the number of lines is 0, that is, if the text of the lost changes has no line feed, then each
-/// change that a script makes alone is in the map after the run.
+/// If the text of the lost changes has 0 lines, which means that it has no line feed, then no
+/// change is lost: the map after the run has each change that an operator's script makes when only
+/// this script runs.
 pub fn count_zero_means_no_loss()
     ensures { CountZeroNoLoss }
 {}

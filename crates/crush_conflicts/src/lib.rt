@@ -1,8 +1,10 @@
-//! Changes of an operator's script that a run with several scripts has lost.
+//! Finds the lost changes of a run with several scripts. A change is lost if an operator's script
+//! makes it, and the map after the run doesn't have it.
 //!
-//! [`lost_changes`] compares three maps for each item: the map before the run, the map that the
-//! script of an operator makes if it runs alone, and the map after the run. `specs/Cases.antt` says
-//! which change is lost, and `specs/Lines.antt` says what is printed of it.
+//! For each item and each operator, [`lost_changes`] compares three maps: the map before the run,
+//! the operator's map, and the map after the run. The operator's map is the map that results if
+//! only this operator's script runs. `specs/Cases.antt` says which changes are lost, and
+//! `specs/Lines.antt` says which line is printed for an item with lost changes.
 #![tactic(auto)]
 
 mod alone;

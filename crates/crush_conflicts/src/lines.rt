@@ -1,4 +1,4 @@
-//! The line of an item with lost changes. An `Err` says that memory ran out.
+//! Writes the line of an item with lost changes. The functions fail only if memory runs out.
 
 ghost use Rattle.std.specs.Prelude.{◌≡◌, ◌++◌, List, OnOk, flat_map};
 ghost use Rattle.crush_model.specs.Stands.{Stands};
@@ -13,7 +13,8 @@ use crate::values::{Naming, joined};
 use crush_print::words::push_all;
 use std::alloc::{AllocError, Allocator, Global};
 
-/// Appends the line of an item, if a change of it is lost.
+/// Appends the line of an item if at least one operator has lost a change of this item. Otherwise
+/// appends nothing.
 pub(crate) fn push_case<'a, A: Allocator>(
     alloc: Global,
     naming: &Naming<'_, 'a, A>,
@@ -59,7 +60,8 @@ fn push_line<'a, A: Allocator>(
     push_all(&[b"\n".as_slice()], lines)
 }
 
-/// Appends each operator of whom a value is told, with these values, after a semicolon and a space.
+/// Appends `; `, the operator's name, `: ` and the operator's values, for each operator for which
+/// the item's line shows at least one value.
 fn push_operators<'a, A: Allocator>(
     alloc: Global,
     naming: &Naming<'_, 'a, A>,
@@ -125,7 +127,8 @@ fn push_operator<'a, A: Allocator>(
     )
 }
 
-/// Appends the values of the item after the run, unless it has a value that is told of an operator.
+/// Appends `; in the end: ` and the values of the item after the run. If this item has one of the
+/// values that the line shows for an operator, appends nothing.
 fn push_end<'a, A: Allocator>(
     alloc: Global,
     naming: &Naming<'_, 'a, A>,

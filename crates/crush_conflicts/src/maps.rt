@@ -1,4 +1,5 @@
-//! What the maps before the run, of each script alone, and after the run have of an item.
+//! Looks up an item in all maps of a run: the map before the run, the map of each operator, and the
+//! map after the run. An operator's map results if only this operator's script runs.
 
 ghost use Rattle.std.specs.Prelude.{◌≡◌, ◌++◌, ◌∷◌, [], IfOk, List, OnOk, map as each};
 ghost use Rattle.std.specs.Option.{option_map};
@@ -18,14 +19,14 @@ use crush_items::Item;
 use crush_units::ItemId;
 use std::alloc::{AllocError, Allocator, Global};
 
-/// An operator, with the items of the map that its script makes alone.
+/// An operator's name, and the items of the map that results if only this operator's script runs.
 #[derive(Drop)]
 pub(crate) struct Operator<'a, A: Allocator> {
     pub name: &'a str,
     pub items: KnownItems<'a, A>,
 }
 
-/// The items of the maps of a run.
+/// The items of all maps of a run.
 #[derive(Drop)]
 pub(crate) struct RunItems<'a, A: Allocator> {
     pub before: KnownItems<'a, A>,
@@ -34,8 +35,8 @@ pub(crate) struct RunItems<'a, A: Allocator> {
 }
 
 impl<'a, A: Allocator> RunItems<'a, A> {
-    /// Returns what the maps have of an item of the map before the run. An `Err` says that memory
-    /// ran out.
+    /// Looks up an item of the map before the run in all maps by its id, and returns what these
+    /// maps say about the item. Fails only if memory runs out.
     pub(crate) fn old_case<'r>(
         &'r self,
         alloc: Global,
@@ -56,7 +57,7 @@ impl<'a, A: Allocator> RunItems<'a, A> {
         })
     }
 
-    /// Returns what the map of each operator has of the item with this id.
+    /// Returns what each operator's map says about the item with this id.
     fn found_by_id<'r>(
         &'r self,
         alloc: Global,
@@ -75,9 +76,8 @@ impl<'a, A: Allocator> RunItems<'a, A> {
         Ok(found)
     }
 
-    /// Looks up the new item with this name in the map that each operator would make alone and in
-    /// the map after all scripts, and returns what these maps say about it. An `Err` says that
-    /// memory ran out.
+    /// Looks up the new item with this name in each operator's map and in the map after the run,
+    /// and returns what these maps say about the item. Fails only if memory runs out.
     pub(crate) fn new_case<'r>(
         &'r self,
         alloc: Global,
@@ -97,7 +97,7 @@ impl<'a, A: Allocator> RunItems<'a, A> {
         })
     }
 
-    /// Returns what the map of each operator has of a new item with this name.
+    /// Returns what each operator's map says about the new item with this name.
     fn found_by_name<'r>(
         &'r self,
         alloc: Global,
@@ -116,7 +116,8 @@ impl<'a, A: Allocator> RunItems<'a, A> {
         Ok(found)
     }
 
-    /// Returns the item with this name, unless the map before the run has the item's id.
+    /// Returns the item of `items` that has this name. Returns `None` if there is no such item, or
+    /// if the item isn't new, which means that the map before the run has the item's id.
     #[tactic(auto, unfolding(crate::specs::NewItems::new_item))]
     fn new_item<'r>(&self, items: &'r KnownItems<'a, A>, name: &str) -> Option<&'r Item<'a, A>>
         ensures { (t u : List Row) → Stands self.now.before t → Stands items.now u
@@ -135,7 +136,7 @@ impl<'a, A: Allocator> RunItems<'a, A> {
     }
 }
 
-/// Appends what an operator's map has of an item.
+/// Appends what an operator's map says about an item. `name` is the operator's name.
 fn push_found<'r, 'a, A: Allocator>(
     name: &'a str,
     item: Option<&'r Item<'a, A>>,

@@ -1,4 +1,4 @@
-//! The names of the items that the map before a run hasn't.
+//! The names of the new items. An item is new if the map before the run has no item with this id.
 
 ghost use Rattle.std.specs.Prelude.{◌≡◌, ◌++◌, IfOk, List, OnOk, flat_map, map as each};
 ghost use Rattle.crush_model.specs.Stands.{Stands};
@@ -15,8 +15,9 @@ use crush_items::Item;
 use std::alloc::{AllocError, Allocator, Global};
 
 impl<'a, A: Allocator> RunItems<'a, A> {
-    /// Returns the names of all new items of the operators' maps in ascending order. A name that
-    /// several maps have is there several times. An `Err` says that memory ran out.
+    /// Returns the names of all new items of the operators' maps, in ascending order. If new items
+    /// of several maps have the same name, the list has this name several times. Fails only if
+    /// memory runs out.
     pub(crate) fn new_names(&self, alloc: Global) -> Result<Vec<&'a str>, AllocError>
         ensures { IfOk result (λ names. (t : List Row) (os : List OperatorData)
             → Stands self.now.before t → Pairwise IsOperator os self.now.operators.items
@@ -28,7 +29,8 @@ impl<'a, A: Allocator> RunItems<'a, A> {
     }
 }
 
-/// Returns the names of the new items of all these maps.
+/// Returns the names of the new items of all operators' maps. The names from one map are in the
+/// order of the map's tree.
 fn all_new_names<'a, A: Allocator>(
     alloc: Global,
     before: &KnownItems<'_, A>,
@@ -45,7 +47,7 @@ fn all_new_names<'a, A: Allocator>(
     Ok(names)
 }
 
-/// Appends the names of those items whose ids the map before the run hasn't.
+/// Appends the names of those items whose ids the map before the run doesn't have.
 fn push_new_names<'a, A: Allocator>(
     before: &KnownItems<'_, A>,
     items: &[Item<'a, A>],

@@ -1,4 +1,4 @@
-//! The values of an item, as text. An `Err` says that memory ran out.
+//! Writes the values of an item as text. The functions fail only if memory runs out.
 
 ghost use Rattle.std.specs.Prelude.{◌≡◌, ◌++◌, List, OnOk, codes, flat_map};
 ghost use Rattle.std.specs.Option.{option_map};
@@ -17,7 +17,8 @@ use crush_since::{class_bytes, place_in, type_bytes};
 use crush_units::{BucketId, ItemId, Weight};
 use std::alloc::{AllocError, Allocator};
 
-/// The map before the run, which says what items and types are called.
+/// The setting and the items of the map before the run. They give the names of types and of
+/// buckets.
 #[derive(Drop)]
 pub(crate) struct Naming<'n, 'a, A: Allocator> {
     pub setting: &'n Setting,
@@ -25,7 +26,9 @@ pub(crate) struct Naming<'n, 'a, A: Allocator> {
 }
 
 impl<'n, 'a, A: Allocator> Naming<'n, 'a, A> {
-    /// Appends the told values of an item, which may be gone, each after a comma and a space.
+    /// Appends the values that an item has for the aspects in `told`, each after a comma and a
+    /// space. If the item is `None`, the only possible value is `removed`, which stands for the
+    /// aspect `presence`.
     #[tactic(auto, unfolding(crate::specs::Lines::values))]
     pub(crate) fn push_values(
         &self,
@@ -80,8 +83,8 @@ impl<'n, 'a, A: Allocator> Naming<'n, 'a, A> {
         place_in(item.view.id, item.view.parent, holder)
     }
 
-    /// Returns the name of the bucket that holds an item: the one that it has before the run, or
-    /// else `holder`.
+    /// Returns the name of the bucket that holds an item. If the map before the run has the bucket,
+    /// this is the bucket's name in that map. Otherwise it is `holder`.
     fn holder_name(&self, parent: Option<BucketId>, holder: Option<&'a str>) -> Option<&'a str>
         ensures { (t : List Row) → Stands self.now.known.now t
             → option_map (λ n. n.now) result
@@ -97,7 +100,8 @@ impl<'n, 'a, A: Allocator> Naming<'n, 'a, A> {
     }
 }
 
-/// Appends a value after a comma and a space, if it is told.
+/// Appends a value after a comma and a space if `told` is true. Otherwise appends nothing. The
+/// value is the words, one directly after the other.
 fn push_value(told: bool, words: &[&[u8]], out: &mut Vec<u8>) -> Result<(), AllocError>
     ensures { OnOk result (out.new.items ≡ out.old.items
         ++ value_if told (flat_map (λ w. w.now) words.now)) }
@@ -120,7 +124,8 @@ fn push_weight(told: bool, weight: Weight, out: &mut Vec<u8>) -> Result<(), Allo
     crush_print::words::push_weight(weight, out)
 }
 
-/// Returns the text without its first separator, which has two bytes.
+/// Returns the text without its first two bytes, which are the separator before the first value. If
+/// the text has fewer than two bytes, returns an empty text.
 pub(crate) fn joined(text: &[u8]) -> &[u8]
     ensures { result.now ≡ joined text.now }
 {
