@@ -1,4 +1,4 @@
-//! The names of the new items. An item is new if the map before the run has no item with this id.
+//! The names of the new items. An item is new if the map before the run doesn't have the item's id.
 
 ghost use Rattle.std.specs.Prelude.{◌≡◌, ◌++◌, IfOk, List, OnOk, flat_map, map as each};
 ghost use Rattle.crush_model.specs.Stands.{Stands};

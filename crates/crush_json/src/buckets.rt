@@ -20,7 +20,8 @@ use crush_tree::{Bucket, Node, View};
 use crush_units::Alg;
 use std::alloc::{AllocError, Allocator};
 
-/// Writes a list of these buckets, each with its items.
+/// Writes a list with an object for each of these buckets, in their order. The object of a bucket
+/// also has the bucket's items.
 pub(crate) fn push_buckets<A: Allocator>(
     setting: &Setting,
     buckets: &[&Bucket<A>],
@@ -91,7 +92,7 @@ fn alg_name(alg: Option<Alg>) -> &'static str
     }
 }
 
-/// Writes the item's name and the name of its type.
+/// Writes three members: the item's name, the number of its type, and the name of its type.
 fn push_kind(setting: &Setting, item: &View<'_>, out: &mut Document) -> Result<(), AllocError>
     ensures { OnOk result (out.new ≡ out.old
         ++ (member_tokens (codes "name") (string (view_data item.now).name)
@@ -123,7 +124,7 @@ fn push_each_item<A: Allocator>(items: &[Node<A>], out: &mut Document) -> Result
     Ok(())
 }
 
-/// Writes an item of a bucket. `place` is its index among the bucket's items.
+/// Writes an item of a bucket. `place` is the index of the item among the bucket's items, from 0.
 fn push_item<A: Allocator>(item: &Node<A>, place: u64, out: &mut Document) -> Result<(), AllocError>
     ensures { OnOk result (out.new ≡ out.old
         ++ tokens_of (item_document place (node_view None item.now))) }

@@ -95,7 +95,8 @@ fn push_change<A: Allocator, B: Allocator>(
     out.end_object()
 }
 
-/// Returns the id of the item of this pair as a number.
+/// Returns the id of this pair's item as a number. If the new map doesn't have the item, this is
+/// the id in the old map.
 fn number_of<A: Allocator, B: Allocator>(both: &Comparison<'_, A, B>, pair: Pair) -> Option<i32>
     ensures { result ≡ option_map item_number (pair_id (pair_entries both.now pair)) }
 {
@@ -117,7 +118,8 @@ fn number_of_either(before: &Option<Seen<'_>>, after: &Option<Seen<'_>>) -> Opti
     }
 }
 
-/// If there is a position, writes the item at this position as a member. Otherwise writes nothing.
+/// If there is a position, writes a member with what the map says about the item at this position.
+/// Otherwise writes nothing.
 fn push_at_if<A: Allocator>(
     name: &str,
     items: &Items<'_, A>,

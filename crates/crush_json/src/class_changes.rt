@@ -1,4 +1,4 @@
-//! Writes as JSON values what differs in the classes of two maps.
+//! Writes the differences between the classes of two maps as JSON values.
 
 ghost use Rattle.std.specs.Prelude.{◌≡◌, ◌<◌, ◌++◌, List, OnOk, flat_map, get_or, length};
 ghost use Rattle.crush_model.specs.Stands.{Stands};
@@ -15,7 +15,9 @@ use crush_since::{ClassChange, class_changes};
 use std::alloc::{AllocError, Allocator, Global};
 
 /// Writes a list with an object for each class whose devices have another total weight in the new
-/// map, and for each class that is new and that no rule takes.
+/// map than in the old map. The list also has an object for each class that only devices of the new
+/// map have, and that no rule of the new map takes. The classes are in ascending order of their
+/// names. Fails only if memory runs out.
 pub(crate) fn push_class_changes<A: Allocator, B: Allocator>(
     alloc: Global,
     old: &CrushMap<A>,

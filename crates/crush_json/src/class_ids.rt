@@ -1,4 +1,5 @@
-//! Writes the class ids of a bucket as JSON values.
+//! Writes the class ids of a bucket as JSON values. A class id is the id that the bucket has for
+//! one device class.
 
 ghost use Rattle.std.specs.Prelude.{◌≡◌, ◌++◌, OnOk, flat_map, map as each};
 ghost use Rattle.crush_nodes.specs.Seen.{shadow_data};
@@ -10,7 +11,7 @@ use crush_tree::ShadowId;
 use crush_units::ItemId;
 use std::alloc::{AllocError, Allocator};
 
-/// Writes a list of these class ids.
+/// Writes a list with an object for each of these class ids, in their order.
 pub(crate) fn push_class_ids<A: Allocator>(
     ids: &[ShadowId<A>],
     out: &mut Document,

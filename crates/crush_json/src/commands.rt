@@ -1,4 +1,4 @@
-//! Writes edits as JSON values, in the form in which a Ceph monitor takes commands.
+//! Writes edits as JSON values, in the form in which a monitor of Ceph accepts commands.
 
 ghost use Rattle.std.specs.Prelude.{◌≡◌, ◌++◌, OnOk, flat_map};
 ghost use Rattle.json.specs.Tree.{json_tokens};
@@ -13,7 +13,8 @@ use crush_map::{Edit, Location, Pair};
 use crush_units::{DeviceId, Name, Weight};
 use std::alloc::{AllocError, Global};
 
-/// Writes the edit as a command, with the keys of Ceph's own table of commands.
+/// Writes the edit as a command, with the keys of Ceph's own table of commands. Fails only if
+/// memory runs out.
 pub(crate) fn push_command(alloc: Global, edit: &Edit, out: &mut Document) -> Result<(), AllocError>
     ensures { OnOk result (out.new ≡ out.old ++ json_tokens (command edit.now)) }
 {
@@ -22,7 +23,8 @@ pub(crate) fn push_command(alloc: Global, edit: &Edit, out: &mut Document) -> Re
     push_prefixed(alloc, prefix.as_str(), edit, out)
 }
 
-/// Writes the edit as a command whose words are `prefix`.
+/// Writes the edit as a command. `prefix` are the words with which the command begins, such as
+/// `osd crush move`.
 fn push_prefixed(
     alloc: Global,
     prefix: &str,
@@ -87,8 +89,8 @@ fn push_moving(
     out.end_object()
 }
 
-/// Writes a swap of two buckets. The command always has `yes_i_really_mean_it`, even if the two
-/// buckets are in the same bucket.
+/// Writes a swap, which exchanges the items and the names of two buckets. The command always has
+/// the member `yes_i_really_mean_it`, even if the two buckets are in the same bucket.
 fn push_swapping(
     prefix: &str,
     a: &Name<Global>,
@@ -186,6 +188,7 @@ fn push_declassing(prefix: &str, name: &Name<Global>, out: &mut Document) -> Res
     out.end_object()
 }
 
+/// Writes a list with one name, because Ceph's command takes a list of names.
 fn push_one_name(name: &Name<Global>, out: &mut Document) -> Result<(), AllocError>
     ensures { OnOk result (out.new ≡ out.old ++ tokens_of (one_name name.now)) }
 {
@@ -194,6 +197,7 @@ fn push_one_name(name: &Name<Global>, out: &mut Document) -> Result<(), AllocErr
     out.end_array()
 }
 
+/// Writes a list with a text `TYPE=NAME` for each pair of a location.
 fn push_pairs(alloc: Global, pairs: &[Pair], out: &mut Document) -> Result<(), AllocError>
     ensures { OnOk result (out.new ≡ out.old ++ tokens_of (list (pair_values pairs.now))) }
 {

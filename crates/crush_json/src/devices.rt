@@ -12,7 +12,7 @@ use crate::document::Document;
 use crush_tree::{Leaf, View};
 use std::alloc::{AllocError, Allocator};
 
-/// Writes a list of these devices.
+/// Writes a list with an object for each of these devices, in their order.
 pub(crate) fn push_devices<A: Allocator>(
     devices: &[&Leaf<A>],
     out: &mut Document,

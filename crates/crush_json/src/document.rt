@@ -1,4 +1,4 @@
-//! A text of JSON that is built token by token.
+//! A JSON text that is built token by token. The methods that write fail only if memory runs out.
 
 ghost use Rattle.std.specs.Prelude.{◌≡◌, ◌++◌, ◌∷◌, [], IfOk, OnOk};
 ghost use Rattle.std.specs.Option.{option_map};
@@ -16,7 +16,9 @@ use std::alloc::{AllocError, Global};
 use std::marker::Model;
 
 /// A JSON text. Its writer places the commas and colons. The caller must end each object and array
-/// that it has begun. Contracts describe the text by its tokens.
+/// that it has begun. Contracts describe the text by its tokens. Except for `key`, a method with an
+/// argument `name` writes a whole member of an object. A method whose name begins with `push_`
+/// writes a value, such as an element of an array.
 #[derive(Drop)]
 pub(crate) struct Document {
     writer: Writer<Global>,
@@ -36,7 +38,7 @@ impl Model for Document {
 }
 
 impl Document {
-    /// Returns an empty document with memory for `capacity` bytes.
+    /// Returns an empty document with memory for `capacity` bytes. Fails only if memory runs out.
     pub(crate) fn new(alloc: Global, capacity: usize) -> Result<Document, AllocError>
         ensures { IfOk result (λ document. document ≡ []) }
     {
@@ -45,6 +47,7 @@ impl Document {
         })
     }
 
+    /// Returns the bytes of the text.
     pub(crate) fn finish(self) -> Vec<u8>
         ensures { result.items ≡ print self }
     {
@@ -90,6 +93,7 @@ impl Document {
         self.writer.string(text)
     }
 
+    /// Writes a member with this text. If there is no text, writes nothing.
     pub(crate) fn text_if(&mut self, name: &str, text: Option<&str>) -> Result<(), AllocError>
         ensures { OnOk result (self.new
             ≡ self.old ++ text_tokens_if name.now (option_map (λ text. text.now) text.entry)) }
@@ -160,8 +164,9 @@ impl Document {
         self.writer.boolean(holds)
     }
 
-    /// Writes a weight in exact form: as a decimal number with six digits after the point. A weight
-    /// of 65536 units is 1.000000.
+    /// Writes the member `weight`. Its value is a decimal number with six digits after the point,
+    /// so that 65536 units are 1.000000. The weight is rounded up to such a number. A program that
+    /// rounds this number down to whole units gets exactly the same weight.
     pub(crate) fn weight(&mut self, weight: Weight) -> Result<(), AllocError>
         ensures { OnOk result (self.new ≡ self.old ++ weight_tokens weight) }
     {
@@ -182,6 +187,7 @@ impl Document {
         self.whole(name, id.number())
     }
 
+    /// Writes a member with this number. If there is no number, writes nothing.
     pub(crate) fn whole_if(&mut self, name: &str, number: Option<i32>) -> Result<(), AllocError>
         ensures { OnOk result (self.new ≡ self.old ++ whole_tokens_if name.now number) }
     {

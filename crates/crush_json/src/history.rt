@@ -17,24 +17,31 @@ use crush_edits::{Done, Refusal};
 use crush_history::{Entry, Reply, Script, operator_name};
 use std::alloc::{AllocError, Global};
 
-/// A history: the calls that were made on a map, each with its reply.
+/// A history: the calls that operators have made on a map, each with its reply.
 #[derive(Clone, Copy)]
 pub struct History<'a> {
     /// The scripts from which the calls come, one script for each operator.
     pub scripts: &'a [Script],
+    /// The calls with their replies, in the order in which they were made. The functions that write
+    /// a history require fewer than 2^32 entries, and a script for the operator of each entry.
     pub entries: &'a [Entry],
 }
 
-/// The parts of an entry that are written, except for the counts in its reply.
+/// The members that the objects of all entries have. Depending on its reply, an object also has
+/// other members, such as counts or an error number.
 #[derive(Clone, Copy)]
 struct Reported<'a> {
     /// The number of the entry in the history, from 1.
     number: u32,
     operator: &'a str,
+    /// The call as text, as a line of the history shows it.
     call: &'a str,
+    /// The reply as text, as a line of the history shows it.
     reply: &'a str,
 }
 
+/// Writes the member `history`, which is a list with an object for each entry. If there is no
+/// history, writes nothing. Fails only if memory runs out.
 pub(crate) fn push_history_if(
     alloc: Global,
     history: Option<History<'_>>,
@@ -155,6 +162,8 @@ fn push_refused(
     out.end_object()
 }
 
+/// Writes an entry for a batch in which an edit was refused. `index` is the index of this edit in
+/// the batch, from 0.
 fn push_refused_at(
     reported: &Reported<'_>,
     index: u32,
@@ -187,8 +196,9 @@ fn push_refusal(
     push_last(reported, Some(refusal.name()), out)
 }
 
-/// Writes an entry for a guarded batch that was refused because the history had another number of
-/// changes than the batch names. The error number of such an entry is 11 (EAGAIN).
+/// Writes an entry for a guarded batch that was refused because the number of earlier calls that
+/// changed the map isn't the number in the batch. `changes` is the number of these calls. The error
+/// number of such an entry is 11 (EAGAIN).
 fn push_stale(reported: &Reported<'_>, changes: u32, out: &mut Document) -> Result<(), AllocError>
     ensures { OnOk result (out.new ≡ out.old ++ tokens_of (stale_document reported.now.number
         reported.now.operator.now reported.now.call.now changes reported.now.reply.now)) }

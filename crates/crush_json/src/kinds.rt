@@ -13,7 +13,7 @@ use crush_units::{Name, TypeId};
 use indexmap::IndexMap;
 use std::alloc::{AllocError, Global};
 
-/// Writes a list of the types, by ascending number.
+/// Writes a list with an object for each type, by ascending number.
 pub(crate) fn push_kinds(
     alloc: Global,
     setting: &Setting,

@@ -18,7 +18,8 @@ use crate::tunables::push_tunables;
 use crush_map::CrushMap;
 use std::alloc::{AllocError, Allocator, Global};
 
-/// Writes the map as Ceph's `crushtool --dump` does. The members of each object are sorted by name.
+/// Writes the map with the keys of Ceph's `crushtool --dump`. The members of each object are sorted
+/// by name. Fails only if memory runs out.
 pub(crate) fn push_map<A: Allocator>(
     alloc: Global,
     map: &CrushMap<A>,

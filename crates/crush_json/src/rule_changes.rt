@@ -1,4 +1,4 @@
-//! Writes as JSON values what differs in the rules of two maps.
+//! Writes the differences between the rules of two maps as JSON values.
 
 ghost use Rattle.std.specs.Prelude.{◌≡◌, ◌<◌, ◌++◌, List, OnOk, codes, flat_map, get_or, length};
 ghost use Rattle.std.specs.Option.{option_map};
@@ -17,10 +17,11 @@ use crush_since::{RuleChange, rule_changes};
 use std::alloc::{AllocError, Allocator, Global};
 
 /// Writes a list with an object for each rule that differs. If only the order of the rules differs,
-/// the list has one object instead, which says so. After these objects, the list has an object for
-/// each step of a rule of the new map that takes nothing any more. This means that the devices
-/// which the step takes had a total weight above 0 in the old map, and have the total weight 0 in
-/// the new map.
+/// the list has one object instead, which says that the order differs. After these objects, the
+/// list has an object for each `take` step of the new map's rules that takes nothing any more. This
+/// means that the devices which the step takes had a total weight above 0 in the old map, and have
+/// the total weight 0 in the new map. Buckets of the two maps are the same if their ids are equal.
+/// Fails only if memory runs out.
 pub(crate) fn push_rule_changes<A: Allocator, B: Allocator>(
     alloc: Global,
     old: &CrushMap<A>,

@@ -17,7 +17,8 @@ use crush_map::{CrushMap, KeptRule, KeptStep};
 use crush_units::Name;
 use std::alloc::{AllocError, Allocator, Global};
 
-/// Writes a list of the rules, by ascending id.
+/// Writes a list with an object for each rule of the map, by ascending id. Fails only if memory
+/// runs out.
 pub(crate) fn push_rules<A: Allocator>(
     alloc: Global,
     map: &CrushMap<A>,
@@ -141,8 +142,9 @@ fn push_each_step<A: Allocator>(
     Ok(())
 }
 
-/// Writes the kind of pools that a rule serves: Ceph's number for this kind, or the name of the
-/// kind if Ceph has no number for it.
+/// Writes the member `type`, which is the kind of pools that a rule serves. The value is Ceph's
+/// number for the kinds `replicated` (1) and `erasure` (3). For any other kind, the value is the
+/// name of the kind.
 #[tactic(auto, unfolding(crate::specs::RuleDocument::served))]
 fn push_served(kind: &Name<Global>, out: &mut Document) -> Result<(), AllocError>
     ensures { OnOk result (out.new ≡ out.old ++ member_tokens (codes "type") (served kind.now)) }

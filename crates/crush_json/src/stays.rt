@@ -8,7 +8,8 @@ ghost use Rattle.crush_json.specs.Tokens.{tokens_of, tokens_of_all};
 use crate::document::Document;
 use std::alloc::{AllocError, Global};
 
-/// Writes the list of the lines `rest`. Bytes that aren't UTF-8 are replaced.
+/// Writes a list with a text for each line of `rest`. In the texts, U+FFFD replaces bytes that
+/// aren't UTF-8. Fails only if memory runs out.
 pub(crate) fn push_stays(
     alloc: Global,
     rest: &[Vec<u8>],

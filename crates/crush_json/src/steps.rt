@@ -17,6 +17,7 @@ use crush_tree::ShadowId;
 use crush_units::{BucketId, ItemId, Name};
 use std::alloc::{AllocError, Allocator, Global};
 
+/// Writes a step as an object. Fails only if memory runs out.
 pub(crate) fn push_step<A: Allocator>(
     alloc: Global,
     map: &CrushMap<A>,
@@ -58,8 +59,8 @@ fn push_take<A: Allocator>(
     out.end_object()
 }
 
-/// Returns the name that the bucket has in this map. If the step takes a class, `~` and the class
-/// follow the name.
+/// Returns the name that the bucket has in this map, or an empty name if the map doesn't have the
+/// bucket. If the step takes a class, `~` and the class follow the name.
 fn taken_name<A: Allocator>(
     alloc: Global,
     map: &CrushMap<A>,
@@ -106,6 +107,8 @@ fn taken_number<A: Allocator>(
     }
 }
 
+/// Returns the id of what a step takes. If the step takes a class, this is the id that the bucket
+/// has for the class, or `None` if the bucket has no such id. Otherwise it is the id of the bucket.
 fn taken_id<A: Allocator>(
     map: &CrushMap<A>,
     bucket: BucketId,

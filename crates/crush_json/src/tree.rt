@@ -21,8 +21,9 @@ use std::alloc::{AllocError, Allocator};
 
 /// Writes the tree of these steps, which are the steps of a walk through the map's tree. `buckets`
 /// are all buckets of the map, in the order in which
-/// [`buckets_in_order`](crate::items::buckets_in_order) returns them. The children of a node are
-/// all items of its bucket, even the items that are not among the steps.
+/// [`buckets_in_order`](crate::items::buckets_in_order) returns them. The children of a bucket's
+/// node are all items of the bucket, even the items that are not among the steps. Fails only if
+/// memory runs out.
 #[tactic(auto, unfolding(crate::specs::TreeDocument::tree_document))]
 pub(crate) fn push_tree<A: Allocator>(
     setting: &Setting,
@@ -42,8 +43,8 @@ pub(crate) fn push_tree<A: Allocator>(
     out.end_object()
 }
 
-/// Writes a list of the steps whose items are stray if `stray` is true, and otherwise a list of the
-/// other steps.
+/// Writes a list with a node for each step whose item is stray if `stray` is true. Otherwise writes
+/// a list with a node for each of the other steps. [`is_stray`] says which items are stray.
 fn push_nodes<A: Allocator>(
     setting: &Setting,
     buckets: &[&Bucket<A>],
@@ -117,6 +118,7 @@ fn is_stray(item: &View<'_>) -> bool
     }
 }
 
+/// Writes the node of an item. `depth` says how many levels the item is below the top of the walk.
 fn push_node<A: Allocator>(
     setting: &Setting,
     buckets: &[&Bucket<A>],
@@ -184,8 +186,8 @@ fn push_item(setting: &Setting, item: &View<'_>, out: &mut Document) -> Result<(
     out.natural("weight", item.weight.units() as u64)
 }
 
-/// Returns the name of a type. If the setting doesn't have the type, returns `osd` for a device and
-/// an empty text for a bucket.
+/// Returns the name of an item's type. If the setting doesn't have the type, returns `osd` for a
+/// device and an empty text for a bucket.
 pub(crate) fn type_name(setting: &Setting, id: ItemId, kind: TypeId) -> &str
     ensures { result.now ≡ type_word setting.now id kind }
 {

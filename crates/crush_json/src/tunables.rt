@@ -1,4 +1,5 @@
-//! Writes the tunables of a map as JSON values, in the order of their names.
+//! Writes the tunables of a map as one JSON object. Its members are sorted by the names of the
+//! tunables.
 
 ghost use Rattle.std.specs.Prelude.{◌≡◌, ◌++◌, IfOk, OnOk, flat_map, map as each, string_bytes};
 ghost use Rattle.crush_edits.specs.SettingSeen.{tunable_data};

@@ -1,4 +1,4 @@
-//! Writes documents. Each document is created in memory before it is written.
+//! Writes documents. The text of a document is built in memory before any byte of it is written.
 
 ghost use Rattle.std.specs.Prelude.{◌≡◌, ◌≤◌, ◌^◌, ◌++◌, ◌∷◌, [], List, Err, codes, IfOk, IfSome, OnOk};
 ghost use Rattle.json.specs.Print.{print};
@@ -25,15 +25,23 @@ use crush_units::{WriteFault, put};
 use std::alloc::{AllocError, Allocator, Global};
 use std::io::Write;
 
-/// How many bytes a typical device adds to the document.
+/// How many bytes a typical device adds to the document. From this number and [`USUAL_BUCKET`], the
+/// program computes how much memory to allocate at first. A document can be longer.
 const USUAL_DEVICE: usize = 84;
 
+/// How many bytes a typical bucket adds to the document.
 const USUAL_BUCKET: usize = 192;
 
 /// Writes `{"history":H,"map":M}` and a line feed. If there is no history, writes `{"map":M}` and a
-/// line feed. H has an object for each entry of the history. M is the map as `crushtool --dump`
-/// prints it. If a step of a rule takes a class of a bucket, the step's `item` is the id that the
+/// line feed. H has an object for each entry of the history. M is the map, with the keys of
+/// `crushtool --dump`. The page `docs/user/json.md` says what `crushtool --dump` prints in
+/// addition. If a step of a rule takes a class of a bucket, the step's `item` is the id that the
 /// bucket has for the class. If the bucket has no such id, the step has no `item`.
+///
+/// Fails with [`WriteFault::OutOfMemory`] if memory runs out. In this case, nothing has been
+/// written. Fails with [`WriteFault::Write`] if `out` fails or accepts no byte. In this case, a
+/// beginning of the bytes may have been written, but not all of them. The function doesn't flush
+/// `out`.
 pub fn write_map_document<A: Allocator, W: Write>(
     alloc: Global,
     map: &CrushMap<A>,
@@ -87,6 +95,8 @@ fn push_document<A: Allocator>(
     out.end_object()
 }
 
+/// Begins the object of a document. Writes the history, if there is one, and then the name of the
+/// member whose value the caller writes next.
 fn open(
     alloc: Global,
     history: Option<History<'_>>,
@@ -102,6 +112,7 @@ fn open(
     out.key(name)
 }
 
+/// Returns the bytes of the document, followed by a line feed.
 fn line_of(document: Document) -> Result<Vec<u8>, AllocError>
     ensures { IfOk result (λ text. text.items ≡ print document ++ codes "\n") }
 {
@@ -110,7 +121,8 @@ fn line_of(document: Document) -> Result<Vec<u8>, AllocError>
     Ok(text)
 }
 
-/// Returns `count`, or 2^32 if `count` is greater. No document has more items or edits than that.
+/// Returns `count`, or 2^32 if `count` is greater. The callers multiply the result by a number of
+/// bytes per item or per edit, and the bound keeps this product from overflowing.
 fn bounded(count: usize) -> usize
     ensures { result ≤ 2 ^ 32 }
 {

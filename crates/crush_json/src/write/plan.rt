@@ -24,12 +24,18 @@ use std::io::Write;
 /// How many bytes a typical command adds to the document.
 const USUAL_COMMAND: usize = 96;
 
-/// Writes `{"aside":A,"history":H,"plan":[..],"stays":[..]}` and a line feed. Without a history, it
-/// leaves out the member `history`. `plan` has a command for each edit, with the keys of
-/// Ceph's own table of commands. A weight is a decimal number with six digits after the point,
-/// because `ceph` itself takes weights in this form. `stays` has a text for each line of `rest`,
-/// which lists the differences that remain. A has two members: `ids` is the number of buckets whose
-/// ids differ, and `class_ids` is the number of buckets whose class ids differ.
+/// Writes `{"aside":A,"history":H,"plan":[..],"stays":[..]}` and a line feed. If there is no
+/// history, the document has no member `history`. `plan` has a command for each edit, with the keys
+/// of Ceph's own table of commands. A weight is a decimal number with six digits after the point,
+/// because a monitor of Ceph refuses a whole number as a weight. `stays` has a text for each line
+/// of `rest`. These lines describe the differences that remain after the plan. A has two members,
+/// which are the arguments `ids` and `class_ids`: the number of buckets whose ids differ, and the
+/// number of buckets whose class ids differ.
+///
+/// Fails with [`WriteFault::OutOfMemory`] if memory runs out. In this case, nothing has been
+/// written. Fails with [`WriteFault::Write`] if `out` fails or accepts no byte. In this case, a
+/// beginning of the bytes may have been written, but not all of them. The function doesn't flush
+/// `out`.
 pub fn write_plan_document<W: Write>(
     alloc: Global,
     edits: &[Edit],

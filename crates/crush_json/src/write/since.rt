@@ -21,7 +21,7 @@ use crush_units::{ItemId, WriteFault, put};
 use std::alloc::{AllocError, Allocator, Global};
 use std::io::Write;
 
-/// The number of bytes of a typical document.
+/// The number of bytes of a typical document. A document can be longer.
 const USUAL_CHANGES: usize = 4096;
 
 /// Writes `{"history":H,"since":S}` and a line feed. If there is no history, writes `{"since":S}`
@@ -34,7 +34,14 @@ const USUAL_CHANGES: usize = 4096;
 /// `under` is an item, S has only objects for this item and for the items that are below it in
 /// either map.
 ///
-/// The call visits each item of each map once, and sorts the items of each map once.
+/// To compare the items, the call visits each item of each map once, and sorts the items of each
+/// map once. If `under` is `None`, the call also compares the classes and the rules, and visits
+/// items again for this purpose.
+///
+/// Fails with [`WriteFault::OutOfMemory`] if memory runs out. In this case, nothing has been
+/// written. Fails with [`WriteFault::Write`] if `out` fails or accepts no byte. In this case, a
+/// beginning of the bytes may have been written, but not all of them. The function doesn't flush
+/// `out`.
 pub fn write_since_document<A: Allocator, B: Allocator, W: Write>(
     alloc: Global,
     old: &CrushMap<A>,

@@ -28,9 +28,15 @@ use std::io::Write;
 const USUAL_NODE: usize = 96;
 
 /// Writes `{"history":H,"tree":T}` and a line feed. If there is no history, writes `{"tree":T}` and
-/// a line feed. T has a node for each item of the part, in the order of [`walk_part`], with the
-/// keys of `ceph osd tree`. Devices that no bucket holds are in a list of their own. The children
-/// of a bucket are all its items, even the items that are not in the part.
+/// a line feed. T has a node for each item of the part. If `ceph osd tree -f json` prints the same
+/// data, the node has Ceph's keys. T has two lists: `stray` has the nodes of the devices that no
+/// bucket holds, and `nodes` has all other nodes. Each list is in the order of [`walk_part`]. The
+/// children of a bucket are all its items, even the items that are not in the part.
+///
+/// Fails with [`WriteFault::OutOfMemory`] if memory runs out. In this case, nothing has been
+/// written. Fails with [`WriteFault::Write`] if `out` fails or accepts no byte. In this case, a
+/// beginning of the bytes may have been written, but not all of them. The function doesn't flush
+/// `out`.
 pub fn write_tree_document<A: Allocator, W: Write>(
     alloc: Global,
     map: &CrushMap<A>,
