@@ -1,4 +1,4 @@
--- How a case in memory is seen as plain data.
+-- The Rust types Case and Found as plain data.
 use Rattle.std.specs.Prelude.{ℕ, List, Option, map}
 use Rattle.crush_items.specs.ItemData.{ItemData}
 use Rattle.std.specs.Option.{option_map}

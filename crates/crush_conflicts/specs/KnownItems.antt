@@ -1,4 +1,4 @@
--- When a list of items and the places of their ids are those of a forest.
+-- When a list of items, and an index of this list by ids, agree with a forest.
 use Rattle.std.specs.Prelude.{◌≡◌, ℕ, ◌<◌, ◌^◌, List, length, map}
 use Rattle.crush_model.specs.Forest.{ForestData}
 use Rattle.crush_model.specs.Stands.{Stands}
@@ -9,7 +9,7 @@ use Rattle.crush_items.specs.Tree.{tree_rows}
 use Rattle.crush_items.specs.declared.by_id.Place.{Place}
 use Rattle.crush_items.specs.declared.items.Item.{Item}
 
--- of each table that the forest represents: the items are those of the table's tree, in its order, and the places are those of the items by their ids
+-- for each table that the forest represents, the items are those of the table's tree, in the order of this tree, and `places` has the position of each item in this list, sorted by the items' ids
 pub record AreItemsOf {A : _} (f : ForestData) (items : List (Item A)) (places : List Place) : Type 0 where
   pub tree : (t : List Row) → Stands f t → map item_step items ≡ tree_rows t
   pub by_id : (t : List Row) → Stands f t → AreById t (map item_entry items) places

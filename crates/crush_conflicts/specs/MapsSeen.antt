@@ -1,4 +1,4 @@
--- When maps and items in memory are those of an operator.
+-- When a map, or a list of items, agrees with an operator's table.
 use Rattle.std.specs.Prelude.{◌≡◌}
 use Rattle.crush_model.specs.Stands.{Stands}
 use Rattle.crush_conflicts.specs.Conflicts.{OperatorData}
@@ -10,7 +10,7 @@ pub record IsMapAlone {A : _} (d : OperatorData) (x : MapAlone A) : Type 0 where
   pub name : x.name.now ≡ d.name
   pub table : Stands x.map.forest d.table
 
--- the operator has this name, and its items are those of this table
+-- the operator has this name, and its items are the items of this table
 pub record IsOperator {A : _} (d : OperatorData) (x : Operator A) : Type 0 where
   pub name : x.name.now ≡ d.name
   pub table : Stands x.items d.table

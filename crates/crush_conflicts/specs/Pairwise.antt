@@ -1,7 +1,7 @@
--- Two lists of one length, whose elements belong together one by one.
+-- Two lists of the same length, whose elements belong together in pairs.
 use Rattle.std.specs.Prelude.{List, [], ◌∷◌}
 
--- P is true of the first elements of both lists, of the second ones, and so on
+-- the lists have the same length, and P is true of their first elements, of their second elements, and so on
 abbrev pub Pairwise : {X Y : Type 0} → (X → Y → Type 0) → List X → List Y → Type 0
 Pairwise P [] [] = Unit {0}
 Pairwise P [] (y ∷ ys) = ⊥
