@@ -17,19 +17,19 @@ use Rattle.crush_json.specs.ClassIds.{class_ids_document}
 use Rattle.crush_json.specs.TreeDocument.{type_word}
 use Rattle.crush_json.specs.Values.{natural, whole, text_if}
 
--- these members with the class ids of a bucket before them. A device has no class ids, so nothing comes before its members
+-- for a bucket, the members `ms` with the member `class_ids` before them; for a device, only the members `ms`, because a device has no class ids
 abbrev pub with_class_ids : ItemId → List ShadowData → Members → Members
 with_class_ids (Device d) xs ms = ms
 with_class_ids (Bucket b) xs ms = member (codes "class_ids") (class_ids_document xs) ms
 
--- what a map says about an item. For a bucket, this includes its algorithm and its class ids, and its weight is the sum of its devices. If a bucket holds the item, the value has the name of that bucket
+-- what a map says about an item. For a bucket, this includes its algorithm and its class ids. The weight of a bucket is the sum of the weights of all devices below it. If a bucket holds the item, the member `parent` is the name of that bucket
 unfoldable pub seen_document : SettingData → EntryData → Data
 seen_document s e =
     object (text_if (codes "alg") (option_map alg_text e.item.view.alg) (text_if (codes "class") e.item.view.class (with_class_ids e.item.view.id e.class_ids
     (member (codes "name") (string e.item.view.name) (text_if (codes "parent") e.item.holder (member (codes "type") (string (type_word s e.item.view.id e.item.view.kind))
     (member (codes "weight") (natural e.item.view.weight) no_members)))))))
 
--- if the map has the item, these members with what the map says about the item before them; otherwise only these members
+-- if the map has the item, the members `ms` with a member before them, which has what the map says about the item; otherwise only the members `ms`
 abbrev pub seen_if : List ℕ → SettingData → Option EntryData → Members → Members
 seen_if name s None ms = ms
 seen_if name s (Some e) ms = member name (seen_document s e) ms
@@ -38,10 +38,10 @@ seen_if name s (Some e) ms = member name (seen_document s e) ms
 unfoldable pub change_document : SettingData → SettingData → ItemId → EntryPair → Data
 change_document s p i e = object (member (codes "id") (whole (item_number i)) (seen_if (codes "is") p e.after (seen_if (codes "was") s e.before no_members)))
 
--- CHANGE of the item with this id, as a list; an empty list if both maps say the same about the item
+-- CHANGE: the value for the item with this id, as a list. The list is empty if both maps say the same about the item
 abbrev pub change_at : PlainMap → PlainMap → ItemId → List Data
 change_at old new i = if is_some (id_difference Changes old.table new.table i) then change_document old.setting new.setting i (id_entries old.table new.table i) ∷ [] else []
 
--- the changes of the items with these ids
+-- the values for those items with these ids about which the two maps say different things
 abbrev pub changes_at : PlainMap → PlainMap → List ItemId → List Data
 changes_at old new ids = flat_map (change_at old new) ids

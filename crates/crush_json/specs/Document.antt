@@ -3,12 +3,12 @@ use Rattle.std.specs.Prelude.{ℕ, List, ◌++◌, Option, Some, None, codes}
 use Rattle.serde_json.specs.Data.{Data, object, Members, member, no_members}
 use Rattle.serde_json.specs.Written.{compact_text}
 
--- if there is a history, these members with the history before them; otherwise only these members
+-- if there is a history, the members `ms` with the member `history` before them; otherwise only the members `ms`
 abbrev pub with_history : Option Data → Members → Members
 with_history None ms = ms
 with_history (Some h) ms = member (codes "history") h ms
 
--- an object with one value under its name. If there is a history, it comes before the value
+-- an object with a member that has this name, and the value `told`. If there is a history, the member `history` comes before this member
 abbrev pub document_of : List ℕ → Option Data → Data → Data
 document_of name history told = object (with_history history (member name told no_members))
 

@@ -15,7 +15,7 @@ use Rattle.crush_json.specs.MapDocument.{bucket_document, device_document, item_
 abbrev pub leaf_document : LeafData → Data
 leaf_document d = device_document (device_view None d)
 
--- the values for the items of a bucket, but not for the items below these. The first item has the position `place`
+-- the values for the items that the bucket itself holds, but not for the items that are deeper in the tree. The first item has the position `place`
 abbrev pub placed_documents : ℕ → Items → List Data
 placed_documents place none = []
 placed_documents place (device d rest) = item_document place (device_view None d) ∷ placed_documents (place + 1) rest
@@ -25,13 +25,13 @@ placed_documents place (bucket h w m below rest) = item_document place (bucket_v
 abbrev pub own_document : SettingData → BucketData → Data
 own_document s b = bucket_document (kind_text s b.header.kind) (placed_documents 0 b.kids) (bucket_view None b.header b.weight)
 
--- the ids of items that one bucket holds
+-- the ids of the items that one bucket itself holds
 abbrev pub item_ids : Items → List ItemId
 item_ids none = []
 item_ids (device d rest) = Device d.id ∷ item_ids rest
 item_ids (bucket h w m below rest) = Bucket h.id ∷ item_ids rest
 
--- THE BUCKETS of a table, from the id -1 downward. Each bucket of the list has the items that it has in the table. A bucket that isn't in the list has no items in the table
+-- THE BUCKETS of a table, from the id -1 downward. `see` gives an element of the list as plain data. Each bucket of the list has the items that it has in the table. A bucket that isn't in the list has no items in the table
 pub record AreBuckets {X : Type 0} (see : X → BucketData) (t : List Row) (xs : List X) : Type 0 where
   pub items : All (λ x. kids t (see x).header.id ≡ item_ids (see x).kids) xs
   pub others : (b : ℕ) → All (λ x. (see x).header.id ≡ b → ⊥) xs → kids t b ≡ []

@@ -1,4 +1,4 @@
--- A map as a JSON value: the keys and values of `crushtool --dump`. The members of each object are sorted by name.
+-- A map as a JSON value, with the keys of `crushtool --dump`. The page docs/user/json.md says what differs from the output of that program. The members of each object are sorted by name.
 use Rattle.std.specs.Prelude.{ℕ, ◌+◌, List, [], ◌∷◌, ◌++◌, codes, map, flat_map}
 use Rattle.std.specs.Option.{option_map_or}
 use Rattle.crush_units.specs.declared.id.ItemId.{ItemId}
@@ -14,7 +14,7 @@ use Rattle.crush_json.specs.Values.{natural, whole, list, text_if}
 use Rattle.crush_json.specs.Ids.{bucket_numbers}
 use Rattle.crush_json.specs.RuleDocument.{rule_documents}
 
--- the value for the item with this id, as a list; an empty list if the table doesn't have the item
+-- the value for the item with this id, as a list. `told` gives the value. The list is empty if the table doesn't have the item
 abbrev pub of_view : List Row → ItemId → (ViewData → Data) → List Data
 of_view t i told = option_map_or (λ v. told v ∷ []) (view_of t i) []
 
@@ -35,7 +35,7 @@ kind_document n name = object (member (codes "name") (string name) (member (code
 unfoldable pub kind_documents : SettingData → List Data
 kind_documents s = map (λ n. kind_document n (kind_text s n)) (kind_numbers s)
 
--- the value for an item of a bucket. `place` is its position among the bucket's items, from 0. The weight of a bucket is the sum of its devices
+-- the value for an item of a bucket. `place` is the position of the item among the bucket's items, from 0. The weight of a bucket is the sum of the weights of all devices below it
 unfoldable pub item_document : ℕ → ViewData → Data
 item_document place v =
     object (member (codes "id") (whole (item_number v.id)) (member (codes "pos") (natural place) (member (codes "weight") (natural v.weight) no_members)))
@@ -52,7 +52,7 @@ bucket_document kind items v =
     (member (codes "items") (list items) (member (codes "name") (string v.name) (member (codes "type_id") (natural v.kind) (member (codes "type_name") (string kind)
     (member (codes "weight") (natural v.weight) no_members))))))))
 
--- the value for the bucket with this id, as a list; an empty list if the table doesn't have the bucket
+-- the value for the bucket with this id, as a list. The list is empty if the table doesn't have the bucket
 abbrev pub buckets_at : SettingData → List Row → ℕ → List Data
 buckets_at s t b = of_view t (Bucket b) (λ v. bucket_document (kind_text s v.kind) (item_documents t 0 (kids t b)) v)
 
@@ -60,11 +60,12 @@ buckets_at s t b = of_view t (Bucket b) (λ v. bucket_document (kind_text s v.ki
 unfoldable pub bucket_documents : SettingData → List Row → List Data
 bucket_documents s t = flat_map (buckets_at s t) (bucket_numbers t)
 
--- these members, and a member for each tunable. A tunable's member is inserted at the position that its name has in the order of the members' names
+-- the members `ms`, and a member for each tunable. The member for a tunable is inserted at the position that the tunable's name has in the order of the members' names
 unfoldable pub with_tunables : Members → List TunableData → Members
 with_tunables ms [] = ms
 with_tunables ms (k ∷ ks) = with_tunables (put k.name (natural k.value) ms) ks
 
+-- the value for the tunables: an object with a member for each tunable, sorted by name
 unfoldable pub tunables_document : SettingData → Data
 tunables_document s = object (with_tunables no_members s.tunables)
 

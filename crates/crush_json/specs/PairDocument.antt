@@ -1,4 +1,4 @@
--- The value for a pair, which has what two maps say about an item. The id in the value comes from the pair itself.
+-- The value for a pair. A pair has what two maps say about an item. The id in the value comes from the pair itself.
 use Rattle.std.specs.Prelude.{ℕ, List, [], ◌∷◌, Option, Some, None, codes, flat_map, is_some, if◌then◌else◌, map}
 use Rattle.std.specs.Option.{option_map}
 use Rattle.crush_units.specs.declared.id.ItemId.{ItemId}
@@ -26,13 +26,15 @@ either_id before (Some b) = Some b.view.id
 either_id (Some a) None = Some a.view.id
 either_id None None = None
 
+-- the id of a pair's item
 abbrev pub pair_id : EntryPair → Option ItemId
 pair_id e = either_id (option_map (λ (x : EntryData). x.item) e.before) (option_map (λ (x : EntryData). x.item) e.after)
 
--- the value for a pair, and this value as a list. The list is empty if both maps say the same about the pair's item
+-- the value for a pair: the id of the pair's item, what the new map says about the item, and what the old map says about it
 unfoldable pub pair_document : SettingData → SettingData → EntryPair → Data
 pair_document s p e = object (whole_if (codes "id") (option_map item_number (pair_id e)) (seen_if (codes "is") p e.after (seen_if (codes "was") s e.before no_members)))
 
+-- the value for a pair, as a list. The list is empty if both maps say the same about the pair's item
 abbrev pub pair_change : Identity → SettingData → SettingData → EntryPair → List Data
 pair_change by s p e = if is_some (pair_difference by Changes s p e) then pair_document s p e ∷ [] else []
 
@@ -44,12 +46,12 @@ pair_changes both = flat_map (λ p. pair_change both.identity both.old.map.now.s
 abbrev pub seen_entry : ItemData → List ShadowData → EntryData
 seen_entry x ids = record { item = x; class_ids = ids }
 
--- TOKENS of a bucket's class ids; none for a device
+-- TOKENS of the member with a bucket's class ids; no tokens for a device
 abbrev pub class_ids_tokens_if : ItemId → List ShadowData → List Token
 class_ids_tokens_if (Device d) xs = []
 class_ids_tokens_if (Bucket b) xs = member_tokens (codes "class_ids") (class_ids_document xs)
 
--- the tokens of what a map says about an item; none if the map doesn't have the item
+-- the tokens of a member with what a map says about an item; no tokens if the map doesn't have the item
 abbrev pub seen_tokens_if : List ℕ → SettingData → Option EntryData → List Token
 seen_tokens_if name s None = []
 seen_tokens_if name s (Some e) = member_tokens name (seen_document s e)

@@ -1,4 +1,4 @@
--- A plan as a JSON value: its edits as the commands that a monitor takes. The members of each object are sorted by name.
+-- A plan as a JSON value. Each edit of the plan is a command in the form that a monitor of Ceph accepts. The members of each object are sorted by name.
 use Rattle.std.specs.Prelude.{ℕ, true, List, [], ◌∷◌, ◌++◌, Option, Some, None, codes, map}
 use Rattle.std.specs.Str.Lossy.{utf8_lossy}
 use Rattle.crush_units.specs.ExactWeight.{exact_text}
@@ -14,13 +14,15 @@ use Rattle.serde_json.specs.Data.{Data, boolean, string, object, member, no_memb
 use Rattle.serde_json.specs.Written.{outline}
 use Rattle.crush_json.specs.Values.{natural, list}
 
--- these members with a member before them that has this value; the same with a text as the value; and the member with a weight, which is an exact decimal number
+-- the members `ms` with a member before them, which has this name and this value
 abbrev pub told : List ℕ → Data → json.Members → json.Members
 told name d ms = json.member name (outline d) ms
 
+-- the members `ms` with a member before them, which has this name and a text as its value
 abbrev pub text : List ℕ → List ℕ → json.Members → json.Members
 text name s ms = told name (string s) ms
 
+-- the last member of a command that has a weight. The weight is a decimal number, written with its exact text
 abbrev pub weight : ℕ → json.Members
 weight w = json.member (codes "weight") (json.number (exact_text w)) json.no_members
 
@@ -32,7 +34,7 @@ pair_values at = map (λ p. string (pair_word p)) at
 abbrev pub one_name : List ℕ → Data
 one_name name = list (string name ∷ [])
 
--- COMMANDS as values. Each of the following definitions is for commands with other arguments. The first argument of each definition is the words of the command
+-- COMMANDS as values. Each of the following definitions is for one list of arguments. `weighing` is for both kinds of edit that set a weight, and each other definition is for one kind of edit. The first argument `prefix` of each definition is the words with which the command begins
 unfoldable pub placing : List ℕ → ℕ → ℕ → List Pair → json.Json
 placing prefix device w at =
     json.object (told (codes "args") (list (pair_values at)) (told (codes "id") (natural device) (text (codes "prefix") prefix (weight w))))
@@ -63,7 +65,7 @@ classing prefix name class = json.object (text (codes "class") class (told (code
 unfoldable pub declassing : List ℕ → List ℕ → json.Json
 declassing prefix name = json.object (told (codes "ids") (one_name name) (text (codes "prefix") prefix json.no_members))
 
--- an edit as the value for a command with these words
+-- the value for the command of an edit. The command begins with the words `prefix`
 abbrev pub prefixed : List ℕ → Edit → json.Json
 prefixed prefix (Place how device name w at) = placing prefix device w at
 prefixed prefix (Move name at) = moving prefix name at
@@ -76,11 +78,11 @@ prefixed prefix (Rename from to) = renaming prefix from to
 prefixed prefix (SetClass name class) = classing prefix name class
 prefixed prefix (RemoveClass name) = declassing prefix name
 
--- the words of the command for an edit: `osd crush `, and the word that the edit's command has in a script
+-- the words with which the command of an edit begins: `osd crush `, and the word that stands for the edit in a script
 abbrev pub command_words : Edit → List ℕ
 command_words e = codes "osd crush " ++ keyword_word (edit_keyword e)
 
--- AN EDIT as the value for its command
+-- AN EDIT as the value for the command that does the edit
 abbrev pub command : Edit → json.Json
 command e = prefixed (command_words e) e
 
@@ -93,10 +95,11 @@ all_of (j ∷ js) = json.item j (all_of js)
 abbrev pub line_value : List ℕ → Data
 line_value line = string (utf8_lossy line)
 
+-- the lines that describe the differences that remain, as a list of texts
 unfoldable pub stays_document : List (List ℕ) → Data
 stays_document rest = list (map line_value rest)
 
--- if there is a history, these members with the history before them; otherwise only these members
+-- if there is a history, the members `ms` with the member `history` before them; otherwise only the members `ms`
 abbrev pub behind_history : Option Data → json.Members → json.Members
 behind_history None ms = ms
 behind_history (Some h) ms = told (codes "history") h ms

@@ -1,4 +1,4 @@
--- What differs in the rules and in the classes of two maps as JSON values. The members of each object are sorted by name.
+-- The differences between the rules and between the classes of two maps as JSON values. The members of each object are sorted by name.
 use Rattle.std.specs.Prelude.{ℕ, List, Option, codes, map}
 use Rattle.crush_compare.specs.declared.identity.Identity.TheVariants.{Ids}
 use Rattle.crush_since.specs.Classes.{ClassChangeData, class_changes}
@@ -12,15 +12,16 @@ use Rattle.crush_json.specs.Values.{natural, text_if}
 unfoldable pub named_rule_document : List ℕ → List ℕ → Data
 named_rule_document change name = object (member (codes "change") (string change) (member (codes "name") (string name) no_members))
 
--- the value which says that the rules are in another order. It has no name of a rule
+-- the value which says that the rules are in another order. Unlike the other values, this value doesn't have the name of a rule
 unfoldable pub order_document : Data
 order_document = object (member (codes "change") (string (codes "other order")) no_members)
 
--- the value for a step of a rule that takes nothing any more: the name of the rule, and the bucket and the class that the step takes
+-- the value for a step of a rule that takes nothing any more: the name of the rule, and the bucket and the class that the step takes. The devices that such a step takes have the total weight 0 in the new map, and had a greater total weight in the old map
 unfoldable pub takes_nothing_document : List ℕ → List ℕ → Option (List ℕ) → Data
 takes_nothing_document rule bucket class =
     object (member (codes "bucket") (string bucket) (member (codes "change") (string (codes "takes nothing")) (text_if (codes "class") class (member (codes "name") (string rule) no_members))))
 
+-- the value for a difference between the rules of two maps
 abbrev pub rule_change_document : RuleChangeData → Data
 rule_change_document (rule_new name) = named_rule_document (codes "new") name
 rule_change_document (rule_differs name) = named_rule_document (codes "differs") name
@@ -37,6 +38,6 @@ unfoldable pub class_change_document : ClassChangeData → Data
 class_change_document x =
     object (member (codes "is") (natural x.is) (member (codes "name") (string x.name) (member (codes "taken") (boolean x.is_taken) (member (codes "was") (natural x.was) no_members))))
 
--- CLASSES whose devices have another total weight in the new map, and classes that are new and that no rule takes. They are in the order of their names
+-- CLASSES: a value for each class whose devices have another total weight in the new map than in the old map, and for each class that only devices of the new map have and that no rule of the new map takes. The values are in the order of the names of the classes
 unfoldable pub class_change_documents : PlainMap → PlainMap → List Data
 class_change_documents old new = map class_change_document (class_changes old.table new.table new.setting.rules)

@@ -18,7 +18,7 @@ number_members es = members_of (map (λ e. (e.0, natural e.1)) es)
 abbrev pub history_data : History → Data
 history_data h = history_document (names_of (scripts_data h.scripts.now)) h.entries.now
 
--- there are fewer than 2^32 entries, so that each entry has a number, and the operator of each entry has a script
+-- the history has fewer than 2^32 entries, so that the number of each entry fits into 32 bits, and the operator of each entry has a script
 pub record IsHistory (h : History) : Type 0 where
   pub few : length h.entries.now < 2 ^ 32
   pub operators : AreOf (length h.scripts.now) h.entries.now

@@ -24,27 +24,27 @@ ids_of (Some i) t u = part_ids t u i
 unfoldable pub change_documents : Option ItemId → PlainMap → PlainMap → List Data
 change_documents under old new = changes_at old new (ids_of under old.table new.table)
 
--- how many items differ in each way
+-- for each way in which an item can differ, the number of items that differ in this way
 unfoldable pub counts_document : Tally → Data
 counts_document n =
     object (member (codes "class") (natural n.reclassed) (member (codes "made") (natural n.made) (member (codes "moved") (natural n.moved)
     (member (codes "removed") (natural n.removed) (member (codes "renamed") (natural n.renamed) (member (codes "weight") (natural n.reweighed) no_members))))))
 
--- the value which says whether two parts of the settings differ
+-- the value which says whether a part of the settings, such as the tunables, differs between the two maps. `same` says whether this part is the same
 abbrev pub differ : Bool → Data
 differ same = boolean (not same)
 
--- the total weights of all placed devices: first the weight in the old map, and then the weight in the new map
+-- the total weights of all devices that buckets hold: first the total weight in the old map, and then the total weight in the new map
 abbrev pub totals_document : ℕ → ℕ → Data
 totals_document before after = list (natural before ∷ natural after ∷ [])
 
--- these members with four members before them: for the rules, the total weights, the tunables and the types
+-- the members `ms` with four members before them, which are for the rules, the total weights, the tunables and the types
 abbrev pub with_last : PlainMap → PlainMap → Members → Members
 with_last old new ms =
     member (codes "rules") (list (rule_change_documents old new)) (member (codes "total") (totals_document (total old.table) (total new.table))
     (member (codes "tunables") (differ (pointwise same_tunable old.setting.tunables new.setting.tunables)) (member (codes "types") (differ (same_kinds old.setting new.setting)) ms)))
 
--- SINCE DOCUMENT: the items that differ. For whole maps, the document also has the classes and the rules that differ, how many items differ in each way, the total weights, and whether the tunables and the types differ
+-- SINCE DOCUMENT: what has changed from the old map to the new map. If a part is given, the value has only the items of the part that differ. Otherwise the value has all items that differ, the classes and the rules that differ, the numbers of items that differ in each way, the total weights, and whether the tunables and the types differ
 unfoldable pub since_document : Option ItemId → PlainMap → PlainMap → Data
 since_document None old new =
     object (member (codes "classes") (list (class_change_documents old new)) (member (codes "counts") (counts_document (tally_of old.table new.table (all_ids old.table new.table)))

@@ -1,4 +1,4 @@
--- The tokens of what has changed, as a writer writes them.
+-- The tokens of the value that says what has changed, in the order in which a writer writes them.
 use Rattle.std.specs.Prelude.{List, ◌++◌, codes}
 use Rattle.std.specs.Cmp.Lexicographic.{pointwise}
 use Rattle.crush_model.specs.Table.{total}

@@ -1,4 +1,4 @@
--- The tokens of JSON values, as a writer writes them.
+-- The tokens of JSON values, in the order in which a writer writes them.
 use Rattle.std.specs.Prelude.{ℕ, ℤ, List, [], ◌∷◌, ◌++◌, Option, Some, None, codes, flat_map}
 use Rattle.crush_units.specs.declared.id.ItemId.{ItemId}
 use Rattle.crush_units.specs.declared.id.ItemId.TheVariants.{Device, Bucket}
@@ -26,11 +26,12 @@ tokens_of_all ds = flat_map tokens_of ds
 abbrev pub member_tokens : List ℕ → Data → List Token
 member_tokens name d = key name ∷ tokens_of d
 
--- the tokens of a member with a text or a number; no tokens if there is no text or number
+-- the tokens of a member with a text; no tokens if there is no text
 abbrev pub text_tokens_if : List ℕ → Option (List ℕ) → List Token
 text_tokens_if name None = []
 text_tokens_if name (Some text) = member_tokens name (string text)
 
+-- the tokens of a member with a whole number; no tokens if there is no number
 abbrev pub whole_tokens_if : List ℕ → Option ℤ → List Token
 whole_tokens_if name None = []
 whole_tokens_if name (Some z) = member_tokens name (whole z)
@@ -46,11 +47,11 @@ item_tokens s v =
     member_tokens (codes "id") (whole (item_number v.id)) ++ member_tokens (codes "name") (string v.name) ++ member_tokens (codes "type") (string (type_word s v.id v.kind))
     ++ member_tokens (codes "type_id") (natural v.kind) ++ member_tokens (codes "weight") (natural v.weight)
 
--- the tokens of a weight as an exact decimal number
+-- the tokens of the member `weight`, whose value is a decimal number, written with the exact text of the weight
 abbrev pub weight_tokens : ℕ → List Token
 weight_tokens w = key (codes "weight") ∷ Token.number (exact_text w) ∷ []
 
--- the tokens of the last members of an entry of a history
+-- the tokens of the last members of the object for an entry of a history
 abbrev pub last_tokens : ℕ → List ℕ → Option (List ℕ) → List ℕ → List Token
 last_tokens number operator refusal reply =
     member_tokens (codes "number") (natural number) ++ member_tokens (codes "operator") (string operator) ++ text_tokens_if (codes "refusal") refusal

@@ -1,4 +1,4 @@
--- The tree of a map as a JSON value, with the keys of `ceph osd tree -f json`. The members of each object are sorted by name.
+-- The tree of a map as a JSON value. If `ceph osd tree -f json` prints the same data, the value has Ceph's keys. The page docs/user/json.md says what differs. The members of each object are sorted by name.
 use Rattle.std.specs.Prelude.{ℕ, Bool, true, false, not, List, [], ◌∷◌, Option, Some, None, if◌then◌else◌, codes, map, flat_map, unwrap_or}
 use Rattle.crush_units.specs.declared.id.ItemId.{ItemId}
 use Rattle.crush_units.specs.declared.id.ItemId.TheVariants.{Device, Bucket}
@@ -14,26 +14,27 @@ use Rattle.crush_json.specs.Values.{natural, whole, list, text_if}
 abbrev pub id_values : List ItemId → List Data
 id_values is = map (λ i. whole (item_number i)) is
 
--- these members with the ids of a bucket's items before them. A device has no items, so nothing comes before its members
+-- for a bucket, the members `ms` with the member `children` before them, which has the ids of the bucket's items; for a device, only the members `ms`, because a device has no items
 abbrev pub with_children : List Row → ItemId → Members → Members
 with_children t (Device d) ms = ms
 with_children t (Bucket b) ms = member (codes "children") (list (id_values (kids t b))) ms
 
--- the name of an item's type. If the setting doesn't have the type, this is `osd` for a device, and an empty text for a bucket
+-- the name of an item's type if the setting doesn't have the type: `osd` for a device, and an empty text for a bucket
 abbrev pub default_type : ItemId → List ℕ
 default_type (Device d) = codes "osd"
 default_type (Bucket b) = []
 
+-- the name of the type `kind` of an item, also if the setting doesn't have the type
 abbrev pub type_word : SettingData → ItemId → ℕ → List ℕ
 type_word s i kind = unwrap_or (kind_name s kind) (default_type i)
 
--- the members that describe an item: its id, its name, its type, and its weight. The weight of a bucket is the sum of its devices
+-- the members that describe an item: its id, its name, its type, and its weight. The weight of a bucket is the sum of the weights of all devices below it
 abbrev pub item_members : SettingData → ViewData → Members
 item_members s v =
     member (codes "id") (whole (item_number v.id)) (member (codes "name") (string v.name) (member (codes "type") (string (type_word s v.id v.kind))
     (member (codes "type_id") (natural v.kind) (member (codes "weight") (natural v.weight) no_members))))
 
--- the node of an item. Its depth is the number of buckets above it
+-- the node of an item. `depth` is how many levels the item is below the top of the walk through the tree
 unfoldable pub node_document : SettingData → List Row → ℕ → ViewData → Data
 node_document s t depth v =
     object (with_children t v.id (member (codes "depth") (natural depth) (text_if (codes "device_class") v.class (item_members s v))))
@@ -44,6 +45,7 @@ is_stray_in (Device d) None = true
 is_stray_in (Device d) (Some p) = false
 is_stray_in (Bucket b) p = false
 
+-- the same, given what a table says about the item
 abbrev pub is_stray : ViewData → Bool
 is_stray v = is_stray_in v.id v.parent
 
@@ -51,10 +53,11 @@ is_stray v = is_stray_in v.id v.parent
 abbrev pub is_among : Bool → ViewData → Bool
 is_among stray v = if stray then is_stray v else not (is_stray v)
 
+-- the node of a step, as a list. The list is empty if the step's item isn't among the items that `stray` selects
 abbrev pub node_if : SettingData → List Row → Bool → WalkStepData → List Data
 node_if s t stray x = if is_among stray x.item then node_document s t x.depth x.item ∷ [] else []
 
--- the nodes of the steps whose items are stray if `stray` is true; otherwise the nodes of the other steps
+-- if `stray` is true, the nodes of the steps whose items are stray; otherwise the nodes of the other steps
 unfoldable pub node_documents : SettingData → List Row → Bool → List WalkStepData → List Data
 node_documents s t stray steps = flat_map (node_if s t stray) steps
 
