@@ -5,12 +5,12 @@ use Rattle.crush_conflicts.specs.Conflicts.{OperatorData}
 use Rattle.crush_conflicts.specs.declared.conflicts.MapAlone.{MapAlone}
 use Rattle.crush_conflicts.specs.declared.maps.Operator.{Operator}
 
--- the operator has this name, and its map represents this table
+-- x has the name of the operator d, and the map of x represents the table of d
 pub record IsMapAlone {A : _} (d : OperatorData) (x : MapAlone A) : Type 0 where
   pub name : x.name.now ≡ d.name
   pub table : Stands x.map.forest d.table
 
--- the operator has this name, and its items are the items of this table
+-- x has the name of the operator d, and the items of x are the items of the table of d
 pub record IsOperator {A : _} (d : OperatorData) (x : Operator A) : Type 0 where
   pub name : x.name.now ≡ d.name
   pub table : Stands x.items d.table

@@ -1,4 +1,4 @@
--- The values for items as plain data, without a table; and when a list of buckets agrees with a table.
+-- The values for items that are given as plain data, without a table. The definition AreBuckets says when a list of buckets agrees with a table.
 use Rattle.std.specs.Prelude.{◌≡◌, ℕ, ◌+◌, List, [], ◌∷◌, None, All}
 use Rattle.std.specs.List.Sorted.{IsNonDecreasingBy}
 use Rattle.crush_units.specs.declared.id.ItemId.{ItemId}
