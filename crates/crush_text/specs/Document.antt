@@ -12,7 +12,7 @@ use Rattle.crush_text.specs.Grammar.{next}
 use Rattle.crush_text.specs.Rows.{IsRight}
 use Rattle.crush_text.specs.Flow.{State, between, amid, arrive, takes_statement}
 
--- w is right as the next word of the form, and m is the state after it: w has no fault in its role, and m is the state in which the form after w is required, if the words `rest` follow w
+-- w is right as the next word of the form, and m is the state after it. This means: w has no fault in its role. If the words `rest` follow w, then m is the state in which the form after w is required
 abbrev pub SpellsForm : Draft → Form → List ℕ → List Word → State → Type 0
 SpellsForm d (word r more) w rest m = IsRight d r w × (m ≡ arrive d rest (more (value d r w)))
 SpellsForm d (done p) w rest m = ⊥
@@ -24,7 +24,7 @@ abbrev pub SpellsNext : State → List ℕ → List Word → State → Type 0
 SpellsNext (between p) w rest m = SpellsForm p.draft (next p) w rest m
 SpellsNext (amid d f) w rest m = SpellsForm d f w rest m
 
--- SPELL: read one after the other, the words lead from the state s to the state m, if the words `others` follow them
+-- SPELL: if the reader reads these words one after the other, and the words `others` follow them, then no word has a fault, and the reader goes from the state s to the state m
 abbrev pub Spell : State → List Word → List Word → State → Type 0
 Spell s [] others m = s ≡ m
 Spell s (w ∷ ws) others m = (u : State) × SpellsNext s w.text (ws ++ others) u × Spell u ws others m
@@ -38,7 +38,7 @@ IsWhole (amid e f) d = ⊥
 abbrev pub start : State
 start = between (at first empty_draft)
 
--- A DOCUMENT: all words of the text spell lines, which build the draft d from the empty draft; the text may end after the last word; and reading stops at the end of the text, not at a bad byte or at a word that is too long
+-- A DOCUMENT is a text with three properties. First, all its words spell lines, which build the draft d from the empty draft. Second, the text may end after the last word. Third, reading stops at the end of the text, not at a byte that no text may contain or at a word that is too long
 pub record IsDocument (t : Text) (d : Draft) : Type 0 where
   pub last : State
   pub spelled : Spell start t.words [] last
@@ -50,8 +50,7 @@ pub record IsMap (d : Draft) : Type 0 where
   pub lawful : Lawful d.table
   pub fits : Fits d.setting d.table
 
--- THE MAP of a text: the bytes are a document that builds the setting s and the table t. `adjusted` is the number of written weights of
--- buckets that aren't the buckets' sums
+-- THE MAP of a text: the bytes are a document that builds the setting s and the table t. `adjusted` is the number of buckets for which the text gives a weight that isn't the sum of the weights of the devices below the bucket
 pub record IsMapText (bytes : List ℕ) (s : SettingData) (t : List Row) (adjusted : ℕ) : Type 0 where
   pub draft : Draft
   pub document : IsDocument (words 0 bytes) draft

@@ -1,4 +1,4 @@
--- What is expected for each role of a word, and for each optional part that could follow.
+-- What the grammar expects at a word of each role, and the words with which each optional part can begin.
 use Rattle.std.specs.Prelude.{ℕ, Bool, true, false, List, [], ◌∷◌, bytes_eq, codes, if◌then◌else◌}
 use Rattle.crush_units.specs.declared.id.ItemId.{ItemId}
 use Rattle.crush_units.specs.declared.id.ItemId.TheVariants.{Device, Bucket}
@@ -21,7 +21,7 @@ keyword_word keyword.Weight = codes "weight"
 keyword_word keyword.MinSize = codes "min_size"
 keyword_word keyword.MaxSize = codes "max_size"
 
--- the keyword with this word; the grammar has no other keywords
+-- the keyword with this word. Any word that isn't one of the first seven keywords gives `MaxSize`. Of all these words, the grammar uses only `max_size` as a keyword
 abbrev pub keyword_of : List ℕ → Keyword
 keyword_of w =
     if bytes_eq w (codes "{") then keyword.Brace
@@ -47,7 +47,7 @@ abbrev pub is_device : ItemId → Bool
 is_device (Device n) = true
 is_device (Bucket b) = false
 
--- WHAT IS EXPECTED at the place of a word with this role
+-- WHAT IS EXPECTED at the place of a word with this role, as a fault reports it
 abbrev pub expected : Role → Expected
 expected (key k) = expect.Keyword (keyword_of k)
 expected (any_word e) = e

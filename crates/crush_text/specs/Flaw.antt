@@ -11,7 +11,7 @@ use Rattle.crush_text.specs.Rows.{IsFault}
 use Rattle.crush_text.specs.Flow.{State, between, amid, takes_statement, expected_at}
 use Rattle.crush_text.specs.Document.{Spell, start}
 
--- f is the fault of the word w if this form is required next: w has the fault f in the role of the form's next word. If the form requires no word, the fault is `Unexpected`; reading never reaches such a form
+-- f is the fault of the word w if this form is required next: w has the fault f in the role of the form's next word. If the form requires no word, the fault is `Unexpected`, but reading never reaches such a form
 abbrev pub FaultyForm : TextFaultKind → Draft → Form → List ℕ → Type 0
 FaultyForm f d (word r more) w = IsFault f d r w
 FaultyForm f d (done p) w = f ≡ Unexpected
@@ -36,13 +36,13 @@ IsEnded s place f = (f ≡ record { kind = Ended; place = place; expected = expe
 abbrev pub IsBadWord : State → ℕ → TextFault → Type 0
 IsBadWord s place f = f ≡ record { kind = BadWord; place = place; expected = expected_at s }
 
--- f is the fault of the next word; or, if there is no next word, f is the fault at the end of the words. f also says what is expected in the state s
+-- f is the fault in the state s. If there is a next word, f is the fault of this word. If there is no next word, f is the fault at the end of the words. f also says what is expected in the state s
 abbrev pub IsFaulty : State → List Word → Stop → TextFault → Type 0
 IsFaulty s [] (ended place) f = IsEnded s place f
 IsFaulty s [] (bad place) f = IsBadWord s place f
 IsFaulty s (w ∷ ws) stop f = FaultyNext f.kind s w.text × (f.place ≡ w.place) × (f.expected ≡ expected_at s)
 
--- A FLAW of a text: the words before it spell lines, and perhaps a part of a line. The next word has the fault f; or, if there is no next word, the end of the words has it
+-- A FLAW of a text is its first fault. The words before the fault spell lines, and perhaps the beginning of one more line. The next word has the fault f. If there is no next word, f is the fault at the end of the words
 pub record IsFlaw (t : Text) (f : TextFault) : Type 0 where
   pub before : List Word
   pub next : List Word

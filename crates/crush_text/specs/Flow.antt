@@ -13,30 +13,29 @@ use Rattle.crush_text.specs.declared.expected.Expected.TheVariants.{Memory}
 use Rattle.crush_text.specs.Expected.{expected}
 
 infixl 10 ◌>>=◌
--- one computation after the other. If the first one fails, its error is the result
+-- one computation after the other: f gets the value of the first computation. If the first computation fails, its error is the result
 abbrev pub ◌>>=◌ : {A B E : Type 0} → Result A E → (A → Result B E) → Result B E
 (Ok x) >>= f = f x
 (Err e) >>= f = Err e
 
--- the state of reading: between two lines, with the progress so far; or inside a line, with the draft so far and the form that the rest of the line must have
+-- the state of the reader. `between`: between two lines, with the progress so far. `amid`: inside a line, with the draft before the line and the form that the rest of the line must have
 pub data State : Type 0 where
   between : Progress → State
   amid : Draft → Form → State
 
--- the state in which this form is required next, if the words `rest` follow. These words decide whether an optional part is there
+-- the state in which this form is required next, if the words `rest` follow. These words decide whether an optional part of the form is there
 abbrev pub arrive : Draft → List Word → Form → State
 arrive d rest (done p) = between p
 arrive d rest (word r more) = amid d (word r more)
 arrive d rest (optional k f g) = if begins_with_key k rest then arrive d rest f else arrive d rest g
 arrive d rest (ahead k f g) = if begins_with_key k (drop 1 rest) then arrive d rest f else arrive d rest g
 
--- the state after the word w, if this form is required and the words `rest` follow w; or the fault of w
+-- the state after the word w, if this form is required and the words `rest` follow w. If w has a fault, the result is this fault. If the form requires no word, the fault is `Unexpected`, but reading never reaches such a form
 abbrev pub take : Draft → Form → List ℕ → List Word → Result State TextFaultKind
 take d (word r more) w rest = word_for d r w >>= λ v. Ok (arrive d rest (more v))
 take d f w rest = Err Unexpected
 
--- the state after one more word, if the words `rest` follow it; or the word's fault. Whether the line has an optional part is decided at the word before that part,
--- by the next word or by the word after the next
+-- the state after one more word, if the words `rest` follow it. If the word has a fault, the result is this fault. If an optional part could come directly after the word, then the words `rest` decide whether the line has this part: the next word decides, or, for the form `ahead`, the word after the next one
 unfoldable pub step : State → List ℕ → List Word → Result State TextFaultKind
 step (between p) w rest = take p.draft (next p) w rest
 step (amid d f) w rest = take d f w rest
@@ -53,27 +52,27 @@ abbrev pub expected_at : State → Expected
 expected_at (between p) = expected_form (next p)
 expected_at (amid d f) = expected_form f
 
--- the same result, except that a fault also gets its place and what is expected there
+-- the same result, but a fault also has its place and what is expected there
 abbrev pub placed : {A : Type 0} → ℕ → Expected → Result A TextFaultKind → Result A TextFault
 placed place e (Ok x) = Ok x
 placed place e (Err kind) = Err (record { kind = kind; place = place; expected = e })
 
--- whether a statement may begin in this mode, and so the text may end
+-- whether a statement may begin in this mode. In exactly these modes, the text may also end
 abbrev pub takes_statement : Mode → Bool
 takes_statement first = true
 takes_statement second = true
 takes_statement m = false
 
--- the fault that the text ends inside a statement
+-- failing with the fault that the text ends inside a statement. `place` is the end of the text, and e is what is expected there
 abbrev pub unfinished : ℕ → Expected → Result Draft TextFault
 unfinished place e = Err (record { kind = Ended; place = place; expected = e })
 
--- the result if the text ends in this state: the draft, or the fault that it ends inside a statement
+-- the result if the text ends in this state: the draft that was built, or the fault that the text ends inside a statement
 abbrev pub end_at : ℕ → State → Result Draft TextFault
 end_at place (between p) = if takes_statement p.mode then Ok p.draft else unfinished place (expected_form (next p))
 end_at place (amid d f) = unfinished place (expected_form f)
 
--- the result if there are no more words: the result at the end of the text, or the fault BadWord at a bad byte or at a word that is too long
+-- the result if there are no more words. At the end of the text, it is the result of `end_at`. At a byte that no text may contain, or at a word that is too long, it is the fault BadWord
 abbrev pub stop_at : State → Stop → Result Draft TextFault
 stop_at s (ended place) = end_at place s
 stop_at s (bad place) = Err (record { kind = BadWord; place = place; expected = expected_at s })
@@ -87,7 +86,7 @@ run s (w ∷ ws) stop = placed w.place (expected_at s) (step s w.text ws) >>= λ
 unfoldable pub outcome : State → Text → Result Draft TextFault
 outcome s t = run s t.words t.stop
 
--- one of the words is at this place, and neither this word nor any word before it has a fault
+-- the reader reaches the place without a fault: one of the words is at this place, and neither this word nor any word before it has a fault
 abbrev pub Reaches : ℕ → State → List Word → Type 0
 Reaches place s [] = ⊥
 Reaches place s (w ∷ ws) = (m : State) × (step s w.text ws ≡ Ok m) × ((place ≡ w.place) ⊎ Reaches place m ws)

@@ -1,4 +1,4 @@
--- Which words may follow other words of a map's text.
+-- Which word may follow after other words of a map's text.
 use Rattle.std.specs.Prelude.{◌≡◌, ◌⊎◌, ℕ, List, [], ◌∷◌}
 use Rattle.crush_builder.specs.Built.{Draft}
 use Rattle.crush_units.specs.Words.{Word}
@@ -15,24 +15,24 @@ abbrev pub IsOneOf : List (List ℕ) → List ℕ → Type 0
 IsOneOf [] w = ⊥
 IsOneOf (k ∷ ks) w = (w ≡ k) ⊎ IsOneOf ks w
 
--- the role of a word if a weight follows it: the role `lone_item`, for an item's name without a weight, becomes `item`; any other role stays the same
+-- the role of a word if a weight follows the word. For the name of an item, this is `item`. Any other role stays the same
 abbrev pub weighed : Role → Role
 weighed lone_item = item
 weighed r = r
 
--- the word w has no fault as the next word of this form. An item's name is accepted if it has no fault when a weight follows it
+-- the word w has no fault as the next word of this form. The name of an item fits if it has no fault when a weight follows it
 abbrev pub FitsForm : Draft → Form → List ℕ → Type 0
 FitsForm d (word r more) w = IsRight d (weighed r) w
 FitsForm d (done p) w = ⊥
 FitsForm d (optional k f g) w = ⊥
 FitsForm d (ahead k f g) w = ⊥
 
--- THE WORDS THAT MAY FOLLOW in this state: the words without a fault in the role that is expected, and the words with which a left-out optional part can begin. `expected_at` names this role and this optional part
+-- THE WORDS THAT MAY FOLLOW in this state. These are the words without a fault in the role that is expected, and the words with which the optional part can begin that was just left out. `expected_at` names this role and this optional part
 abbrev pub MayFollow : State → List ℕ → Type 0
 MayFollow (between p) w = IsOneOf (words_of p.passed) w ⊎ FitsForm p.draft (next p) w
 MayFollow (amid d f) w = FitsForm d f w
 
--- THE TEXT GOES ON with the word w after the words `before`: if certain other words follow w, then neither the words `before` nor w has a fault
+-- THE TEXT GOES ON with the word w after the words `before`. If the words `others` follow w, then neither w nor any of the words `before` has a fault
 pub record GoesOn (before : List Word) (w : Word) : Type 0 where
   pub others : List Word
   pub so_far : State

@@ -1,4 +1,4 @@
--- The forms of lines: which words the rest of a line may consist of.
+-- The forms of lines: which words can follow in the rest of a line.
 use Rattle.std.specs.Prelude.{ℕ, Bool, List}
 use Rattle.crush_edits.specs.Setting.{RuleData}
 use Rattle.crush_builder.specs.Built.{Draft}
@@ -6,8 +6,7 @@ use Rattle.crush_text.specs.declared.expected.Optional.{Optional}
 use Rattle.crush_text.specs.declared.expected.Optional.TheVariants.{Nothing}
 use Rattle.crush_text.specs.Role.{Role, El}
 
--- which lines may come next. `first`: a statement, before the first bucket or rule. `second`: a statement, after a bucket or a rule. `begun`: the line of a bucket's id. `numbered`: a class id
--- of the bucket, or its algorithm. `filling`: an item of the bucket, or its end; the Bool says that an item was read. `ruled`: a step of this rule, or the rule's end
+-- which lines may come next. `first`: a statement, before the first bucket or rule. `second`: a statement, after a bucket or a rule. `begun`: the line of a bucket's id. `numbered`: a class id of the bucket, or its algorithm. `filling`: an item of the bucket, or its end. The Bool says whether the bucket has an item already. `ruled`: a step of this rule, or the rule's end
 pub data Mode : Type 0 where
   first : Mode
   second : Mode
@@ -16,7 +15,7 @@ pub data Mode : Type 0 where
   filling : Bool → Mode
   ruled : RuleData → Mode
 
--- the draft that the lines so far have built, which lines may come next, and which optional part was left out at the end of the last line
+-- the progress after some lines: the draft that the lines have built, which lines may come next, and the optional part that the last line has left out at its end. A draft is an unfinished map
 pub record Progress : Type 0 where
   pub mode : Mode
   pub draft : Draft
@@ -30,8 +29,7 @@ at m d = record { mode = m; draft = d; passed = Nothing }
 abbrev pub passing : Optional → Progress → Progress
 passing k p = record p { passed = k }
 
--- the form of the rest of a line. `done`: the line is complete, with this progress. `word`: a word of this role, and then the form that depends on its value. `optional`: the first form if the next word is the key,
--- otherwise the second. `ahead`: the first form if the word after the next one is the key, otherwise the second
+-- the form of the rest of a line. `done`: the line is complete, with this progress. `word`: a word of this role, and then the form that depends on the word's value. `optional`: the first form if the next word is the key, otherwise the second form. `ahead`: the first form if the word after the next one is the key, otherwise the second form
 pub data Form : Type 0 where
   done : Progress → Form
   word : (r : Role) → (El r → Form) → Form

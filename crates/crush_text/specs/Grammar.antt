@@ -1,5 +1,4 @@
--- THE GRAMMAR, line by line. A line here is a part of the text that adds one thing to the map, or to the bucket or the rule that is being read. Line feeds don't matter: each comment gives the words of a line.
--- N is a number, NEG is `-` and a number, and INT is a number with or without `-`. `[ ]` enclose an optional part. d is the draft before the line.
+-- THE GRAMMAR, line by line. A line here is a part of the text that adds one thing to the map, or to the bucket or the rule that is being read. Line feeds don't matter. The comment of each definition gives the words of a line. N is a number, NEG is `-` and a number, and INT is a number with or without `-`. `[ ]` enclose an optional part. d is the draft before the line.
 use Rattle.std.specs.Prelude.{ℕ, Bool, List, [], ◌∷◌, ◌++◌, Option, true, false, codes, length, if◌then◌else◌, Some, None}
 use Rattle.crush_units.specs.declared.id.ItemId.{ItemId}
 use Rattle.crush_edits.specs.Setting.{StepData, take, choose, set, emit, RuleData}
@@ -43,7 +42,7 @@ device_line d = do
   x ← new_name
   device_class d n x
 
--- TYPE NAME. TYPE was read already: it is the name of the type k
+-- TYPE NAME. The word TYPE was read before, and is the name of the type with the number k
 abbrev pub bucket_line : Draft → ℕ → Form
 bucket_line d k = do
   x ← new_name
@@ -111,7 +110,7 @@ item_or_brace d more = if more then item_line d else done (at second (with_end d
 abbrev pub new_rule : List ℕ → ℕ → List ℕ → Option ℕ → Option ℕ → RuleData
 new_rule x n k least most = record { name = x; id = n; kind = k; min_size = least; max_size = most; steps = [] }
 
--- the optional sizes that a rule's head has left out if it has no `max_size`; the argument is its `min_size`
+-- the optional part with sizes that could still follow in the head of a rule that has no `max_size`. The argument is the head's `min_size`
 abbrev pub sizes_left : Option ℕ → Optional
 sizes_left None = Sizes
 sizes_left (Some n) = MaxSize

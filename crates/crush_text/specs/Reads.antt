@@ -34,21 +34,21 @@ word_of w = record { place = w.place; text = w.text.now }
 abbrev pub and_rest : {A : Type 0} → Text → A → Result (A × Text) TextFault
 and_rest t a = Ok (a, t)
 
--- the first of these words, and the rest of the text; or, if there are no words, the fault at their end. e is what is expected there
+-- the first of these words, and the text after it. If there are no words, this is the fault at their end. e is what is expected at this place
 abbrev pub next_of : Expected → List Word → Stop → Result (Word × Text) TextFault
 next_of e [] (ended place) = Err (record { kind = Ended; place = place; expected = e })
 next_of e [] (bad place) = Err (record { kind = BadWord; place = place; expected = e })
 next_of e (w ∷ ws) stop = and_rest (record { words = ws; stop = stop }) w
 
--- the next word of a text, and the rest of the text; or, if there is no next word, the fault at the end. e is what is expected there
+-- the next word of a text, and the text after it. If there is no next word, this is the fault at the end of the words. e is what is expected at this place
 unfoldable pub next_at : Expected → Text → Result (Word × Text) TextFault
 next_at e t = next_of e t.words t.stop
 
--- the value that the next word has in the role r, and the rest of the text; or the word's fault
+-- the value that the next word has in the role r, and the text after the word. If the word has a fault, this is the fault
 unfoldable pub word_at : Draft → (r : Role) → Text → Result (El r × Text) TextFault
 word_at d r t = next_at (expected r) t >>= λ x. placed x.0.place (expected r) (word_for d r x.0.text) >>= and_rest x.1
 
--- the progress after a line of this form, and the rest of the text; or the first fault
+-- the progress after a line of this form, and the text after the line. If the line has a fault, this is its first fault
 unfoldable pub line_at : Draft → Form → Text → Result (Progress × Text) TextFault
 line_at d (done p) t = Ok (p, t)
 line_at d (word r more) t = word_at d r t >>= λ x. line_at d (more x.0) x.1
@@ -59,7 +59,7 @@ line_at d (ahead k f g) t = if begins k (past t) then line_at d f t else line_at
 abbrev pub then_on : Result (Progress × Text) TextFault → Result Draft TextFault
 then_on r = r >>= λ x. outcome (between x.0) x.1
 
--- the weight that the word w spells for the item i, or the word's fault; this doesn't test the sums
+-- the weight that the word w spells for the item i, or the word's fault. This doesn't test whether sums of weights become too large
 abbrev pub parsed_weight : Draft → ItemId → List ℕ → Result ℕ TextFaultKind
 parsed_weight d i w = unless (weight_tests d i w) (units w)
 
@@ -67,7 +67,7 @@ parsed_weight d i w = unless (weight_tests d i w) (units w)
 abbrev pub unless_heavy : Draft → Result Draft TextFaultKind
 unless_heavy e = if is_too_heavy e.table then Err SumTooLarge else Ok e
 
--- an optional number after the key k, and then the form that depends on this number
+-- the form of an optional number after the key k, followed by the form that depends on this number
 abbrev pub number_behind : List ℕ → (Option ℕ → Form) → Form
 number_behind k more = optional k (word (key k) (λ _. word (number LARGEST_RULE_NUMBER) (λ n. more (Some n)))) (more None)
 
@@ -82,7 +82,7 @@ first_of_step (steps.Choose leaf) = chooses leaf
 first_of_step (steps.Set w) = sets w.text.now
 first_of_step steps.Emit = emits
 
--- the optional part that a step leaves out at its end
+-- the optional part that could follow after a step: the class, if the step takes a bucket without a class
 abbrev pub left_by_step : Step → Optional
 left_by_step (Take name None) = Class
 left_by_step s = Nothing
@@ -91,30 +91,30 @@ left_by_step s = Nothing
 abbrev pub behind_step : Draft → RuleData → Step → Progress
 behind_step d r s = passing (left_by_step s) (at (ruled (with_step r (kept_step d s))) d)
 
--- the function returned the value and the rest of the text that `read` has, or it failed with the fault that `read` has
+-- the result of a function agrees with the result `read` of the definitions. If the function returned x, then `read` is `view x`. If the function failed, then `read` has the same fault
 abbrev pub Gives : {X Y : Type 0} → (X → Y) → Result X TextFault → Result Y TextFault → Type 0
 Gives view (Ok x) read = read ≡ Ok (view x)
 Gives view (Err f) read = read ≡ Err f
 
--- if the function returned x, then `read` is the result of reading on after x (`go x`); if the function failed, then `read` has the same fault
+-- the result of a function agrees with the result `read` of the definitions. If the function returned x, then `read` is the result of reading on after x, which is `go x`. If the function failed, then `read` has the same fault
 abbrev pub GivesOn : {X Y : Type 0} → (X → Result Y TextFault) → Result X TextFault → Result Y TextFault → Type 0
 GivesOn go (Ok x) read = read ≡ go x
 GivesOn go (Err f) read = read ≡ Err f
 
--- reading the text `old` from the state s leads to the state m with the text `new` left: both have the same result, and every place that is reached without a fault from m is also reached from s
+-- reading on from the state m with the text `new` is the same as reading from the state s with the text `old`: the results are the same. Every place that is reached without a fault from m is also reached without a fault from s
 pub record LeadsOn (s : State) (old : Text) (m : State) (new : Text) : Type 0 where
   pub same : outcome s old ≡ outcome m new
   pub reaches : (place : ℕ) → Reaches place m new.words → Reaches place s old.words
 
--- f is the fault of reading the text t from the state s; or f is OutOfMemory, at a word that has no fault and before which no word has a fault
+-- f is the fault of reading the text t from the state s. Or f is OutOfMemory at the place of a word, and neither this word nor a word before it has a fault
 abbrev pub Fails : TextFault → State → Text → Type 0
 Fails f s t = (IsOutOfMemory f × Reaches f.place s t.words) ⊎ (outcome s t ≡ Err f)
 
--- f is the fault of reading a line of the form g from the text; or f is OutOfMemory, at a word that has no fault and before which no word has a fault
+-- f is the fault of reading a line of the form g from the text t. Or f is OutOfMemory at the place of a word, and neither this word nor a word before it has a fault
 abbrev pub FailsIn : TextFault → Draft → Form → Text → Type 0
 FailsIn f d g t = (IsOutOfMemory f × Reaches f.place (arrive d t.words g) t.words) ⊎ (line_at d g t ≡ Err f)
 
--- the function returned the result of reading a line of the form g; or it failed with a fault as in `FailsIn`
+-- the result of a function agrees with reading a line of the form g. If the function returned x, then `view x` is the progress after the line, with the text after it. If the function failed, its fault is as in `FailsIn`
 abbrev pub GivesLine : {X : Type 0} → (X → Progress × Text) → Result X TextFault → Draft → Form → Text → Type 0
 GivesLine view (Ok x) d g t = line_at d g t ≡ Ok (view x)
 GivesLine view (Err f) d g t = FailsIn f d g t

@@ -18,45 +18,45 @@ use Rattle.crush_text.specs.Flow.{State, between, arrive, Reaches}
 use Rattle.crush_text.specs.Room.{IsFreeRule}
 use Rattle.crush_text.specs.Reads.{line_at, number_behind, left_by_step, behind_step, GivesOn, LeadsOn, Fails, FailsIn, GivesLine}
 
--- the optional part that the last step of a rule has left out; if there is no step, the sizes of pools that the rule's head has left out
+-- the optional part that could follow in a rule. If the rule has a last step, this is the part that the step has left out. If it has no step, this is the part with the sizes of pools that the rule's head has left out
 abbrev pub left_after : Option Step → Option ℕ → Option ℕ → Optional
 left_after (Some s) least most = left_by_step s
 left_after None least None = sizes_left least
 left_after None least (Some most) = Nothing
 
--- the optional part that the last of these steps has left out; if there are no steps, the sizes that the rule's head has left out
+-- the optional part that could follow after these steps. If there are no steps, this is the part with the sizes that the rule's head has left out
 abbrev pub left_last : List Step → Option ℕ → Option ℕ → Optional
 left_last steps least most = left_after (slice_get steps (length steps - 1)) least most
 
--- the optional part that the rule r, as far as it was read, has left out at its end
+-- the optional part that could follow after what was read of the rule r
 abbrev pub left_by : Rule → Optional
 left_by r = left_last r.steps.items r.min_size r.max_size
 
--- what is true after a function has read a line of a rule, after which the rule is r. If the function returned `None`, the line was a step; it is the last step of r, and it left out the optional part k. If the function returned a place, the line was the rule's closing brace at this place, and the rule r was added. If the function failed, its fault is a fault of the line
+-- what is true after a function has read a line of a rule, which has the form g. r is the rule after this line. If the function returned `None`, the line was a step, which is the last step of r and has left out the optional part k. If the function returned a place, the line was the rule's closing brace, and adding the rule r to the draft d gives the new draft. The reader reaches the place without a fault. If the function failed, its fault is as in `FailsIn`
 abbrev pub StepGoes : Result (Option ℕ) TextFault → Draft → RuleData → Optional → Text → Form → Text → Type 0
 StepGoes (Ok None) d r k rest g t = line_at d g t ≡ Ok (passing k (at (ruled r) d), rest)
 StepGoes (Ok (Some place)) d r k rest g t = (line_at d g t ≡ Ok (at second (add_rule d r), rest)) × Reaches place (arrive d t.words g) t.words
 StepGoes (Err f) d r k rest g t = FailsIn f d g t
 
--- the rule r, as far as it was read, can be added: its words and numbers have the right form, its name and its id are free, and its steps name buckets and types that exist
+-- what was read of the rule r can be added as a rule. Its words and numbers have the right form, no other rule has its name or its id, it has at most MOST_STEPS steps, and the steps name buckets and types that exist
 pub record IsRightSoFar (b : BuilderData) (r : Rule) : Type 0 where
   pub form : IsRuleForm r
   pub free : (d : Draft) → IsDraft b d → IsFreeRule d r
 
--- THE HEAD of a rule was read, up to its first step: the rule can be added, and it is the rule that the words spell. The builder is unchanged
+-- THE HEAD of a rule was read, up to its first step. The rule that is returned can be added, and it is the rule that the words spell. The builder is unchanged
 pub record ReadsHead {A : _} (old new : MapReader A) (x : Result Rule TextFault) : Type 0 where
   pub right : IfOk x (IsRightSoFar new.builder)
   pub gives : (d : Draft) → IsDraft old.builder d → GivesLine (λ r. (passing (left_by r) (at (ruled (kept_rule d r)) d), new.text)) x d (rule_line d) old.text
   pub kept : new.builder ≡ old.builder
   pub shorter : OnOk x (length new.text.words ≤ length old.text.words)
 
--- an optional size was read: if it is there, it is at most LARGEST_RULE_NUMBER; and it is the size that the words spell, whatever form follows
+-- an optional size was read. If the text has the size, the size is at most LARGEST_RULE_NUMBER. The result is the size that the words spell, whatever form follows
 pub record ReadsSize (key : List ℕ) (old new : Text) (x : Result (Option ℕ) TextFault) : Type 0 where
   pub most : IfOk x (λ n. IfSome n (λ k. k ≤ LARGEST_RULE_NUMBER))
   pub gives : (d : Draft) (more : Option ℕ → Form) → GivesOn (λ n. line_at d (more n) new) x (line_at d (number_behind key more) old)
   pub shorter : OnOk x (length new.words ≤ length old.words)
 
--- A STEP of a rule was read, of the form `line`: its words have the right form, it names a bucket or a type that exists, and it is the step that the words spell. The builder is unchanged
+-- A STEP of a rule was read, which has the form `line`. Its words have the right form, each bucket or type that it names exists, and it is the step that the words spell. The builder is unchanged
 pub record GivesStep {A : _} (line : Draft → RuleData → Form) (old new : MapReader A) (x : Result Step TextFault) : Type 0 where
   pub form : IfOk x IsStepForm
   pub gives : (d : Draft) (r : RuleData) → IsDraft old.builder d → GivesLine (λ s. (behind_step d r s, new.text)) x d (line d r) old.text
@@ -64,19 +64,19 @@ pub record GivesStep {A : _} (line : Draft → RuleData → Form) (old new : Map
   pub kept : new.builder ≡ old.builder
   pub shorter : OnOk x (length new.text.words ≤ length old.text.words)
 
--- what is true after a function has read all steps of a rule, after which the rule is r. If the function returned a place, it is the place of the closing brace, the steps lead to the next statement, and the rule r was added. If it failed, its fault is a fault of the steps
+-- what is true after a function has read all steps of a rule and its closing brace from the state s. r is the rule after these steps. If the function returned a place, the next line is a statement, and adding the rule r to the draft d gives the new draft. The reader reaches the place without a fault. If the function failed, its fault is as in `Fails`
 abbrev pub StepsGo : Result ℕ TextFault → Draft → RuleData → Text → State → Text → Type 0
 StepsGo (Ok place) d r rest s t = LeadsOn s t (between (at second (add_rule d r))) rest × Reaches place s t.words
 StepsGo (Err f) d r rest s t = Fails f s t
 
--- one line of the rule r was read, which is a step or the closing brace; afterwards the rule is q. After success, q can be added. The builder is unchanged
+-- one line of the rule r was read, which is a step or the closing brace. q is the rule after this line. After success, q can be added. The builder is unchanged
 pub record ReadsStepLine {A : _} (r q : Rule) (old new : MapReader A) (x : Result (Option ℕ) TextFault) : Type 0 where
   pub right : OnOk x (IsRightSoFar new.builder q)
   pub reads : (d : Draft) → IsDraft old.builder d → StepGoes x d (kept_rule d q) (left_by q) new.text (line_forms d (left_by r) (ruled (kept_rule d r))) old.text
   pub kept : new.builder ≡ old.builder
   pub shorter : OnOk x (length new.text.words < length old.text.words)
 
--- all steps of the rule r and its closing brace were read; afterwards the rule is q. After success, q can be added. The builder is unchanged
+-- all steps of the rule r and its closing brace were read. q is the rule after these steps. After success, q can be added. The builder is unchanged
 pub record ReadsSteps {A : _} (r q : Rule) (old new : MapReader A) (x : Result ℕ TextFault) : Type 0 where
   pub right : OnOk x (IsRightSoFar new.builder q)
   pub reads : (d : Draft) → IsDraft old.builder d → StepsGo x d (kept_rule d q) new.text (between (passing (left_by r) (at (ruled (kept_rule d r)) d))) old.text

@@ -22,27 +22,27 @@ use Rattle.crush_text.specs.Room.{HasRoom}
 use Rattle.crush_text.specs.Reads.{LeadsOn, Fails}
 use Rattle.crush_text.specs.ReadsLines.{IsIdle, Ending, ending}
 
--- the mode after a statement: only buckets and rules may follow if `late`, otherwise all statements may
+-- the mode after a statement: if `late`, only buckets and rules may follow; otherwise any statement may follow
 abbrev pub mode_behind : Bool → Mode
 mode_behind late = if late then second else first
 
--- the ending of a statement, computed from the `Before` of the next statement
+-- the ending of a statement. The reader has it as the `Before` for the next statement
 abbrev pub behind : Before → Ending
 behind b = (mode_behind b.late, b.or)
 
--- what is true after a function has read the next statement. If the function returned `None`, the text ended here, and the builder represents the draft of the text. If it returned a `Before`, a statement was read, and reading goes on with the statement after it. If it failed, its fault is a fault of the statement
+-- what is true after a function has read the next statement from the state s. If the function returned `None`, the text ended here, and the builder represents the draft of the text. If it returned a `Before`, it has read a statement, and the text after the statement remains to be read. If it failed, its fault is as in `Fails`
 abbrev pub NextGoes : Result (Option Before) TextFault → BuilderData → Text → State → Text → Type 0
 NextGoes (Ok None) builder rest s t = (e : Draft) × IsDraft builder e × (outcome s t ≡ Ok e)
 NextGoes (Ok (Some b)) builder rest s t = (e : Draft) × IsDraft builder e × LeadsOn s t (between (ending (behind b) e)) rest
 NextGoes (Err f) builder rest s t = Fails f s t
 
--- A STATEMENT was read, or the end of the text. After success the builder is between two statements; after a statement the text is shorter
+-- A STATEMENT was read, or the end of the text. After success, the builder is between two statements. After a statement, the text that is left has fewer words
 pub record ReadsNext {A : _} (before : Before) (old new : MapReader A) (x : Result (Option Before) TextFault) : Type 0 where
   pub idle : OnOk x (IsIdle new.builder)
   pub reads : (d : Draft) → IsDraft old.builder d → NextGoes x new.builder new.text (between (ending (behind before) d)) old.text
   pub shorter : IfOk x (λ more. IfSome more (λ _. length new.text.words < length old.text.words))
 
--- what is true after a function has read all statements. If the function succeeded, the builder represents the draft that the text gives. If it failed, its fault is a fault of the statements
+-- what is true after a function has read all statements from the state s. If the function succeeded, the builder represents the draft that the text gives. If it failed, its fault is as in `Fails`
 abbrev pub AllGo : Result (Unit {0}) TextFault → BuilderData → State → Text → Type 0
 AllGo (Ok x) builder s t = (e : Draft) × IsDraft builder e × (outcome s t ≡ Ok e)
 AllGo (Err f) builder s t = Fails f s t
@@ -52,31 +52,31 @@ pub record ReadsAll {A : _} (old new : MapReader A) (x : Result (Unit {0}) TextF
   pub idle : OnOk x (IsIdle new.builder)
   pub reads : (d : Draft) → IsDraft old.builder d → AllGo x new.builder (between (at first d)) old.text
 
--- if the word w begins a bucket, w is the name of the bucket's type k
+-- if the statement is a bucket of the type k, then its first word w is the name of this type
 abbrev pub IsKnown : Draft → StatementKind → List ℕ → Type 0
 IsKnown d (statement_kinds.Bucket k) w = kind_number d.setting w ≡ Some k
 IsKnown d o w = Unit {0}
 
--- the builder is between two statements, the word w begins a statement of the kind o, and there is room for one more of this kind
+-- the builder is between two statements, and has room for one more statement of the kind o. If the statement is a bucket, the word w is the name of its type
 pub record CanOpen (o : StatementKind) (w : List ℕ) (b : BuilderData) : Type 0 where
   pub idle : IsIdle b
   pub known : (d : Draft) → IsDraft b d → IsKnown d o w
   pub room : (d : Draft) → IsDraft b d → HasRoom d o
 
--- the result x says which kind of statement the word w begins, or which fault w has: for each draft that the builder represents, this is the result of the definitions. After success there is room for one more statement of this kind
+-- the result x says which kind of statement the word w begins, or which fault w has. For each draft that the builder represents, x is the result of the definitions. After success, there is room for one more statement of this kind
 pub record Opens (w : PlacedWord) (before : Before) (b : BuilderData) (x : Result StatementKind TextFault) : Type 0 where
   pub opens : (d : Draft) → IsDraft b d → x ≡ placed w.place (expect.Statement before.late before.or) (word_for d (opening before.late before.or) w.text.now)
   pub known : (d : Draft) → IsDraft b d → IfOk x (λ o. IsKnown d o w.text.now)
   pub room : IfOk x (λ o. (d : Draft) → IsDraft b d → HasRoom d o)
 
--- whether the word begins a statement when no type is declared yet
+-- whether the word begins a statement if no type is declared yet
 abbrev pub opens_alone : List ℕ → Bool
 opens_alone w = comes_first w || bytes_eq w (codes "rule")
 
--- f is the fault of w as the first word of a text; or w has no fault, and f is OutOfMemory at w's place
+-- f is the fault of the word w as the first word of a text. Or w has no fault, and f is OutOfMemory at w's place
 abbrev pub FailsFirst : TextFault → ℕ → List ℕ → Type 0
 FailsFirst f place w = (IsOutOfMemory f × (f.place ≡ place) × ((o : StatementKind) × (word_for empty_draft (opening false Nothing) w ≡ Ok o))) ⊎ (placed place (expect.Statement false Nothing) (word_for empty_draft (opening false Nothing) w) ≡ Err f)
 
--- f is the fault of reading the text t; or f is OutOfMemory, at a word that has no fault and before which no word has a fault, or at the end of a text without words
+-- f is the fault of reading the text t from its beginning. Or f is OutOfMemory in one of two cases. In the first case, its place is the place of a word, and neither this word nor a word before it has a fault. In the second case, the text has no words, and the place is its end
 abbrev pub FailsText : TextFault → Text → Type 0
 FailsText f t = (IsOutOfMemory f × (Reaches f.place start t.words ⊎ (t ≡ stopped (ended f.place)))) ⊎ (outcome start t ≡ Err f)

@@ -17,17 +17,17 @@ use Rattle.crush_text.specs.Role.{Role, El, value}
 use Rattle.crush_text.specs.Room.{IsFreeWord, IsInRange, IsFreeValue}
 use Rattle.crush_text.specs.Reads.{word_of, next_at, word_at, Gives}
 
--- the next word was read, where e is expected: it is a brace or a name, and after success the text is shorter
+-- the next word was read, where e is expected. A word that is returned is a brace or a name, and the text after it has fewer words
 pub record TakesWord (e : Expected) (old new : Text) (x : Result PlacedWord TextFault) : Type 0 where
   pub gives : Gives (λ w. (word_of w, new)) x (next_at e old)
   pub formed : IfOk x (λ w. (is_brace_word w.text.now || is_name w.text.now) ≡ true)
   pub shorter : OnOk x (length new.words < length old.words)
 
--- a property that every draft has, for roles in which the result doesn't depend on the draft
+-- a property of every draft. It is used for roles in which the result doesn't depend on the draft
 abbrev pub AnyDraft : Draft → Type 0
 AnyDraft d = Unit {0}
 
--- A WORD was read in the role r: for each of these drafts, the function returned the word, with the value that it has in this role, or it failed with the word's fault. A word that is returned has the form of a name, isn't a brace, and may be used here
+-- A WORD was read in the role r. For each draft that meets `drafts`, the result is that of the definitions: the function returned the word, or it failed with the word's fault. A word that is returned is a name, isn't a brace, and may be used in this role
 pub record ReadsWord (r : Role) (drafts : Draft → Type 0) (old new : Text) (x : Result PlacedWord TextFault) : Type 0 where
   pub gives : (d : Draft) → drafts d → Gives (λ w. (value d r w.text.now, new)) x (word_at d r old)
   pub next : IfOk x (λ w. next_at (expected r) old ≡ Ok (word_of w, new))
@@ -36,28 +36,28 @@ pub record ReadsWord (r : Role) (drafts : Draft → Type 0) (old new : Text) (x 
   pub free : IfOk x (λ w. (d : Draft) → drafts d → IsFreeWord d r w.text.now)
   pub shorter : OnOk x (length new.words < length old.words)
 
--- A WORD was read in the role r, and its value was returned: it is the value that the word has in this role, it is in the role's range, and it may be used here
+-- A WORD was read in the role r, and its value was returned. For each draft that meets `drafts`, the result is that of the definitions: the function returned the value that the word has in this role, or it failed with the word's fault. A value that is returned is in the role's range, and may be used in this role
 pub record ReadsValue {X : Type 0} (r : Role) (view : X → El r) (drafts : Draft → Type 0) (old new : Text) (x : Result X TextFault) : Type 0 where
   pub gives : (d : Draft) → drafts d → Gives (λ v. (view v, new)) x (word_at d r old)
   pub range : IfOk x (λ v. IsInRange r (view v))
   pub free : IfOk x (λ v. (d : Draft) → drafts d → IsFreeValue d r (view v))
   pub shorter : OnOk x (length new.words < length old.words)
 
--- a method of the map's reader read a word (`ReadsWord`), for each draft that its builder represents. The builder is unchanged
+-- a method of the map's reader has read a word, and `ReadsWord` holds for each draft that the builder represents. The builder is unchanged
 pub record FindsWord {A : _} (r : Role) (old new : MapReader A) (x : Result PlacedWord TextFault) : Type 0 where
   pub reads : ReadsWord r (IsDraft old.builder) old.text new.text x
   pub kept : new.builder ≡ old.builder
 
--- a method of the map's reader read a value (`ReadsValue`), for each draft that its builder represents. The builder is unchanged
+-- a method of the map's reader has read a value, and `ReadsValue` holds for each draft that the builder represents. The builder is unchanged
 pub record FindsValue {A : _} {X : Type 0} (r : Role) (view : X → El r) (old new : MapReader A) (x : Result X TextFault) : Type 0 where
   pub reads : ReadsValue r view (IsDraft old.builder) old.text new.text x
   pub kept : new.builder ≡ old.builder
 
--- the word that was read from the text `old`, where e is expected, is at this place
+-- the word that was read at the beginning of the text `old`, where e is expected, is at this place, and `new` is the text after it
 abbrev pub StoodAt : Expected → Text → Text → ℕ → Type 0
 StoodAt e old new place = (text : List ℕ) × (next_at e old ≡ Ok (record { place = place; text = text }, new))
 
--- if the first word of a step begins with `set_`, then it is a name, and its place is the one in the text
+-- what is known about the value of a step's first word. If the value is `Set w`, then w is a name that begins with `set_`, and the place of w is the place of this word in the text `old`. For any other value, nothing is required
 abbrev pub IsFirstOfStep : Text → Text → FirstOfStep → Type 0
 IsFirstOfStep old new steps.Take = Unit {0}
 IsFirstOfStep old new (steps.Choose leaf) = Unit {0}

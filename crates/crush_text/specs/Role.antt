@@ -18,8 +18,7 @@ use Rattle.crush_units.specs.Numbers.{signed_value}
 use Rattle.crush_text.specs.declared.expected.Expected.{Expected}
 use Rattle.crush_text.specs.declared.expected.Optional.{Optional}
 
--- what a word is for. An `any_word` can be any word except for a brace, and says what is expected there. The Bool of `opening` says that a bucket or a rule was read before; the Bool of `item_or_end` says that an item of the bucket was read before. The number of `number` is the largest number that is allowed,
--- the number of `type_name` is the type's, and the number of `step_or_end` is how many steps the rule has so far. `opening`, `item_or_end` and `step_or_end` also say which optional part the words before have just left out. The name of an item is an `item` if a weight follows it, otherwise a `lone_item`
+-- the role of a word: what the word is for. A `key` is exactly the given word. An `any_word` can be any word except for a brace, and has what a fault reports as expected there. A `number` goes up to the given number. In `opening`, the Bool says whether a bucket or a rule was read before. In `item_or_end`, the Bool says whether the bucket has an item before. `type_name` has the number of the type, `weight` has the item with this weight, and `step_or_end` has the number of steps that the rule has so far. `opening`, `item_or_end` and `step_or_end` also have the optional part that could still follow, because the words just before have left it out. The name of an item is an `item` if a weight follows it, otherwise a `lone_item`
 pub data Role : Type 0 where
   key : List ℕ → Role
   any_word : Expected → Role
@@ -48,8 +47,7 @@ pub data Role : Type 0 where
   step_count : Role
   step_type : Role
 
--- what the first word of a step says: `take`; `choose`, or `chooseleaf` if the Bool is true; a word that begins with `set_`;
--- or `emit`
+-- what the first word of a step says. `takes` is the word `take`. `chooses` is `choose`, or `chooseleaf` if the Bool is true. `sets` is a word that begins with `set_`. `emits` is the word `emit`
 pub data StepWord : Type 0 where
   takes : StepWord
   chooses : Bool → StepWord
@@ -89,24 +87,24 @@ El step_type = List ℕ
 abbrev pub kind_of_word : Draft → List ℕ → ℕ
 kind_of_word d w = unwrap_or (kind_number d.setting w) 0
 
--- the item with this name; device 0 if there is none, but then the word has a fault
+-- the item with this name. If there is no such item, this is device 0, but then the word has a fault
 abbrev pub item_of : Draft → List ℕ → ItemId
 item_of d w = unwrap_or (item_named d w) (Device 0)
 
--- the complete bucket with this name; 0 if there is none, but then the word has a fault
+-- the id of the complete bucket with this name. If there is no such bucket, this is 0, but then the word has a fault
 abbrev pub bucket_of_word : Draft → List ℕ → ℕ
 bucket_of_word d w = unwrap_or (complete_bucket_named d w) 0
 
--- the weight, or 0 if the text isn't a weight
+-- the weight in units from the result of parsing a weight, or 0 if the text wasn't a weight
 abbrev pub units_or_none : Result ℕ WeightFault → ℕ
 units_or_none (Ok w) = w
 units_or_none (Err f) = 0
 
--- the weight in units that a word spells, or 0 if it spells none, but then the word has a fault
+-- the weight in units that a word spells. If the word isn't a weight, this is 0, but then the word has a fault
 abbrev pub units : List ℕ → ℕ
 units w = units_or_none (weight_of_text w)
 
--- which kind of statement the word begins
+-- the kind of the statement that the word begins. Every word other than the four keywords is taken as the name of a bucket's type
 abbrev pub opened : Draft → List ℕ → StatementKind
 opened d w =
     if bytes_eq w (codes "tunable") then statement_kinds.Tunable
@@ -115,7 +113,7 @@ opened d w =
     else (if bytes_eq w (codes "rule") then statement_kinds.Rule
     else statement_kinds.Bucket (kind_of_word d w))))
 
--- what a step's first word means
+-- what a step's first word means. Every word other than the four keywords is taken as a word that begins with `set_`
 abbrev pub step_said : List ℕ → StepWord
 step_said w =
     if bytes_eq w (codes "take") then takes
@@ -124,7 +122,7 @@ step_said w =
     else (if bytes_eq w (codes "emit") then emits
     else sets w)))
 
--- the value of the word w in the role r; this value is only used if the word has no fault
+-- the value of the word w in the role r. This value is used only if the word has no fault
 abbrev pub value : Draft → (r : Role) → List ℕ → El r
 value d (key k) w = tt
 value d (any_word e) w = w

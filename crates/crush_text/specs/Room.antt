@@ -15,7 +15,7 @@ use Rattle.crush_text.specs.declared.statement_kind.StatementKind.{StatementKind
 use Rattle.crush_text.specs.declared.statement_kind.StatementKind.TheVariants as statement_kinds
 use Rattle.crush_text.specs.Role.{Role, El, number, tunable_name, type_number, type_name, device_id, new_name, bucket_id, id_or_alg, id_class, rule_name, rule_id, taken_bucket, step_type}
 
--- the draft has room for one more statement of this kind. For a bucket, its type must not be type 0
+-- the draft has room for one more statement of this kind. For a bucket, the type also must not be type 0
 abbrev pub HasRoom : Draft → StatementKind → Type 0
 HasRoom d statement_kinds.Tunable = is_full_of_tunables d ≡ false
 HasRoom d statement_kinds.Device = is_full_of_devices d ≡ false
@@ -23,7 +23,7 @@ HasRoom d statement_kinds.Type = is_full_of_kinds d ≡ false
 HasRoom d (statement_kinds.Bucket k) = (nat_lt 0 k ≡ true) × (is_full_of_buckets d ≡ false)
 HasRoom d statement_kinds.Rule = is_full_of_rules d ≡ false
 
--- the name w may be used in this role: if the role declares a name, w is free; if the role refers to a name, w exists
+-- the name w may be used in this role. If the role declares a name, w must be a new name, and only type 0 may have a reserved name. If the role refers to a bucket or a type, one with the name w must exist
 abbrev pub IsFreeWord : Draft → Role → List ℕ → Type 0
 IsFreeWord d tunable_name w = has_tunable d.setting w ≡ false
 IsFreeWord d (type_name n) w = (0 < n → is_reserved w ≡ false) × (has_kind_name d.setting w ≡ false)
@@ -34,13 +34,13 @@ IsFreeWord d taken_bucket w = is_some (complete_bucket_named d w) ≡ true
 IsFreeWord d step_type w = is_some (kind_number d.setting w) ≡ true
 IsFreeWord d r w = Unit {0}
 
--- a number is in the range of its role
+-- the value is in the range of its role
 abbrev pub IsInRange : (r : Role) → El r → Type 0
 IsInRange (number most) n = n ≤ most
 IsInRange rule_id n = n ≤ LARGEST_RULE_NUMBER
 IsInRange r v = Unit {0}
 
--- the value may be used in this role: a number or an id is free; and if a class id follows, the bucket has room for a class id
+-- the value may be used in this role. A number or an id must be new. If a class id follows, the bucket must have room for one more class id
 abbrev pub IsFreeValue : Draft → (r : Role) → El r → Type 0
 IsFreeValue d type_number n = has_kind_number d.setting n ≡ false
 IsFreeValue d device_id n = is_there d.table (Device n) ≡ false
@@ -53,7 +53,7 @@ IsFreeValue d r v = Unit {0}
 abbrev pub IsFreeItem : Draft → ItemId → Type 0
 IsFreeItem d i = (is_closed d i ≡ true) × (is_placed d.table i ≡ false)
 
--- no rule of the draft has the name or the id of the rule r, and r's steps name buckets and types that exist
+-- the rule r can be added to the draft: no rule of the draft has the name or the id of r, r has at most MOST_STEPS steps, and the steps name buckets and types that exist
 pub record IsFreeRule (d : Draft) (r : Rule) : Type 0 where
   pub name : has_rule_name d.setting r.name ≡ false
   pub id : has_rule_id d.setting r.id ≡ false

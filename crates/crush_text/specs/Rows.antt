@@ -1,4 +1,4 @@
--- THE TABLE OF FAULTS, with a row for each fault: in which cases a word of a role has it. d is the draft before the word's line, r is the word's role, and w is the word.
+-- THE TABLE OF FAULTS. It has a row for each fault, which says in which cases a word of a role has this fault. d is the draft before the word's line, r is the word's role, and w is the word.
 use Rattle.std.specs.Prelude.{◌≡◌, ◌≢◌, ◌<◌, ◌≤◌, ◌⊎◌, ℕ, true, false, nat_eq, List, Result, Ok, Err, None, codes, drop, Some}
 use Rattle.std.specs.List.{starts_with}
 use Rattle.std.specs.Str.Parse.{digits_value}
@@ -30,7 +30,7 @@ IsBrace w = (w ≡ codes "{") ⊎ (w ≡ codes "}")
 abbrev pub ComesFirst : List ℕ → Type 0
 ComesFirst w = (w ≡ codes "tunable") ⊎ ((w ≡ codes "device") ⊎ (w ≡ codes "type"))
 
--- the word is neither of two words
+-- the word w is neither k nor l
 abbrev pub IsNeither : List ℕ → List ℕ → List ℕ → Type 0
 IsNeither w k l = (w ≢ k) × (w ≢ l)
 
@@ -61,7 +61,7 @@ IsBadNumber rule_id w = is_number LARGEST_RULE_NUMBER w ≡ false
 IsBadNumber step_count w = is_signed w ≡ false
 IsBadNumber r w = ⊥
 
--- the result of parsing a weight isn't a weight that the item may have: it is an error, or the item is a device and the weight is too large for a device
+-- parsing has given no weight that the item may have: parsing has failed, or the item is a device and the weight is too large for a device
 abbrev pub IsNoWeightOf : ItemId → Result ℕ WeightFault → Type 0
 IsNoWeightOf i (Err f) = Unit {0}
 IsNoWeightOf (Device n) (Ok w) = HEAVIEST_DEVICE < w
@@ -72,7 +72,7 @@ abbrev pub IsBadWeight : Role → List ℕ → Type 0
 IsBadWeight (weight i) w = IsNoWeightOf i (weight_of_text w)
 IsBadWeight r w = ⊥
 
--- DUPLICATE ID: an earlier line has the same number or id
+-- DUPLICATE ID: an earlier line gives the same number to a type, or the same id to a device or a rule, or the same id to a bucket (for the bucket itself or for a class)
 abbrev pub IsDuplicateId : Draft → Role → List ℕ → Type 0
 IsDuplicateId d type_number w = has_kind_number d.setting (digits_value 10 w) ≡ true
 IsDuplicateId d device_id w = is_there d.table (Device (digits_value 10 w)) ≡ true
@@ -80,7 +80,7 @@ IsDuplicateId d bucket_id w = has_bucket_id d (digits_value 10 (drop 1 w)) ≡ t
 IsDuplicateId d rule_id w = has_rule_id d.setting (digits_value 10 w) ≡ true
 IsDuplicateId d r w = ⊥
 
--- DUPLICATE NAME: an earlier line has the same name, or an earlier line of the same bucket has the same class
+-- DUPLICATE NAME: an earlier line gives the same name to a tunable, a type, a rule or an item, whichever the word names. Or an earlier line of the same bucket gives an id for the same class
 abbrev pub IsDuplicateName : Draft → Role → List ℕ → Type 0
 IsDuplicateName d tunable_name w = has_tunable d.setting w ≡ true
 IsDuplicateName d (type_name n) w = has_kind_name d.setting w ≡ true
@@ -89,8 +89,7 @@ IsDuplicateName d id_class w = has_class d w ≡ true
 IsDuplicateName d rule_name w = has_rule_name d.setting w ≡ true
 IsDuplicateName d r w = ⊥
 
--- UNKNOWN TYPE: the first word of a statement that is none of the reserved words, and is either not the name of a declared type or the name of type 0;
--- or a type in a step that isn't declared
+-- UNKNOWN TYPE. There are two cases. First, the word is the first word of a statement, isn't a reserved word, and isn't the name of a type whose number is above 0. Second, the word is the name of a type in a step, and no such type is declared
 abbrev pub IsUnknownType : Draft → Role → List ℕ → Type 0
 IsUnknownType d (opening late or) w = (is_reserved w ≡ false) × (is_bucket_kind d.setting (kind_of_word d w) ≡ false)
 IsUnknownType d step_type w = kind_number d.setting w ≡ None
@@ -112,19 +111,19 @@ IsSecondParent d item w = IsHeldItem d w
 IsSecondParent d lone_item w = IsHeldItem d w
 IsSecondParent d r w = ⊥
 
--- OTHER ALGORITHM: the word isn't a supported algorithm
+-- OTHER ALGORITHM: the word isn't the name of a supported algorithm
 abbrev pub IsOtherAlgorithm : Role → List ℕ → Type 0
 IsOtherAlgorithm algorithm w = alg_of_text w ≡ None
 IsOtherAlgorithm r w = ⊥
 
--- LEFT OUT: the word begins something that isn't supported: `choose_args` as the first word of a statement, `pos` after an item, or `choosemsr` as the first word of a step
+-- LEFT OUT: the word begins something that isn't supported. It is `choose_args` as the first word of a statement, `pos` after an item, or `choosemsr` as the first word of a step
 abbrev pub IsLeftOut : Role → List ℕ → Type 0
 IsLeftOut (opening late or) w = w ≡ codes "choose_args"
 IsLeftOut (item_or_end any or) w = (any ≡ true) × (w ≡ codes "pos")
 IsLeftOut step_word w = w ≡ codes "choosemsr"
 IsLeftOut r w = ⊥
 
--- UNKNOWN BUCKET IN RULE: what a step takes isn't a complete bucket
+-- UNKNOWN BUCKET IN RULE: the word after `take` isn't the name of a complete bucket
 abbrev pub IsUnknownBucketInRule : Draft → Role → List ℕ → Type 0
 IsUnknownBucketInRule d taken_bucket w = complete_bucket_named d w ≡ None
 IsUnknownBucketInRule d r w = ⊥
@@ -149,7 +148,7 @@ IsTooMany d id_or_alg w = (w ≡ codes "id") × (is_full_of_class_ids d ≡ true
 IsTooMany d (step_or_end k or) w = (w ≡ codes "step") × (MOST_STEPS ≤ k)
 IsTooMany d r w = ⊥
 
--- SUM TOO LARGE: with this item, the weight of a bucket or the total weight is out of range. If the item has no weight, the fault is at its name. Otherwise it is at its weight, if the item may have this weight
+-- SUM TOO LARGE: with this item, the weight of a bucket or the total weight is above its limit. If the item has no weight, its name has the fault. If the item has a weight, this weight has the fault, but only if the item may have this weight
 abbrev pub IsSumTooLarge : Draft → Role → List ℕ → Type 0
 IsSumTooLarge d lone_item w = (i : ItemId) × (item_named d w ≡ Some i) × (is_too_heavy (with_next_item d i None).table ≡ true)
 IsSumTooLarge d (weight i) w = (u : ℕ) × (weight_of_text w ≡ Ok u) × (IsNoWeightOf i (Ok u) → ⊥) × (is_too_heavy (with_next_item d i (Some u)).table ≡ true)

@@ -1,4 +1,4 @@
--- The tests of a word, in a form that can be computed: for each role, the faults that a word may have, in the order of their numbers. `Rows` says the same as a table.
+-- The tests of a word, in a form that can be computed: for each role, the faults that a word may have, in the order of their numbers. `Rows` has the same conditions as a table of faults.
 use Rattle.std.specs.Prelude.{ℕ, Bool, true, false, not, ◌&&◌, ◌||◌, ◌==◌, nat_eq, nat_le, List, [], ◌∷◌, Result, Ok, Err, is_some, bytes_eq, codes, drop, if◌then◌else◌, None, Some}
 use Rattle.std.specs.List.{starts_with}
 use Rattle.std.specs.Str.Parse.{digits_value}
@@ -22,7 +22,7 @@ use Rattle.crush_units.specs.declared.limits.TheConstants.{LARGEST_RULE_NUMBER}
 use Rattle.crush_text.specs.Role.{Role, El, value, kind_of_word, item_of, units, key, any_word, number, opening, tunable_name, type_number, type_name, device_id, new_name, bucket_id, id_or_alg, id_class, algorithm, item_or_end, item, lone_item, weight, rule_name, rule_id_key, rule_id, step_or_end, step_word, taken_bucket, step_order, step_count, step_type}
 use Rattle.crush_units.specs.declared.limits.TheConstants.{HEAVIEST_DEVICE, LAST_DEVICE_ID, LAST_TYPE, MOST_STEPS}
 
--- a test: a fault, and whether the word has it
+-- a test: a fault, and whether the word has this fault
 pub data Test : Type 0 where
   ◌when◌ : TextFaultKind → Bool → Test
 
@@ -43,11 +43,11 @@ is_either w k l = bytes_eq w k || bytes_eq w l
 abbrev pub comes_first : List ℕ → Bool
 comes_first w = bytes_eq w (codes "tunable") || is_either w (codes "device") (codes "type")
 
--- whether the word can't begin a statement here. Types, devices and tunables must come before the buckets and the rules; `late` says that a bucket or a rule was read
+-- whether the word is a brace or `class`, or comes too late: tunables, devices and types must come before the buckets and the rules. `late` says whether a bucket or a rule was read
 abbrev pub is_out_of_place : Bool → List ℕ → Bool
 is_out_of_place late w = is_brace_word w || (bytes_eq w (codes "class") || (late && comes_first w))
 
--- whether the word begins a statement at all, or is `choose_args`
+-- whether the word begins a statement of any kind, or is `choose_args`
 abbrev pub is_known : Draft → List ℕ → Bool
 is_known d w = comes_first w || (is_either w (codes "rule") (codes "choose_args") || is_bucket_kind d.setting (kind_of_word d w))
 
@@ -60,13 +60,13 @@ is_full d w =
     else (if bytes_eq w (codes "rule") then is_full_of_rules d
     else is_full_of_buckets d)))
 
--- whether the item may have this weight; false if the text wasn't a weight
+-- whether the item may have the weight that parsing has given; false if parsing has failed
 abbrev pub is_weight_for : ItemId → Result ℕ WeightFault → Bool
 is_weight_for i (Err f) = false
 is_weight_for (Device n) (Ok w) = nat_le w HEAVIEST_DEVICE
 is_weight_for (Bucket b) (Ok w) = true
 
--- the tests of a weight, except for the sums of the buckets
+-- the tests of the weight of the item i, except for the test whether the sums of weights become too large
 abbrev pub weight_tests : Draft → ItemId → List ℕ → List Test
 weight_tests d i w = a_word w ((BadWeight when not (is_weight_for i (weight_of_text w))) ∷ [])
 

@@ -3,7 +3,7 @@
 ghost use Rattle.std.specs.Prelude.{◌≡◌};
 ghost use Rattle.crush_text.specs.Expected.{keyword_word};
 
-/// A keyword that the grammar requires, so that no other word is allowed.
+/// A keyword that the grammar requires at a place. No other word is allowed at this place.
 #[derive(Clone, Copy, Debug, PartialEq, Eq)]
 pub enum Keyword {
     /// `{`
@@ -43,7 +43,8 @@ impl Keyword {
 }
 
 /// An optional part of the text that could still follow at a place, because the words before the
-/// place have left it out.
+/// place have left it out. For example, `class` and a name could follow the line of a device
+/// without a class.
 #[derive(Clone, Copy, Debug, PartialEq, Eq)]
 pub enum Optional {
     /// No optional part could still follow.
@@ -56,18 +57,19 @@ pub enum Optional {
     Weight,
     /// `max_size` and a number.
     MaxSize,
-    /// `min_size` and a number. After them, `max_size` and a number may follow.
+    /// `min_size` and a number, or `max_size` and a number, or both in this order.
     Sizes,
 }
 
-/// What the grammar expects at the place of a fault. If a variant has the field `or`, then this
-/// optional part is also allowed here.
+/// What the grammar expects at the place of a fault. Some variants have a field `or`. The optional
+/// part in this field could begin at the same place, so the first word of this part is also
+/// allowed.
 #[derive(Clone, Copy, Debug, PartialEq, Eq)]
 pub enum Expected {
     /// The first word of a statement.
     Statement {
-        /// Whether the text has a bucket or a rule before this place. If it has, only buckets and
-        /// rules may follow.
+        /// Whether the text has a bucket or a rule before this place. If so, only buckets and rules
+        /// may follow.
         late: bool,
         /// The optional part that could still follow.
         or: Optional,
@@ -81,15 +83,16 @@ pub enum Expected {
     },
     /// The name of a tunable.
     TunableName,
-    /// The number of a type.
+    /// The number of a new type, from 0 to 65535.
     TypeNumber,
-    /// The name of a type.
+    /// The name of a new type.
     TypeName,
-    /// The id of a device.
+    /// The id of a new device, from 0 to 2147483647.
     DeviceId,
     /// The name of a new device or bucket.
     NewName,
-    /// The id of a bucket, or the id that a bucket has for a class.
+    /// The id of a bucket, or the id that a bucket has for a class: `-` and a number from 1 to
+    /// 2147483648.
     BucketId,
     /// The class of a device, or the class in a `take` step.
     Class,
@@ -101,21 +104,21 @@ pub enum Expected {
     Algorithm,
     /// A weight.
     Weight {
-        /// Whether the weight is that of a device. If not, it is that of a bucket.
+        /// Whether the weight is that of a device. If it isn't, the weight is that of a bucket.
         device: bool,
     },
-    /// The name of an item.
+    /// The name of an item: a declared device, or a bucket whose closing brace was read before.
     ItemName,
     /// `item` or `}`.
     ItemOrEnd {
         /// The optional part that could still follow.
         or: Optional,
     },
-    /// The name of a rule.
+    /// The name of a new rule.
     RuleName,
     /// `id` or `ruleset`.
     IdOrRuleset,
-    /// The id of a rule.
+    /// The id of a new rule, from 0 to 2147483647.
     RuleId,
     /// The kind of pools that a rule serves, for example `replicated`.
     RuleType,
@@ -130,7 +133,7 @@ pub enum Expected {
     TakenBucket,
     /// `firstn` or `indep`.
     FirstnOrIndep,
-    /// How many items a step chooses.
+    /// The number of items that a step chooses, from -2147483648 to 2147483647.
     Count,
     /// The name of the type of the items that a step chooses.
     StepType,

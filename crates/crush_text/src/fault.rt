@@ -8,29 +8,33 @@ use std::fmt::{self, Display, Formatter};
 use thiserror::Error;
 
 /// What is wrong at a place of a text. If a word has several faults, the fault with the smallest
-/// number is reported.
+/// number is reported. [`TextFaultKind::number`] returns this number.
 #[derive(Clone, Copy, Debug, PartialEq, Eq)]
 pub enum TextFaultKind {
-    /// A byte that no text may contain, or a word of more than 255 bytes.
+    /// A byte that is allowed only in comments, or a word of more than 255 bytes.
     BadWord,
     /// The text ends inside a statement.
     Ended,
-    /// A word or a brace that the grammar doesn't allow at this place.
+    /// A word or a brace that the grammar doesn't allow at this place. One example is a reserved
+    /// word, such as `rule`, as the name of a type whose number isn't 0.
     Unexpected,
     /// The word isn't a number, or it isn't in the range that is allowed at this place.
     BadNumber,
     /// The word isn't a weight, or the weight is too large: above 2147483647 units for a device, or
-    /// above 4294967295 units for a bucket.
+    /// above 4294967295 units for a bucket. A weight of 1.0 has 65536 units.
     BadWeight,
-    /// An earlier line has the same number or id.
+    /// An earlier line gives the same number to a type, or the same id to a device or a rule. Or an
+    /// earlier line gives the same id to a bucket, for the bucket itself or for a class.
     DuplicateId,
-    /// An earlier line has the same name. In a line such as `id -2 class hdd`, the name is the
-    /// class: an earlier line of the same bucket gives an id for the same class.
+    /// An earlier line gives the same name to a thing of the same sort: to a tunable, to a type, to
+    /// a rule, or to an item, which is a device or a bucket. Or the line is like `id -2 class hdd`,
+    /// and an earlier line of the same bucket gives an id for the same class.
     DuplicateName,
-    /// The word isn't the name of a declared type, or it begins a bucket and names type 0, which is
-    /// the type of devices.
+    /// The word isn't the name of a declared type. Or the word is the first word of a statement,
+    /// and is the name of type 0, which is the type of devices. No bucket can have this type.
     UnknownType,
-    /// The item is neither a declared device nor a bucket whose closing brace was read before.
+    /// The word is neither the name of a declared device, nor the name of a bucket whose closing
+    /// brace was read before.
     UnknownItem,
     /// A bucket already holds the item.
     SecondParent,
@@ -39,14 +43,15 @@ pub enum TextFaultKind {
     /// A part of Ceph's grammar that isn't supported: `choose_args`, `choosemsr`, or `pos` after an
     /// item.
     LeftOut,
-    /// A step of a rule takes a bucket that isn't declared before the rule.
+    /// The word after `take` isn't the name of a bucket whose closing brace was read before.
     UnknownBucketInRule,
     /// The text has more tunables, types, devices, buckets, class ids, rules or steps than a map
     /// may have.
     TooMany,
-    /// With this item, the weight of a bucket or the total weight of the map would be out of range.
+    /// With this item, the weight of a bucket would be above 4294967295 units, or the total weight
+    /// of the map would be above 8796093022207 units.
     SumTooLarge,
-    /// Memory could not be allocated. The text has no fault up to this place.
+    /// Memory couldn't be allocated. The text has no fault up to this place.
     OutOfMemory,
 }
 
@@ -56,10 +61,12 @@ pub enum TextFaultKind {
 pub struct TextFault {
     /// What is wrong.
     pub kind: TextFaultKind,
-    /// The index, from 0, of the bad byte or of the first byte of the word at fault. It is at most
-    /// the length of the text.
+    /// The index, from 0, of the first byte of the word at fault, or of the byte that isn't
+    /// allowed. If the text ends inside a statement, this is the length of the text. If memory ran
+    /// out, this is the index of a word. Neither this word nor a word before it then has a fault.
+    /// If memory ran out and the text has no words, this is the length of the text.
     pub place: usize,
-    /// What the grammar expects at this place, after the words before it.
+    /// What the grammar expects at this place. Which words these are depends on the words before.
     pub expected: Expected,
 }
 

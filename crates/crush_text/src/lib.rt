@@ -1,8 +1,9 @@
 //! Reads the text of a CRUSH map.
 //!
 //! [`read_map`] parses the text, and builds the map with a builder of `crush_builder`.
-//! `specs/Grammar.antt` defines the grammar of the text, and `specs/Flaw.antt` defines the faults
-//! of a text.
+//! `specs/Grammar.antt` defines the grammar of the text, and `specs/Rows.antt` defines which faults
+//! a word can have. `specs/Flaw.antt` defines the first fault of a text, which is the fault that
+//! [`read_map`] reports.
 #![tactic(auto)]
 
 mod adjusted;

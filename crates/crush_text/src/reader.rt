@@ -1,5 +1,6 @@
-//! The reader of a map's text. Each submodule reads one kind of statement or of line; `statement`
-//! calls the others.
+//! The reader of a map's text. The submodule `statement` reads the statements one after the other.
+//! To read the rest of a statement, it calls a submodule for statements of this kind, such as
+//! `bucket`. The submodules `roles` and `word` read single words.
 
 ghost use Rattle.std.specs.Prelude.{◌≡◌, ℕ, List, IfOk, IfErr};
 ghost use Rattle.crush_edits.specs.Setting.{SettingData};
@@ -30,9 +31,11 @@ use crush_map::{CrushMap, Hashing};
 use crush_units::Reader;
 use std::alloc::{Allocator, Global};
 
-/// Reads the text of a map. It has the rest of the text, which isn't read yet, and a builder with
-/// the map that was read so far. Each method reads the part of the text that its name says, and
-/// fails with the first fault in this part.
+/// Reads the text of a map. `text` is the rest of the text, which hasn't been read yet. `builder`
+/// has the map that was built from the text before this rest. A rule that is being read is stored
+/// in memory of `global`. Each method reads the part of the text that its name says. If this part
+/// has a fault, the method fails with the first fault. If memory runs out, the method can fail with
+/// `OutOfMemory` instead.
 #[derive(Drop)]
 struct MapReader<'a, A: Allocator> {
     text: Reader<'a>,
@@ -42,14 +45,16 @@ struct MapReader<'a, A: Allocator> {
 
 /// Reads the text of a map in the form that `crushtool` prints, and returns the map.
 ///
-/// The second value counts the buckets for which the text gives a weight that isn't the sum of the
-/// weights of the devices below the bucket. In the map each of them has this sum instead.
+/// The second value of the result counts the buckets for which the text gives a weight that isn't
+/// the sum of the weights of the devices below the bucket. In the returned map, each of these
+/// buckets has this sum instead.
 ///
-/// If the text isn't a map, the call fails with the text's first fault. If memory runs out before a
-/// fault is found, it fails with `OutOfMemory`. Three parts of Ceph's grammar are not supported,
-/// and fail with [`TextFaultKind::LeftOut`]: weight sets (`choose_args`), the steps of MSR rules
-/// (`choosemsr`) and the positions of items (`pos`). docs/user/FORMATS.md describes the grammar,
-/// and docs/user/RULES.md lists the faults, each with its place.
+/// If the text isn't the text of a map, the call fails with the first fault of the text. If memory
+/// runs out, the call can fail with `OutOfMemory` instead, and then the text has no fault up to the
+/// place of this error. Three parts of Ceph's grammar aren't supported: weight sets
+/// (`choose_args`), the steps of MSR rules (`choosemsr`) and the positions of items (`pos`). At
+/// such a part, the call fails with [`TextFaultKind::LeftOut`]. docs/user/FORMATS.md describes the
+/// grammar, and docs/user/RULES.md lists the faults, each with its place.
 pub fn read_map(alloc: Global, text: &[u8]) -> Result<(CrushMap<Global>, Adjusted), TextFault>
     ensures map { IfOk result (λ m. (t : List Row)
         × IsMapText text.now m.0.setting t m.1 × Stands m.0.forest t) }
@@ -64,8 +69,9 @@ pub fn read_map(alloc: Global, text: &[u8]) -> Result<(CrushMap<Global>, Adjuste
 }
 
 /// Reads the text of a map as [`read_map`] does, but with a given allocator and hashing. The types,
-/// tunables and rules of the map are stored in memory of `global`, and the rest in memory of
-/// `alloc`. Pass a `hashing` with random keys if the text comes from an untrusted source.
+/// tunables and rules of the map are stored in memory of `global`, and the rest of the map in
+/// memory of `alloc`. `hashing` says how the indexes of the map hash names and ids. Pass a
+/// `hashing` with random keys if the text comes from an untrusted source.
 pub fn read_map_in<A: Allocator + Clone>(
     global: Global,
     hashing: Hashing,

@@ -23,7 +23,8 @@ use crush_units::{Alg, BucketId, Reader};
 use std::alloc::Allocator;
 
 impl<'a, A: Allocator + Clone> MapReader<'a, A> {
-    /// Reads a bucket to its closing brace. Its first word, the name of its type, was read before.
+    /// Reads a bucket to its closing brace. The first word of the bucket was read before. This word
+    /// is `kind`, the name of the bucket's type.
     pub(crate) fn bucket(&mut self, kind: &[u8]) -> Result<(), TextFault>
         requires { HasRoomForBucket kind.now self.old.builder }
         ensures { ReadsOn (λ d. arrive d self.old.text.words (bucket_line d (kind_of_word d kind.now)))
@@ -62,8 +63,8 @@ impl<'a, A: Allocator + Clone> MapReader<'a, A> {
         Ok(())
     }
 
-    /// Reads the bucket's class ids, and then its algorithm. Returns the optional part that the
-    /// algorithm's line left out: its hash, or nothing.
+    /// Reads the bucket's class ids, and then its algorithm. Returns `Optional::Hash` if the line
+    /// of the algorithm has no hash, and otherwise `Optional::Nothing`.
     fn class_ids(&mut self) -> Result<Optional, TextFault>
         requires { IsAmid is_numbered self.old.builder }
         ensures { ReadsOn (λ d. between (at numbered d)) (λ k. (filling false, k))
@@ -77,7 +78,8 @@ impl<'a, A: Allocator + Clone> MapReader<'a, A> {
     }
 
     /// Reads either a class id or the algorithm. For a class id, returns `None`. For the algorithm,
-    /// returns the optional part that its line left out: the hash, or nothing.
+    /// returns the optional part that could still follow: `Optional::Hash` if the line has no hash,
+    /// and otherwise `Optional::Nothing`.
     #[tactic(auto, unfolding(crate::specs::Reads::line_at))]
     fn class_id_or_alg(&mut self) -> Result<Option<Optional>, TextFault>
         requires { IsAmid is_numbered self.old.builder }
@@ -106,8 +108,9 @@ impl<'a, A: Allocator + Clone> MapReader<'a, A> {
             .map_err(|fault| out_of_memory_at(class.place, fault))
     }
 
-    /// Reads an algorithm, and its hash if there is one. The word `alg` was read before. Returns
-    /// the optional part that was left out: the hash, or nothing. The only supported hash is 0.
+    /// Reads an algorithm, and its hash if there is one. The word `alg` was read before. The only
+    /// supported hash is 0. Returns the optional part that could still follow: `Optional::Hash` if
+    /// there is no hash, and otherwise `Optional::Nothing`.
     #[tactic(auto, unfolding(crate::specs::Reads::line_at))]
     fn alg(&mut self) -> Result<Optional, TextFault>
         requires { IsAmid is_numbered self.old.builder }
@@ -127,7 +130,8 @@ impl<'a, A: Allocator + Clone> MapReader<'a, A> {
         }
     }
 
-    /// Reads an id that no bucket has yet: `-` and a number from 1 to 2147483648.
+    /// Reads `-` and a number from 1 to 2147483648. This id must be new: no bucket has it as its
+    /// own id or for a class.
     #[tactic(auto, unfolding(crate::specs::Reads::word_at))]
     fn bucket_id(&mut self) -> Result<BucketId, TextFault>
         ensures { FindsValue bucket_id (λ b. b) self.old self.new result }
@@ -142,7 +146,8 @@ impl<'a, A: Allocator + Clone> MapReader<'a, A> {
         Ok(id)
     }
 
-    /// Reads `id` or `alg`. Returns true for `id`, after which a class id follows.
+    /// Reads `id` or `alg`. Returns true for `id`, after which a class id follows. Fails at `id` if
+    /// the bucket already has the maximum number of class ids.
     #[tactic(auto, unfolding(crate::specs::Reads::word_at))]
     fn id_or_alg(&mut self) -> Result<bool, TextFault>
         ensures { FindsValue id_or_alg (λ more. more) self.old self.new result }
@@ -173,7 +178,8 @@ impl<'a, A: Allocator + Clone> MapReader<'a, A> {
     }
 }
 
-/// Returns the bucket id that the text spells, or `None` if the text isn't a bucket id.
+/// Returns the bucket id that the text spells: `-` and a number from 1 to 2147483648. Returns
+/// `None` if the text isn't a bucket id.
 fn below_zero(text: &[u8]) -> Option<BucketId>
     ensures { result ≡ (if is_negative text.now
         then Some (digits_value 10 (drop 1 text.now)) else None) }

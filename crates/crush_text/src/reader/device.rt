@@ -19,7 +19,8 @@ use std::alloc::Allocator;
 
 impl<'a, A: Allocator + Clone> MapReader<'a, A> {
     /// Reads `N NAME [class CLASS]`. The word `device` was read before. Returns the optional part
-    /// that was left out: the class, or nothing.
+    /// that could still follow: `Optional::Class` if the line has no class, and otherwise
+    /// `Optional::Nothing`.
     #[tactic(auto, unfolding(crate::specs::Reads::line_at))]
     pub(crate) fn device(&mut self) -> Result<Optional, TextFault>
         requires { HasRoomFor StatementKind.Device self.old.builder }

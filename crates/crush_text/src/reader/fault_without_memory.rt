@@ -1,4 +1,4 @@
-//! Finds the fault of a text if there isn't enough memory even for an empty map.
+//! Finds the fault of a text if memory doesn't even suffice for an empty map.
 
 ghost use Rattle.std.specs.Prelude.{◌≡◌};
 ghost use Rattle.crush_text.specs.ReadsStatements.{FailsText, FailsFirst, opens_alone};
@@ -9,8 +9,9 @@ use crate::reader::statement::{comes_first, is_out_of_place};
 use crate::reader::word::{PlacedWord, memory_at};
 use crush_units::{Reader, Token};
 
-/// Returns the fault of the text's first word. If this word has no fault, returns that memory ran
-/// out at the word. If the text has no words, returns that memory ran out at the end of the text.
+/// Returns the fault of the text's first word. If this word has no fault, returns `OutOfMemory` at
+/// the place of the word. If the text has no words, returns `OutOfMemory` at the end of the text.
+/// If no word can be read at the beginning of the text, returns `BadWord`.
 pub(crate) fn fault_without_memory(reader: &mut Reader<'_>) -> TextFault
     ensures { FailsText result reader.old }
 {
@@ -28,8 +29,8 @@ pub(crate) fn fault_without_memory(reader: &mut Reader<'_>) -> TextFault
     }
 }
 
-/// Returns the fault of the text's first word, or, if this word has no fault, that memory ran out.
-/// No type is declared yet, so a word that would begin a bucket is a fault.
+/// Returns the fault of the text's first word. If this word has no fault, returns `OutOfMemory` at
+/// the place of the word. No type is declared before the first word, so no bucket can begin here.
 fn unopened(word: PlacedWord<'_>) -> TextFault
     ensures { FailsFirst result word.entry.place word.entry.text.now }
 {

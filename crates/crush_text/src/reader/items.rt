@@ -26,8 +26,8 @@ use crush_units::{ItemId, Reader, Weight};
 use std::alloc::Allocator;
 
 impl<'a, A: Allocator + Clone> MapReader<'a, A> {
-    /// Reads the items of a bucket and its closing brace. `or` is the optional part that was left
-    /// out just before.
+    /// Reads the items of a bucket and its closing brace. `or` is the optional part that could
+    /// still follow before the first item.
     pub(crate) fn items(&mut self, or: Optional) -> Result<(), TextFault>
         requires { IsAmid is_filling self.old.builder }
         ensures { ReadsOn (λ d. between (passing or (at (filling false) d))) (λ _. (second, Nothing))
@@ -42,9 +42,10 @@ impl<'a, A: Allocator + Clone> MapReader<'a, A> {
         Ok(())
     }
 
-    /// Reads an item, and returns the optional part that was left out: the item's weight, or
-    /// nothing. If the closing brace comes instead, reads it and returns `None`. `any` says whether
-    /// an item was read before, and `or` is the optional part that was left out just before.
+    /// Reads an item, and returns the optional part that could still follow: `Optional::Weight` if
+    /// the item has no weight, and otherwise `Optional::Nothing`. If the next word is the closing
+    /// brace, reads this brace instead and returns `None`. `any` says whether the bucket has an
+    /// item before this place. `or` is the optional part that could still follow at this place.
     #[tactic(auto, unfolding(crate::specs::Reads::line_at))]
     fn item_or_end(&mut self, any: bool, or: Optional) -> Result<Option<Optional>, TextFault>
         requires { IsAmid is_filling self.old.builder }
@@ -61,9 +62,9 @@ impl<'a, A: Allocator + Clone> MapReader<'a, A> {
     }
 
     /// Reads `NAME [weight WEIGHT]`. The word `item` was read before. Returns the optional part
-    /// that was left out: the weight, or nothing. If the weight of a bucket or of the whole map
-    /// becomes too large, the place of the fault is the item's weight, or the item's name if the
-    /// weight was left out.
+    /// that could still follow: `Optional::Weight` if the item has no weight, and otherwise
+    /// `Optional::Nothing`. If the weight of a bucket or of the whole map becomes too large, the
+    /// fault is at the item's weight, or at the item's name if the item has no weight.
     fn item(&mut self) -> Result<Optional, TextFault>
         requires { IsAmid is_filling self.old.builder }
         ensures { ReadsLine item_line (λ k. (filling true, k)) self.old self.new result }
@@ -91,7 +92,7 @@ impl<'a, A: Allocator + Clone> MapReader<'a, A> {
     }
 }
 
-/// Returns what the grammar expects at the place of this item's weight.
+/// Returns what the grammar expects at the place of the weight of this item.
 fn weight_of(item: &ItemId) -> Expected
     ensures { result ≡ expected (weight item.now) }
 {
@@ -101,9 +102,9 @@ fn weight_of(item: &ItemId) -> Expected
 }
 
 /// Adds the item to the bucket that is being read. The first part of `weight` is the item's weight,
-/// or `None` if it was left out. The second part is what the grammar expects at `word`. If the
-/// weight of a bucket or of the whole map becomes too large, or memory runs out, the place of the
-/// fault is `word`.
+/// or `None` if the text gives no weight. The second part is what the grammar expects at `word`,
+/// which is the last word of the item. If the weight of a bucket or of the whole map becomes too
+/// large, or if memory runs out, the fault is at `word`.
 fn add_item<A: Allocator>(
     word: PlacedWord<'_>,
     item: ItemId,
@@ -122,8 +123,8 @@ fn add_item<A: Allocator>(
     }
 }
 
-/// Returns the weight that the word spells for this item. The weight of a device is at most
-/// 2147483647 units.
+/// Returns the weight that the word spells for this item. Fails if the word is a brace or isn't a
+/// weight, or if the item is a device and the weight is above 2147483647 units.
 fn parsed_weight(word: PlacedWord<'_>, item: &ItemId) -> Result<Weight, TextFault>
     ensures weighs { (d : Draft)
         → result ≡ placed word.entry.place (expected (weight item.now)) (parsed_weight d item.now word.entry.text.now) }
@@ -143,8 +144,8 @@ fn parsed_weight(word: PlacedWord<'_>, item: &ItemId) -> Result<Weight, TextFaul
 }
 
 /// Reads `item` or `}`, and returns true for `item`. Rejects `pos` after an item, because positions
-/// aren't supported. `any` says whether an item was read before, and `or` is the optional part that
-/// was left out just before.
+/// aren't supported. `any` says whether the bucket has an item before this place. `or` is the
+/// optional part that could still follow at this place.
 #[tactic(auto, unfolding(crate::specs::Reads::word_at))]
 fn read_item_or_end(reader: &mut Reader<'_>, any: bool, or: Optional) -> Result<bool, TextFault>
     ensures { ReadsValue (item_or_end any or) (λ more. more) AnyDraft
@@ -163,8 +164,8 @@ fn read_item_or_end(reader: &mut Reader<'_>, any: bool, or: Optional) -> Result<
     }
 }
 
-/// Returns the item with this name: a device, or a bucket whose closing brace was read. Fails if
-/// there is no such item, or if a bucket already holds the item.
+/// Returns the item with this name: a device, or a bucket whose closing brace was read before.
+/// Fails if there is no such item, or if a bucket already holds the item.
 fn free_item<A: Allocator>(
     word: PlacedWord<'_>,
     builder: &MapBuilder<A>,
@@ -185,7 +186,8 @@ fn free_item<A: Allocator>(
     }
 }
 
-/// Returns the device with this name, or the bucket with this name whose closing brace was read.
+/// Returns the device with this name, or the bucket with this name whose closing brace was read
+/// before. Returns `None` if there is no such item.
 fn item_named<A: Allocator>(builder: &MapBuilder<A>, name: &[u8]) -> Option<ItemId>
     ensures value { (d : Draft) → IsDraft builder.now d → result ≡ item_named d name.now }
     ensures closed { IfSome result (λ i. (d : Draft) → IsDraft builder.now d

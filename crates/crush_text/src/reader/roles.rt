@@ -12,7 +12,7 @@ use crush_units::Reader;
 use crush_units::number::number_up_to;
 use std::alloc::Allocator;
 
-/// Reads this keyword. Any other word is a fault.
+/// Reads the word of `keyword`. Any other word is a fault.
 #[tactic(auto, unfolding(crate::specs::Reads::word_at))]
 pub(crate) fn read_key(reader: &mut Reader<'_>, keyword: Keyword) -> Result<(), TextFault>
     ensures { ReadsValue (key (keyword_word keyword)) (λ x. x) AnyDraft reader.old reader.new result }
@@ -26,7 +26,7 @@ pub(crate) fn read_key(reader: &mut Reader<'_>, keyword: Keyword) -> Result<(), 
     }
 }
 
-/// Reads any word except a brace; `expected` says what the grammar expects here.
+/// Reads any word except for a brace. `expected` says what the grammar expects here.
 #[tactic(auto, unfolding(crate::specs::Reads::word_at))]
 pub(crate) fn read_word<'a>(
     reader: &mut Reader<'a>,

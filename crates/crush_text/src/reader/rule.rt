@@ -32,8 +32,8 @@ use crush_units::number::number_up_to;
 use std::alloc::{Allocator, Global};
 
 impl<'a, A: Allocator> MapReader<'a, A> {
-    /// Reads a rule to its closing brace. The word `rule` was read before. Until the rule is
-    /// complete, it is stored in memory of `global`, and the map doesn't have it.
+    /// Reads a rule to its closing brace. The word `rule` was read before. Until the closing brace
+    /// is read, the rule is stored in memory of `global`, outside of the builder.
     pub(crate) fn rule(&mut self) -> Result<(), TextFault>
         requires { HasRoomFor StatementKind.Rule self.old.builder }
         ensures { ReadsOn (λ d. arrive d self.old.text.words (rule_line d)) (λ _. (second, Nothing))
@@ -46,7 +46,7 @@ impl<'a, A: Allocator> MapReader<'a, A> {
             .map_err(|refused| out_of_memory_at(place, refused.fault))
     }
 
-    /// Reads the rule up to its first step, and returns the rule without steps.
+    /// Reads a rule from its name up to its first step, and returns the rule without steps.
     #[tactic(auto, unfolding(crate::specs::Reads::line_at))]
     fn rule_head(&mut self) -> Result<Rule, TextFault>
         ensures { ReadsHead self.old self.new result }
@@ -62,7 +62,8 @@ impl<'a, A: Allocator> MapReader<'a, A> {
         rule_head_values(name, id, kind, (min_size, max_size), self.global)
     }
 
-    /// Reads all steps, appends them to the rule, and returns the place of the closing brace.
+    /// Reads all steps and the closing brace. Appends the steps to the rule, and returns the place
+    /// of the brace.
     fn steps(&mut self, rule: &mut Rule) -> Result<usize, TextFault>
         requires { IsRightSoFar self.old.builder rule.old }
         ensures { ReadsSteps rule.old rule.new self.old self.new result }
@@ -74,8 +75,8 @@ impl<'a, A: Allocator> MapReader<'a, A> {
         }
     }
 
-    /// Reads a step, appends it to the rule, and returns `None`. If the closing brace comes
-    /// instead, reads it and returns its place.
+    /// Reads a step, appends it to the rule, and returns `None`. If the next word is the closing
+    /// brace, reads this brace instead and returns its place.
     #[tactic(auto, unfolding(crate::specs::Reads::line_at))]
     fn step_or_end(&mut self, rule: &mut Rule) -> Result<Option<usize>, TextFault>
         requires { IsRightSoFar self.old.builder rule.old }
@@ -118,8 +119,9 @@ impl<'a, A: Allocator> MapReader<'a, A> {
     }
 }
 
-/// Returns a rule without steps. It has copies of the name and of the word after `type`. `sizes`
-/// are the least and the largest size of the pools that the rule serves.
+/// Returns a rule without steps. The rule has copies of `name` and of `kind`, which is the word
+/// after `type`. `sizes` are the least and the largest size of the pools that the rule serves.
+/// Fails if memory runs out.
 fn rule_head_values(
     name: PlacedWord<'_>,
     id: u32,
@@ -150,8 +152,8 @@ fn rule_head_values(
     })
 }
 
-/// Reads the key `size` and a number. If the next word isn't this key, reads nothing and returns
-/// `None`.
+/// Reads the word `size`, which is `min_size` or `max_size`, and the number after it. If the next
+/// word isn't `size`, reads nothing and returns `None`.
 #[tactic(auto, unfolding(crate::specs::Reads::line_at))]
 fn read_size(reader: &mut Reader<'_>, size: &[u8]) -> Result<Option<u32>, TextFault>
     ensures { ReadsSize size.now reader.old reader.new result }
@@ -163,9 +165,10 @@ fn read_size(reader: &mut Reader<'_>, size: &[u8]) -> Result<Option<u32>, TextFa
     Ok(Some(number))
 }
 
-/// Returns the optional part of the text that could still follow after what was read of the rule:
-/// the class of a last step that takes a bucket without a class, or the sizes that the head doesn't
-/// have if there is no step yet. Messages name this part beside `step` and `}`.
+/// Returns the optional part of the text that could still follow after what was read of the rule.
+/// If the rule has no steps yet, this is a part with sizes, as [`left_sizes`] says. If the rule has
+/// steps, and the last step takes a bucket without a class, this is the class. Otherwise no part
+/// could follow. Messages name this part beside `step` and `}`.
 fn left_by(rule: &Rule) -> Optional
     ensures { result ≡ left_by rule.now }
 {
@@ -175,7 +178,8 @@ fn left_by(rule: &Rule) -> Optional
     }
 }
 
-/// Returns the optional part that was left out at the end of the step.
+/// Returns the optional part that could still follow after the step. This is the class if the step
+/// takes a bucket without a class.
 fn left_by_step(step: &Step) -> Optional
     ensures { result ≡ left_by_step step.now }
 {
@@ -185,10 +189,10 @@ fn left_by_step(step: &Step) -> Optional
     }
 }
 
-/// Returns the optional part that may still follow before the first step of a rule: `min_size` and
-/// `max_size` if the rule has neither, `max_size` if it has only `min_size`, and nothing if it has
-/// `max_size`. `least` and `most` are the numbers after `min_size` and `max_size`, if the rule has
-/// them.
+/// Returns the optional part that could still follow before the first step of a rule: `min_size`
+/// and `max_size` if the rule has neither, `max_size` if it has only `min_size`, and nothing if it
+/// has `max_size`. `least` and `most` are the numbers after `min_size` and `max_size`, if the rule
+/// has them.
 fn left_sizes(least: Option<u32>, most: Option<u32>) -> Optional
     ensures { result ≡ left_after None least most }
 {
@@ -199,8 +203,8 @@ fn left_sizes(least: Option<u32>, most: Option<u32>) -> Optional
     }
 }
 
-/// Reads `step` or `}`, and returns the word. Fails at `step` if the rule already has the maximum
-/// number of steps. `or` is the optional part that was left out just before.
+/// Reads `step` or `}`, and returns the word. Fails at `step` if `steps` already has the maximum
+/// number of steps. `or` is the optional part that could still follow here.
 #[tactic(auto, unfolding(crate::specs::Reads::word_at))]
 fn read_step_or_end<'a>(
     reader: &mut Reader<'a>,

@@ -21,9 +21,11 @@ use std::alloc::Allocator;
 /// What a method needs to know about the text before a statement.
 #[derive(Clone, Copy)]
 pub(crate) struct Before {
-    /// Whether a bucket or a rule was read. If so, only buckets and rules may follow.
+    /// Whether a bucket or a rule was read before the statement. If so, only buckets and rules may
+    /// follow.
     pub(crate) late: bool,
-    /// The optional part that was left out at the end of what was read.
+    /// The optional part that could still follow, because the words before the statement have left
+    /// it out.
     pub(crate) or: Optional,
 }
 
@@ -55,8 +57,8 @@ impl<'a, A: Allocator + Clone> MapReader<'a, A> {
         Ok(())
     }
 
-    /// Reads the next statement. Returns what the next call needs to know of the text that was read
-    /// so far, which is a [`Before`], or `None` at the end of the text.
+    /// Reads the next statement. Returns a [`Before`], which says what the next call needs to know
+    /// about the text that was read. At the end of the text, returns `None`.
     fn next_statement(&mut self, before: Before) -> Result<Option<Before>, TextFault>
         requires { IsIdle self.old.builder }
         ensures { ReadsNext before self.old self.new result }
@@ -79,8 +81,8 @@ impl<'a, A: Allocator + Clone> MapReader<'a, A> {
         }
     }
 
-    /// Reads the rest of a statement whose first word was read. Returns a [`Before`] for the next
-    /// statement.
+    /// Reads the rest of a statement. Its first word, `word`, was read before. Returns a [`Before`]
+    /// for the next statement.
     fn statement(&mut self, opening: StatementKind, word: &[u8]) -> Result<Before, TextFault>
         requires { CanOpen opening word.now self.old.builder }
         ensures { ReadsOn (λ d. arrive d self.old.text.words (statement d opening)) behind
@@ -123,7 +125,7 @@ impl<'a, A: Allocator + Clone> MapReader<'a, A> {
     }
 
     /// Returns the kind of the statement that the word begins. Fails if no statement can begin with
-    /// this word here, or if the map has no room for one more statement of this kind.
+    /// this word here, or if the map already has the maximum number of statements of this kind.
     fn opening_of(&self, word: PlacedWord<'_>, before: Before) -> Result<StatementKind, TextFault>
         ensures { Opens word.entry before self.now.builder result }
     {
@@ -179,24 +181,25 @@ impl<'a, A: Allocator + Clone> MapReader<'a, A> {
     }
 }
 
-/// Whether the word can't begin a statement here. Tunables, devices and types must come before the
-/// first bucket or rule. `late` says whether a bucket or a rule was read.
+/// Whether the word is a brace or `class`, or comes too late: tunables, devices and types must come
+/// before the first bucket or rule. `late` says whether a bucket or a rule was read before.
 pub(crate) fn is_out_of_place(word: PlacedWord<'_>, late: bool) -> bool
     ensures { result ≡ is_out_of_place late word.entry.text.now }
 {
     word.is(b"{") || word.is(b"}") || word.is(b"class") || (late && comes_first(word))
 }
 
-/// Whether the word begins a statement that must come before the buckets and the rules.
+/// Whether the word is `tunable`, `device` or `type`. The statements that begin with these words
+/// must come before the first bucket or rule.
 pub(crate) fn comes_first(word: PlacedWord<'_>) -> bool
     ensures { result ≡ comes_first word.entry.text.now }
 {
     word.is(b"tunable") || word.is(b"device") || word.is(b"type")
 }
 
-/// Returns `opening`, which is the kind of the statement that the word begins. `full` says whether
-/// the map already has the maximum number of statements of this kind; if it has, the function fails
-/// with `TooMany` at the word.
+/// Returns `opening`, the kind of the statement that the word begins. `full` says whether the map
+/// already has the maximum number of statements of this kind. If `full` is true, fails with
+/// `TooMany` at the word.
 fn with_room(
     word: PlacedWord<'_>,
     before: Before,

@@ -87,7 +87,7 @@ impl<'a, A: Allocator> MapReader<'a, A> {
         })
     }
 
-    /// Reads the name of a bucket that was read before.
+    /// Reads the name of a bucket whose closing brace was read before.
     #[tactic(auto, unfolding(crate::specs::Reads::word_at))]
     fn taken_bucket(&mut self) -> Result<PlacedWord<'a>, TextFault>
         ensures { FindsWord taken_bucket self.old self.new result }
@@ -112,8 +112,8 @@ impl<'a, A: Allocator> MapReader<'a, A> {
     }
 }
 
-/// Reads the number after a word that begins with `set_`, and returns a step whose name is this
-/// word.
+/// Reads the number of a step whose first word begins with `set_`. This word was read before, and
+/// `name` is a copy of it.
 #[tactic(auto, unfolding(crate::specs::Reads::line_at))]
 fn read_set(reader: &mut Reader<'_>, name: Name<Global>) -> Result<Step, TextFault>
     requires sets { starts_with nat_eq name (codes "set_") ≡ true }
@@ -159,8 +159,9 @@ fn sets(text: &[u8]) -> bool
     matches!(text, [b's', b'e', b't', b'_', ..])
 }
 
-/// Reads `firstn` or `indep`, and returns true for `firstn`. If an item is lost, `firstn` lets the
-/// items after it move up, and `indep` keeps them at their positions.
+/// Reads `firstn` or `indep`, and returns true for `firstn`. These words say what happens to the
+/// list of chosen items if an item is lost. With `firstn`, the items after the lost item move up by
+/// one position. With `indep`, they keep their positions.
 #[tactic(auto, unfolding(crate::specs::Reads::word_at))]
 fn read_order(reader: &mut Reader<'_>) -> Result<bool, TextFault>
     ensures { ReadsValue step_order (λ b. b) AnyDraft reader.old reader.new result }

@@ -49,8 +49,8 @@ impl<'a, A: Allocator> MapReader<'a, A> {
         Ok(number)
     }
 
-    /// Reads a name that no type has yet. Only the name of type 0 may be a word that the grammar
-    /// reserves.
+    /// Reads a name that no type has yet. `number` is the number of the new type. The name may be a
+    /// word that the grammar reserves only if this number is 0.
     #[tactic(auto, unfolding(crate::specs::Reads::word_at))]
     fn type_name(&mut self, number: TypeId) -> Result<PlacedWord<'a>, TextFault>
         ensures { FindsWord (type_name number) self.old self.new result }

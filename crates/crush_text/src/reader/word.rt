@@ -20,7 +20,8 @@ pub(crate) struct PlacedWord<'a> {
     pub(crate) text: &'a [u8],
 }
 
-/// Reads the next word, which may be a brace. Fails if the text ends here. `expected` says what the
+/// Reads the next word, which may be a brace. Fails with `Ended` if the text ends here. Fails with
+/// `BadWord` if the next byte isn't allowed or the next word is too long. `expected` says what the
 /// grammar expects here.
 #[tactic(auto, unfolding(crate::specs::Reads::next_at))]
 pub(crate) fn next_word<'a>(
@@ -55,8 +56,8 @@ pub(crate) fn memory_at(place: usize) -> TextFault
     }
 }
 
-/// Turns a fault of the builder into the fault of the text at this place. The word was checked
-/// before the call of the builder, so the builder can only have run out of memory.
+/// Turns a fault of the builder into the fault of the text at this place. Before the builder was
+/// called, the reader checked the word, so the only possible fault is that memory ran out.
 pub(crate) fn out_of_memory_at(place: usize, fault: BuildFault) -> TextFault
     requires { fault ≡ BuildFault.OutOfMemory }
     ensures { result ≡ record { kind = OutOfMemory; place = place; expected = Memory } }
@@ -68,7 +69,8 @@ pub(crate) fn out_of_memory_at(place: usize, fault: BuildFault) -> TextFault
 }
 
 impl<'a> PlacedWord<'a> {
-    /// Returns a fault of this kind at the word's place, with what is expected there.
+    /// Returns a fault of this kind at the word's place. `expected` says what the grammar expects
+    /// there.
     pub(crate) fn fault(self, kind: TextFaultKind, expected: Expected) -> TextFault
         ensures { result ≡ record { kind = kind; place = self.entry.place; expected = expected } }
     {
