@@ -1,4 +1,4 @@
--- How the words of a line of a section are parsed. Each definition gives its value, or why the line can't be parsed.
+-- How the words of a line of a section are parsed. Each definition gives a value, or the reason why the line can't be parsed.
 use Rattle.std.specs.Prelude.{ℕ, ◌+◌, List, [], ◌∷◌, ◌++◌, length, nat_lt, Option, Some, None, codes, bytes_eq, Result, Ok, Err, if◌then◌else◌}
 use Rattle.crush_units.specs.Name.{is_name}
 use Rattle.crush_units.specs.Weight.{weight_of_text}
@@ -26,37 +26,37 @@ pub record Read (X : Type 0) : Type 0 where
   pub value : X
   pub rest : List (List ℕ)
 
--- the fault of a line in which the word at this index, counted from 0, is missing or isn't what is required
+-- a misfit: the fault of a line in which the word at this index is missing, or isn't what the form of the line requires. The index counts from 0
 abbrev pub misfit : ℕ → Due → LineFault
 misfit index d = Word (record { word = index; due = d })
 
--- the next word, which has this index, as a name; a misfit if there is no next word or if it isn't a name. The argument `Due` says what is required: a name, or a device, whose name this word is.
+-- the next word, which has this index, as a name. If there is no next word, or if it isn't a name, the result is a misfit. The argument d is what the misfit reports as required, for example the name of a device.
 unfoldable pub name_at : ℕ → Due → List (List ℕ) → Result (Read (List ℕ)) LineFault
 name_at index d [] = Err (misfit index d)
 name_at index d (word ∷ rest) = if is_name word then Ok (record { value = word; rest = rest }) else Err (misfit index d)
 
--- a weight that was read, and the words after it; a misfit if the word isn't a weight of at most HEAVIEST_BUCKET units
+-- the result of parsing a weight, and the words after it. If parsing has failed, the result is a misfit. A weight is at most HEAVIEST_BUCKET units
 abbrev pub read_weight : ℕ → Result ℕ WeightFault → List (List ℕ) → Result (Read ℕ) LineFault
 read_weight index (Ok units) rest = Ok (record { value = units; rest = rest })
 read_weight index (Err fault) rest = Err (misfit index due.Weight)
 
--- the next word, which has this index, as a weight; a misfit if there is no word or it isn't a weight
+-- the next word, which has this index, as a weight. If there is no next word, or if it isn't a weight, the result is a misfit
 unfoldable pub weight_at : ℕ → List (List ℕ) → Result (Read ℕ) LineFault
 weight_at index [] = Err (misfit index due.Weight)
 weight_at index (word ∷ rest) = read_weight index (weight_of_text word) rest
 
--- the value if no word is left; otherwise a misfit of the next word, which has this index
+-- the value if no word is left. Otherwise the result is a misfit at the next word, which has this index
 unfoldable pub end_at : {X : Type 0} → ℕ → X → List (List ℕ) → Result X LineFault
 end_at index value [] = Ok value
 end_at index value (word ∷ rest) = Err (misfit index due.End)
 
--- the location l with the word `TYPE=NAME` as one more pair; a misfit if l is full or the word isn't a pair. The first pair of the line has the index `first`.
+-- the location l after the pair of the word `TYPE=NAME` was appended. If l has MOST_PAIRS pairs already, or if the word isn't a pair, the result is a misfit. The first pair of the line has the index `first`.
 unfoldable pub with_pair : ℕ → List Pair → List ℕ → Result (List Pair) LineFault
 with_pair first l word =
     if nat_lt (length l) MOST_PAIRS then (if is_pair word then Ok (l ++ pair_of word ∷ []) else Err (misfit (first + length l) due.Pair))
     else Err (misfit (first + length l) due.NoMorePairs)
 
--- the location l with all these words as further pairs, in order; a misfit of the first word that can't be added
+-- the location l after the pairs of all these words were appended, in their order. The result is a misfit at the first word that can't be appended
 unfoldable pub with_pairs : ℕ → List Pair → List (List ℕ) → Result (List Pair) LineFault
 with_pairs first l [] = Ok l
 with_pairs first l (word ∷ rest) = with_pair first l word >>= λ more. with_pairs first more rest
@@ -65,7 +65,7 @@ with_pairs first l (word ∷ rest) = with_pair first l word >>= λ more. with_pa
 unfoldable pub location_at : ℕ → List (List ℕ) → Result (List Pair) LineFault
 location_at first words = with_pairs first [] words
 
--- the id of a device if there is one; otherwise a misfit of the word after the command
+-- the id of a device. If there is no id, the result is a misfit at the word after the command
 abbrev pub the_device : Option ℕ → Result ℕ LineFault
 the_device None = Err (misfit 1 due.Device)
 the_device (Some id) = Ok id
@@ -92,7 +92,7 @@ one_name_at words = do
   name ← name_at 1 due.Name words
   end_at 2 name.value name.rest
 
--- two names and no further word: `NAME NAME`, `NAME TYPENAME`, `FROM TO` or `CLASS NAME`
+-- `NAME NAME`, `NAME TYPENAME`, `FROM TO` or `CLASS NAME`: two names and no further word
 unfoldable pub two_names_at : List (List ℕ) → Result (List ℕ × List ℕ) LineFault
 two_names_at words = do
   first ← name_at 1 due.Name words
@@ -106,7 +106,7 @@ name_and_weight_at words = do
   weight ← weight_at 2 name.rest
   end_at 3 (name.value, weight.value) weight.rest
 
--- the edit of a command, given the words after the first; in `set-device-class CLASS NAME` the class comes before the name
+-- the edit of a command. `rest` has the words after the command. In `set-device-class CLASS NAME`, the class comes before the name
 abbrev pub edit_of : Keyword → List (List ℕ) → Result Edit LineFault
 edit_of (word.Place how) rest = placing_at rest >>= λ p. Ok (Place how p.device p.name p.weight p.at)
 edit_of word.Move rest = located_at rest >>= λ p. Ok (Move p.0 p.1)
@@ -119,31 +119,31 @@ edit_of word.RenameBucket rest = two_names_at rest >>= λ p. Ok (Rename p.0 p.1)
 edit_of word.SetDeviceClass rest = two_names_at rest >>= λ p. Ok (SetClass p.1 p.0)
 edit_of word.RmDeviceClass rest = one_name_at rest >>= λ name. Ok (RemoveClass name)
 
--- the edit of a command, as `edit_of` says, or NoSuchCommand if the first word names no command
+-- the edit of a command, as in `edit_of`. If the first word is no command, the result is NoSuchCommand
 abbrev pub edit_by : Option Keyword → List (List ℕ) → Result Edit LineFault
 edit_by None rest = Err NoSuchCommand
 edit_by (Some keyword) rest = edit_of keyword rest
 
--- the edit of a line, given its first word and the words after it
+-- the edit of a line. `first` is its first word, and `rest` has the words after it
 unfoldable pub edit_at : List ℕ → List (List ℕ) → Result Edit LineFault
 edit_at first rest = edit_by (keyword_of first) rest
 
--- a number of changes that was read, and the words after it; a misfit if the word isn't such a number
+-- a number of changes that was read, and the words after it. If the word isn't a number of changes, the result is a misfit
 abbrev pub read_count : ℕ → Option ℕ → List (List ℕ) → Result (Read ℕ) LineFault
 read_count index (Some n) rest = Ok (record { value = n; rest = rest })
 read_count index None rest = Err (misfit index due.Changes)
 
--- the next word, which has this index, as a number of changes; a misfit if there is no word or it isn't such a number
+-- the next word, which has this index, as a number of changes. If there is no next word, or if it isn't such a number, the result is a misfit
 unfoldable pub count_at : ℕ → List (List ℕ) → Result (Read ℕ) LineFault
 count_at index [] = Err (misfit index due.Changes)
 count_at index (word ∷ rest) = read_count index (count_of word) rest
 
--- the words after `begin`: none, or `at N` and no further word
+-- the words after `begin`: no words, or `at N` and no further word
 unfoldable pub begin_at : List (List ℕ) → Result Command LineFault
 begin_at [] = Ok (says.Begin None)
 begin_at (word ∷ rest) = if bytes_eq word (codes "at") then (count_at 2 rest >>= λ seen. end_at 3 (says.Begin (Some seen.value)) seen.rest) else Err (misfit 1 due.At)
 
--- a line of a section that doesn't begin it: no words, `begin`, `begin at N`, `commit`, or a command for an edit
+-- a line of a section after its first line: no words, `begin`, `begin at N`, `commit`, or a command for an edit
 unfoldable pub command : List (List ℕ) → Result Command LineFault
 command [] = Ok says.Nothing
 command (first ∷ rest) =

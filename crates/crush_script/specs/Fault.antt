@@ -1,4 +1,4 @@
--- Which faults of a job say that memory ran out, and what a line requires a word to be.
+-- Which faults of a job say that memory ran out, and how messages name what a line requires.
 use Rattle.std.specs.Prelude.{ℕ, List, Bool, true, false, codes}
 use Rattle.crush_text.specs.declared.fault.TextFaultKind.{TextFaultKind}
 use Rattle.crush_text.specs.declared.fault.TextFaultKind.TheVariants as kinds
@@ -7,7 +7,7 @@ use Rattle.crush_script.specs.declared.fault.Due.TheVariants.{Device, Weight, Na
 use Rattle.crush_script.specs.declared.fault.JobFault.{JobFault}
 use Rattle.crush_script.specs.declared.fault.JobFault.TheVariants.{Text, OutOfMemory}
 
--- whether a fault of a text says that memory ran out; each other kind is a flaw of the text
+-- whether a fault of a text says that memory ran out. A fault of any other kind is a flaw of the text
 abbrev pub is_out_of_memory : TextFaultKind → Bool
 is_out_of_memory kinds.OutOfMemory = true
 is_out_of_memory kind = false
@@ -18,7 +18,7 @@ lacks_memory OutOfMemory = true
 lacks_memory (Text fault) = is_out_of_memory fault.kind
 lacks_memory fault = false
 
--- what a line requires a word to be, as it is printed
+-- how a message names what a line requires at a word
 abbrev pub due_text : Due → List ℕ
 due_text Device = codes "the name of a device, osd.N"
 due_text Weight = codes "a weight"

@@ -5,7 +5,7 @@ use Rattle.crush_edits.specs.Keyword.{keyword_of, keyword_form}
 use Rattle.crush_script.specs.declared.keyword.Form.{Form}
 use Rattle.crush_script.specs.declared.keyword.Form.TheVariants as form
 
--- the meaning of the first word of a line; none if no line may begin with this word
+-- the meaning of the first word of a line of a section, or `None` if no such line may begin with this word
 unfoldable pub form_of : List ℕ → Option Form
 form_of first =
     if bytes_eq first (codes "%operator") then Some form.Operator
@@ -13,7 +13,7 @@ form_of first =
     else if bytes_eq first (codes "commit") then Some form.Commit
     else option_map form.Edit (keyword_of first)
 
--- this form as text; of the two forms of `begin`, the longer one
+-- this form as text. For a line that begins with `begin`, this is the longer of its two forms
 abbrev pub form_text : Form → List ℕ
 form_text form.Operator = codes "%operator NAME"
 form_text form.Begin = codes "begin at N"

@@ -1,4 +1,4 @@
--- The faults with which reading a job's map text may fail.
+-- The faults with which reading the map's text of a job may fail.
 use Rattle.std.specs.Prelude.{◌⊎◌, ℕ, List}
 use Rattle.crush_model.specs.Table.{Row}
 use Rattle.crush_edits.specs.Setting.{SettingData}
@@ -7,12 +7,12 @@ use Rattle.crush_text.specs.Document.{IsMapText}
 use Rattle.crush_text.specs.Flaw.{IsMapFlaw, IsOutOfMemory}
 use Rattle.crush_text.specs.InTime.{IsFoundInTime}
 
--- the text has this flaw, and it is the text of no map
+-- the text has this flaw (its first fault), and isn't the text of any map
 pub record IsNoMap (text : List ℕ) (fault : TextFault) : Type 0 where
   pub flaw : IsMapFlaw text fault
   pub none : (s : SettingData) (t : List Row) (adjusted : ℕ) → IsMapText text s t adjusted → ⊥
 
--- memory ran out. A word is at the place of the fault, and neither this word nor any word before it has a fault; or the text has no words, and the place is its end
+-- memory ran out. Either the fault is at the place of a word, and neither this word nor any word before it has a fault. Or the text has no words, and the fault is at the end of the text
 pub record IsTextOutOfMemory (text : List ℕ) (fault : TextFault) : Type 0 where
   pub memory : IsOutOfMemory fault
   pub told : IsFoundInTime text fault

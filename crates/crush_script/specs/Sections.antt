@@ -1,4 +1,4 @@
--- The scripts of a job: a fold over the lines of its sections.
+-- The scripts of a job. They are computed line by line, as a fold over the lines of the sections.
 use Rattle.std.specs.Prelude.{ℕ, ◌+◌, List, [], ◌∷◌, ◌++◌, Bool, Option, Some, None, Vec, length, map, Result, Ok, Err, if◌then◌else◌, nat_le, bytes_eq}
 use Rattle.std.specs.List.{list_any}
 use Rattle.crush_edits.specs.declared.edit.Edit.{Edit}
@@ -20,7 +20,7 @@ use Rattle.crush_script.specs.Command.{command, operator}
 use Rattle.crush_script.specs.Lines.{lines, section_part, section_line, line_words, begins_section}
 use Rattle.crush_units.specs.declared.limits.TheConstants.{MOST_CALLS, MOST_EDITS, MOST_OPERATORS}
 
--- what was read from the lines so far: the scripts, for each of them the numbers of the lines that have its edits, the number of calls that were begun in all of them, and the batch that is open, if there is one. A batch has the number of its `begin` line, the number of changes that this line names, and its edits.
+-- what was read from the lines so far: the scripts, and for each script the numbers of the lines that have its edits. `calls` is the number of calls that were begun in all scripts together. `begun` is the open batch, if there is one: a batch whose `commit` hasn't been read yet. It has the number of its `begin` line, the number of changes that this line names, and the edits so far.
 pub record SectionsData : Type 0 where
   pub scripts : List ScriptData
   pub lines : List (List ℕ)
@@ -39,90 +39,90 @@ sections_data s = record { scripts = scripts_data s.scripts.items; lines = lines
 abbrev pub no_sections : SectionsData
 no_sections = record { scripts = []; lines = []; calls = 0; begun = None }
 
--- the fault BadLine of a job: this line isn't allowed at its place, for this reason
+-- the fault BadLine: the line with this number isn't allowed at its place, for the reason `why`
 abbrev pub bad_line : ℕ → BadLine → JobFault
 bad_line number why = job.BadLine number why
 
--- the fault of a job for a fault of one of its lines, with the line's number unless memory ran out
+-- the fault of a job for a fault of the line with this number. The fault of the job has the number, except if memory ran out
 abbrev pub fault_at : ℕ → LineFault → JobFault
 fault_at number (line.Word m) = job.BadLine number (bad.Word m)
 fault_at number line.NoOperator = job.BadLine number bad.NoOperator
 fault_at number line.NoSuchCommand = job.NoSuchCommand number
 fault_at number line.OutOfMemory = job.OutOfMemory
 
--- the result of reading a line, in which a fault of the line becomes a fault of the job
+-- the result of reading the line with this number, in which a fault of the line becomes a fault of the job
 abbrev pub in_line : {X : Type 0} → ℕ → Result X LineFault → Result X JobFault
 in_line number (Ok x) = Ok x
 in_line number (Err fault) = Err (fault_at number fault)
 
--- the sections s if there is no open batch, otherwise OpenBatch with the line of its `begin`
+-- the sections s if there is no open batch. If there is one, the fault OpenBatch with the number of its `begin` line
 abbrev pub without_batch : SectionsData → Option BegunBatch → Result SectionsData JobFault
 without_batch s None = Ok s
 without_batch s (Some b) = Err (job.OpenBatch b.line)
 
--- the sections s if they have no open batch, otherwise OpenBatch
+-- the sections s if they have no open batch, otherwise the fault OpenBatch
 abbrev pub closed : SectionsData → Result SectionsData JobFault
 closed s = without_batch s s.begun
 
--- whether one of the scripts has this operator's name
+-- whether one of the scripts has an operator with this name
 abbrev pub has_operator : List ScriptData → List ℕ → Bool
 has_operator scripts name = list_any (λ (s : ScriptData). bytes_eq s.name name) scripts
 
--- the sections with a new one of this name, which the line `number` begins; a fault if there are MOST_OPERATORS already, or otherwise if one of them has the name
+-- the sections with one more section, which has this name and begins in the line `number`. If there are MOST_OPERATORS sections already, the result is the fault TooManyOperators. Otherwise, if one of the sections has the same name, it is DuplicateOperator
 abbrev pub with_section : ℕ → SectionsData → List ℕ → Result SectionsData JobFault
 with_section number s name =
     if nat_le MOST_OPERATORS (length s.scripts) then Err (job.TooManyOperators number)
     else if has_operator s.scripts name then Err (job.DuplicateOperator number)
     else Ok (record s { scripts = s.scripts ++ (record { name = name; calls = [] }) ∷ []; lines = s.lines ++ [] ∷ [] })
 
--- the sections with one more call counted, which the line `number` begins; a fault if MOST_CALLS are counted already
+-- the sections after one more call was counted, which begins in the line `number`. If MOST_CALLS calls were counted before, the result is the fault TooManyCalls
 abbrev pub counted : ℕ → SectionsData → Result SectionsData JobFault
 counted number s =
     if nat_le MOST_CALLS s.calls then Err (job.TooManyCalls number)
     else Ok (record s { calls = s.calls + 1 })
 
--- the scripts with the call c appended to the last of them
+-- the scripts after the call c was appended to the last of them
 abbrev pub call_in_last : Call → List ScriptData → List ScriptData
 call_in_last c [] = []
 call_in_last c (s ∷ []) = (record s { calls = s.calls ++ c ∷ [] }) ∷ []
 call_in_last c (s ∷ r ∷ rest) = s ∷ call_in_last c (r ∷ rest)
 
--- the sections with the call c appended to the last script
+-- the sections after the call c was appended to the last script
 abbrev pub with_call : Call → SectionsData → SectionsData
 with_call c s = record s { scripts = call_in_last c s.scripts }
 
--- the lists of numbers with one more number in the last of them
+-- the lists of numbers after one more number was appended to the last of them
 abbrev pub number_in_last : ℕ → List (List ℕ) → List (List ℕ)
 number_in_last number [] = []
 number_in_last number (l ∷ []) = (l ++ number ∷ []) ∷ []
 number_in_last number (l ∷ m ∷ rest) = l ∷ number_in_last number (m ∷ rest)
 
--- the sections whose last script has one more line with an edit
+-- the sections after the number of one more line with an edit was appended for the last script
 abbrev pub with_number : ℕ → SectionsData → SectionsData
 with_number number s = record s { lines = number_in_last number s.lines }
 
--- the sections with the edit e, which this line has, appended to the open batch b, or BadLine if the batch has MOST_EDITS edits already
+-- the sections after the edit e of the line `number` was appended to the open batch b. If the batch has MOST_EDITS edits already, the result is the fault BadLine
 abbrev pub in_batch : ℕ → SectionsData → BegunBatch → Edit → Result SectionsData JobFault
 in_batch number s b e =
     if nat_le MOST_EDITS (length b.edits) then Err (bad_line number bad.BatchFull)
     else Ok (with_number number (record s { begun = Some (record { line = b.line; seen = b.seen; edits = b.edits ++ e ∷ [] }) }))
 
--- the sections with one more edit: in the open batch if there is one, otherwise as a call of its own
+-- the sections after one more edit, which the line `number` has. The edit is appended to the open batch. If there is none, the edit is a call of its own
 abbrev pub with_edit : ℕ → SectionsData → Option BegunBatch → Edit → Result SectionsData JobFault
 with_edit number s None e = counted number s >>= λ more. Ok (with_number number (with_call (One e) more))
 with_edit number s (Some b) e = in_batch number s b e
 
--- the sections after a line `begin` or `begin at N`, which opens a batch and counts as one more call; BadLine if a batch is open already
+-- the sections after a line `begin` or `begin at N`. The line opens a batch, which counts as one more call. If a batch is open already, the result is the fault BadLine
 abbrev pub with_begin : ℕ → SectionsData → Option BegunBatch → Option ℕ → Result SectionsData JobFault
 with_begin number s None seen = counted number s >>= λ more. Ok (record more { begun = Some (record { line = number; seen = seen; edits = [] }) })
 with_begin number s (Some b) seen = Err (bad_line number bad.BatchOpen)
 
--- the call of a batch, which is guarded if its `begin` names a number of changes
+-- the call of a batch. The batch is guarded if its `begin` line names a number of changes
 abbrev pub batch_call : Option ℕ → List Edit → Call
 batch_call None es = Batch es
 batch_call (Some seen) es = Guarded seen es
 
--- the sections after a line `commit`, which appends the open batch to the last script as a call; BadLine if no batch is open
+-- the sections after a line `commit`, which appends the open batch to the last script as a call. If no batch is open, the result is the fault BadLine
 abbrev pub with_commit : ℕ → SectionsData → Option BegunBatch → Result SectionsData JobFault
 with_commit number s None = Err (bad_line number bad.NoBatch)
 with_commit number s (Some b) = Ok (with_call (batch_call b.seen b.edits) (record s { begun = None }))
@@ -140,7 +140,7 @@ with_line number s text =
     if begins_section text then (closed s >>= λ r. in_line number (operator (line_words text)) >>= λ name. with_section number r name)
     else (in_line number (command (line_words text)) >>= λ c. with_command number s c)
 
--- the sections after all these lines, or the fault of the first faulty line. The number is that of the first line. No batch may be open after the last line.
+-- the sections after all these lines, or the fault of the first faulty line. `number` is the number of the first of these lines. No batch may be open after the last line.
 unfoldable pub with_lines : ℕ → SectionsData → List (List ℕ) → Result SectionsData JobFault
 with_lines number s [] = closed s
 with_lines number s (text ∷ rest) = with_line number s text >>= λ next. with_lines (number + 1) next rest
@@ -149,11 +149,11 @@ with_lines number s (text ∷ rest) = with_line number s text >>= λ next. with_
 abbrev pub sections_of : List ℕ → Result SectionsData JobFault
 sections_of job = with_lines (section_line job) no_sections (lines (section_part job))
 
--- the lists of lines of sections that were read
+-- for each script, the numbers of the lines that have its edits. If reading the sections failed, there are no such lists
 abbrev pub lines_in : Result SectionsData JobFault → List (List ℕ)
 lines_in (Ok s) = s.lines
 lines_in (Err fault) = []
 
--- EDIT LINES: for each script of a job, the numbers of the lines that have its edits, in the order of its section. A line's number counts all lines of the job, from 1.
+-- EDIT LINES: for each script of a job, the numbers of the lines that have its edits, in the order of the lines. Lines are numbered from 1, beginning with the first line of the job.
 abbrev pub job_lines : List ℕ → List (List ℕ)
 job_lines job = lines_in (sections_of job)

@@ -1,4 +1,5 @@
-//! Parses the words of a script's line: a command, `begin`, `commit` or `%operator NAME`.
+//! Parses the words of a line of a section: `%operator NAME`, `begin`, `commit`, or a command for
+//! an edit.
 
 ghost use Rattle.std.specs.Prelude.{◌≡◌, ◌≤◌};
 ghost use Rattle.crush_script.specs.ReadsAs.{ReadsAs, ReadsAndLeaves};
@@ -15,7 +16,7 @@ use std::alloc::Global;
 /// Why a line can't be parsed.
 #[derive(Clone, Copy)]
 pub(crate) enum LineFault {
-    /// A word is missing, or doesn't have the form that the line requires.
+    /// A word is missing, or isn't what the form of the line requires.
     Word(Misfit),
     /// The line begins with `%`, but its first word isn't `%operator`.
     NoOperator,
@@ -29,8 +30,8 @@ pub(crate) enum Command {
     /// The line has no words.
     Nothing,
     Edit(Edit),
-    /// The line is `begin` or `begin at N`. N is the number of changes that the map must have when
-    /// the batch is applied.
+    /// The line is `begin`, or it is `begin at N` with this number N. A batch with N is applied
+    /// only if exactly N earlier calls have changed the map.
     Begin(Option<u32>),
     Commit,
 }
@@ -49,8 +50,8 @@ fn misfit(word: usize, due: Due) -> LineFault
     LineFault::Word(Misfit { word, due })
 }
 
-/// Appends the pair that the word spells to the location. `first` is the index of the line's first
-/// pair.
+/// Appends the pair that the word spells to the location `at`. `first` is the index in the line of
+/// the first pair of the location.
 #[tactic(auto, unfolding(crate::specs::Command::with_pair))]
 fn with_pair(first: usize, at: Location, word: &[u8]) -> Result<Location, LineFault>
     requires { first ≤ 3 }
@@ -68,8 +69,8 @@ fn with_pair(first: usize, at: Location, word: &[u8]) -> Result<Location, LineFa
 }
 
 impl LineWords<'_> {
-    /// Reads the next word as a name. `index` is the index of this word in the line. In this and
-    /// the following methods, `due` is what the line requires the word to be.
+    /// Reads the next word as a name. `index` is the index of this word in the line. In this method
+    /// and the following ones, `due` is what the form of the line requires at this index.
     #[tactic(auto, unfolding(crate::specs::Command::name_at))]
     fn name(&mut self, alloc: Global, index: usize, due: Due) -> Result<Name<Global>, LineFault>
         ensures { ReadsAndLeaves result self.new (name_at index due self.old) }
@@ -97,8 +98,8 @@ impl LineWords<'_> {
         }
     }
 
-    /// Returns the value if the line has no further word. Otherwise fails, because the word at
-    /// `index` is one too many.
+    /// Returns `value` if the line has no further word. Otherwise fails, because the line must end
+    /// before the word at `index`.
     #[tactic(auto, unfolding(crate::specs::Command::end_at))]
     fn end<T: Drop>(&mut self, index: usize, value: T) -> Result<T, LineFault>
         ensures { ReadsAs result (end_at index value self.old) }
@@ -109,8 +110,8 @@ impl LineWords<'_> {
         }
     }
 
-    /// Reads all further words, each as a pair `TYPE=NAME`. `first` is the index of the first of
-    /// these words.
+    /// Reads all words that are left in the line, each as a pair `TYPE=NAME`. `first` is the index
+    /// in the line of the first of these words.
     #[tactic(auto, unfolding(crate::specs::Command::location_at, crate::specs::Command::with_pairs))]
     fn location(&mut self, alloc: Global, first: usize) -> Result<Location, LineFault>
         requires { first ≤ 3 }

@@ -1,4 +1,4 @@
-//! The faults of a job.
+//! The faults of a job, and the faults of its lines.
 
 ghost use Rattle.std.specs.Prelude.{◌≡◌, Some};
 ghost use Rattle.crush_script.specs.Fault.{due_text};
@@ -9,19 +9,18 @@ use std::alloc::AllocFailed;
 use std::fmt::{self, Display, Formatter};
 use thiserror::Error;
 
-/// What a line requires a word to be.
+/// What the form of a line requires at a place.
 #[derive(Clone, Copy, Debug, PartialEq, Eq)]
 pub enum Due {
     /// The name of a device, `osd.N`.
     Device,
-    /// A weight.
+    /// A weight of at most 4294967295 units. A weight of 1.0 has 65536 units.
     Weight,
-    /// A name.
+    /// A name: 1 to 255 bytes, each of which is a letter, a digit, `-`, `_` or `.`.
     Name,
-    /// A pair `TYPE=NAME`, or the end of the line.
+    /// A pair `TYPE=NAME`, where TYPE and NAME are names, or the end of the line.
     Pair,
-    /// The end of the line, because the line already has 16 pairs, which is the maximum for a
-    /// location.
+    /// The end of the line, because the line already has 16 pairs. A location has at most 16 pairs.
     NoMorePairs,
     /// The word `at`, or the end of the line.
     At,
@@ -56,21 +55,22 @@ impl Display for Due {
     }
 }
 
-/// The place in a line at which the first fault of its words is: a word is missing there, or the
-/// word there isn't what the line requires.
+/// The first word of a line that doesn't fit. Either this word is missing, or it isn't what the
+/// form of the line requires.
 #[derive(Clone, Copy, Debug, PartialEq, Eq, Error)]
 #[error("word {word}: expected {due}")]
 pub struct Misfit {
-    /// The index of the word in its line. The word of the command has index 0.
+    /// The index of the word in its line. The first word of the line has the index 0.
     pub word: usize,
-    /// What the line requires the word to be.
+    /// What the form of the line requires at this index.
     pub due: Due,
 }
 
-/// Why a line isn't allowed at its place.
+/// Why a line of a section isn't allowed at its place. Other faults of a line, such as an unknown
+/// command, are variants of [`JobFault`].
 #[derive(Clone, Copy, Debug, PartialEq, Eq, Error)]
 pub enum BadLine {
-    /// A word is missing, or doesn't have the form that the line's command requires.
+    /// A word is missing, or isn't what the form of the line requires.
     #[error("{0}")]
     Word(Misfit),
     /// The line begins with `%`, but its first word isn't `%operator`.
@@ -87,11 +87,12 @@ pub enum BadLine {
     BatchFull,
 }
 
-/// Why bytes aren't a job. Lines are numbered from 1. The lines of the map's text are counted too.
+/// Why bytes can't be read as a job. Lines are numbered from 1, beginning with the first line of
+/// the map's text.
 #[derive(Clone, Copy, Debug, PartialEq, Eq, Error)]
 pub enum JobFault {
-    /// The line doesn't have the form of its command or of `%operator NAME`. Or it is a `begin`
-    /// inside a batch, a `commit` outside a batch, or the 65,537th edit of a batch.
+    /// The line doesn't have the form of its command or of `%operator NAME`. Or the line is a
+    /// `begin` inside a batch, a `commit` outside a batch, or the 65,537th edit of a batch.
     #[error("line {line}: BadLine: {why}")]
     BadLine {
         /// The number of the line.
@@ -99,21 +100,22 @@ pub enum JobFault {
         /// What is wrong with the line.
         why: BadLine,
     },
-    /// The first word of the line isn't a command.
+    /// The first word of the line isn't the name of a command.
     #[error("line {0}: NoSuchCommand")]
     NoSuchCommand(usize),
-    /// The batch that begins in this line isn't ended by a `commit` before the next section begins
-    /// or the job ends.
+    /// The batch that begins in this line has no `commit` before the next section begins or the job
+    /// ends.
     #[error("line {0}: OpenBatch")]
     OpenBatch(usize),
     /// The line begins the 17th section. A job can have at most 16 operators.
     #[error("line {0}: TooManyOperators")]
     TooManyOperators(usize),
-    /// The line begins a section that has the same name as an earlier section.
+    /// The line begins a section whose operator has the same name as the operator of an earlier
+    /// section.
     #[error("line {0}: DuplicateOperator")]
     DuplicateOperator(usize),
-    /// The map's text has this fault, or memory for the map ran out. The place of the fault is the
-    /// 0-based index of a byte of the job.
+    /// The map's text has this fault, or memory for the map ran out. The place of the fault is an
+    /// index in the job, which counts bytes from 0.
     #[error("{0}")]
     Text(TextFault),
     /// The map was read, but memory for the scripts ran out.

@@ -22,18 +22,19 @@ use std::fmt;
 pub struct Job {
     /// The map before any script has run.
     pub map: CrushMap<Global>,
-    /// For how many buckets the text gives a weight that isn't the sum of the devices below them. In
-    /// the map each of them has the sum instead.
+    /// The number of buckets for which the text gives a weight that isn't the sum of the weights of
+    /// the devices below the bucket. In `map`, each of these buckets has this sum instead.
     pub adjusted: Adjusted,
     /// One script for each section, in the order of the sections.
     pub scripts: Vec<Script>,
-    /// For each script, the numbers of the lines that have its edits. Lines are counted from 1 in
-    /// the whole job.
+    /// For each script, the numbers of the lines that have its edits, in the order of the script.
+    /// Lines are counted from 1, beginning with the first line of the job.
     pub lines: Vec<Vec<u32>>,
 }
 
-/// Prints how many devices and buckets the map has, the number of adjusted weights, and the number
-/// of scripts, as in `Job { map: CrushMap { devices: 3, buckets: 3 }, adjusted: 0, scripts: 1 }`.
+/// Prints how many devices and buckets the map has, the number of buckets with a replaced weight,
+/// and the number of scripts, as in `Job { map: CrushMap { devices: 3, buckets: 3 }, adjusted: 0,
+/// scripts: 1 }`.
 impl fmt::Debug for Job {
     fn fmt<W: fmt::Write>(&self, f: &mut fmt::Formatter<W>) -> fmt::Result {
         let map = &self.map;
@@ -48,15 +49,16 @@ impl fmt::Debug for Job {
 
 /// Reads a job: the text of a map, followed by the sections with the operators' scripts.
 ///
-/// `docs/user/FORMATS.md` defines the form of a job. `hashing` says how the map's indexes hash
+/// `docs/user/FORMATS.md` defines the form of a job. `hashing` says how the indexes of the map hash
 /// names and ids. Use random keys if the bytes come from an untrusted source.
 ///
 /// Tests three things in this order, and fails with the first fault: whether there are more than
-/// 16,777,216 bytes, whether the map's text has a fault, and whether a line of the scripts has a
-/// fault. If several lines have a fault, the first one is reported. A batch without a `commit` is
-/// found only when the next section begins or the job ends, so faulty lines inside the batch are
-/// reported first. If memory for the scripts runs out, the fault may be [`JobFault::OutOfMemory`]
-/// instead of the fault of a line.
+/// 16,777,216 bytes, whether the map's text has a fault, and whether a line of the sections has a
+/// fault. If several lines have a fault, the call reports the first of these lines. The call finds
+/// a batch without a `commit` only when the next section begins or the job ends, so it reports a
+/// faulty line inside the batch first. If memory runs out, the call can report this instead of a
+/// fault: while it reads the map's text, as [`JobFault::Text`], and while it reads the sections, as
+/// [`JobFault::OutOfMemory`].
 pub fn read_job(alloc: Global, hashing: Hashing, bytes: &[u8]) -> Result<Job, JobFault>
     ensures job { IfOk result (λ read. (job : JobData) × IsJob bytes.now job × JobStands read job) }
     ensures only { (job : JobData) → IsJob bytes.now job

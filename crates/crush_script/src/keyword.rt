@@ -1,10 +1,10 @@
-//! The words with which lines of a script begin, and the forms of these lines.
+//! The words with which the lines of a section begin, and the forms of these lines.
 
 ghost use Rattle.std.specs.Prelude.{◌≡◌};
 
 use crush_edits::Keyword;
 
-/// The meaning of the first word of a line.
+/// The meaning of the first word of a line of a section.
 #[derive(Clone, Copy, Debug, PartialEq, Eq)]
 pub enum Form {
     /// `%operator` begins a section.
@@ -20,8 +20,8 @@ pub enum Form {
 impl Form {
     ghost use Rattle.crush_script.specs.Keyword.{form_of, form_text};
 
-    /// Returns the meaning of the first word of a line, or `None` if no line of a section may begin
-    /// with this word.
+    /// Returns the meaning of the first word of a line of a section, or `None` if no such line may
+    /// begin with this word.
     #[tactic(auto, unfolding(crate::specs::Keyword::form_of))]
     pub fn read(first: &[u8]) -> Option<Form>
         ensures { result ≡ form_of first.now }
@@ -37,8 +37,9 @@ impl Form {
         }
     }
 
-    /// Returns the form of the line as text, for example `reweight NAME WEIGHT`. `begin` has two
-    /// forms; the text that is returned for it is the longer form.
+    /// Returns the form of the line as text, for example `reweight NAME WEIGHT`. A line that begins
+    /// with `begin` can have two forms, `begin` and `begin at N`. For these lines, returns `begin
+    /// at N`.
     pub fn text(self) -> &'static str
         ensures { result.now ≡ form_text self }
     {

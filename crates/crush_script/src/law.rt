@@ -1,42 +1,45 @@
-//! Laws about scripts: printed edits and scripts are read back as the same edits and scripts, and a
-//! fault names the first word of its line that doesn't fit. Each law is the contract of a function
-//! that does nothing at run time.
+//! Laws about scripts. If edits and scripts are printed, they are read back as the same edits and
+//! scripts. A fault names the first word of its line that doesn't fit. Each law is the contract of
+//! a function that does nothing at run time.
 
 ghost use Rattle.crush_script.specs.FirstMisfit.{MisfitsOfCommands, MisfitsOfOperators};
 ghost use Rattle.crush_script.specs.Printed.{PlacedIsRead, PrintedIsRead, ReadIsSaid};
 ghost use Rattle.crush_script.specs.ScriptsText.{JobsAreReadBack, MapTextsHaveNoSection, ReadScriptsAreSuch};
 
-/// States that if an edit is printed as in a history, then the printed line is read back as the
-/// same edit. Each edit that was read from a script can be printed in this way, so a history can be
-/// run again as a script.
+/// States that if a command can express an edit, and the edit is printed as in a history, then the
+/// printed line is read back as the same edit. A command can express each edit that was read from a
+/// script. So a history can be run again as a script.
 pub fn printed_is_read()
     ensures printed { PrintedIsRead }
     ensures read { ReadIsSaid }
 {}
 
 /// States that each edit that [`crush_edits::Edit::place`] can return is printed as a line that is
-/// read back as the same edit. The edit has the name `osd.N` for the device with the id N.
+/// read back as the same edit. Such an edit names the device with the id N `osd.N`.
 pub fn placed_is_read()
     ensures { PlacedIsRead }
 {}
 
-/// States that if scripts are printed as sections after a map's text, then the result is read back
-/// as a job with the same scripts.
+/// States that if a map's text is followed by scripts, printed as sections, then the result is read
+/// back as a job with this map and these scripts.
 ///
-/// This is true if the last line of the map's text ends with a line feed, and if the whole text
-/// isn't longer than a job may be. All scripts that were read from a job can be printed in this
-/// way. No line of a map's text begins with `%`.
+/// This is true if three conditions hold. First, a job can have these scripts: for example, there
+/// are at most 16 scripts, and no two have the same operator. Second, the last line of the map's
+/// text ends with a line feed. Third, the map's text and the sections together have at most
+/// 16,777,216 bytes. The law also states that the scripts of each job meet the first condition, and
+/// that no line of a map's text begins with `%`.
 pub fn scripts_are_read_back()
     ensures map { MapTextsHaveNoSection }
     ensures read { JobsAreReadBack }
     ensures such { ReadScriptsAreSuch }
 {}
 
-/// States that the word which a fault names is the first word of its line that doesn't fit.
+/// States that the word that a fault of a line names is the first word of the line that doesn't
+/// fit.
 ///
-/// The words before the named word, followed by any word that is allowed at its place, are the
-/// beginning of a line that can be read. With any other word at its place, the line can't be read,
-/// whatever words follow.
+/// Take the words of the line before the named word. If any word that is allowed at this place
+/// follows them, they are the beginning of a line that can be read. If any other word follows them,
+/// the line can't be read, whatever words come after. The same is true of lines `%operator NAME`.
 pub fn misfits_are_first()
     ensures commands { MisfitsOfCommands }
     ensures operators { MisfitsOfOperators }

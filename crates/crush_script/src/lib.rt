@@ -1,9 +1,9 @@
-//! Reads jobs. A job is the text of a map, followed by the scripts of its operators, which have one
-//! command in each line.
+//! Reads jobs. A job is the text of a map, followed by sections. Each section has the script of one
+//! operator: a line `%operator NAME`, and then lines with one command each.
 //!
-//! [`read_job`] reads a whole job, or fails with the job's first fault, a [`JobFault`]. It reads
-//! the map's text with `crush_text`. `crush_run` runs the job. `specs/Job.antt` defines what a job
-//! is.
+//! [`read_job`] reads a whole job. If the bytes aren't a job, it fails with their first fault, a
+//! [`JobFault`]. It reads the map's text with `crush_text`. The crate `crush_run` runs jobs.
+//! `specs/Job.antt` defines what a job is.
 #![tactic(auto)]
 
 mod command;

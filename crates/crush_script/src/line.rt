@@ -118,7 +118,8 @@ fn word_at(text: &[u8]) -> usize
     text.len()
 }
 
-/// The words of a line of a section that haven't been read yet.
+/// The words of a line of a section that haven't been read yet. In contracts, the value of this
+/// type is the list of these words.
 #[derive(Drop)]
 pub(crate) struct LineWords<'a> {
     text: &'a [u8],
@@ -135,10 +136,11 @@ impl<'a> Model for LineWords<'a> {
 }
 
 impl<'a> LineWords<'a> {
-    /// Returns all words of a line. Spaces and tabs separate them.
+    /// Returns all words of a line. Spaces and tabs separate words.
     ///
-    /// `#` begins a comment anywhere in the line. A carriage return at the end of the line is
-    /// ignored. `line` must not have its line feed, which would be a part of a word.
+    /// A `#` anywhere in the line begins a comment, which has no words. A carriage return at the
+    /// end of the line is ignored. `line` must not have a line feed at its end, because a line feed
+    /// would be a part of a word.
     pub(crate) fn of_line(line: &'a [u8]) -> LineWords<'a>
         ensures { result ≡ line_words line.now }
     {
@@ -179,7 +181,8 @@ fn without_comment(line: &[u8]) -> &[u8]
     whole.split_at(place_of(b'#', whole)).0
 }
 
-/// Returns the rest of a text, beginning with its first word.
+/// Returns the rest of a text, beginning with its first word. If the text has no word, returns no
+/// bytes.
 fn from_blanks(text: &[u8]) -> &[u8]
     ensures value { result.now ≡ from_blanks text.now }
     ensures within { length result.now ≤ length text.now }
@@ -187,7 +190,7 @@ fn from_blanks(text: &[u8]) -> &[u8]
     text.split_at(word_at(text)).1
 }
 
-/// Returns the rest of a text after its first word.
+/// Returns the rest of a text after its first word. If the text has no word, returns no bytes.
 fn behind_word(text: &[u8]) -> &[u8]
     ensures value { result.now ≡ behind_word text.now }
     ensures within { length result.now ≤ length text.now }
@@ -196,8 +199,8 @@ fn behind_word(text: &[u8]) -> &[u8]
     rest.split_at(blank_at(rest)).1
 }
 
-/// Returns the rest of a text, beginning with the word at this index, which counts from 0. If the
-/// text has fewer words, returns no bytes.
+/// Returns the rest of a text, beginning with the word at this index. The index counts from 0. If
+/// the text has no word at this index, returns no bytes.
 fn from_word(index: usize, text: &[u8]) -> &[u8]
     ensures value { result.now ≡ from_word index text.now }
     ensures within { length result.now ≤ length text.now }
@@ -211,9 +214,9 @@ fn from_word(index: usize, text: &[u8]) -> &[u8]
 
 /// Returns the word at this index of a line, and its place. The index counts from 0.
 ///
-/// Spaces and tabs separate words, and `#` begins a comment. If the line has fewer words, the
-/// returned word has no bytes. Its place is then the place of the line's comment, or the end of the
-/// line if there is no comment.
+/// Spaces and tabs separate words, and `#` begins a comment. If the line has no word at this index,
+/// the returned word has no bytes. Its place is then the place of the line's comment. If there is
+/// no comment, its place is the end of the line, before a carriage return at this end.
 pub fn placed_word(line: &[u8], index: usize) -> PlacedWord<'_>
     ensures place { result.place ≡ place_in_line index line.now }
     ensures text { result.text.now ≡ word_in_line index line.now }

@@ -20,7 +20,7 @@ use std::alloc::Global;
 pub(crate) struct BegunBatch {
     /// The number of the line with the batch's `begin`.
     pub(crate) line: usize,
-    /// The number N if the batch begins with `begin at N`; `None` if it begins with `begin`.
+    /// The number N if the batch begins with `begin at N`. `None` if the batch begins with `begin`.
     pub(crate) seen: Option<u32>,
     pub(crate) edits: Edits,
 }
@@ -28,11 +28,12 @@ pub(crate) struct BegunBatch {
 /// What was read from the lines before the current line.
 #[derive(Drop)]
 pub(crate) struct Sections {
-    /// One script for each section so far. The next call is added to the last script.
+    /// One script for each section so far. The next call is appended to the last script.
     pub(crate) scripts: Vec<Script>,
     /// For each section so far, the numbers of the lines that have its edits.
     pub(crate) lines: Vec<Vec<u32>>,
-    /// The number of calls in all scripts, plus 1 if a batch hasn't been ended yet.
+    /// The number of calls in all scripts. A batch whose `commit` hasn't been read yet also counts
+    /// as a call.
     pub(crate) calls: usize,
     pub(crate) begun: Option<BegunBatch>,
 }
@@ -77,8 +78,8 @@ impl Sections {
         }
     }
 
-    /// Begins a section. In this and the following methods, `number` is the number of the current
-    /// line.
+    /// Begins a section for the operator `name`. In this method and the following ones, `number` is
+    /// the number of the current line.
     fn begin(&mut self, alloc: Global, number: usize, name: Name<Global>) -> Result<(), JobFault>
         ensures steps { Steps result (sections_data self.new)
             (with_section number (sections_data self.old) name) }
@@ -119,7 +120,7 @@ impl Sections {
         Ok(())
     }
 
-    /// Adds the line's number to the list of the lines that have edits of the last section.
+    /// Appends `number` to the list of the lines that have the edits of the last section.
     fn note_line(&mut self, number: usize) -> Result<(), JobFault>
         requires numbered { number < 2 ^ 32 }
         ensures steps { Steps result (sections_data self.new)
@@ -232,8 +233,8 @@ impl Sections {
     }
 }
 
-/// Reads all lines of the sections. `first` is the number that the first of these lines has in the
-/// job.
+/// Reads all lines of the sections. `first` is the number of the first of these lines. Lines are
+/// numbered from 1, beginning with the first line of the job.
 #[tactic(auto, unfolding(crate::specs::Sections::with_lines))]
 pub(crate) fn read_sections(alloc: Global, first: usize, text: &[u8]) -> Result<Sections, JobFault>
     requires begins { 0 < length text.now → begins_section text.now ≡ true }
