@@ -69,8 +69,8 @@ fn with_pair(first: usize, at: Location, word: &[u8]) -> Result<Location, LineFa
 }
 
 impl LineWords<'_> {
-    /// Reads the next word as a name. `index` is the index of this word in the line. In this method
-    /// and the following ones, `due` is what the form of the line requires at this index.
+    /// Reads the next word as a name. `due` is what the form of the line requires at this word. In
+    /// this method and the following ones, `index` is the index of the word in the line, from 0.
     #[tactic(auto, unfolding(crate::specs::Command::name_at))]
     fn name(&mut self, alloc: Global, index: usize, due: Due) -> Result<Name<Global>, LineFault>
         ensures { ReadsAndLeaves result self.new (name_at index due self.old) }

@@ -18,7 +18,7 @@ pub enum Due {
     Weight,
     /// A name: 1 to 255 bytes, each of which is a letter, a digit, `-`, `_` or `.`.
     Name,
-    /// A pair `TYPE=NAME`, where TYPE and NAME are names, or the end of the line.
+    /// A pair `TYPE=NAME`, whose two parts are names, or the end of the line.
     Pair,
     /// The end of the line, because the line already has 16 pairs. A location has at most 16 pairs.
     NoMorePairs,

@@ -33,8 +33,8 @@ pub struct Job {
 }
 
 /// Prints how many devices and buckets the map has, the number of buckets with a replaced weight,
-/// and the number of scripts, as in `Job { map: CrushMap { devices: 3, buckets: 3 }, adjusted: 0,
-/// scripts: 1 }`.
+/// and the number of scripts, for example
+/// `Job { map: CrushMap { devices: 3, buckets: 3 }, adjusted: 0, scripts: 1 }`.
 impl fmt::Debug for Job {
     fn fmt<W: fmt::Write>(&self, f: &mut fmt::Formatter<W>) -> fmt::Result {
         let map = &self.map;
@@ -52,13 +52,13 @@ impl fmt::Debug for Job {
 /// `docs/user/FORMATS.md` defines the form of a job. `hashing` says how the indexes of the map hash
 /// names and ids. Use random keys if the bytes come from an untrusted source.
 ///
-/// Tests three things in this order, and fails with the first fault: whether there are more than
-/// 16,777,216 bytes, whether the map's text has a fault, and whether a line of the sections has a
-/// fault. If several lines have a fault, the call reports the first of these lines. The call finds
-/// a batch without a `commit` only when the next section begins or the job ends, so it reports a
-/// faulty line inside the batch first. If memory runs out, the call can report this instead of a
-/// fault: while it reads the map's text, as [`JobFault::Text`], and while it reads the sections, as
-/// [`JobFault::OutOfMemory`].
+/// The call tests three things in this order, and fails with the first fault: whether there are
+/// more than 16,777,216 bytes, whether the map's text has a fault, and whether a line of the
+/// sections has a fault. If several lines have a fault, the call reports the first of these lines.
+/// The call finds a batch without a `commit` only when the next section begins or the job ends, so
+/// it reports a faulty line inside the batch first. If memory runs out, the call can report this
+/// instead of a fault. While it reads the map's text, it reports this as [`JobFault::Text`]. While
+/// it reads the sections, it reports this as [`JobFault::OutOfMemory`].
 pub fn read_job(alloc: Global, hashing: Hashing, bytes: &[u8]) -> Result<Job, JobFault>
     ensures job { IfOk result (λ read. (job : JobData) × IsJob bytes.now job × JobStands read job) }
     ensures only { (job : JobData) → IsJob bytes.now job

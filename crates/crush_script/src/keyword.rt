@@ -38,8 +38,7 @@ impl Form {
     }
 
     /// Returns the form of the line as text, for example `reweight NAME WEIGHT`. A line that begins
-    /// with `begin` can have two forms, `begin` and `begin at N`. For these lines, returns `begin
-    /// at N`.
+    /// with `begin` can have two forms. For these lines, this is the longer form, `begin at N`.
     pub fn text(self) -> &'static str
         ensures { result.now ≡ form_text self }
     {

@@ -15,7 +15,7 @@ pub fn printed_is_read()
 {}
 
 /// States that each edit that [`crush_edits::Edit::place`] can return is printed as a line that is
-/// read back as the same edit. Such an edit names the device with the id N `osd.N`.
+/// read back as the same edit. In such an edit, the name of the device with the id N is `osd.N`.
 pub fn placed_is_read()
     ensures { PlacedIsRead }
 {}

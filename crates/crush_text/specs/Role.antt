@@ -18,7 +18,7 @@ use Rattle.crush_units.specs.Numbers.{signed_value}
 use Rattle.crush_text.specs.declared.expected.Expected.{Expected}
 use Rattle.crush_text.specs.declared.expected.Optional.{Optional}
 
--- the role of a word: what the word is for. A `key` is exactly the given word. An `any_word` can be any word except for a brace, and has what a fault reports as expected there. A `number` goes up to the given number. In `opening`, the Bool says whether a bucket or a rule was read before. In `item_or_end`, the Bool says whether the bucket has an item before. `type_name` has the number of the type, `weight` has the item with this weight, and `step_or_end` has the number of steps that the rule has so far. `opening`, `item_or_end` and `step_or_end` also have the optional part that could still follow, because the words just before have left it out. The name of an item is an `item` if a weight follows it, otherwise a `lone_item`
+-- the role of a word: what the word is for. A `key` is exactly the given word. An `any_word` can be any word except for a brace. Its field is what a fault at this word reports as expected. A `number` goes up to the given number. In `opening`, the Bool says whether a bucket or a rule was read before. In `item_or_end`, the Bool says whether the bucket already has an item. `type_name` has the number of the type, `weight` has the item with this weight, and `step_or_end` has the number of steps that the rule has so far. `opening`, `item_or_end` and `step_or_end` also have the optional part that could still follow, because the words just before have left it out. The name of an item is an `item` if a weight follows it, otherwise a `lone_item`
 pub data Role : Type 0 where
   key : List ℕ → Role
   any_word : Expected → Role

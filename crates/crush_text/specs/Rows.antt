@@ -34,7 +34,7 @@ ComesFirst w = (w ≡ codes "tunable") ⊎ ((w ≡ codes "device") ⊎ (w ≡ co
 abbrev pub IsNeither : List ℕ → List ℕ → List ℕ → Type 0
 IsNeither w k l = (w ≢ k) × (w ≢ l)
 
--- the word can't be the first word of a step
+-- the word can't be the first word of a step, not even of a step that isn't supported (`choosemsr`)
 abbrev pub IsNoStepWord : List ℕ → Type 0
 IsNoStepWord w = (w ≢ codes "take") × IsNeither w (codes "choose") (codes "chooseleaf") × (w ≢ codes "emit") × (starts_with nat_eq w (codes "set_") ≡ false) × (w ≢ codes "choosemsr")
 

@@ -74,7 +74,7 @@ weight_tests d i w = a_word w ((BadWeight when not (is_weight_for i (weight_of_t
 abbrev pub item_tests : Draft → List ℕ → List Test → List Test
 item_tests d w more = a_word w ((UnknownItem when not (is_some (item_named d w))) ∷ (SecondParent when is_placed d.table (item_of d w)) ∷ more)
 
--- whether a word begins a step
+-- whether a word begins a step that is supported
 abbrev pub is_step_word : List ℕ → Bool
 is_step_word w = bytes_eq w (codes "take") || (is_either w (codes "choose") (codes "chooseleaf") || (bytes_eq w (codes "emit") || starts_with nat_eq w (codes "set_")))
 

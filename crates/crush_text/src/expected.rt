@@ -133,7 +133,8 @@ pub enum Expected {
     TakenBucket,
     /// `firstn` or `indep`.
     FirstnOrIndep,
-    /// The number of items that a step chooses, from -2147483648 to 2147483647.
+    /// The number of items that a step chooses, from -2147483648 to 2147483647. If the number is 0
+    /// or below, the size of the pool is added to it.
     Count,
     /// The name of the type of the items that a step chooses.
     StepType,

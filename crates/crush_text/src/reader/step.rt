@@ -29,7 +29,8 @@ use std::alloc::{Allocator, Global};
 pub(crate) enum FirstOfStep<'a> {
     Take,
     Choose {
-        /// Whether the word is `chooseleaf`, with which a step chooses devices.
+        /// Whether the word is `chooseleaf`. Such a step also chooses a device below each chosen
+        /// item.
         leaf: bool,
     },
     /// A word that begins with `set_`.
