@@ -1,5 +1,6 @@
-//! The gauge: one 64-bit word, shared by threads, that encodes two numbers of a history. The
-//! numbers are how many of the history's entries are changes, and the weight after the history.
+//! The gauge: one 64-bit word of memory, shared by threads, that encodes two numbers about a
+//! history. The numbers are how many of the history's entries are changes, and the weight after the
+//! history.
 
 ghost use Rattle.std.specs.Prelude.{◌≡◌, ℕ, ◌<◌, ◌≤◌, ◌++◌, ◌∷◌, [], IfOk, vec_len, length};
 ghost use Rattle.std.specs.List.{All};
@@ -16,37 +17,42 @@ use atomic_table::{Seat, Table};
 use std::alloc::{AllocError, Global};
 use std::marker::Brand;
 
-/// One shared word with the value `changes * 2^43 + weight`, for a history of entries `E` after an
-/// opening `O`. The opening is what the history starts from, for example a map.
+/// One 64-bit word of memory, shared by threads, with the value `changes * 2^43 + weight`.
+/// `changes` is how many entries of a history are changes, and `weight` is the weight after this
+/// history. The history has entries `E`, and starts from an opening `O`, for example from a map.
 ///
-/// The law `P` says which histories are legal. The loads and stores of the word by all threads have
-/// one total order (sequential consistency).
+/// The law `P` says which histories are legal, and what the two numbers are for each history. The
+/// loads and stores of the word by all threads have one total order (sequential consistency).
 #[derive(Drop)]
 pub struct Gauge<O, E, P: Law<O, E>> {
     /// The shared word, in a `Table` of the crate `atomic_table` (this isn't the table of a map).
-    /// In contracts, this `Table` also has what each seat has seen. This part doesn't exist when
-    /// the program runs.
+    /// In contracts, this `Table` also has what each seat has seen. A seat is the value with which
+    /// one thread uses the word. What seats have seen doesn't exist when the program runs.
     pub table: Table<(), View<O, E>, u64, Rule<P>, Global>,
     pub ghost one_word: { (table.shared.table_id.words ≡ 1) × (table.shared.table_id.slots ≡ 0) },
 }
 
 /// What [`Gauge::read`] returns about one history: how many of its entries are changes, and the
-/// weight after it.
+/// weight after this history.
 #[derive(Clone, Copy, Debug, PartialEq, Eq)]
 pub struct Reading {
-    /// How many entries are changes, at most [`MOST_CHANGES`](crate::limits::MOST_CHANGES).
+    /// How many entries of the history are changes. This number is at most
+    /// [`MOST_CHANGES`](crate::limits::MOST_CHANGES).
     pub changes: u64,
-    /// The weight after the history, as the gauge's law `P` computes it. It is below 2^43.
+    /// The weight after the history. The law `P` of the [`Gauge`] says what this weight is, and in
+    /// which unit. The weight is below 2^43.
     pub weight: u64,
 }
 
 impl<O, E, P: Law<O, E>> Gauge<O, E, P> {
-    /// Creates a gauge with one seat that publishes and `readers` seats that read.
+    /// Creates a gauge (one 64-bit word, shared by threads), a [`BookSeat`], and `readers` seats of
+    /// the type [`ReadSeat`]. A seat is the value with which one thread uses the word. Only the
+    /// `BookSeat` publishes entries.
     ///
     /// The caller's proof chooses the opening. After the opening, the empty history must be legal
-    /// and have no changes. `weight` must be the value that `P.weight` gives for the opening and the
-    /// empty history, and must be below 2^43. Each new seat has seen the opening and no entry.
-    /// Returns an error if memory runs out.
+    /// and have no changes. `weight` must be the value that `P.weight` gives for the opening and
+    /// the empty history, and must be below 2^43. Each new seat has seen the opening and no entry.
+    /// The method returns an error if memory runs out.
     pub fn new(
         alloc: Global,
         weight: u64,
@@ -69,9 +75,9 @@ impl<O, E, P: Law<O, E>> Gauge<O, E, P> {
         Ok((gauge, book, seats))
     }
 
-    /// Makes the first seat of the table the book's seat. Only the book's seat publishes: it stores
-    /// new values in the gauge, which the other seats read. The book's seat has then seen the
-    /// opening that `M` chooses.
+    /// Turns the first seat of a new gauge into the book's seat, which is the only seat that
+    /// publishes. The book's seat has then seen the opening that `M` chooses. The first seat is the
+    /// one that `Table::of_words` of the crate `atomic_table` has returned.
     fn begin<M: ChoosesGhost<O>>(&self, first: Seat<(), View<O, E>>, weight: u64) -> BookSeat<O, E>
         requires gauge { first.table_id ≡ self.now.table.shared.table_id }
         requires key { self.now.table.shared.key ≡ weight }
@@ -84,8 +90,8 @@ impl<O, E, P: Law<O, E>> Gauge<O, E, P> {
         BookSeat { seat }
     }
 
-    /// Creates `readers` seats that read. Each of them has seen what the book's seat has seen.
-    /// Returns an error if memory runs out.
+    /// Creates `readers` seats of the type [`ReadSeat`]. Each of them has seen what the
+    /// [`BookSeat`] `book` has seen. Returns an error if memory runs out.
     fn readers(
         &self,
         alloc: Global,
@@ -105,8 +111,8 @@ impl<O, E, P: Law<O, E>> Gauge<O, E, P> {
         Ok(seats)
     }
 
-    /// Returns a note of what the seat has seen. The seat is the book's seat or a seat that reads.
-    /// The call doesn't change what the seat has seen.
+    /// Returns a [`Note`], which says which history the seat has seen. The seat is the one inside a
+    /// [`BookSeat`] or a [`ReadSeat`]. The call doesn't change what the seat has seen.
     pub(crate) fn note_of(&self, seat: &mut Seat<(), View<O, E>>) -> Note<O, E>
         requires gauge { seat.old.table_id ≡ self.now.table.shared.table_id }
         requires either { IsEither seat.old.me.0 }
@@ -119,13 +125,13 @@ impl<O, E, P: Law<O, E>> Gauge<O, E, P> {
         }
     }
 
-    /// Publishes one entry: stores `changes` and `weight` in the shared word, by one atomic store.
-    /// From then on, all seats of the gauge can read these two numbers.
+    /// Publishes one entry: stores `changes` and `weight` in the word of the gauge, by one atomic
+    /// store. Until the next entry is published, [`Gauge::read`] then returns these two numbers.
     ///
-    /// The caller's proof chooses the entry. The history with this entry appended must be legal.
-    /// By the gauge's law `P`, this history must have exactly `changes` changes and the weight
+    /// The caller's proof chooses the entry. The history with this entry appended must be legal. By
+    /// the gauge's law `P`, this history must have exactly `changes` changes and the weight
     /// `weight`. `changes` is at most [`MOST_CHANGES`](crate::limits::MOST_CHANGES), and `weight`
-    /// is below 2^43. After the call, the book's seat has seen the entry.
+    /// is below 2^43. After the call, the [`BookSeat`] `book` has seen the entry.
     pub fn publish(&self, book: &mut BookSeat<O, E>, changes: u64, weight: u64)
         ghost entry: { E }
         requires gauge { book.old.table ≡ self.now.table.shared.table_id }
@@ -148,11 +154,12 @@ impl<O, E, P: Law<O, E>> Gauge<O, E, P> {
             .store::<Publish<M>>(&mut book.seat, 0, word)
     }
 
-    /// Returns how many entries of the history at the moment of the call are changes, and the weight
-    /// after this history. The call reads the word by one load, never waits for another thread, and
-    /// allocates nothing.
+    /// Reads the word of the gauge by one load. Returns how many entries of the history at the
+    /// moment of this load are changes, and the weight after this history. The call never waits for
+    /// another thread, and allocates nothing.
     ///
-    /// The seat has then seen this history, which begins with what the seat had seen before.
+    /// The [`ReadSeat`] has then seen this history, which begins with the history that it had seen
+    /// before.
     pub fn read(&self, seat: &mut ReadSeat<O, E>) -> Reading
         requires { seat.old.table ≡ self.now.table.shared.table_id }
         ensures table { seat.new.table ≡ seat.old.table }
@@ -166,8 +173,9 @@ impl<O, E, P: Law<O, E>> Gauge<O, E, P> {
         }
     }
 
-    /// Returns a note of what the seat has seen, for another seat of the same gauge. The seat is the
-    /// book's seat or a seat that reads. The call doesn't change what the seat has seen.
+    /// Returns a [`Note`], which says which history the seat has seen. Another seat of this
+    /// [`Gauge`] can learn from this note. `seat` is a [`BookSeat`] or a [`ReadSeat`]. The call
+    /// doesn't change what the seat has seen.
     pub fn note<S: Watcher<O, E>>(&self, seat: &mut S) -> Note<O, E>
         requires { (S.knows seat.old).table ≡ self.now.table.shared.table_id }
         ensures seat { S.knows seat.new ≡ S.knows seat.old }
@@ -176,13 +184,14 @@ impl<O, E, P: Law<O, E>> Gauge<O, E, P> {
         seat.note_of(self)
     }
 
-    /// Joins a note into the book's seat or a seat that reads. The seat has then also seen the
-    /// note's history.
+    /// Lets a seat learn from a [`Note`], which says which history another seat has seen. The first
+    /// seat has then also seen the note's history.
     ///
-    /// The seat and the note must be of this gauge. A seat that reads has then seen the longer of
-    /// the two histories, and the shorter is a prefix of it. The book's seat has already seen the
-    /// whole history, so it learns only that the note's history is a prefix of its own. The call
-    /// first joins the note's seat into this seat, and then loads the word.
+    /// `seat` is a [`BookSeat`] or a [`ReadSeat`]. The seat and the note must belong to this gauge.
+    /// A `ReadSeat` has then seen the longer of the two histories, and the shorter is a prefix of
+    /// it. A `BookSeat` has already seen the whole history. So it learns only that the note's
+    /// history is a prefix of its own history. The call first joins the seat inside the note into
+    /// this seat, and then loads the word of the gauge.
     pub fn learn<S: Watcher<O, E>>(&self, seat: &mut S, note: Note<O, E>)
         requires seat { (S.knows seat.old).table ≡ self.now.table.shared.table_id }
         requires note { note.table ≡ self.now.table.shared.table_id }
@@ -193,8 +202,9 @@ impl<O, E, P: Law<O, E>> Gauge<O, E, P> {
         seat.learn_from(self, note);
     }
 
-    /// Joins a note into a seat, and then loads the word. The load proves that the seat's history
-    /// and the note's history are prefixes of one history.
+    /// Joins the seat inside a [`Note`] into `seat`, and then loads the word of the gauge. `seat`
+    /// is the one inside a [`BookSeat`] or a [`ReadSeat`]. The load proves that the history of the
+    /// seat and the history of the note are prefixes of one history.
     pub(crate) fn join_note(&self, seat: &mut Seat<(), View<O, E>>, note: Note<O, E>)
         requires gauge { seat.old.table_id ≡ self.now.table.shared.table_id }
         requires either { IsEither seat.old.me.0 }

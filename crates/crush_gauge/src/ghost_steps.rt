@@ -1,14 +1,22 @@
-//! The invariant of the shared word, and the contracts of the *steps*. A step is a load or a store
-//! of the word, or a split or a join of seats. The contract of a step says what its seats have seen
-//! after the step. The types here have no data. The code that takes a step names one of these
+//! The invariant of the word of a gauge, and the contracts of the *steps*. A *seat* is the value
+//! with which one thread uses this word. A step is a load or a store of the word, a split of one
+//! seat into two seats, or a join of two seats. The contract of a step says what its seats have
+//! seen after the step. The types here have no data. The code that takes a step names one of these
 //! types, and the type gives the step its contract.
 
 use crate::view::{Law, View};
 use atomic_table::{Join, Play, Split, TableRule};
 use std::marker::{Brand, PhantomData};
 
-/// The invariant of the word, which every step preserves: there is one history, and the word
-/// encodes its number of changes and its weight. The key of the table is the weight at the opening.
+/// The invariant of the word of a gauge, which every step preserves. Before the first load, the
+/// word is the weight of the opening, and no seat has seen anything. (A seat is the value with
+/// which one thread uses the word.) After this load, there is one opening and one history. The word
+/// then encodes the number of changes in this history, and the weight after it. The invariant also
+/// says what each seat has seen of this history.
+///
+/// The word is in a `Table` of the crate `atomic_table`. Such a `Table` has a *key*, which is a
+/// value that its creator chooses and that only contracts use. Here the key is the weight of the
+/// opening.
 pub struct Rule<P> {
     of: PhantomData<P>,
 }
@@ -22,8 +30,9 @@ impl<O, E, P: Law<O, E>> TableRule<(), View<O, E>, u64> for Rule<P> {
     ghost first = { λ weight. Fresh };
 }
 
-/// Chooses the opening or the entries of a step. They exist only in contracts, and the proof of
-/// each call says which ones the call chooses.
+/// Chooses the opening or the entries of a step, as a list. The opening and the entries exist only
+/// in contracts. The code passes [`Brand`] for the type that implements this trait, and the proof
+/// of each call says which list this type chooses.
 pub(crate) trait ChoosesGhost<T> {
     ghost use Rattle.std.specs.Prelude.{List};
 
@@ -36,8 +45,9 @@ impl<T> ChoosesGhost<T> for Brand {
     ghost chosen = { [] };
 }
 
-/// The step of the first load. The new seat, which has seen nothing yet, becomes the book's seat.
-/// It has then seen the opening.
+/// The step of the first load of a new gauge's word. The first seat, which has seen nothing yet,
+/// becomes the book's seat, which is the only seat that publishes. The book's seat has then seen
+/// the opening.
 pub(crate) struct Begin<M> {
     of: PhantomData<M>,
 }
@@ -48,8 +58,8 @@ impl<O, E, M: ChoosesGhost<O>> Play<(), View<O, E>> for Begin<M> {
     ghost then = { begun M.chosen };
 }
 
-/// A store by the book's seat. The chosen entries are appended to the history that this seat has
-/// seen.
+/// A store with the book's seat, which is the only seat that publishes. The chosen entries are
+/// appended to the history that this seat has seen.
 pub(crate) struct Publish<M> {
     of: PhantomData<M>,
 }
@@ -60,8 +70,9 @@ impl<O, E, M: ChoosesGhost<E>> Play<(), View<O, E>> for Publish<M> {
     ghost then = { published M.chosen };
 }
 
-/// A load by a seat that reads: the seat has then seen the history at that moment, and the loaded
-/// word encodes this history's number of changes and its weight.
+/// A load of a gauge's word with a [`ReadSeat`](crate::ReadSeat). The seat has then seen the
+/// history at the moment of this load. The loaded word encodes the number of changes in this
+/// history, and the weight after it.
 pub(crate) struct Load<P> {
     of: PhantomData<P>,
 }
@@ -72,8 +83,9 @@ impl<O, E, P: Law<O, E>> Play<(), View<O, E>> for Load<P> {
     ghost then = { loaded P.legal P.changes P.weight };
 }
 
-/// A load by a seat into which another seat was joined just before ([`Merge`]). The load shows that
-/// the histories that the two seats had seen are prefixes of what the seat has seen now.
+/// A load of a gauge's word with a seat into which another seat was joined just before ([`Merge`]).
+/// A seat is the value with which one thread uses the word. The load shows that the two histories
+/// that the seats had seen are prefixes of the history that the first seat has seen now.
 pub(crate) struct Compare<P> {
     of: PhantomData<P>,
 }
@@ -84,8 +96,9 @@ impl<O, E, P: Law<O, E>> Play<(), View<O, E>> for Compare<P> {
     ghost then = { learned P.legal P.changes P.weight };
 }
 
-/// A split of a seat: creates a new seat that reads, which has seen the same history as the seat
-/// that is split.
+/// A split of a seat, which is the value with which one thread uses the word of a gauge. The split
+/// creates a second seat, which reads. The second seat has seen the same history as the seat that
+/// is split.
 pub(crate) struct SplitOff;
 
 impl<O, E> Split<View<O, E>> for SplitOff {
@@ -96,9 +109,11 @@ impl<O, E> Split<View<O, E>> for SplitOff {
     ghost right = { copied };
 }
 
-/// A join of two seats. Each seat has seen a history. If the first seat is a seat that reads, then
-/// after the join it has seen the longer of the two histories. If the first seat is the book's
-/// seat, what it has seen doesn't change. The second seat can't be used after the join.
+/// A join of two seats, which are values with which threads use the word of a gauge. The second
+/// seat is the one inside a [`Note`](crate::Note). If the first seat is that of a
+/// [`ReadSeat`](crate::ReadSeat), then after the join it has seen the longer of the two histories
+/// that the seats had seen before. If the first seat is that of a [`BookSeat`](crate::BookSeat),
+/// the history that it has seen doesn't change. The second seat can't be used after the join.
 pub(crate) struct Merge;
 
 impl<O, E> Join<View<O, E>> for Merge {

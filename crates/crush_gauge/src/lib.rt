@@ -1,12 +1,19 @@
-//! A gauge: one word, shared by threads, that shows how far a history of entries has grown.
+//! A gauge: one 64-bit word of memory, shared by threads, that shows how far a history of entries
+//! has grown.
 //!
-//! The word has a pair of numbers: how many entries of the history are changes, and the weight
-//! after the history. Each thread uses the word through a *seat*. One seat, *the book's seat*,
-//! publishes each entry by one store. Any number of other seats read the pair by one load.
+//! The word contains two numbers: how many entries of the history are changes, and the weight after
+//! the history. A *seat* is the value with which one thread uses the word. One seat, *the book's
+//! seat*, publishes each entry with one store. Any number of other seats read the two numbers with
+//! one load. A *note* says which history one seat has seen. Another seat can learn from this note,
+//! and has then also seen that history.
 //!
-//! The *opening* is what the history starts from. The opening and the entries exist only in
-//! contracts. A [`Law`] says which histories are legal, and which pair each of them has.
-//! `crush_editor` has such a gauge for the map that it edits. Read [`Gauge`] first.
+//! The *opening* is what the history starts from, for example a map. The opening and the entries
+//! exist only in contracts. A [`Law`] says which histories are legal, how many changes each history
+//! has, and what the weight after each history is.
+//!
+//! `crush_editor` has such a gauge for the map that it edits. In that crate, the book's seat
+//! belongs to the *book*, which is the map with its history. `docs/dev/editor.md` has a section
+//! about this gauge. Read [`Gauge`] first.
 #![tactic(auto)]
 
 mod gauge;

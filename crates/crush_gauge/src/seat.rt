@@ -1,5 +1,6 @@
-//! The seats of a gauge, through which threads use its word. What a seat has seen exists only in
-//! contracts.
+//! The seats and the notes of a [`Gauge`](crate::Gauge), which is one 64-bit word of memory, shared
+//! by threads. A *seat* is the value with which one thread uses this word. A *note* says which
+//! history one seat has seen. What a seat has seen exists only in contracts.
 
 ghost use Rattle.std.specs.Prelude.{◌≡◌};
 
@@ -7,8 +8,9 @@ use crate::view::View;
 use atomic_table::Seat;
 use std::marker::Model;
 
-/// The seat that publishes entries, by [`Gauge::publish`](crate::Gauge::publish). Each gauge has
-/// one such seat, and this seat has seen the whole history.
+/// The book's seat: the only seat of a gauge that publishes entries, by
+/// [`Gauge::publish`](crate::Gauge::publish). This seat has seen the whole history. In
+/// `crush_editor` the book, which is the map with its history, contains this seat.
 #[derive(Drop)]
 pub struct BookSeat<O, E> {
     pub(crate) seat: Seat<(), View<O, E>>,
@@ -26,8 +28,9 @@ impl<O, E> Model for BookSeat<O, E> {
     ghost invariant = { λ s. (s.seat.me.1 ≡ []) × IsBook s.seat.me.0 };
 }
 
-/// A seat that reads, by [`Gauge::read`](crate::Gauge::read). It has seen a prefix of the history,
-/// perhaps all of it.
+/// A seat that reads: the value with which one thread reads the word of a gauge, by
+/// [`Gauge::read`](crate::Gauge::read). The seat has seen a prefix of the history, perhaps all of
+/// it.
 #[derive(Drop)]
 pub struct ReadSeat<O, E> {
     pub(crate) seat: Seat<(), View<O, E>>,
@@ -45,8 +48,10 @@ impl<O, E> Model for ReadSeat<O, E> {
     ghost invariant = { λ s. (s.seat.me.1 ≡ []) × IsReader s.seat.me.0 };
 }
 
-/// A record of what a seat has seen, for another seat of the same gauge. It is returned by
-/// [`Gauge::note`](crate::Gauge::note) and used up by [`Gauge::learn`](crate::Gauge::learn).
+/// A note: it says which history one seat of a gauge has seen. A seat is the value with which one
+/// thread uses the gauge's word. [`Gauge::note`](crate::Gauge::note) returns a note.
+/// [`Gauge::learn`](crate::Gauge::learn) takes a note and another seat of the same gauge. This
+/// other seat has then also seen the note's history.
 #[derive(Drop)]
 pub struct Note<O, E> {
     pub(crate) seat: Seat<(), View<O, E>>,
@@ -65,7 +70,8 @@ impl<O, E> Model for Note<O, E> {
 }
 
 impl<O, E> ReadSeat<O, E> {
-    /// Turns a seat that is no longer used into a note of what it has seen.
+    /// Turns this seat, which isn't needed any more for reading a gauge's word, into a note. The
+    /// note says which history this seat has seen.
     pub fn into_note(self) -> Note<O, E>
         ensures { result ≡ self }
     {

@@ -1,6 +1,7 @@
-//! The two functions that a gauge's seats of both kinds ([`BookSeat`] and [`ReadSeat`]) have. One
-//! returns a *note*, a record of what the seat has seen. The other lets a seat learn from such a
-//! note of another seat.
+//! The two functions that both kinds of seats of a [`Gauge`] have. The two kinds are [`BookSeat`]
+//! and [`ReadSeat`]. A seat is the value with which one thread uses the word of a gauge. The first
+//! function returns a *note*, which says which history the seat has seen. The second function lets
+//! the seat learn from a note of another seat.
 
 ghost use Rattle.std.specs.Prelude.{◌≡◌};
 ghost use Rattle.crush_gauge.specs.Rule.{Learns};
@@ -11,22 +12,22 @@ use crate::seat::{BookSeat, Note, ReadSeat};
 use crate::view::Law;
 
 /// A seat of either kind: a [`BookSeat`] or a [`ReadSeat`]. Callers use [`Gauge::note`] and
-/// [`Gauge::learn`], which take both kinds.
+/// [`Gauge::learn`], which take seats of both kinds.
 pub trait Watcher<O, E> {
     ghost use Rattle.crush_gauge.specs.Held.{Held};
 
-    /// The gauge of the seat, and what the seat has seen.
+    /// To which [`Gauge`] this [`BookSeat`] or [`ReadSeat`] belongs, and what it has seen.
     ghost knows: { Self → Held O E };
 
-    /// Returns a note of what the seat has seen. The seat must belong to this gauge. The call
-    /// doesn't change what the seat has seen.
+    /// Returns a [`Note`], which says which history this seat has seen. This [`BookSeat`] or
+    /// [`ReadSeat`] must belong to this [`Gauge`]. The call doesn't change what the seat has seen.
     fn note_of<P: Law<O, E>>(&mut self, gauge: &Gauge<O, E, P>) -> Note<O, E>
         requires { (knows self.old).table ≡ gauge.now.table.shared.table_id }
         ensures seat { knows self.new ≡ knows self.old }
         ensures note { result ≡ copy_of (knows self.old) };
 
-    /// Lets the seat learn from a note, so that it has also seen the note's history. The seat and
-    /// the note must belong to this gauge.
+    /// Lets the seat learn from a [`Note`] of another seat, so that this seat has also seen the
+    /// note's history. The seat and the note must belong to this [`Gauge`].
     fn learn_from<P: Law<O, E>>(&mut self, gauge: &Gauge<O, E, P>, note: Note<O, E>)
         requires seat { (knows self.old).table ≡ gauge.now.table.shared.table_id }
         requires note { note.table ≡ gauge.now.table.shared.table_id }
