@@ -1,6 +1,7 @@
-//! The book of a map: the map as it was at first (the *opening*), the map as it is now, and the
-//! history of the calls between the two. An editor protects its book with a lock. A single thread
-//! can also use a book without an editor.
+//! The book, which is a map with its history. A book has the map as it is now, and the history of
+//! the calls that were made on it. The *opening map* is the map before the first call; a book can
+//! keep it, too. An editor protects its book with a lock. A single thread can also use a book
+//! without an editor.
 
 ghost use Rattle.std.specs.List.{All};
 ghost use Rattle.std.specs.Prelude.{◌≡◌, ◌<◌, ◌≤◌, ◌++◌, ◌∷◌, [], length, IfOk, IfErr, IfSome, OnOk, OnErr};
@@ -27,8 +28,8 @@ use std::fmt;
 use std::marker::Model;
 use thiserror::Error;
 
-/// Why a call was not answered. A refused edit is not a fault, because the refusal is the reply to
-/// the call.
+/// Why a call got no reply. A refused edit is not a fault, because the refusal is the reply to the
+/// call.
 #[derive(Clone, Copy, Debug, PartialEq, Eq, Error)]
 pub enum SubmitFault {
     /// The history has 65,536 entries, which is the maximum.
@@ -39,8 +40,9 @@ pub enum SubmitFault {
     OutOfMemory,
 }
 
-/// The error of a call that couldn't be made. It gives back the call, which was moved into the
-/// editor or the book. `{}` prints why the call wasn't made.
+/// The error of [`Book::commit_copied`] and
+/// [`Editor::submit_copied`](crate::Editor::submit_copied), which take a call by value. The call
+/// wasn't made, and the error gives it back. `{}` prints why the call wasn't made.
 #[derive(Debug, Drop, Error)]
 #[error("{fault}")]
 pub struct Unsubmitted {
@@ -50,9 +52,9 @@ pub struct Unsubmitted {
     pub call: Call,
 }
 
-/// A map, with the history of the calls that were made on it since its opening. The book's maps are
-/// allocated with `A`, and its history with `Global`. `O` says what the book keeps of the opening:
-/// a map, or nothing.
+/// A book: a map with the history of the calls that were made on it since its opening. The opening
+/// is the map before the first call. The book's maps are allocated with `A`, and its history with
+/// `Global`. `O` says what the book keeps of the opening: a map, or nothing.
 #[derive(Drop)]
 pub struct Book<A: Allocator, O: KeptOpening = CrushMap<A>> {
     opening: O,
@@ -89,10 +91,14 @@ impl<A: Allocator, O: KeptOpening> Model for Book<A, O> {
 }
 
 impl<A: Allocator + Clone> Book<A> {
-    /// Creates a book whose opening is `map` and whose history is empty. `seat` is the book seat of
-    /// a gauge that was created for this map: with this seat the book publishes each change, so
-    /// that threads can read it without a lock. The method copies the map once. If memory runs out,
-    /// the error gives the map back.
+    /// Creates a book, which is a map with its history. The opening of the book is `map`, and the
+    /// history is empty. `seat` is the book's seat of a gauge that was created for this map. (The
+    /// *gauge* is one word of memory that all threads share, with the number of changes and the
+    /// total weight of the map. The *book's seat* is the only seat with which this word is
+    /// changed.) With this seat the book publishes both numbers after each call, so that threads
+    /// can read them without a lock.
+    ///
+    /// The method copies the map once. If memory runs out, the error gives the map back.
     pub fn new(alloc: Global, map: CrushMap<A>, seat: MapBookSeat) -> Result<Book<A>, OpenFault<A>>
         requires { seat.view ≡ BookSees (known map []) }
         ensures opening { IfOk result (λ b. b.opening ≡ map) }
@@ -117,7 +123,8 @@ impl<A: Allocator + Clone> Book<A> {
 }
 
 impl<A: Allocator> Book<A, WithoutSnapshot> {
-    /// Creates a book as [`Book::new`] does, but without a copy of the map.
+    /// Creates a book (a map with its history) as [`Book::new`] does, but without a copy of the
+    /// map. The method can't fail.
     pub(crate) fn without_opening(
         alloc: Global,
         map: CrushMap<A>,
@@ -140,8 +147,9 @@ impl<A: Allocator> Book<A, WithoutSnapshot> {
         }
     }
 
-    /// Returns the map of a book whose history is empty. Because the book has made no call, this is
-    /// still the opening, the map with which the book was created.
+    /// Returns the map of a book (a map with its history) whose history is empty. Because no call
+    /// was made on this map, it is still the opening, which is the map from which the book was
+    /// created.
     pub(crate) fn into_map(self) -> CrushMap<A>
         requires { self.history ≡ [] }
         ensures { result ≡ self.opening }
@@ -161,10 +169,14 @@ impl<A: Allocator + Clone, O: KeptOpening> Book<A, O> {
     /// Makes a call for operator `k` (from 0 to 15) on the map, appends the call with its reply to
     /// the history, and returns the reply.
     ///
-    /// The method publishes the new number of changes and the new weight with one atomic store to
-    /// the gauge, even if the reply is a refusal. It fails with `Full` if and only if the history
-    /// is full, which is checked first; any other error is `OutOfMemory`. After an error the
-    /// history and the map, including the map's capacities, are unchanged.
+    /// The method also publishes the new number of changes and the new total weight: it stores both
+    /// in the gauge with one atomic store, even if the reply is a refusal. (The *gauge* is the word
+    /// of memory from which all threads can read these numbers.) `gauge` must be the gauge for
+    /// which this [`Book`] was created.
+    ///
+    /// The method fails with `Full` if and only if the history is full, which it checks first. Any
+    /// other error is `OutOfMemory`. After an error the history and the map, including the map's
+    /// capacities, are unchanged, and nothing is published.
     pub fn commit(
         &mut self,
         alloc: Global,
@@ -195,8 +207,8 @@ impl<A: Allocator + Clone, O: KeptOpening> Book<A, O> {
         }
     }
 
-    /// Makes a call as [`Book::commit`] does, but moves the call into its entry instead of copying
-    /// it. If it fails, the error gives the call back.
+    /// Makes a call as [`Book::commit`] does, but moves the call into its entry of the history
+    /// instead of copying it. If the method fails, the error gives the call back.
     pub fn commit_copied(
         &mut self,
         gauge: &MapGauge,
@@ -249,8 +261,10 @@ impl<A: Allocator + Clone, O: KeptOpening> Book<A, O> {
         Ok(reply)
     }
 
-    /// Lets the book's seat learn from a note. Nothing in the book changes. The method is called only
-    /// for its contract, which says that the note's history is a prefix of the book's history.
+    /// Lets the book's seat learn from a note. (The *book's seat* is the only seat with which the
+    /// gauge's word is changed. A *note* says which history one seat has seen.) Nothing in the book
+    /// changes. The method is called only for its contract, which says that the note's history is a
+    /// prefix of the book's history.
     pub(crate) fn merge_note(&mut self, gauge: &MapGauge, note: MapNote)
         requires gauge { self.old.table ≡ gauge.now.table.shared.table_id }
         requires note { (note.table ≡ self.old.table)
@@ -261,7 +275,9 @@ impl<A: Allocator + Clone, O: KeptOpening> Book<A, O> {
         gauge.learn(&mut self.seat, note);
     }
 
-    /// Returns a note of the book's whole history.
+    /// Returns a note of the whole history of this [`Book`]. A note says which history one seat has
+    /// seen. Each reader of the book's gauge can learn from this note. (A reader is a seat with
+    /// which an operator reads the gauge, which is the word of memory that all threads share.)
     pub(crate) fn snapshot(&mut self, gauge: &MapGauge) -> MapNote
         requires { self.old.table ≡ gauge.now.table.shared.table_id }
         ensures book { self.new ≡ self.old }
@@ -271,8 +287,9 @@ impl<A: Allocator + Clone, O: KeptOpening> Book<A, O> {
         gauge.note(&mut self.seat)
     }
 
-    /// Makes a call as [`Book::commit_copied`] does. Afterwards `reader` has seen the whole
-    /// history, even if the call failed.
+    /// Makes a call as [`Book::commit_copied`] does. `reader` is the value with which an operator
+    /// reads the gauge (the word of memory with the number of changes and the total weight).
+    /// Afterwards `reader` has seen the whole history, even if the call failed.
     pub(crate) fn execute(
         &mut self,
         gauge: &MapGauge,
@@ -307,8 +324,10 @@ impl<A: Allocator + Clone, O: KeptOpening> Book<A, O> {
         outcome
     }
 
-    /// Returns the fault of a call that couldn't be copied because memory ran out: `Full` if the
-    /// history is full, otherwise `OutOfMemory`. Afterwards `reader` has seen the whole history.
+    /// Returns the fault of a call that couldn't be copied because memory ran out. The fault is
+    /// `Full` if the history is full, and otherwise `OutOfMemory`. Afterwards `reader`, the value
+    /// with which an operator reads the gauge, has seen the whole history. (The gauge is the word
+    /// of memory with the number of changes and the total weight.)
     pub(crate) fn refuse(&mut self, gauge: &MapGauge, reader: &mut Reader) -> SubmitFault
         requires gauge { self.old.table ≡ gauge.now.table.shared.table_id }
         requires reader { (reader.old.table ≡ self.old.table)
@@ -338,14 +357,16 @@ impl<A: Allocator + Clone, O: KeptOpening> Book<A, O> {
 }
 
 impl<A: Allocator> Book<A> {
-    /// Returns the opening: the map from which the book was created, as it was then.
+    /// Returns the opening, which is the map from which the book (the map with its history) was
+    /// created. No call has changed this map.
     pub fn opening(&self) -> &CrushMap<A>
         ensures { result.now ≡ self.now.opening }
     {
         &self.opening
     }
 
-    /// Returns the opening, and drops the rest of the book.
+    /// Returns the opening, which is the map from which the book (the map with its history) was
+    /// created. Drops the rest of the book.
     pub(crate) fn into_opening(self) -> CrushMap<A>
         ensures { result ≡ self.opening }
     {
@@ -376,8 +397,9 @@ impl<A: Allocator, O: KeptOpening> Book<A, O> {
         self.history.as_slice()
     }
 
-    /// Does nothing at run time. Its contract states what is true of every book, for a proof that
-    /// knows nothing else about this book.
+    /// Does nothing at run time. The contract states what is true of every book, which is a map
+    /// with its history. The method is called so that a proof that knows nothing else about a book
+    /// can use these statements.
     pub fn recall_invariant(&self)
         ensures legal { IsLegalFrom self.now.opening self.now.history }
         ensures stands { StandsAfter self.now.opening self.now.map self.now.history }
@@ -388,8 +410,9 @@ impl<A: Allocator, O: KeptOpening> Book<A, O> {
         let _changes = &self.changes;
     }
 
-    /// Consumes the book, and returns its map, its history, and what it keeps of its opening. It
-    /// allocates no memory.
+    /// Consumes the book (the map with its history). Returns its map, its history, and what it
+    /// keeps of its opening, which is the map before the first call. The method allocates no
+    /// memory, and can't fail.
     pub fn into_closed(self) -> Closed<A, O>
         ensures opening { IfSome (O.kept result.opening) (λ m. m ≡ self.opening) }
         ensures map { result.map ≡ self.map }
@@ -418,7 +441,8 @@ impl<A: Allocator, O: KeptOpening> Book<A, O> {
 /// What [`Editor::close`](crate::Editor::close) and [`Book::into_closed`] return.
 #[derive(Drop)]
 pub struct Closed<A: Allocator, O: KeptOpening = CrushMap<A>> {
-    /// What the book kept of the map before the first call.
+    /// What the book (the map with its history) kept of the map before the first call: this whole
+    /// map, or nothing.
     pub opening: O,
     /// The map after the last call.
     pub map: CrushMap<A>,
@@ -436,8 +460,9 @@ impl<A: Allocator, O: KeptOpening> fmt::Debug for Closed<A, O> {
     }
 }
 
-/// Publishes the number of changes and the weight after the entry `joining`, with one atomic store.
-/// Only the contract uses the entry.
+/// Publishes the number of changes and the map's total weight after the entry `joining`: stores
+/// both in the gauge, with one atomic store. (The gauge is the word of memory that all threads
+/// read.) Only the contract uses the entry.
 fn publish(gauge: &MapGauge, seat: &mut MapBookSeat, joining: &Entry, count: u64, weight: u64)
     ghost joined: { EntryData }
     requires joins { joined ≡ joining.now }

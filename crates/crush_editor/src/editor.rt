@@ -1,4 +1,5 @@
-//! The editor: how it is created, the calls that its seats make, and how it is closed.
+//! The editor: how it is created, the calls that operators submit with its seats, and how it is
+//! closed. A *seat* is the value with which one operator uses the editor.
 
 ghost use Rattle.std.specs.Prelude.{◌≡◌, ℕ, ◌<◌, ◌≤◌, [], length, IfOk, IfErr, IfSome, OnOk, OnErr, vec_len, slice_index_or};
 ghost use mathlib.Core.Logic.{◌↔◌};
@@ -32,12 +33,16 @@ use std::marker::{Brand, Model};
 use std::sync::Wait;
 use std::sync::ledger::Blank;
 
-/// The parts of an editor that isn't open yet: its gauge, its book, and a reader for each seat.
+/// The parts of an editor that isn't open yet: its gauge, its book, and a reader for each operator.
+/// The *gauge* ([`MapGauge`]) is one word of memory, from which all threads read the number of
+/// changes and the map's total weight. The *book* ([`Book`]) is the map with its history. A reader
+/// is the part of an operator's [`Seat`] with which the operator reads the gauge.
 ///
 /// Contracts refer to an editor by a type `N`, which is the editor's *name*. Through the name they
-/// refer to the editor's gauge and to its opening map, so both must exist before the name is
-/// chosen. A caller therefore first creates a `Started`. Then it calls a function that is generic
-/// over `N`, and passes [`Brand`] for `N`. That function calls [`Editor::open`].
+/// refer to the editor's gauge and to its opening map (the map before the first call), so both must
+/// exist before the name is chosen. A caller therefore first creates a `Started`. Then it calls a
+/// function that is generic over `N`, and passes [`Brand`] for `N`. That function calls
+/// [`Editor::open`].
 #[derive(Drop)]
 pub struct Started<A: Allocator = Global, O: KeptOpening = CrushMap<A>> {
     gauge: MapGauge,
@@ -85,8 +90,9 @@ impl<A: Allocator, O: KeptOpening> Model for Started<A, O> {
 }
 
 impl<A: Allocator + Clone> Started<A> {
-    /// Creates the gauge, the book, and a reader for each operator; there are 1 to 16 operators.
-    /// The method copies the map once, so that [`Editor::close`] can return the opening map. If
+    /// Creates the gauge, the book, and a reader for each of the 1 to 16 operators. ([`Started`]
+    /// says what a gauge, a book and a reader are.) The method copies the map once, so that
+    /// [`Editor::close`] can return the opening map, which is the map before the first call. If
     /// memory runs out, the error gives the map back.
     pub fn new(
         alloc: Global,
@@ -114,7 +120,8 @@ impl<A: Allocator + Clone> Started<A> {
 
 impl<A: Allocator> Started<A, WithoutSnapshot> {
     /// Does what [`Started::new`] does, but without a copy of the map. Calls change the map itself,
-    /// and [`Editor::close`] returns no opening. If memory runs out, the error gives the map back.
+    /// and [`Editor::close`] returns no opening map. If memory runs out, the error gives the map
+    /// back.
     pub fn without_opening(
         alloc: Global,
         map: CrushMap<A>,
@@ -141,7 +148,9 @@ impl<A: Allocator> Started<A, WithoutSnapshot> {
 }
 
 impl<A: Allocator, O: KeptOpening> Started<A, O> {
-    /// Returns the gauge and the book, for a single thread that needs no lock.
+    /// Returns the gauge and the book, for a program with one thread, which needs no lock. The book
+    /// is the map with its history. The gauge is the word of memory in which the book stores the
+    /// number of changes and the map's total weight.
     pub fn into_book(self) -> (MapGauge, Book<A, O>)
         ensures table { result.1.table ≡ result.0.table.shared.table_id }
         ensures opening { result.1.opening ≡ self.opening }
@@ -159,9 +168,10 @@ impl<A: Allocator, O: KeptOpening> Started<A, O> {
     }
 }
 
-/// The opening map of a gauge. It exists only in contracts: at run time a gauge is created from the
-/// weight of the map, and the map itself isn't needed. The proof of each call of [`make_gauge`]
-/// says which map this is.
+/// The opening map of a gauge, which is the map before the first call. (The gauge is the word of
+/// memory with the number of changes and the map's total weight.) This trait exists only for
+/// contracts: when the program runs, a gauge is created from the weight of the map, and the map
+/// itself isn't needed. The proof of each call of [`make_gauge`] says which map this is.
 trait GhostOpening {
     ghost use Rattle.crush_map.specs.MapData.{MapData};
 
@@ -174,7 +184,10 @@ impl GhostOpening for Brand {
     ghost map = { no_map };
 }
 
-/// Creates a gauge for the map, with the book's seat and a reader for each operator.
+/// Creates a gauge for the map, with the book's seat and a reader for each operator. The gauge is
+/// one word of memory with the number of changes and the map's total weight. The book's seat is the
+/// only seat with which this word is changed. An operator reads the word with a reader. Returns an
+/// error if memory runs out.
 fn make_gauge<M: GhostOpening, A: Allocator>(
     map: &CrushMap<A>,
     operators: usize,
@@ -191,8 +204,8 @@ fn make_gauge<M: GhostOpening, A: Allocator>(
     new_gauge::<M>(map.total(), operators, alloc)
 }
 
-/// Creates a gauge for the opening map that `M` names, with the book's seat and a reader for each
-/// operator. `weight` is the weight of all placed devices of that map, in units.
+/// Creates a [`MapGauge`] as [`make_gauge`] does, for the opening map that `M` names. `weight` is
+/// the total weight of all placed devices of that map, in units (65536 units are 1.0).
 fn new_gauge<M: GhostOpening>(
     weight: u64,
     operators: usize,
@@ -208,17 +221,19 @@ fn new_gauge<M: GhostOpening>(
     MapGauge::new(alloc, weight, operators)
 }
 
-/// The editor with the name `N`. It has a *book* and a *gauge*. The book has the map and its
-/// history, and one lock protects it. The gauge has the number of changes and the weight of the
-/// map, and is read without the lock. Threads share an editor by reference; each thread needs a
-/// [`Seat`] of its own.
+/// The editor with the name `N`. It has a *book* and a *gauge*. The book is the map with its
+/// history, and one lock protects it. The gauge is one word of memory that all threads share. It
+/// contains how many calls have changed the map so far, and the map's total weight after these
+/// changes. Threads read the gauge without the lock. Threads share an editor by reference. Each
+/// thread needs a [`Seat`] of its own, which is the value with which it uses the editor.
 #[derive(Drop)]
 pub struct Editor<N: Desk, O: KeptOpening = CrushMap<Global>> {
     lock_free_reader: LockFreeReader<N>,
     state_lock: StateLock<N, O>,
 }
 
-/// Prints `Editor { .. }`: what the lock protects can't be read without waiting.
+/// Prints `Editor { .. }` without the map, because what the lock protects can't be read without
+/// waiting.
 impl<N: Desk, O: KeptOpening> fmt::Debug for Editor<N, O> {
     fn fmt<W: fmt::Write>(&self, f: &mut fmt::Formatter<W>) -> fmt::Result {
         f.write_str("Editor { .. }")
@@ -226,19 +241,23 @@ impl<N: Desk, O: KeptOpening> fmt::Debug for Editor<N, O> {
 }
 
 impl<N: Desk, O: KeptOpening> Editor<N, O> {
-    /// Makes a call for the seat's operator under the lock, and returns the reply. The method waits
-    /// for the lock, perhaps for ever.
+    /// Waits for the editor's lock, makes a call for the operator of `seat`, and returns the reply.
+    /// The method may wait for ever.
     ///
-    /// Before the method acquires the lock, it copies the call twice: once for the history, and once
-    /// for the slip, which is the seat's record of the call and its reply. It also reserves room for
-    /// the slip. After a reply the seat has one more slip, and it has seen the history up to and
-    /// including this call. A guarded batch names a number of changes. If this is the number of
-    /// changes that the seat had seen before the call, and the reply isn't `Stale`, then right
-    /// before the batch the map had the table that it has after the history that the seat had seen.
+    /// Before the method acquires the lock, it copies the call twice: once for the history, and
+    /// once for the slip, which is the call with its reply that the seat keeps. It also reserves
+    /// room for the slip. After a reply the [`Seat`] has one more slip, and it has seen the history
+    /// up to and including this call.
+    ///
+    /// A guarded batch ([`Call::Guarded`]) contains a number of changes. Suppose that this is the
+    /// number of changes in the history that the seat had seen before the call, and that the reply
+    /// isn't `Stale`. Then the table of the map right before the batch was the table after that
+    /// history. (The *table* is the flat list of the map's devices and buckets with which contracts
+    /// describe the map.)
     ///
     /// The error is `Full` if and only if the history is full; otherwise it is `OutOfMemory`. After
-    /// an error the call was not made and the slips are unchanged. The seat may have seen more of
-    /// the history.
+    /// an error the call was not made and the slips are unchanged. The seat has then seen the
+    /// history as it was while the method held the lock.
     pub fn submit(
         &self,
         rt: &impl Wait,
@@ -263,8 +282,9 @@ impl<N: Desk, O: KeptOpening> Editor<N, O> {
         }
     }
 
-    /// Makes a call as [`Editor::submit`] does, but moves the call into its entry. The call is
-    /// copied only once, for its slip. If the method fails, the error gives the call back.
+    /// Makes a call as [`Editor::submit`] does, but moves the call into its entry of the history.
+    /// So the call is copied only once, for its slip (the call with its reply, which the [`Seat`]
+    /// keeps). If the method fails, the error gives the call back.
     pub fn submit_copied(
         &self,
         rt: &impl Wait,
@@ -305,7 +325,8 @@ impl<N: Desk, O: KeptOpening> Editor<N, O> {
     }
 
     /// Returns the fault of a call that couldn't be copied because memory ran out. The method waits
-    /// for the lock, because only the book knows whether the history is full.
+    /// for the lock, because only the book (the map with its history) knows whether the history is
+    /// full.
     fn refuse(&self, rt: &impl Wait, seat: &mut Seat<N>) -> SubmitFault
         ensures seat { Sees N.opening seat.old seat.new }
         ensures full { (result ≡ SubmitFault.Full) ↔ (length seat.new.seen ≡ MOST_ENTRIES) }
@@ -315,13 +336,15 @@ impl<N: Desk, O: KeptOpening> Editor<N, O> {
         self.state_lock.refuse(rt, gauge, &mut seat.reader)
     }
 
-    /// Returns the part of the editor that reads the gauge without acquiring the lock.
+    /// Returns the part of the editor that reads the gauge without acquiring the lock. The gauge is
+    /// the word of memory with the number of changes and the map's total weight.
     pub fn lock_free_reader(&self) -> &LockFreeReader<N> {
         &self.lock_free_reader
     }
 
-    /// Returns the number of changes so far and the weight now, as [`LockFreeReader::reading`]
-    /// does.
+    /// Returns the number of changes so far and the map's total weight now, in units (65536 units
+    /// are 1.0). Afterwards the [`Seat`] has seen the history to which both numbers belong. The
+    /// method calls [`LockFreeReader::reading`], and doesn't wait for the lock.
     pub fn reading(&self, seat: &mut Seat<N>) -> Reading
         ensures seat { Sees N.opening seat.old seat.new }
         ensures changes { result.changes ≡ changes seat.new.seen }
@@ -331,8 +354,8 @@ impl<N: Desk, O: KeptOpening> Editor<N, O> {
         self.lock_free_reader.reading(seat)
     }
 
-    /// Returns a note of what the seat has seen, for another seat of this editor, as
-    /// [`LockFreeReader::note`] does.
+    /// Returns a [`Note`], which says which history the [`Seat`] has seen. Another seat of this
+    /// editor can learn from the note. The method calls [`LockFreeReader::note`].
     pub fn note(&self, seat: &mut Seat<N>) -> Note<N>
         ensures seat { seat.new ≡ seat.old }
         ensures note { result ≡ seat.old.seen }
@@ -340,8 +363,8 @@ impl<N: Desk, O: KeptOpening> Editor<N, O> {
         self.lock_free_reader.note(seat)
     }
 
-    /// Joins a note into the seat, which has then also seen what the note's seat had seen, as
-    /// [`LockFreeReader::learn`] does.
+    /// Lets this [`Seat`] learn from a [`Note`] of another seat. The seat has then also seen the
+    /// history that the note is about. The method calls [`LockFreeReader::learn`].
     pub fn learn(&self, seat: &mut Seat<N>, note: Note<N>)
         ensures seat { Sees N.opening seat.old seat.new }
         ensures note { IsPrefix note seat.new.seen }
@@ -351,8 +374,9 @@ impl<N: Desk, O: KeptOpening> Editor<N, O> {
 }
 
 impl<N: Desk> Editor<N> {
-    /// Creates the editor with the name `N`, and a seat for each operator. The seat at index k,
-    /// from 0, is that of operator k. If memory runs out, the error gives back the opening map.
+    /// Creates the editor with the name `N`, and a [`Seat`] for each operator. A seat is the value
+    /// with which one operator uses the editor. The seat at index k (from 0) belongs to operator k.
+    /// If memory runs out, the error gives back the map from which `started` was created.
     pub fn open(
         alloc: Global,
         started: Started,
@@ -376,7 +400,8 @@ impl<N: Desk> Editor<N> {
 }
 
 impl<N: Desk> Editor<N, WithoutSnapshot> {
-    /// Creates an editor as [`Editor::open`] does, but the editor keeps no copy of its opening map.
+    /// Creates an editor as [`Editor::open`] does, but the editor keeps no copy of its opening map,
+    /// which is the map before the first call.
     pub fn open_unkept(
         alloc: Global,
         started: Started<Global, WithoutSnapshot>,
@@ -400,8 +425,9 @@ impl<N: Desk> Editor<N, WithoutSnapshot> {
 }
 
 impl<N: Desk, O: KeptOpening> Editor<N, O> {
-    /// Creates the editor and its seats from a book whose history is empty. If memory runs out, the
-    /// error gives the book back.
+    /// Creates the editor and its seats from a book whose history is empty. The book is the map
+    /// with its history, and a seat is the value with which one operator uses the editor. If memory
+    /// runs out, the error gives the book back.
     fn begin(
         alloc: Global,
         started: Started<Global, O>,
@@ -450,12 +476,14 @@ impl<N: Desk, O: KeptOpening> Editor<N, O> {
         ))
     }
 
-    /// Closes the editor, and returns its map, its history, and what it keeps of its opening.
-    /// `seats` must be all seats, in the order in which [`Editor::open`] returned them.
+    /// Closes the editor. Returns its map, its history, and what it keeps of its opening map, which
+    /// is the map before the first call. A [`Seat`] is the value with which one operator uses the
+    /// editor. `seats` must be all seats of the editor, in the order in which [`Editor::open`] or
+    /// [`Editor::open_unkept`] returned them.
     ///
-    /// The history is one that a single thread could have made: it has each answered call exactly
-    /// once, and the calls of each operator are in that operator's order. Closing can't fail, and
-    /// allocates no memory.
+    /// A single thread that made the calls of the history in order would get the same replies. The
+    /// history has each answered call exactly once, and the calls of each operator are in the order
+    /// in which that operator submitted them. Closing can't fail, and allocates no memory.
     pub fn close(self, seats: Vec<Seat<N>>) -> Closed<Global, O>
         requires count { vec_len seats ≡ N.parts }
         requires order { InOrder seats.items }

@@ -1,5 +1,5 @@
-//! Reads the number of changes and the weight of an editor's map without acquiring the editor's
-//! lock.
+//! The part of an editor that acquires no lock. It reads the number of changes and the map's total
+//! weight from the gauge, which is one word of memory that all threads share.
 
 ghost use Rattle.std.specs.Prelude.{◌≡◌, ◌≤◌};
 ghost use mathlib.Core.List.{IsPrefix};
@@ -14,15 +14,16 @@ use crush_gauge::Reading;
 use std::fmt;
 use std::marker::{Model, PhantomData};
 
-/// A note of what a seat has seen, for [`LockFreeReader::learn`] with another seat of the same
-/// editor. It can be sent to another thread.
+/// A note: it says which history one [`Seat`] has seen. The operator of this seat can give the note
+/// to another operator. With [`LockFreeReader::learn`], the other operator's seat has then also
+/// seen this history. A note can be sent to another thread.
 #[derive(Drop)]
 pub struct Note<N: Desk> {
     note: MapNote,
     of: PhantomData<N>,
 }
 
-/// Prints `Note { .. }`: what the seat has seen exists only in contracts.
+/// Prints `Note { .. }`: which history the note is about exists only in contracts.
 impl<N: Desk> fmt::Debug for Note<N> {
     fn fmt<W: fmt::Write>(&self, f: &mut fmt::Formatter<W>) -> fmt::Result {
         f.write_str("Note { .. }")
@@ -44,7 +45,9 @@ impl<N: Desk> Model for Note<N> {
         × IsLegalFrom N.opening (seen_of n.note.view) };
 }
 
-/// The gauge of the editor with the name `N`. Its methods acquire no lock and allocate no memory.
+/// The gauge of the editor with the name `N`: one 64-bit word of memory that all threads share. It
+/// contains how many calls have changed the map so far, and the map's total weight after these
+/// changes. The methods acquire no lock and allocate no memory.
 #[derive(Drop)]
 pub struct LockFreeReader<N: Desk> {
     gauge: MapGauge,
@@ -52,7 +55,8 @@ pub struct LockFreeReader<N: Desk> {
     ghost tied: { gauge.table.shared.table_id ≡ N.gauge },
 }
 
-/// Prints `LockFreeReader { .. }`: a reading needs a seat.
+/// Prints `LockFreeReader { .. }` without the two numbers of the [`MapGauge`], because a reading
+/// needs a [`Seat`].
 impl<N: Desk> fmt::Debug for LockFreeReader<N> {
     fn fmt<W: fmt::Write>(&self, f: &mut fmt::Formatter<W>) -> fmt::Result {
         f.write_str("LockFreeReader { .. }")
@@ -75,9 +79,10 @@ impl<N: Desk> LockFreeReader<N> {
         &self.gauge
     }
 
-    /// Returns the number of changes so far, and the weight of all placed devices in units (65536
-    /// units are 1.0). Both numbers belong to the same history, and afterwards the seat has seen
-    /// this history. The method makes one atomic load; it acquires no lock and allocates no memory.
+    /// Returns the number of changes so far, and the total weight of all placed devices in units
+    /// (65536 units are 1.0). Both numbers belong to the same history, and afterwards the [`Seat`]
+    /// has seen this history. The method makes one atomic load of the gauge, which is one word of
+    /// memory that all threads share. It acquires no lock and allocates no memory.
     pub fn reading(&self, seat: &mut Seat<N>) -> Reading
         ensures seat { Sees N.opening seat.old seat.new }
         ensures changes { result.changes ≡ changes seat.new.seen }
@@ -87,8 +92,8 @@ impl<N: Desk> LockFreeReader<N> {
         self.gauge.read(&mut seat.reader)
     }
 
-    /// Returns a note of what the seat has seen, for another seat of this editor. The method
-    /// doesn't change what this seat has seen.
+    /// Returns a [`Note`], which says which history the [`Seat`] has seen. Another seat of this
+    /// editor can learn from the note. The method doesn't change what this seat has seen.
     pub fn note(&self, seat: &mut Seat<N>) -> Note<N>
         ensures seat { seat.new ≡ seat.old }
         ensures note { result ≡ seat.old.seen }
@@ -100,8 +105,10 @@ impl<N: Desk> LockFreeReader<N> {
         }
     }
 
-    /// Joins a note into the seat. The seat has then also seen what the note's seat had seen when
-    /// the note was made. So the seat's next reading is no older than what either seat had seen.
+    /// Lets this [`Seat`] learn from a [`Note`] of another seat. This seat has then also seen the
+    /// history that the other seat had seen when the note was made. So the history of this seat's
+    /// next reading begins with both of these histories: the note's history, and the history that
+    /// this seat had seen before.
     pub fn learn(&self, seat: &mut Seat<N>, note: Note<N>)
         ensures seat { Sees N.opening seat.old seat.new }
         ensures note { IsPrefix note seat.new.seen }

@@ -1,4 +1,5 @@
-//! What the lock of an editor protects, and the seats of the editor's operators.
+//! What the lock of an editor protects, and the seats of the editor's operators. A *seat* is the
+//! value with which one operator uses the editor.
 
 ghost use Rattle.std.specs.Prelude.{◌≡◌, ◌<◌, ◌≤◌, ◌+◌, ◌++◌, ◌∷◌, [], length, IfOk, IfErr, OnOk, OnErr};
 ghost use mathlib.Core.Logic.{◌↔◌};
@@ -18,9 +19,11 @@ use std::marker::{Brand, Model};
 use std::sync::ledger;
 use std::sync::ledger::{Ledger, Share};
 
-/// A type that stands for one editor. Only contracts use it: through this type they refer to the
-/// editor's gauge (the word that operators read without the lock), to its opening map (the map
-/// before the first call), and to its ledger, which counts the calls of all seats.
+/// A type that stands for one editor, and is also called the editor's *name*. Only contracts use
+/// it: through this type they refer to three things of the editor. The first is the gauge, which is
+/// the word that operators read without the lock. The second is the opening map, which is the map
+/// before the first call. The third is the ledger, which counts the answered calls of all
+/// operators.
 pub trait Desk: Ledger {
     ghost use Rattle.atomic_table.specs.Seated.{TableId};
     ghost use Rattle.crush_map.specs.MapData.{MapData};
@@ -39,9 +42,9 @@ impl Desk for Brand {
     ghost opening = { no_map };
 }
 
-/// The object with which one operator uses an editor. It has the operator's number, and the
-/// operator's answered calls in order, each with its reply (a [`Slip`]). In contracts it also has
-/// the history that the operator has seen.
+/// A seat: the value with which one operator uses an editor. It has the operator's number, and a
+/// [`Slip`] for each answered call of the operator, in order. A slip is an answered call with its
+/// reply. In contracts, the seat also has the history that the operator has seen.
 #[derive(Drop)]
 pub struct Seat<N: Desk> {
     pub(crate) operator: usize,
@@ -74,9 +77,10 @@ impl<N: Desk> Model for Seat<N> {
         × IsSeat N.opening s.operator s.slips.items (seen_of s.reader.view) };
 }
 
-/// What the lock protects. `count` exists only for proofs: it is the number of calls in the book's
-/// history. Each seat has a share of this number, which is the number of the seat's answered calls.
-/// `spare` is the share that no seat has; it is always 0.
+/// What the lock protects: the book, which is the map with its history, and two values that exist
+/// only for proofs. `count` is the number of calls in the book's history. Each [`Seat`] has a share
+/// of this number, which is the number of answered calls of the seat's operator. `spare` is the
+/// share that belongs to no seat, and is always 0.
 #[derive(Drop)]
 pub(crate) struct Locked<N: Desk, O: KeptOpening> {
     pub(crate) book: Book<Global, O>,
@@ -102,9 +106,10 @@ impl<N: Desk, O: KeptOpening> Model for Locked<N, O> {
 }
 
 impl<N: Desk, O: KeptOpening> Locked<N, O> {
-    /// Executes a call of operator `k`. If the call is answered, the seat's share increases by 1.
-    /// If the call fails, the error gives the call back, and the book and the share are unchanged.
-    /// In both cases `reader` has seen the whole history afterwards.
+    /// Makes a call of operator `k`. If the call is answered, `ledger_share`, which is the share of
+    /// the operator's [`Seat`], increases by 1. If the call fails, the error gives the call back,
+    /// and the book (the map with its history) and the share are unchanged. In both cases `reader`
+    /// has seen the whole history afterwards.
     pub(crate) fn submit(
         &mut self,
         gauge: &MapGauge,
@@ -164,7 +169,7 @@ impl<N: Desk, O: KeptOpening> Locked<N, O> {
 }
 
 impl<N: Desk> Seat<N> {
-    /// Returns the operator's number, from 0.
+    /// Returns the operator's number, from 0 to 15.
     pub fn operator(&self) -> usize
         ensures { result ≡ self.now.operator }
     {

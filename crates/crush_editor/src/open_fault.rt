@@ -7,8 +7,9 @@ use std::alloc::{Allocator, Global};
 use std::error::Error;
 use std::fmt;
 
-/// The error of a call that had no memory for a book or an editor. It gives back the map that the
-/// call was given. `{}` prints `out of memory`, and `{:?}` prints `OpenFault`.
+/// The error of a function that creates a [`Book`](crate::Book) (a map with its history) or an
+/// [`Editor`](crate::Editor), if memory runs out. The error gives back the map from which the book
+/// or the editor was to be created. `{}` prints `out of memory`, and `{:?}` prints `OpenFault`.
 #[derive(Drop)]
 pub struct OpenFault<A: Allocator = Global> {
     /// The map, unchanged.

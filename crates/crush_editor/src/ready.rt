@@ -1,4 +1,4 @@
-//! The memory that a call allocates before the lock is acquired.
+//! The memory that an editor allocates for a call before it acquires its lock.
 
 ghost use Rattle.std.specs.Prelude.{◌≡◌, ◌<◌, IfOk, OnOk, vec_len, vec_capacity};
 ghost use Rattle.crush_editor.specs.History.{slip};
@@ -6,17 +6,18 @@ ghost use Rattle.crush_editor.specs.History.{slip};
 use crush_history::{Call, Reply, Slip};
 use std::alloc::{AllocError, Global};
 
-/// A copy of a call, for the call's slip. Only [`Ready::new`] creates a `Ready`. It first reserves
-/// room for one more slip in the seat's vector of slips. So a caller that has a `Ready` has both
-/// the copy and the room.
+/// A copy of a call, for the call's slip. A slip is an answered call with its reply, and the
+/// operator's [`Seat`](crate::Seat) keeps the slip. Only [`Ready::new`] creates a `Ready`, and it
+/// first reserves room for one more slip in the seat's vector of slips. So when `Ready::new`
+/// succeeds, there is both the copy and the room.
 #[derive(Drop)]
 pub(crate) struct Ready {
     for_slip: Call,
 }
 
 impl Ready {
-    /// Reserves room for one more slip in `slips`, and copies the call for this slip. Fails if
-    /// memory runs out. The slips themselves are unchanged in any case.
+    /// Reserves room for one more slip in `slips`, and copies the call for this slip. Returns an
+    /// error if memory runs out. The slips that `slips` contains are unchanged in any case.
     pub(crate) fn new(
         alloc: Global,
         slips: &mut Vec<Slip>,

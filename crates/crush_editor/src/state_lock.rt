@@ -1,6 +1,6 @@
-//! The lock of an editor. Only this file can acquire the lock. Each acquisition needs the
-//! permission to wait ([`Wait`]), and an acquisition for a call also needs the memory for the
-//! call's slip.
+//! The lock of an editor. Only this file can acquire the lock. To acquire it, a function needs the
+//! permission to wait ([`Wait`]). To acquire it for a call, a function also needs the memory for
+//! the call's slip (the answered call with its reply).
 
 ghost use Rattle.std.specs.Prelude.{◌≡◌, ◌<◌, ◌≤◌, length, vec_len, vec_capacity};
 ghost use mathlib.Core.Logic.{◌↔◌};
@@ -17,7 +17,8 @@ use crate::ready::Ready;
 use crush_history::Slip;
 use std::sync::{Mutex, MutexGuard, Wait};
 
-/// The lock, with the book that it protects.
+/// The lock, with what it protects: the book (the map with its history), and the number of answered
+/// calls, which exists only in contracts.
 #[derive(Drop)]
 pub(crate) struct StateLock<N: Desk, O: KeptOpening> {
     state: Mutex<Locked<N, O>>,
@@ -30,8 +31,8 @@ impl<N: Desk, O: KeptOpening> StateLock<N, O> {
         }
     }
 
-    /// Acquires the lock for a call. The caller proves that memory for the slip is allocated: there
-    /// is room in `slips`, and `ready` is the copy of the call.
+    /// Acquires the lock for a call. The caller proves that memory for the call's slip is
+    /// allocated: there is room in `slips`, and `ready` has the copy of the call.
     pub(crate) fn lock(
         &self,
         rt: &impl Wait,
@@ -46,8 +47,9 @@ impl<N: Desk, O: KeptOpening> StateLock<N, O> {
     }
 
     /// Acquires the lock, and returns the fault of a call that couldn't be copied because memory
-    /// ran out: `Full` if the history is full, otherwise `OutOfMemory`. Afterwards `reader` has
-    /// seen the whole history.
+    /// ran out. The fault is `Full` if the history is full, and otherwise `OutOfMemory`. Afterwards
+    /// `reader`, with which the operator reads the gauge, has seen the whole history. (The gauge is
+    /// the word that contains the number of changes and the map's total weight.)
     pub(crate) fn refuse(
         &self,
         rt: &impl Wait,
@@ -68,7 +70,7 @@ impl<N: Desk, O: KeptOpening> StateLock<N, O> {
         self.state.lock(rt).refuse(gauge, reader)
     }
 
-    /// Returns what the lock protects. The caller owns the lock, so no other thread can hold it,
+    /// Returns what the lock protects. The caller owns the lock. So no other thread can hold it,
     /// and the method doesn't wait.
     pub(crate) fn into_inner(self) -> Locked<N, O> {
         let StateLock { state } = self;
