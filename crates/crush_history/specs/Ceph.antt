@@ -43,15 +43,15 @@ has_dash (Rename from to) = is_dashed from || is_dashed to
 has_dash (SetClass name class) = is_dashed class || is_dashed name
 has_dash (RemoveClass name) = is_dashed name
 
--- the words before a command. If the command has a word that begins with `-`, these words end in `--`, because Ceph reads no options after `--`
+-- the words before a command. If a word after the command's first word begins with `-`, the words before the command end in `--`, because Ceph reads no options after `--`
 abbrev pub ceph_head : Edit → List ℕ
 ceph_head e = if has_dash e then codes "ceph osd crush -- " else codes "ceph osd crush "
 
--- a command's first word, a name, and a weight in exact form, each after a space
+-- a command's first word, a name, and a weight in exact form, separated by spaces
 abbrev pub name_and_exact : List ℕ → List ℕ → ℕ → List ℕ
 name_and_exact first name weight = first ++ codes " " ++ name ++ codes " " ++ exact_text weight
 
--- the words of a command: those of a script, but with weights in exact form, because Ceph rounds a weight down
+-- the words of a command. They are the same as in a script, except that weights are in exact form: Ceph rounds a weight down, and reads exactly the edit's weight from this form
 abbrev pub ceph_words : Edit → List ℕ
 ceph_words (Place how device name weight at) = name_and_exact (placing_word how) name weight ++ pairs_text at
 ceph_words (Move name at) = edit_text (Move name at)
@@ -64,10 +64,10 @@ ceph_words (Rename from to) = edit_text (Rename from to)
 ceph_words (SetClass name class) = edit_text (SetClass name class)
 ceph_words (RemoveClass name) = edit_text (RemoveClass name)
 
--- an edit as a line for a shell: the words before the command, the command, the option that a swap needs, and a line feed
+-- an edit as a line for a shell: the words before the command, the command, the option of `assent` if the edit is a swap, and a line feed
 abbrev pub ceph_line : Edit → List ℕ
 ceph_line e = ceph_head e ++ ceph_words e ++ (assent e ++ codes "\n")
 
--- the line that says how many commands there are
+-- the line `# N commands`, where N is the number of commands, with a line feed
 unfoldable pub ceph_heading : ℕ → List ℕ
 ceph_heading count = codes "# " ++ decimal count ++ codes " commands\n"

@@ -11,12 +11,12 @@ use Rattle.crush_history.specs.declared.call.Reply.TheVariants.{Done, Dones, Ref
 use Rattle.crush_history.specs.Script.{ScriptData}
 use Rattle.crush_history.specs.History.{EntryData}
 
--- A CALL: a batch is `begin ; `, each edit followed by ` ; `, and `commit`; a guarded batch begins with `begin at N ; ` instead
+-- A CALL: the text of a batch is `begin ; `, then each edit followed by ` ; `, and then `commit`. The text of a guarded batch has `begin at N ; ` in place of `begin ; `
 -- the edits of a batch, each followed by ` ; `
 abbrev pub edits_text : List Edit → List ℕ
 edits_text es = flat_map (λ e. edit_text e ++ codes " ; ") es
 
--- what follows the beginning of a batch: its edits and `commit`
+-- the text of a batch after its beginning: the edits, each followed by ` ; `, and `commit`
 abbrev pub rest_text : List Edit → List ℕ
 rest_text es = edits_text es ++ codes "commit"
 
@@ -43,7 +43,7 @@ line_head number operator = codes "# " ++ decimal number ++ codes " " ++ operato
 abbrev pub refusal_words : Refusal → List ℕ
 refusal_words r = refusal_name r ++ codes " " ++ decimal (refusal_error r)
 
--- A REPLY as its line has it, after ` = `; the place of a refused edit in its batch is counted from 0
+-- A REPLY: its text in a line of a history, after ` = `. In `refused at INDEX`, the index of the refused edit in its batch is counted from 0
 unfoldable pub reply_text : Reply → List ℕ
 reply_text (Done d) = codes "done changed " ++ digit_of d.changed ++ codes " made " ++ decimal d.made
 reply_text (Dones d) = codes "dones " ++ decimal d.edits ++ codes " changed " ++ decimal d.changed ++ codes " made " ++ decimal d.made
@@ -55,7 +55,7 @@ reply_text (Stale n) = codes "refused Stale 11 changes " ++ decimal n
 abbrev pub line_words : ℕ → List ℕ → Call → Reply → List ℕ
 line_words number operator call reply = line_head number operator ++ (call_text call ++ codes " = " ++ reply_text reply)
 
--- the same with the line feed
+-- a call and its reply on one line, with the line feed
 abbrev pub line_text : ℕ → List ℕ → Call → Reply → List ℕ
 line_text number operator call reply = line_words number operator call reply ++ codes "\n"
 
@@ -63,7 +63,7 @@ line_text number operator call reply = line_words number operator call reply ++ 
 abbrev pub entry_text : ℕ → List ℕ → EntryData → List ℕ
 entry_text number operator e = line_text number operator e.call e.reply
 
--- the lines of entries, numbered from the given number on; `names` has each operator's name at its index
+-- the lines of entries. The first line has the given number, and each further line has the next number. `names` has each operator's name at the operator's index
 unfoldable pub entries_text : List (List ℕ) → ℕ → List EntryData → List ℕ
 entries_text names number [] = []
 entries_text names number (e ∷ h) = entry_text number (slice_index_or names e.operator []) e ++ entries_text names (number + 1) h

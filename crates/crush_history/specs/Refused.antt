@@ -5,7 +5,7 @@ use Rattle.crush_history.specs.declared.call.Reply.TheVariants.{Done, Dones, Ref
 use Rattle.crush_history.specs.History.{EntryData}
 use Rattle.crush_history.specs.HistoryText.{entry_text}
 
--- whether a reply is a refusal: of an edit, of a batch, or of a guarded batch that is stale
+-- whether a reply refuses an edit or a batch, or says that a guarded batch is stale
 abbrev pub is_refused : Reply → Bool
 is_refused (Done d) = false
 is_refused (Dones d) = false
@@ -22,7 +22,7 @@ refusals (e ∷ h) = (if is_refused e.reply then 1 else 0) + refusals h
 abbrev pub refused_line : ℕ → List ℕ → EntryData → List ℕ
 refused_line number operator e = if is_refused e.reply then entry_text number operator e else []
 
--- REFUSED TEXT: the lines of the entries that were refused, each with its number in the history
+-- REFUSED TEXT: the lines of the entries that were refused. The entries, refused or not, are numbered one after the other, and the first entry has the given number. `names` has each operator's name at the operator's index
 unfoldable pub refused_text : List (List ℕ) → ℕ → List EntryData → List ℕ
 refused_text names number [] = []
 refused_text names number (e ∷ h) = refused_line number (slice_index_or names e.operator []) e ++ refused_text names (number + 1) h

@@ -9,11 +9,11 @@ use Rattle.crush_edits.specs.declared.edit.Edit.{Edit}
 use Rattle.crush_edits.specs.declared.edit.Edit.TheVariants.{Place, Move, Swap, Reweight, ReweightSubtree, Remove, AddBucket, Rename, SetClass, RemoveClass}
 use Rattle.crush_edits.specs.Pushed.{IsLocation}
 
--- whether these are 1 to 10 digits, and the first isn't 0 unless it is the only one
+-- whether a text is 1 to 10 digits, and the first digit isn't 0 unless it is the only digit
 abbrev pub is_plain : List ℕ → Bool
 is_plain digits = are_digits 10 digits && (length digits == 1 || not (slice_index digits 0 == 48))
 
--- the id N of the device whose name is `osd.N`, if the name has this form and N is in range
+-- the id N of the device whose name is `osd.N`, or none if the name doesn't have this form or N is above 2147483647
 abbrev pub device_named : List ℕ → Option ℕ
 device_named name =
     if bytes_eq (take 4 name) (codes "osd.") && is_plain (drop 4 name) then device_from (digits_value 10 (drop 4 name))

@@ -1,4 +1,4 @@
--- What `==` answers for two calls, two entries, two slips and two scripts.
+-- What `==` returns for two calls, two entries, two slips (a slip is a call with its reply) and two scripts.
 use Rattle.std.specs.Prelude.{Bool}
 use Rattle.crush_history.specs.declared.call.Call.{Call}
 use Rattle.crush_history.specs.declared.entry.Entry.{Entry}

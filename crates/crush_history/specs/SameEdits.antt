@@ -1,4 +1,4 @@
--- What `==` answers for the edits of two batches.
+-- What `==` returns for the edits of two batches.
 use Rattle.std.specs.Prelude.{List, Bool}
 use Rattle.std.specs.Cmp.{IsEquivalence}
 use Rattle.std.specs.Cmp.Lexicographic.{pointwise, lists_equiv}
@@ -9,6 +9,6 @@ use Rattle.crush_edits.specs.SameEdit.{same_edit, same_edit_equiv}
 abbrev pub same_edits : List Edit → List Edit → Bool
 same_edits = pointwise same_edit
 
--- the test same_edits is an equivalence relation
+-- the relation `same_edits` is an equivalence relation
 pub same_edits_equiv : IsEquivalence same_edits
 same_edits_equiv = lists_equiv same_edit_equiv

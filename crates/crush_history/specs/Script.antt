@@ -1,19 +1,19 @@
--- Operators' scripts, as contracts see them.
+-- The values that contracts use for the scripts of operators.
 use Rattle.std.specs.Prelude.{ℕ, List, length, map}
 use Rattle.std.specs.List.{sum_by}
 use Rattle.crush_history.specs.declared.call.Call.{Call}
 use Rattle.crush_history.specs.declared.script.Script.{Script}
 
--- the script of one operator: its name, and its calls in order
+-- the script of one operator: the operator's name, and the operator's calls in order
 pub record ScriptData : Type 0 where
   pub name : List ℕ
   pub calls : List Call
 
--- a script of the code as contracts see it
+-- the value that contracts use for a script of the code
 abbrev pub script_data : Script → ScriptData
 script_data s = record { name = s.name; calls = s.calls.items }
 
--- several scripts of the code as contracts see them
+-- the values that contracts use for several scripts of the code, in the same order
 abbrev pub scripts_data : List Script → List ScriptData
 scripts_data scripts = map script_data scripts
 

@@ -51,8 +51,8 @@ pub enum Call {
     /// A batch. Each edit is applied to the result of the edits before it in the batch. Either all
     /// edits of the batch are applied, or none is.
     Batch(Edits),
-    /// A guarded batch. It is applied only if exactly `seen` calls have changed the map before this
-    /// call. Otherwise the reply is [`Reply::Stale`].
+    /// A guarded batch. If exactly `seen` earlier calls of the history have changed the map, the
+    /// guarded batch is applied like a `Batch`. Otherwise the reply is [`Reply::Stale`].
     Guarded { seen: u32, edits: Edits },
 }
 
@@ -69,8 +69,8 @@ pub enum Reply {
     /// the index of the first refused edit, from 0. The second value says why this edit was
     /// refused.
     BatchRefused(u32, Refusal),
-    /// The guarded batch wasn't applied, because its `seen` isn't the number of changes in the
-    /// history. The value is the number of changes in the history.
+    /// The guarded batch wasn't applied, because its `seen` isn't the number of earlier calls of
+    /// the history that have changed the map. The value is this number of earlier calls.
     Stale(u32),
 }
 
@@ -137,8 +137,8 @@ impl Call {
     }
 }
 
-/// Returns copies of the edits, in order, in a vector that is allocated with `alloc`, or an error if
-/// memory runs out.
+/// Returns copies of the edits, in the same order, in a vector that is allocated with `alloc`.
+/// Returns an error if memory runs out.
 pub fn copy_edits(alloc: Global, edits: &[Edit]) -> Result<Vec<Edit>, AllocError>
     ensures { IfOk result (λ copies. copies.items ≡ edits.now) }
 {

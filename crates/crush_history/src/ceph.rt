@@ -11,8 +11,8 @@ use itoa::Buffer;
 use std::alloc::{AllocError, Global};
 use std::io::Write;
 
-/// Returns ` --yes-i-really-mean-it` if the edit swaps two buckets: Ceph requires this option if
-/// they have different parents. Returns an empty text for any other edit.
+/// Returns ` --yes-i-really-mean-it` if the edit swaps two buckets. Ceph requires this option if
+/// the two buckets have different parents. Returns an empty text for any other edit.
 fn assent(edit: &Edit) -> &'static [u8]
     ensures { result.now ≡ assent edit.now }
 {
@@ -65,9 +65,9 @@ fn ceph_head(edit: &Edit) -> &'static [u8]
     }
 }
 
-/// Appends the words of the edit's command. They are the same as in a script, except that weights
-/// are in exact form, with six decimals. Ceph rounds a weight down to whole units (1/65536), and
-/// reads the same weight from this form.
+/// Appends the words of the edit's command. The words are the same as in a script, except that
+/// weights are in exact form: they have six decimals, and are rounded up. Ceph rounds a weight down
+/// to whole units of 1/65536. So Ceph reads exactly the edit's weight from this form.
 fn push_words(edit: &Edit, text: &mut Vec<u8>) -> Result<(), AllocError>
     ensures { OnOk result (text.new.items ≡ text.old.items ++ ceph_words edit.now) }
 {
@@ -147,11 +147,14 @@ fn push_end(edit: &Edit, text: &mut Vec<u8>) -> Result<(), AllocError>
     text.extend_from_slice(b"\n")
 }
 
-/// Appends an edit as a line for a shell: `ceph osd crush`, the edit's command, and, if the edit
-/// swaps two buckets, `--yes-i-really-mean-it`. Weights are in exact form, with six decimals.
+/// Appends an edit as a line for a shell: `ceph osd crush`, the edit's command, and a line feed. If
+/// the edit swaps two buckets, `--yes-i-really-mean-it` comes after the command. Weights are in
+/// exact form: they have six decimals, and Ceph reads exactly the edit's weight from them. Returns
+/// an error if memory runs out.
 ///
 /// If a word of the command begins with `-`, the line has `--` before the command, so that Ceph
-/// doesn't read this word as an option. Ceph refuses a word that begins with two dashes.
+/// doesn't read this word as an option. However, Ceph refuses a name that begins with two dashes,
+/// even after `--`.
 pub fn push_ceph_line(edit: &Edit, text: &mut Vec<u8>) -> Result<(), AllocError>
     ensures { OnOk result (text.new.items ≡ text.old.items ++ ceph_line edit.now) }
 {
@@ -167,7 +170,8 @@ fn push_all(parts: &[&[u8]], text: &mut Vec<u8>) -> Result<(), AllocError>
     put_all(text, parts).map_err(|_| AllocError)
 }
 
-/// Appends the line that says how many commands there are: `# N commands`.
+/// Appends the line `# N commands` with a line feed. N is `count`, the number of commands. Returns
+/// an error if memory runs out.
 #[tactic(auto, unfolding(crate::specs::Ceph::ceph_heading))]
 pub fn push_ceph_heading(count: u64, text: &mut Vec<u8>) -> Result<(), AllocError>
     ensures { OnOk result (text.new.items ≡ text.old.items ++ ceph_heading count) }

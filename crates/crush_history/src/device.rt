@@ -18,7 +18,8 @@ fn begins_plain(digits: &[u8]) -> bool
 /// Returns the id N of a device whose name is `osd.N`, or `None` if the name doesn't have this
 /// form.
 ///
-/// N has no superfluous leading zeros, and is at most 2147483647.
+/// N is a decimal number from 0 to 2147483647, without superfluous leading zeros. For example,
+/// `osd.0` and `osd.10` have this form, and `osd.010` doesn't.
 pub fn device_named(name: &[u8]) -> Option<DeviceId>
     ensures { result ≡ device_named name.now }
 {

@@ -9,7 +9,8 @@ use std::fmt;
 
 /// A line of a history: `{}` prints it as `# NUMBER OPERATOR CALL = REPLY`, without a line feed.
 ///
-/// The line is a comment in a map's text; `docs/user/FORMATS.md` has its form.
+/// The line begins with `#`, so it is a comment in the text of a map. `docs/user/FORMATS.md`
+/// describes the form of the line.
 #[derive(Clone, Copy)]
 pub struct Line<'a> {
     /// The number of the call in the history, from 1.
@@ -29,11 +30,13 @@ struct Head<'a> {
     operator: &'a str,
 }
 
-/// A refusal as its line has it: its name and its Linux error number.
+/// A refusal. As in a line of a history, `{}` prints the refusal's name, a space, and its Linux
+/// error number (`errno`). An example is `NoSuchItem 2`.
 #[derive(Clone, Copy)]
 struct RefusalWords(Refusal);
 
-/// Prints the edits of the batch, each followed by ` ; `, and `commit`.
+/// Prints each edit of the batch followed by ` ; `, and then `commit`. The start of the batch,
+/// which is `begin ; ` or `begin at N ; `, isn't printed.
 impl fmt::Display for Edits {
     ghost output = { λ edits. Some (rest_text edits) };
 
@@ -46,8 +49,8 @@ impl fmt::Display for Edits {
     }
 }
 
-/// Prints the call on one line, as a script has it, except that a batch has ` ; ` where a script has
-/// line feeds.
+/// Prints the call on one line, in the form of a script's commands. In a batch, ` ; ` replaces each
+/// line feed of the script. Weights have five decimals.
 impl fmt::Display for Call {
     ghost output = { λ call. Some (call_text call) };
 
@@ -80,7 +83,8 @@ fn digit_of(is_true: bool) -> &'static str
     if is_true { "1" } else { "0" }
 }
 
-/// Prints the reply as a line of a history has it, such as `done changed 1 made 0`.
+/// Prints the reply in the form that it has in a line of a history, after ` = `. For example,
+/// prints `done changed 1 made 0`.
 impl fmt::Display for Reply {
     ghost output = { λ reply. Some (reply_text reply) };
 

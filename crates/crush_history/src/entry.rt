@@ -9,7 +9,8 @@ use std::alloc::{AllocError, Global};
 /// One entry of a history: a call, its reply, and the operator that made the call.
 #[derive(Debug, PartialEq, Eq, Drop)]
 pub struct Entry {
-    /// The operator's index: the position of its script among the job's scripts, from 0.
+    /// The operator's index, from 0. In a job, it is the position of the operator's script among
+    /// the job's scripts.
     pub operator: usize,
     /// The call that the operator made.
     pub call: Call,
@@ -17,8 +18,8 @@ pub struct Entry {
     pub reply: Reply,
 }
 
-/// A call and its reply, as the operator that made the call stores them: an [`Entry`] without the
-/// operator's index.
+/// A call and its reply: an [`Entry`] without the operator's index. An operator stores its own
+/// calls and their replies in this form.
 #[derive(Debug, PartialEq, Eq, Drop)]
 pub struct Slip {
     /// The call that the operator made.
@@ -53,8 +54,8 @@ impl Slip {
     }
 }
 
-/// Whether the reply says that the call changed the map: its edit changed the map, or at least one
-/// edit of its batch did.
+/// Whether the reply says that the call changed the map. A batch counts as a change if at least one
+/// edit of the batch changed the map.
 pub fn is_change(reply: Reply) -> bool
     ensures { result ≡ is_change reply }
 {
@@ -67,7 +68,9 @@ pub fn is_change(reply: Reply) -> bool
     }
 }
 
-/// Returns how many of the entries changed the map. Visits each entry.
+/// Returns how many of the entries have a reply which says that the call changed the map
+/// ([`is_change`]). Visits each entry. The caller guarantees that there are fewer than 2^32
+/// entries.
 pub fn count_changes(entries: &[Entry]) -> u32
     requires { length entries.now < 2 ^ 32 }
     ensures { result ≡ changes entries.now }

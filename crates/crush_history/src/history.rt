@@ -1,4 +1,4 @@
-//! Printing a history, one line for each entry.
+//! Prints a history, with one line for each entry.
 
 ghost use Rattle.std.specs.Prelude.{◌≡◌, ◌<◌, ◌^◌, ◌++◌, [], length, slice_index_or, string_bytes, IfOk, OnOk};
 ghost use Rattle.crush_history.specs.Entries.{AreOf};
@@ -18,8 +18,8 @@ fn push_line(line: &Line<'_>, text: &mut String) -> Result<(), AllocError>
     write!(text, "{line}\n")
 }
 
-/// Returns the name of an operator, given by its index in `scripts`, which the caller guarantees to
-/// be in range.
+/// Returns the name of the operator whose script has the index `operator` in `scripts`. The caller
+/// guarantees that this index is in range.
 pub fn operator_name(scripts: &[Script], operator: usize) -> &str
     requires { operator < length scripts.now }
     ensures { result.now ≡ slice_index_or (names_of (scripts_data scripts.now)) operator [] }
@@ -28,13 +28,15 @@ pub fn operator_name(scripts: &[Script], operator: usize) -> &str
     script.name.as_str()
 }
 
-/// Returns the text of a history, with one line for each entry, as [`Line`] prints it.
+/// Returns the text of a history, with one line for each entry. Each line has the form that
+/// [`Line`] prints, and ends with a line feed.
 ///
-/// Lines are numbered from 1. The field `operator` of an entry is an index in `scripts`: the script
-/// with this index has the operator's name. The caller guarantees that each index is in range, and
-/// that there are fewer than 2^32 entries. The caller gets the whole text before it writes any
-/// part, so memory can only run out before anything is written. Returns an error if memory runs
-/// out.
+/// The lines are numbered from 1. The field `operator` of an entry is an index in `scripts`: the
+/// script with this index has the operator's name. The caller guarantees that each index is in
+/// range, and that there are fewer than 2^32 entries.
+///
+/// Returns an error if memory runs out. The function returns the whole text at once, so if memory
+/// runs out, the caller hasn't yet written any part of the text.
 pub fn history_text(
     alloc: Global,
     scripts: &[Script],

@@ -1,9 +1,10 @@
 //! Calls on a map, the replies to them, and the history of calls and replies.
 //!
-//! A [`Call`] is one edit or one batch that an operator sends, a [`Reply`] is its result, and an
-//! [`Entry`] of a history has both. [`make_call`] makes one call on a map, and [`history_text`]
-//! prints a history. `crush_script` parses calls, and `crush_editor` makes the calls of many
-//! operators at the same time.
+//! A [`Call`] is one edit or one batch that an operator sends, and a [`Reply`] is the result of a
+//! call. An [`Entry`] of a history has a call, the reply to the call, and the operator's index.
+//! [`make_call`] makes one call on a map, and [`history_text`] prints a history. `crush_script`
+//! parses calls. With `crush_editor`, several operators send calls for the same map at the same
+//! time, and the editor makes these calls one after the other.
 #![tactic(auto)]
 
 mod call;

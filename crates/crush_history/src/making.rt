@@ -1,4 +1,4 @@
-//! Making one call on a map.
+//! Makes one call on a map: applies the call's edit or batch.
 
 ghost use Rattle.std.specs.Prelude.{◌≡◌, ◌≤◌, ℕ, length, IfOk, OnErr};
 ghost use Rattle.crush_units.specs.declared.limits.TheConstants.{MOST_EDITS};
@@ -9,8 +9,8 @@ use crush_edits::{BatchFault, Edit, EditFault};
 use crush_map::CrushMap;
 use std::alloc::{AllocError, Allocator};
 
-/// Applies one edit. If the edit is refused, the reply says so. If memory runs out, returns an
-/// error.
+/// Applies one edit. If the edit is refused, the reply says why. If memory runs out, returns an
+/// error, and the map is unchanged.
 fn make_edit<A: Allocator + Clone>(map: &mut CrushMap<A>, edit: &Edit) -> Result<Reply, AllocError>
     ensures made { IfOk result (λ reply. (n : ℕ)
         → Makes n map.old map.new (Call.One edit.now) reply) }
@@ -23,8 +23,8 @@ fn make_edit<A: Allocator + Clone>(map: &mut CrushMap<A>, edit: &Edit) -> Result
     }
 }
 
-/// Applies a batch of edits. If an edit is refused, the reply says so. If memory runs out, returns
-/// an error.
+/// Applies a batch of edits. If an edit is refused, the reply says which edit, and why. If memory
+/// runs out, returns an error, and the map is unchanged.
 fn make_batch<A: Allocator + Clone>(
     map: &mut CrushMap<A>,
     edits: &[Edit],
@@ -41,8 +41,8 @@ fn make_batch<A: Allocator + Clone>(
     }
 }
 
-/// Applies a batch if `count`, which is the number of changes so far, equals `seen`. Otherwise the
-/// reply is [`Reply::Stale`].
+/// Applies a batch if `count` equals `seen`. `count` is the number of earlier calls that have
+/// changed the map. If the two numbers differ, the reply is [`Reply::Stale`].
 fn make_guarded<A: Allocator + Clone>(
     map: &mut CrushMap<A>,
     count: u32,
@@ -61,10 +61,10 @@ fn make_guarded<A: Allocator + Clone>(
 
 /// Makes one call on a map, and returns its reply.
 ///
-/// `count` is the number of changes in the history so far. A guarded batch is applied only if its
-/// `seen` is this number. If the reply is a refusal or [`Reply::Stale`], the map represents the
-/// same tables of the model as before, so its contents haven't changed. Returns an error only if
-/// memory runs out; then the map is unchanged.
+/// `count` is the number of calls in the history so far that have changed the map. A guarded batch
+/// is applied only if its `seen` equals `count`. If the reply is a refusal or [`Reply::Stale`], the
+/// map represents the same tables of the model as before, so the contents of the map haven't
+/// changed. Returns an error only if memory runs out. Then the map is unchanged.
 pub fn make_call<A: Allocator + Clone>(
     map: &mut CrushMap<A>,
     count: u32,

@@ -1,4 +1,5 @@
-//! Appends the text of an edit or the line of an entry to a list of bytes, and writes such a line.
+//! Appends the text of an edit or the line of an entry to a vector of bytes, and writes the line of
+//! an entry to a writer.
 
 ghost use Rattle.std.specs.Prelude.{◌≡◌, ◌++◌, Err, OnOk};
 ghost use Rattle.std.specs.Io.KnownBytes.{Keeps};
@@ -14,7 +15,8 @@ use crush_units::{WriteFault, put};
 use std::alloc::{AllocError, Global};
 use std::io::Write;
 
-/// Appends the edit as its command in a script. Returns an error if memory runs out.
+/// Appends the edit's command in the form that scripts use, without a line feed. Weights have five
+/// decimals. Returns an error if memory runs out.
 pub fn push_edit(edit: &Edit, text: &mut Vec<u8>) -> Result<(), AllocError>
     ensures { OnOk result (text.new.items ≡ text.old.items ++ edit_text edit.now) }
 {
@@ -50,9 +52,11 @@ pub fn push_entry(
     push_line(&line, text)
 }
 
-/// Writes a line of a history and a line feed to `out`, as [`Line`] prints it. After `OutOfMemory`
-/// nothing has been written. After any other fault, a proper prefix of the line has been written: a
-/// beginning, but not all of it.
+/// Writes a line of a history, as [`Line`] prints it, and a line feed to `out`. `number` is the
+/// number of the call in its history, from 1, and `operator` is the name of the operator.
+///
+/// If the fault is `OutOfMemory`, nothing has been written. If the fault is `Write`, a proper
+/// prefix of the line and its line feed has been written: perhaps nothing, but not all of it.
 pub fn write_entry<W: Write>(
     alloc: Global,
     number: u32,

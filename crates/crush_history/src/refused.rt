@@ -26,7 +26,8 @@ pub fn is_refused(reply: Reply) -> bool
     }
 }
 
-/// Returns how many of the entries were refused or stale. Visits each entry.
+/// Returns how many of the entries were refused or stale ([`is_refused`]). Visits each entry. The
+/// caller guarantees that there are fewer than 2^32 entries.
 pub fn count_refused(entries: &[Entry]) -> u32
     requires { length entries.now < 2 ^ 32 }
     ensures { result ≡ refusals entries.now }
@@ -40,7 +41,8 @@ pub fn count_refused(entries: &[Entry]) -> u32
     count
 }
 
-/// Appends the entry's line to the text if the entry was refused.
+/// Appends the entry's line to the text if the entry was refused or stale. Otherwise appends
+/// nothing. `number` is the entry's number in its history, from 1.
 fn push_refused(
     number: u32,
     operator: &str,
@@ -56,11 +58,13 @@ fn push_refused(
     push_entry(number, operator, entry, text)
 }
 
-/// Returns the lines of the entries that were refused or stale, numbered as in the whole history.
+/// Returns the lines of the entries that were refused or stale. Each line has the entry's number in
+/// the whole history, from 1.
 ///
-/// The lines have the form that [`Line`] prints. The field `operator` of an entry is an
-/// index in `scripts`. The caller guarantees that each index is in range, and that there are fewer
-/// than 2^32 entries. Returns an error if memory runs out.
+/// The lines have the form that [`push_entry`] appends. The field `operator` of an entry is an
+/// index in `scripts`: the script with this index has the operator's name. The caller guarantees
+/// that each index is in range, and that there are fewer than 2^32 entries. Returns an error if
+/// memory runs out.
 pub fn refused_text(
     alloc: Global,
     scripts: &[Script],

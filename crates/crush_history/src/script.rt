@@ -7,7 +7,8 @@ use crate::call::Call;
 use crush_units::Name;
 use std::alloc::{AllocError, Global};
 
-/// The script of one operator: its name, and the calls that it makes, in order.
+/// The script of one operator: the operator's name, and the calls that the operator makes, in
+/// order.
 #[derive(Debug, PartialEq, Eq, Drop)]
 pub struct Script {
     /// The operator's name, which the lines of a history show.
