@@ -37,7 +37,7 @@ impl<'r, 'a, A: Allocator> Found<'r, 'a, A> {
 /// item.
 #[derive(Drop)]
 pub(crate) struct Case<'r, 'a, A: Allocator> {
-    /// The name with which the item's line begins.
+    /// The name of the item, as its line in the text of the lost changes begins.
     pub name: &'a str,
     /// What the map before the run says about the item.
     pub before: Option<Seen<'a>>,

@@ -105,10 +105,10 @@ impl<N: Desk> LockFreeReader<N> {
         }
     }
 
-    /// Lets this [`Seat`] learn from a [`Note`] of another seat. This seat has then also seen the
-    /// history that the other seat had seen when the note was made. So the history of this seat's
-    /// next reading begins with both of these histories: the note's history, and the history that
-    /// this seat had seen before.
+    /// Hands this [`Seat`] a [`Note`] of another seat. This seat has then also seen the history
+    /// that the other seat had seen when the note was made. So the history of this seat's next
+    /// reading begins with both of these histories: the note's history, and the history that this
+    /// seat had seen before.
     pub fn learn(&self, seat: &mut Seat<N>, note: Note<N>)
         ensures seat { Sees N.opening seat.old seat.new }
         ensures note { IsPrefix note seat.new.seen }

@@ -131,7 +131,8 @@ impl<O, E, P: Law<O, E>> Gauge<O, E, P> {
     /// The caller's proof chooses the entry. The history with this entry appended must be legal. By
     /// the gauge's law `P`, this history must have exactly `changes` changes and the weight
     /// `weight`. `changes` is at most [`MOST_CHANGES`](crate::limits::MOST_CHANGES), and `weight`
-    /// is below 2^43. After the call, the [`BookSeat`] `book` has seen the entry.
+    /// is below 2^43. After the call, the history that the [`BookSeat`] `book` has seen ends with
+    /// this entry.
     pub fn publish(&self, book: &mut BookSeat<O, E>, changes: u64, weight: u64)
         ghost entry: { E }
         requires gauge { book.old.table ≡ self.now.table.shared.table_id }

@@ -4,8 +4,9 @@ ghost use Rattle.crush_laws.specs.ReadingBack.{CommentsBehindAreNoMatter, InOrde
 ghost use Rattle.crush_laws.specs.Written.{HistoryLinesAreComments, WhatIsWrittenIsReadBack, HistoryTextsAreReadBack};
 ghost use Rattle.crush_laws.specs.Written.{JobsStayLawful, JobTextsAreReadBack, JobMapsAreReadBack, JobTextsRunOn, PrintedMapsRunOn};
 
-/// The law that the printed text of a lawful map is read back as that map. The weights in the text
-/// may be rounded or exact.
+/// A map is *lawful* if its table is lawful: for example, no id and no name occurs twice. This law
+/// says that the printed text of a lawful map is read back as that map. The weights in the text may
+/// be rounded or exact.
 ///
 /// - `read`, `order` and `same`: the map that is read has the same rows as the printed map, perhaps
 /// in another order, and each bucket has the same items in the same order. Tunables and rules are

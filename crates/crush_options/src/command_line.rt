@@ -364,8 +364,9 @@ pub(crate) fn refused(alloc: Global, text: &str) -> OptionsFault
     }
 }
 
-/// The flags and options of a plain command line that say what is printed. A field of a flag says
-/// whether the flag is given. A field of an option has the option's value, if the option is given.
+/// The flags and options of a plain command line that say what is printed. Each `bool` field stands
+/// for one flag, and is true if the flag is given. Each other field stands for one option, and has
+/// the option's value if the option is given.
 #[derive(Clone, Copy)]
 struct OutputFlags<'a> {
     tree: bool,

@@ -135,9 +135,9 @@ fn first_at(uses: &[FirstUse<'_>], class: &str) -> Option<usize> {
     }
 }
 
-/// Returns the position of the first device of the wanted map that has this device's new class.
-/// Returns `None` if the class of this device doesn't change, or if the device has no class in the
-/// wanted map.
+/// A device may get another class in the wanted map. Returns the position, in the items of the
+/// wanted map, of the first device that has this class there. Returns `None` if the class of the
+/// device doesn't change, or if the device has no class in the wanted map.
 fn first_use_of<B: Allocator>(
     wanted: &ItemTable<'_, B>,
     uses: &[FirstUse<'_>],

@@ -101,8 +101,8 @@ fn count_below<A: Allocator, B: Allocator>(
     }
 }
 
-/// Returns how many of the given items are in this bucket in the wanted map, which has them under
-/// the same ids.
+/// Returns how many of `items` are directly in `bucket` in the wanted map. An item of the wanted
+/// map is the same as one of `items` if both have the same id.
 fn count_in<A: Allocator, B: Allocator>(
     items: &[Node<A>],
     wanted: &ItemTable<'_, B>,

@@ -94,7 +94,7 @@ fn push_no_word(word: &[u8], text: &mut Vec<u8>) -> Result<(), AllocError>
     push_meant(near_command(word), text)
 }
 
-/// Appends the reason why a line is rejected if its first word isn't a command. If the line begins
+/// The first word of `line` isn't a command. Appends the reason for this fault. If the line begins
 /// with `ceph osd crush`, the reason says to leave out these words.
 pub(crate) fn push_no_command(line: &[u8], text: &mut Vec<u8>) -> Result<(), AllocError>
     ensures { OnOk result (text.new.items ≡ text.old.items ++ no_command line.now) }

@@ -157,8 +157,9 @@ fn push_edits_hints(
 }
 
 /// If the call of the entry created more buckets than it has `add-bucket` commands, appends the
-/// history line of the entry. If `looks` is set, the hints for the call's edits follow. If the call
-/// changed the map, this function also applies the call's edits to `map`.
+/// history line of the entry. If `looks` is set, the hints for the call's edits follow. `map` must
+/// be the map before the call. If the call changed its map, this function applies the call's edits
+/// to `map`, so that `map` is then the map after the call.
 fn push_created(
     alloc: Global,
     looks: bool,

@@ -13,9 +13,9 @@ use crush_map::{CrushMap, Setting};
 use crush_print::{WalkStep, walk};
 use std::alloc::{AllocError, Global};
 
-/// For how many refused entries, and for how many created buckets, the map is searched for similar
-/// names. There is a limit because each search goes through all names of the map, and up to 65,536
-/// entries may be refused.
+/// The map is searched for similar names for at most this many refused entries, and for at most
+/// this many created buckets. There is a limit because each search goes through all names of the
+/// map, and up to 65,536 entries may be refused.
 pub(crate) const MOST_LOOKS: usize = 256;
 
 fn same_at(a: &[u8], b: &[u8], place: usize) -> bool

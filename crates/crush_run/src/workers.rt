@@ -17,7 +17,8 @@ use std::thread;
 use std::thread::{PromisedHandle, Scope, Threads};
 
 impl<'s, N: Desk + Send + Sync, G: Gate + Sync, R: Threads + Wait + Sync> Crew<'s, N, G, R> {
-    /// Starts the worker of one seat. Returns `None` if no thread can be created.
+    /// Starts the thread of one operator, which makes its calls with its [`Seat`]. Returns `None`
+    /// if no thread can be created.
     fn start<E>(
         &self,
         scope: &Scope<'s, E>,

@@ -84,11 +84,12 @@ pub fn write_changes<A: Allocator, B: Allocator, W: Write>(
 /// Writes the tree of [`write_changes`], or a part of this tree, but only the weights of the
 /// devices of one class count.
 ///
-/// Each weight of a row is the sum of the weights of the devices of the class that are the row's
-/// item or below it. The weight is 0 if there is no such device, and `-` if the item wasn't or
-/// isn't in the row's place. A row of `write_changes` is left out if in neither map the row's item
-/// is a device of the class or has such a device below it. But a row stays if it is above a row
-/// that stays. The lines after the rows are those of `write_changes`, and count all devices.
+/// Each weight in a row counts only devices of the class: it is the sum of the weights of those
+/// that are the row's item or are below this item. The weight is 0 if there is no such device, and
+/// `-` if the item wasn't or isn't in the row's place. A row of `write_changes` is left out if in
+/// neither map the row's item is a device of the class or has such a device below it. But a row
+/// stays if it is above a row that stays. The lines after the rows are those of `write_changes`,
+/// and count all devices.
 ///
 /// If a write fails, the writer has received a beginning of the text, but not the whole text. If
 /// memory runs out, nothing is written.

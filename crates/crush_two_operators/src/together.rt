@@ -21,9 +21,10 @@ pub(crate) trait Work {
     // work.
     ghost done: { List Self → SeatData → SeatData → Type 0 };
 
-    /// Works through the list `given` with an operator's seat, and reads the gauge after each call.
-    /// A reading acquires no lock, so it doesn't wait for a call of the other operator. Returns the
-    /// seat and the last reading. Returns `None` if the work couldn't be finished.
+    /// Works through the list `given` for one operator, with the operator's seat. After each call,
+    /// reads the number of changes and the total weight of the map. A reading acquires no lock, so
+    /// it doesn't wait for a call of the other operator. Returns the seat and the last reading.
+    /// Returns `None` if the work couldn't be finished.
     fn work<N: Desk, R: Wait>(
         rt: &R,
         alloc: Global,

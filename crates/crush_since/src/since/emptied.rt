@@ -210,8 +210,8 @@ fn is_emptied<A: Allocator, B: Allocator>(
 }
 
 /// Returns the weight in the old map of the bucket that matches this bucket of the new map. If
-/// `class` is a class, returns the weight of the bucket's devices of this class. Returns 0 if the
-/// old map has no matching bucket.
+/// `class` is `Some`, only the bucket's devices of this class count. Returns 0 if the old map has
+/// no matching bucket.
 fn weight_before<A: Allocator, B: Allocator>(
     identity: Identity,
     old: &CrushMap<A>,
