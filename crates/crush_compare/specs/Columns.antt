@@ -9,7 +9,7 @@ use Rattle.crush_compare.specs.declared.difference.Columns.{Columns}
 use Rattle.crush_compare.specs.declared.difference.Report.{Report}
 use Rattle.crush_compare.specs.declared.difference.Report.TheVariants.{Changes, Remaining}
 
--- whether the weights that two maps give to one item count as equal in this kind of report
+-- whether the weights a and b, which two maps give to the item i, count as equal; the `Report` says which differences count
 abbrev pub equal_weights : Report → ItemId → ℕ → ℕ → Bool
 equal_weights Changes i a b = a == b
 equal_weights Remaining i a b = same_weight i a b
@@ -29,6 +29,6 @@ columns_by_ids report a b same = record {
 abbrev pub is_some_other : Columns → Bool
 is_some_other c = (((((c.name || c.kind) || c.place) || c.weight) || c.class) || c.alg) || c.class_ids
 
--- the law: at least one column differs if and only if the two tables don't say the same about the item
+-- the law: if each difference counts (`Changes`), at least one column differs if and only if the two tables don't say the same about the item
 abbrev pub SomeColumnOfOtherItems : Type 0
 SomeColumnOfOtherItems = (a b : ItemData) (same : Bool) → is_some_other (columns_by_ids Changes a b same) ≡ not (same_item a b same)

@@ -1,4 +1,4 @@
--- What a `Comparison` of two maps has, stated with the tables of the maps: a table is the list of a map's items.
+-- Which items and which pairs a `Comparison` of two maps has. The definitions use the tables of the maps. A table is a list with one row for each item of a map.
 use Rattle.std.specs.Prelude.{◌≡◌, ℕ, List, Option, None, map}
 use Rattle.crush_model.specs.Table.{Row}
 use Rattle.crush_items.specs.Items.{HasEntries, item_entry, item_step}

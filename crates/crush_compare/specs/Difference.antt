@@ -15,7 +15,7 @@ use Rattle.crush_compare.specs.declared.difference.Report.{Report}
 abbrev pub if_other : Columns → Option Difference
 if_other columns = if is_some_other columns then Some (Changed columns) else None
 
--- DIFFERENCE between what two tables say about an item. `columns` is the function that compares the two, and none means that a table doesn't have the item
+-- DIFFERENCE between what two tables say about an item. `columns` is the function that compares the columns. An argument is none if its table doesn't have the item
 abbrev pub difference_by : (ItemData → ItemData → Columns) → Option ItemData → Option ItemData → Option Difference
 difference_by columns None None = None
 difference_by columns None (Some b) = Some Made

@@ -1,4 +1,4 @@
--- Tests of whether two values are equal.
+-- Tests whether two optional values are equal: both are missing, or both are present and equal.
 use Rattle.std.specs.Prelude.{ℕ, ◌==◌, Bool, List, Option, bytes_eq}
 use Rattle.std.specs.Option.{option_eq}
 

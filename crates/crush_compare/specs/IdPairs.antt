@@ -44,11 +44,11 @@ pub record AreBothById (t u : List Row) (es fs : List EntryData) (old new : List
   pub before : AreById t es old
   pub after : AreById u fs new
 
--- THE KEYS: if two tables are matched by ids, the keys of the pairs are the keys of all ids of the tables, in the order of the ids
+-- THE KEYS: if two lawful tables are matched by ids, the keys of the pairs are the keys of all ids that at least one table has, in the order of the ids
 abbrev pub KeysOfAllIds : Type 0
 KeysOfAllIds = (t u : List Row) (es fs : List EntryData) (old new : List Place) (ps : List KeyPair) → AreBothById t u es fs old new → AreKeyPairsOf old new ps → map pair_key ps ≡ map id_key (all_ids t u)
 
--- EACH ID ONCE: if two tables are matched by ids, there is one pair for each id that at least one table has, in the order of the ids. The pair has what each table says about the id
+-- EACH ID ONCE: if two lawful tables are matched by ids, there is one pair for each id that at least one table has, in the order of the ids. The pair has what each table says about the id
 abbrev pub EachIdOnce : Type 0
 EachIdOnce = (t u : List Row) (es fs : List EntryData) (old new : List Place) (ps : List Pair) → AreBothById t u es fs old new → (Rise (keys old) → Rise (keys new) → ArePairsOf old new ps)
     → map (entries_at es fs) ps ≡ map (id_entries t u) (all_ids t u)
@@ -67,11 +67,11 @@ EachItemOnceByIds = (t u : List Row) (es fs : List EntryData) (old new : List Pl
 abbrev pub class_ids_of : Option EntryData → List ShadowData
 class_ids_of o = option_map_or (λ e. e.class_ids) o []
 
--- the difference that a pair has, given how the items are matched, the settings s and p of the two maps, and what the maps say about the pair's item
+-- the difference between the items of a pair. The arguments are how the items are matched, which differences count, the settings s and p of the two maps, and what the maps say about the pair's item
 abbrev pub pair_difference : Identity → Report → SettingData → SettingData → EntryPair → Option Difference
 pair_difference identity report s p e =
     difference_by (columns_of identity report s p (pointwise same_class_id (class_ids_of e.before) (class_ids_of e.after))) (option_map (λ x. x.item) e.before) (option_map (λ x. x.item) e.after)
 
--- the law: the difference that `pair_difference` finds for the pair of an id is the difference between what the two tables say about this id
+-- the law: if items are matched by ids, the difference that `pair_difference` finds for the pair of an id is the difference between what the two tables say about this id
 abbrev pub DifferencesOfIds : Type 0
 DifferencesOfIds = (report : Report) (s p : SettingData) (t u : List Row) (i : ItemId) → pair_difference Ids report s p (id_entries t u i) ≡ id_difference report t u i

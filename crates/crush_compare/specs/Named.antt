@@ -21,7 +21,7 @@ are_one by (Device d) (Bucket b) = false
 are_one by (Bucket b) (Device d) = false
 are_one by (Bucket b) (Bucket c) = true
 
--- what the table t says about the id j, if j is the same item as the id i of another table
+-- what the table t says about the id j, if j is the same item as the item i of another table; otherwise none
 abbrev pub if_one : Devices → List Row → ItemId → ItemId → Option ItemData
 if_one by t i j = if are_one by i j then item_of t j else None
 
@@ -34,7 +34,7 @@ abbrev pub is_at : List Row → ItemId → ItemId → Bool
 is_at t (Device d) i = same_id (Device d) i
 is_at t (Bucket b) i = same_id (Bucket b) i || is_below t b i
 
--- PART of a table: whether the item i is the item with the given name or below it. Without a name, the part is the whole table
+-- PART of a table: whether the item i is the item with the given name or below it. If no item has the name, no item is in the part. If no name is given, the part is the whole table
 abbrev pub is_in : Option (List ℕ) → List Row → ItemId → Bool
 is_in None t i = true
 is_in (Some n) t i = option_map_or (λ j. is_at t j i) (id_named t n) false

@@ -50,7 +50,7 @@ position place = option_map (λ (x : Place). x.at) place
 abbrev pub positions : KeyPair → Pair
 positions p = record { before = position p.before; after = position p.after }
 
--- PAIRS: the list ps has the positions of pairs with keys, in the same order
+-- PAIRS: there is a list of pairs with keys (`keyed`) that meets `AreKeyPairsOf`, and the list ps has the positions of these pairs, in the same order
 pub record ArePairsOf (old new : List Place) (ps : List Pair) : Type 0 where
   pub keyed : List KeyPair
   pub of_keys : AreKeyPairsOf old new keyed

@@ -1,4 +1,5 @@
-//! Matches the items of two maps by their ids, but only one item and the items below it.
+//! Matches items of two maps by their ids. Finds only the pairs of one item and of the items below
+//! this item.
 
 ghost use Rattle.std.specs.Prelude.{◌≡◌, ◌∷◌, ◌++◌, ◌<◌, ◌^◌, [], List, IfOk, OnOk, filter, length, map as each};
 ghost use Rattle.crush_model.specs.Stands.{Stands};
@@ -16,8 +17,9 @@ use crush_units::ItemId;
 use std::alloc::{AllocError, Allocator, Global};
 
 /// Matches the items of two maps by their ids. Returns the pair of the item with the id `under`,
-/// and the pair of each item that is below this item in at least one of the maps. The pairs are in
-/// the order of the ids: buckets from -1 downward, and then devices upward.
+/// and the pair of each item that is below this item in at least one of the maps. If neither map
+/// has the item `under`, returns no pairs. The pairs are in the order of the ids: buckets from -1
+/// downward, and then devices upward.
 pub(crate) fn pairs_below<A: Allocator, B: Allocator>(
     alloc: Global,
     old: &Items<'_, A>,
@@ -45,8 +47,9 @@ pub(crate) fn pairs_below<A: Allocator, B: Allocator>(
     pairs_within(alloc, &old_run, &new_run, pairs.as_slice())
 }
 
-/// Returns the range of positions that has the item `under` and all items below it. If the map
-/// doesn't have the item `under`, the range is empty. `by_id` finds an item's position by its id.
+/// Returns the positions of the item `under` and of all items below it, as a range. If the map
+/// doesn't have the item `under`, the range is empty. `by_id` finds the position of an item by the
+/// item's id.
 fn run_of<A: Allocator>(items: &Items<'_, A>, by_id: &ById, under: &ItemId) -> Run
     requires few { length items.now.all.items < 2 ^ 32 }
     ensures { (t : List Row) → Stands items.now.map.now.forest t
@@ -62,7 +65,7 @@ fn run_of<A: Allocator>(items: &Items<'_, A>, by_id: &ById, under: &ItemId) -> R
 }
 
 /// Returns the pairs whose position in the old map is in the run `old`, or whose position in the
-/// new map is in the run `new`. A run is a range of positions.
+/// new map is in the run `new`. The pairs stay in their order. A run is a range of positions.
 pub(crate) fn pairs_within(
     alloc: Global,
     old: &Run,

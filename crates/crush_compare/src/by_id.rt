@@ -7,7 +7,8 @@ use crush_items::Place;
 use std::alloc::{AllocError, Global};
 
 /// The positions of one item in two maps: for each map, the item's position in that map's list of
-/// items, or `None` if that map doesn't have the item. At least one of the maps has the item.
+/// items, or `None` if that map doesn't have the item. In each pair that this crate returns, at
+/// least one of the maps has the item.
 #[derive(Clone, Copy, Debug, PartialEq, Eq)]
 pub struct Pair {
     pub before: Option<u32>,
@@ -22,9 +23,10 @@ pub(crate) struct KeyPair {
     after: Option<Place>,
 }
 
-/// Merges two lists of places into one list of pairs, in ascending order of the keys. If both lists
-/// have a key, its two places make one pair. If only one list has a key, its place makes a pair
-/// alone. The keys of each list must be ascending.
+/// Merges two lists of places into one list of pairs, in ascending order of the keys. (A place
+/// consists of the position of an item and the key of the item's id.) If both lists have a place
+/// with a certain key, these two places are one pair. If only one list has such a place, this place
+/// is alone in its pair. In each list, each key must be greater than the key before it.
 pub(crate) fn pairs_by_key(
     alloc: Global,
     old: &[Place],
@@ -45,6 +47,8 @@ pub(crate) fn pairs_by_key(
     Ok(pairs)
 }
 
+/// Returns the place at the position `at` of the list, or `None` if the list ends before this
+/// position.
 fn place_at(places: &[Place], at: usize) -> Option<Place>
     ensures first { drop at places.now ≡ option_to_list result ++ drop (at + 1) places.now }
     ensures none { result ≡ None → length places.now ≤ at }
@@ -57,6 +61,7 @@ fn place_at(places: &[Place], at: usize) -> Option<Place>
     }
 }
 
+/// Returns the position after `at` if there is a place, and otherwise `at` itself.
 fn behind(at: usize, place: &Option<Place>) -> usize
     requires { at + taken place.now < 2 ^ 64 }
     ensures { result ≡ at + taken place.now }

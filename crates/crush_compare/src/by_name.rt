@@ -74,8 +74,8 @@ fn push_new<A: Allocator, B: Allocator>(
     Ok(())
 }
 
-/// `items` are the items of the old map. Appends a pair for each of them that the new map doesn't
-/// have.
+/// `items` are the items of the old map. For each of these items that the new map doesn't have,
+/// appends a pair with the item's position in the old map.
 fn push_gone<A: Allocator, B: Allocator>(
     devices: Devices,
     items: &[Item<'_, A>],

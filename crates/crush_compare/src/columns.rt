@@ -15,7 +15,9 @@ use crush_tree::{ShadowId, View};
 use crush_units::{Alg, BucketId, ItemId, TypeId};
 use std::alloc::Allocator;
 
-/// Whether both items have the same parent, or both have no parent.
+/// Whether an item has the same parent in two maps. `before` and `after` are the ids of the buckets
+/// that hold the item in these maps, or `None` if no bucket holds it. The result is true if both
+/// ids are equal, or if both are `None`.
 pub fn same_parent(before: Option<BucketId>, after: Option<BucketId>) -> bool
     ensures { result ≡ same_option before after }
 {
@@ -40,8 +42,8 @@ pub fn same_text(before: Option<&str>, after: Option<&str>) -> bool
     }
 }
 
-/// Returns the name that a map's `Setting` has for a type, or an empty name if it doesn't have this
-/// type.
+/// Returns the name that a map's `Setting` has for a type, or an empty name if the setting doesn't
+/// have this type.
 fn type_name(setting: &Setting, kind: TypeId) -> &[u8]
     ensures { result.now ≡ type_name setting.now kind }
 {
@@ -51,8 +53,9 @@ fn type_name(setting: &Setting, kind: TypeId) -> &[u8]
     }
 }
 
-/// Whether the types of two items have the same name. The two items are matched by their names. If
-/// they are devices, the result is always true.
+/// Whether the types of two items have the same name. The two items are matched by their names, so
+/// both are devices or both are buckets. If they are devices, the result is always true. `old` and
+/// `new` are the settings of the two maps, which have the names of the types.
 pub(crate) fn same_type(old: &Setting, new: &Setting, before: &View<'_>, after: &View<'_>) -> bool
     ensures { result ≡ same_type (view_data before.now).id
         (type_name old.now (view_data before.now).kind)

@@ -1,4 +1,5 @@
-//! Compares two maps: decides which of their items are the same item, and lists them as pairs.
+//! Compares two maps: decides which items of the two maps are the same item, and lists these items
+//! as pairs.
 
 ghost use Rattle.std.specs.Prelude.{◌≡◌, ◌<◌, ◌^◌, List, IfOk, length, map as each, option_and_then};
 ghost use Rattle.std.specs.Cmp.Lexicographic.{pointwise};
@@ -29,11 +30,16 @@ use crush_tree::ShadowId;
 use crush_units::ItemId;
 use std::alloc::{AllocError, Allocator, Global};
 
-/// Two maps, and one pair for each item that both maps have or that only one of them has.
+/// The items of two maps, and the pairs of these items. There is one pair for each item that at
+/// least one of the maps has. If only a part of the maps is compared, there are only the pairs of
+/// this part.
 #[derive(Drop)]
 pub struct Comparison<'a, A: Allocator, B: Allocator> {
+    /// How the items are matched: by their ids or by their names.
     pub identity: Identity,
+    /// All items of the old map, even if only a part of the maps is compared.
     pub old: Items<'a, A>,
+    /// All items of the new map, even if only a part of the maps is compared.
     pub new: Items<'a, B>,
     /// If the items are matched by their ids, the pairs are in the order of the ids: buckets from
     /// -1 downward, and then devices upward. If the items are matched by their names, first come
@@ -70,8 +76,8 @@ impl<'a, A: Allocator, B: Allocator> Comparison<'a, A, B> {
         })
     }
 
-    /// Compares two maps by the ids of their items, but only one part of the maps: the item with
-    /// the id `under`, and all items that are below this item in at least one of the maps. If
+    /// Compares one part of two maps by the ids of the items. The part consists of the item with
+    /// the id `under`, and of all items that are below this item in at least one of the maps. If
     /// neither map has this item, there are no pairs. The call visits each item of each map once,
     /// and sorts the items of each map once. It fails only if memory runs out.
     pub fn by_ids_below(
@@ -98,9 +104,10 @@ impl<'a, A: Allocator, B: Allocator> Comparison<'a, A, B> {
     }
 
     /// Compares two maps by the names of their items. Two buckets of the same name are the same
-    /// bucket. `devices` says when two devices of the same name are the same device. The call
-    /// visits each item of each map once, and looks up each item's name once in the other map. It
-    /// fails only if memory runs out.
+    /// bucket. `devices` says when two devices of the same name are the same device. A bucket and a
+    /// device are never the same item. The call visits each item of each map once, looks up each
+    /// item's name once in the other map, and sorts the items of the old map once. It fails only if
+    /// memory runs out.
     pub fn by_names(
         alloc: Global,
         devices: Devices,
@@ -124,10 +131,11 @@ impl<'a, A: Allocator, B: Allocator> Comparison<'a, A, B> {
         })
     }
 
-    /// Compares two maps by the names of their items, as [`Comparison::by_names`] does, but only
-    /// one part of the maps: the item with the name `under`, and all items that are below this item
-    /// in at least one of the maps. If `under` is `None`, the part is the whole of both maps. The
-    /// call fails only if memory runs out.
+    /// Compares one part of two maps by the names of the items, as [`Comparison::by_names`] does
+    /// for the whole maps. In each map, the part consists of the item with the name `under` and of
+    /// all items below this item. If a map has no item of this name, the part has no items of this
+    /// map. The comparison has the pairs of which at least one item is in the part. If `under` is
+    /// `None`, the part is the whole of both maps. The call fails only if memory runs out.
     pub fn by_names_part(
         alloc: Global,
         devices: Devices,
@@ -184,9 +192,10 @@ impl<'a, A: Allocator, B: Allocator> Comparison<'a, A, B> {
         same_class_ids(before, after)
     }
 
-    /// Returns what differs in a pair, or `None` if nothing does. `report` says what counts as a
-    /// difference. If items are matched by their names, no ids are compared: an item's type and the
-    /// bucket that holds it are then compared by their names.
+    /// Returns what differs between the items of a pair, or `None` if nothing differs. `report`
+    /// says which differences count. If items are matched by their names, this method compares no
+    /// ids: it compares the names of the items' types, and the names of the buckets that hold the
+    /// items.
     pub fn difference(&self, report: Report, pair: Pair) -> Option<Difference>
         ensures { result ≡ pair_difference self.now.identity report self.now.old.map.now.setting
             self.now.new.map.now.setting (pair_entries self.now pair) }

@@ -14,39 +14,45 @@ use crush_items::Seen;
 use crush_map::Setting;
 use crush_units::{ItemId, Weight};
 
-/// What counts as a difference.
+/// Says which differences count.
 #[derive(Clone, Copy, Debug, PartialEq, Eq)]
 pub enum Report {
     /// Every column in which two maps say different things about an item counts.
     Changes,
-    /// Only what a command could change counts. The weight of a bucket doesn't count, because it is
-    /// the sum of the weights in the bucket. Nor does a difference of one unit (1/65536 TiB) in the
-    /// weight of a device, because Ceph's own tool cuts a weight by up to one unit.
+    /// This is for the differences that remain after a plan, which is a list of commands that
+    /// change one map into another map. Differences count as with `Changes`, with two exceptions.
+    /// The weight of a bucket doesn't count, because it is the sum of the weights in the bucket. A
+    /// difference of one unit (1/65536 TiB) in the weight of a device doesn't count either, because
+    /// Ceph's `crushtool -c` may cut one unit off when it reads a weight.
     Remaining,
 }
 
-/// The columns in which two maps are compared about one item. A field is true if the two maps
-/// differ in the column that the field names.
+/// Says in which columns (such as the weight or the class) two maps say different things about one
+/// item. Each field belongs to one column, and is true if the two maps differ in this column.
 #[derive(Clone, Copy, Debug, PartialEq, Eq)]
 pub struct Columns {
-    /// Whether the names differ. Always false if items are matched by their names.
+    /// Whether the names differ. This is always false if items are matched by their names.
     pub name: bool,
     /// Whether the types differ. If items are matched by their ids, the numbers of the types are
     /// compared. If items are matched by their names, the names of the types are compared for two
     /// buckets, and for two devices this field is always false.
     pub kind: bool,
-    /// Whether the item is in different buckets. The buckets are compared by their ids if items are
-    /// matched by their ids, and otherwise by their names.
+    /// Whether different buckets hold the item, or a bucket holds the item in only one of the maps.
+    /// If items are matched by their ids, the ids of the buckets are compared. If items are matched
+    /// by their names, the names of the buckets are compared.
     pub place: bool,
+    /// Whether the weights differ. [`Report`] says which differences of weights count.
     pub weight: bool,
+    /// Whether the device classes differ, or the item has a class in only one of the maps.
     pub class: bool,
+    /// Whether the algorithms of a bucket differ. This is always false for a device.
     pub alg: bool,
     /// Whether the class ids differ, which are the ids that Ceph gives to a bucket for each device
-    /// class. Always false if items are matched by their names.
+    /// class. This is always false if items are matched by their names.
     pub class_ids: bool,
 }
 
-/// What differs in a pair.
+/// What differs between the items of a pair.
 #[derive(Clone, Copy, Debug, PartialEq, Eq)]
 pub enum Difference {
     /// Only the new map has the item.
@@ -71,9 +77,9 @@ impl Columns {
             || self.class_ids
     }
 
-    /// Compares what the two maps say about an item that has the same id in both, and returns the
-    /// columns that differ. `same_class_ids` says whether the item has the same class ids in both
-    /// maps.
+    /// Compares what the two maps say about an item that has the same id in both maps, and returns
+    /// the columns that differ. `same_class_ids` says whether the item has the same class ids in
+    /// both maps.
     fn by_ids(report: Report, before: &Seen<'_>, after: &Seen<'_>, same_class_ids: bool) -> Columns
         ensures { result
             ≡ columns_by_ids report (seen_data before.now) (seen_data after.now) same_class_ids }
@@ -94,8 +100,9 @@ impl Columns {
         }
     }
 
-    /// Compares what the two maps say about an item that has the same name in both, and returns the
-    /// columns that differ. `old` and `new` are the settings of the maps.
+    /// Compares what the two maps say about an item that has the same name in both maps, and
+    /// returns the columns that differ. `old` and `new` are the settings of the maps, which have
+    /// the names of the types.
     fn by_names(
         report: Report,
         old: &Setting,
@@ -122,8 +129,9 @@ impl Columns {
         }
     }
 
-    /// Compares what the two maps say about an item that both have, and returns in which columns
-    /// (name, type, place, weight and so on) they differ.
+    /// Compares what the two maps say about an item that both maps have. Returns in which columns
+    /// (name, type, place, weight and so on) the maps differ. `identity` says whether items are
+    /// matched by their ids or by their names.
     fn of(
         identity: Identity,
         report: Report,
@@ -144,10 +152,10 @@ impl Columns {
 }
 
 impl Difference {
-    /// Returns the difference between `before`, what the old map says about an item, and `after`,
-    /// what the new map says about it, or `None` if nothing differs. `old` and `new` are the
-    /// settings of the maps. `same_class_ids` says whether the item has the same class ids in both
-    /// maps.
+    /// Compares `before`, which is what the old map says about an item, with `after`, which is what
+    /// the new map says about the item. Each is `None` if its map doesn't have the item. Returns
+    /// the difference, or `None` if nothing differs. `old` and `new` are the settings of the maps.
+    /// `same_class_ids` says whether the item has the same class ids in both maps.
     pub(crate) fn of(
         identity: Identity,
         report: Report,
@@ -201,8 +209,8 @@ fn equal_weights(report: Report, id: ItemId, before: Weight, after: Weight) -> b
     }
 }
 
-/// Whether two weights differ by at most one unit (1/65536 TiB). Ceph's own tool cuts a weight by
-/// up to one unit.
+/// Whether two weights differ by at most one unit (1/65536 TiB). Ceph's `crushtool -c` may cut one
+/// unit off when it reads a weight.
 pub fn are_near(here: Weight, there: Weight) -> bool
     ensures { result ≡ are_near here there }
 {
@@ -210,9 +218,10 @@ pub fn are_near(here: Weight, there: Weight) -> bool
         || (there.units() as u64) + 1 < here.units() as u64)
 }
 
-/// Whether the weights that two maps give to one item count as equal in a report of the kind
-/// [`Report::Remaining`]. The weights of a bucket always count as equal, because no command sets
-/// the weight of a bucket.
+/// Whether the weights that two maps give to one item count as equal with [`Report::Remaining`].
+/// `id` is the id of the item. The weights of a bucket always count as equal, because no command
+/// sets the weight of a bucket. The weights of a device count as equal if [`are_near`] is true for
+/// them.
 pub fn same_weight(id: ItemId, here: Weight, there: Weight) -> bool
     ensures { result ≡ same_weight id here there }
 {

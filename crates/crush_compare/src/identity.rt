@@ -8,19 +8,23 @@ use crush_units::{DeviceId, ItemId};
 /// Says when two devices of the same name are the same device.
 #[derive(Clone, Copy, Debug, PartialEq, Eq)]
 pub enum Devices {
-    /// If they have the same id. This is for two maps of one cluster.
+    /// Two devices of the same name are the same device only if they also have the same id. Use
+    /// this for two maps of one cluster.
     ById,
-    /// Always. This is for the maps of two clusters.
+    /// Two devices of the same name are always the same device. Use this for the maps of two
+    /// clusters.
     ByName,
 }
 
 /// Says when an item of one map and an item of another map are the same item.
 #[derive(Clone, Copy, Debug, PartialEq, Eq)]
 pub enum Identity {
-    /// If they have the same id. CRUSH itself knows an item only by its id.
+    /// Two items are the same item if they have the same id. CRUSH itself knows an item only by its
+    /// id.
     Ids,
-    /// If they have the same name, and both are buckets or both are devices. For two devices,
-    /// `Devices` says whether they must also have the same id.
+    /// Two items are the same item if they have the same name, and both are buckets or both are
+    /// devices. For two devices, the value of [`Devices`] says whether they must also have the same
+    /// id.
     Names(Devices),
 }
 
@@ -33,8 +37,8 @@ fn is_one_device(devices: Devices, here: DeviceId, there: DeviceId) -> bool
     }
 }
 
-/// Whether two items of the same name are the same item. Two buckets are, and a bucket and a device
-/// aren't. For two devices, `devices` decides.
+/// Whether two items of the same name are the same item. Two buckets always are, and a bucket and a
+/// device never are. For two devices, `devices` decides.
 pub(crate) fn are_one(devices: Devices, here: &ItemId, there: &ItemId) -> bool
     ensures { result ≡ are_one devices here.now there.now }
 {

@@ -13,8 +13,9 @@ pub fn two_lists_have_one_list_of_pairs()
     ensures { OneAnswer }
 {}
 
-/// If two lawful tables are matched by ids, the keys of the pairs are the keys of all ids of both
-/// tables, in the order of the ids.
+/// If two lawful tables are matched by ids, the keys of the pairs are the keys of all ids that at
+/// least one table has, in the order of the ids. (The key of an id is a number, and smaller keys
+/// belong to ids that come earlier.)
 pub fn pairs_have_the_keys_of_all_ids()
     ensures { KeysOfAllIds }
 {}
@@ -25,8 +26,9 @@ pub fn pairs_have_each_id_once()
     ensures { EachIdOnce }
 {}
 
-/// If an item has the same id in both tables, at least one column differs if and only if the two
-/// tables don't say the same about the item.
+/// Suppose that items are matched by their ids, and that each difference counts
+/// (`Report::Changes`). Then at least one column of an item differs if and only if the two tables
+/// don't say the same about the item.
 pub fn a_column_differs_of_other_items()
     ensures { SomeColumnOfOtherItems }
 {}
@@ -49,8 +51,9 @@ pub fn the_steps_of_an_item_are_a_part()
     ensures { StepsArePart }
 {}
 
-/// In the list of all items of a lawful table, in the order of the table's tree, a run is a range
-/// of positions. Its positions are those of the run's first item and of all items below this item.
+/// This law is about the list of all items of a lawful table, in the order of the table's tree. If
+/// a range of positions is the run of an item (`Items::run`), then it has exactly the positions of
+/// this item and of all items below this item.
 pub fn a_run_is_a_part()
     ensures { RunIsPart }
 {}

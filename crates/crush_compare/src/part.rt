@@ -1,5 +1,5 @@
-//! Finds the pairs of one part of two maps. The part is the item that has a given name, and all
-//! items below this item.
+//! Finds the pairs of one part of two maps. In each map, the part consists of the item that has a
+//! given name, and of all items below this item.
 
 ghost use Rattle.std.specs.Option.{option_map};
 ghost use Rattle.std.specs.Prelude.{◌≡◌, ◌<◌, ◌^◌, List, IfOk, filter, length, map as each};
@@ -37,7 +37,7 @@ pub fn is_in<A: Allocator>(map: &CrushMap<A>, under: Option<&str>, id: ItemId) -
     }
 }
 
-/// Whether an item is `top` itself or below `top`.
+/// Whether the item `id` is `top` itself or below `top`.
 fn is_at<A: Allocator>(map: &CrushMap<A>, top: &ItemId, id: ItemId) -> bool
     ensures { (t : List Row) → Stands map.now.forest t → result ≡ is_at t top.now id }
 {
@@ -101,8 +101,8 @@ fn pairs_in_part<A: Allocator, B: Allocator>(
     pairs_within(alloc, &before, &after, pairs)
 }
 
-/// Returns the range of positions that has the item with the name `name` and all items below it. If
-/// no item has this name, the range is empty. The call sorts the items once.
+/// Returns the positions of the item with the name `name` and of all items below it, as a range. If
+/// no item has this name, the range is empty. Otherwise the call sorts the items once.
 fn part_of<A: Allocator>(alloc: Global, name: &str, items: &Items<'_, A>) -> Result<Run, AllocError>
     requires few { length items.now.all.items < 2 ^ 32 }
     ensures { IfOk result (λ run. (t : List Row) → Stands items.now.map.now.forest t
@@ -116,7 +116,7 @@ fn part_of<A: Allocator>(alloc: Global, name: &str, items: &Items<'_, A>) -> Res
     }
 }
 
-/// Returns the range of positions that has the item with the id `top` and all items below it. If
+/// Returns the positions of the item with the id `top` and of all items below it, as a range. If
 /// the map doesn't have this item, the range is empty.
 fn positions_at<A: Allocator>(
     alloc: Global,
