@@ -24,7 +24,7 @@ class_weight_in c none = None
 class_weight_in c (device d rest) = together (leaf_weight c d) (class_weight_in c rest)
 class_weight_in c (bucket h w m kids rest) = together (class_weight_in c kids) (class_weight_in c rest)
 
--- for each item, and for each item below it, the total weight of the devices of the class there; the weights are in the order of the tree
+-- a weight for each of the items and for each item below them, in the order of the tree: the total weight of all devices of the class that are the item itself or below it; none if there is no such device
 abbrev pub class_weights_in : List ℕ → Items → List (Option ℕ)
 class_weights_in c none = []
 class_weights_in c (device d rest) = leaf_weight c d ∷ class_weights_in c rest

@@ -8,12 +8,12 @@ use Rattle.crush_print.specs.TreePart.{part_steps}
 use Rattle.crush_print.specs.TreeText.{steps_text}
 use Rattle.crush_print.specs.declared.part.TreePart.{TreePart}
 
--- the step with this weight, as a list; an empty list if there is no weight
+-- a list with only this step, in which the item has the given weight in place of its own; an empty list if there is no weight
 abbrev pub weighed : Option ℕ → WalkStepData → List WalkStepData
 weighed None s = []
 weighed (Some w) s = record s { item = record s.item { weight = w } } ∷ []
 
--- CLASS STEPS: the steps of the part. The weight of each step is the total weight of all devices of the class that are its item or below it. If there is no such device,
+-- CLASS STEPS: the steps of the part. The weight of a step's item is replaced by the total weight of all devices of the class that are this item or below it. If there is no such device,
 -- the step is left out
 unfoldable pub class_steps : TreePart → List ℕ → List Row → List WalkStepData
 class_steps p c t = flat_map (λ (s : WalkStepData). weighed (weight_of_class t c s.item.id) s) (part_steps p t)

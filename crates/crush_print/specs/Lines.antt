@@ -17,7 +17,7 @@ abbrev pub id_text : ItemId → List ℕ
 id_text (Device d) = decimal d
 id_text (Bucket b) = 45 ∷ decimal b
 
--- ` class C` if there is a class, otherwise nothing
+-- the text ` class C` if there is a class, otherwise no text
 abbrev pub class_text : Option (List ℕ) → List ℕ
 class_text None = []
 class_text (Some c) = codes " class " ++ c
@@ -51,7 +51,7 @@ class_id_line c = codes "\tid " ++ id_text (Bucket c.id) ++ codes " class " ++ c
 unfoldable pub bucket_head : List ℕ → List ℕ → ItemId → List ℕ
 bucket_head kind name id = kind ++ codes " " ++ name ++ codes " {\n\tid " ++ id_text id ++ codes "\t\t# do not change unnecessarily\n"
 
--- three lines of a bucket: its weight, which is a comment, its algorithm, and its hash
+-- three lines of a bucket: its weight (as a comment), its algorithm, and its hash
 unfoldable pub bucket_choice : WeightForm → Row → ℕ → List ℕ
 bucket_choice form r weight = codes "\t# weight " ++ weight_in form weight ++ codes "\n\talg " ++ option_map_or alg_text r.alg [] ++ codes "\n\thash 0\t# rjenkins1\n"
 

@@ -57,7 +57,7 @@ device_lines t = flat_map (λ d. of_row t (Device d) device_line) (device_number
 unfoldable pub root_texts : WeightForm → SettingData → List Row → List ℕ
 root_texts form s t = flat_map (bucket_text form s t) (bucket_numbers t)
 
--- THE SECTIONS, each with its heading. The section of the tunables, in the order in which they were declared
+-- THE SECTIONS, each with its heading. The section of the tunables has the first line of the text, and then the tunables in the order in which they were declared
 unfoldable pub tunable_section : SettingData → List ℕ
 tunable_section s = codes "# begin crush map\n" ++ flat_map tunable_line s.tunables
 
@@ -85,10 +85,10 @@ map_text form s t = tunable_section s ++ device_section t ++ kind_section s ++ b
 abbrev pub SameTablesPrintAlike : Type 0
 SameTablesPrintAlike = (form : WeightForm) (s : SettingData) (t u : List Row) → Lawful t → Same t u → map_text form s t ≡ map_text form s u
 
--- the table has the bucket b, and rules print it with the name in its row
+-- the table has the bucket b, and a printed rule that takes this bucket has the name in the bucket's row
 abbrev pub IsNamedSo : List Row → ℕ → Type 0
 IsNamedSo t b = (r : Row) × (row_of t (Bucket b) ≡ Some r) × (bucket_name t b ≡ r.name)
 
--- the law: if the setting fits the table, this is true of each bucket that a rule takes
+-- the law: if the setting fits the table, `IsNamedSo` holds for each bucket that a rule of the setting takes
 abbrev pub TakenBucketsAreNamed : Type 0
 TakenBucketsAreNamed = (s : SettingData) (t : List Row) → Fits s t → All (IsNamedSo t) (taken_buckets s)

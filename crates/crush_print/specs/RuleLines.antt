@@ -24,7 +24,7 @@ choice_text leaf firstn =
 unfoldable pub choose_line : Bool → Bool → ℤ → List ℕ → List ℕ
 choose_line leaf firstn count kind = choice_text leaf firstn ++ signed_decimal count ++ codes " type " ++ kind ++ codes "\n"
 
--- `step set_.. N`
+-- `step NAME N`: the line of a step that sets a value. The reader of maps accepts such a step only if NAME begins with `set_`
 unfoldable pub set_line : List ℕ → ℕ → List ℕ
 set_line name value = codes "\tstep " ++ name ++ codes " " ++ decimal value ++ codes "\n"
 

@@ -61,10 +61,10 @@ fn is_in<A: Allocator>(node: &Node<A>, class: &[u8]) -> bool
     }
 }
 
-/// Returns for each item of the map what its devices of the class weigh, in the order of the map's
-/// tree: the sum of the weights of all devices of the class that are the item itself or below it,
-/// or `None` if there is no such device. The function visits each item once, and fails only if memory
-/// runs out.
+/// Returns a weight for each item of the map, in the order of the map's tree. The weight is the sum
+/// of the weights of all devices of the class that are the item itself or below it. If there is no
+/// such device, it is `None`. The function visits each item once, and fails only if memory runs
+/// out.
 pub fn class_weights<A: Allocator>(
     alloc: Global,
     map: &CrushMap<A>,
@@ -179,7 +179,7 @@ pub(crate) fn copy_of(weight: &Option<Weight>) -> Option<Weight>
     }
 }
 
-/// Returns the sum of two weights. If one of them is `None`, returns the other weight.
+/// Returns the sum of two weights. If one of them is `None`, returns the other one.
 fn together(sum: Option<Weight>, more: Option<Weight>) -> Option<Weight>
     requires { unwrap_or sum 0 + unwrap_or more 0 ≤ HEAVIEST_BUCKET }
     ensures { result ≡ together sum more }

@@ -5,8 +5,8 @@ ghost use Rattle.crush_print.specs.TreeText.{spaces, at_left, at_right};
 
 use std::alloc::AllocError;
 
-/// Appends `count` spaces to `out`. Fails only if memory runs out; then `out` may have some of the
-/// spaces.
+/// Appends `count` spaces to `out`. Fails only if memory runs out. After a failure, `out` may have
+/// some of the spaces.
 pub fn push_spaces(count: usize, out: &mut Vec<u8>) -> Result<(), AllocError>
     ensures { OnOk result (out.new.items ≡ out.old.items ++ spaces count) }
 {

@@ -1,9 +1,10 @@
 //! Prints a map: as Ceph's text, and as a tree.
 //!
-//! [`write_map`] writes the text of a map, which `specs/MapText.antt` defines. A [`WeightForm`]
-//! says how many digits its weights have. [`write_tree`] writes the map's tree for a person to
-//! read, which `specs/TreeText.antt` defines. [`devices`] and [`buckets`] return the ids of a map
-//! in the order of its text, and [`walk`] returns the items of a map in the order of its tree.
+//! [`write_map`] writes the text of a map. `specs/MapText.antt` defines this text. A [`WeightForm`]
+//! says how many digits the weights in this text have. [`write_tree`] writes the map's tree as
+//! lines for people to read. `specs/TreeText.antt` defines these lines. [`devices`] and [`buckets`]
+//! return the ids of a map's devices and buckets in the order of the map's text. [`walk`] returns
+//! the items of a map in the order of the map's tree.
 #![tactic(auto)]
 
 mod classes;

@@ -19,7 +19,8 @@ pub(crate) fn push_all(parts: &[&[u8]], out: &mut Vec<u8>) -> Result<(), AllocEr
     put_all(out, parts).map_err(|_| AllocError)
 }
 
-/// Appends `device N NAME`, and ` class CLASS` if the device has one.
+/// Appends the line `device N NAME`. If the device has a class, ` class CLASS` follows after the
+/// name.
 #[tactic(auto, unfolding(crate::specs::Lines::device_line))]
 pub(crate) fn push_device<A: Allocator>(
     device: &Leaf<A>,
@@ -48,7 +49,7 @@ pub(crate) fn push_device<A: Allocator>(
     }
 }
 
-/// Appends `type N NAME`.
+/// Appends the line `type N NAME`.
 #[tactic(auto, unfolding(crate::specs::Lines::kind_line))]
 pub(crate) fn push_kind(number: u16, name: &[u8], out: &mut Vec<u8>) -> Result<(), AllocError>
     ensures { OnOk result (out.new.items ≡ out.old.items ++ kind_line number name.now) }
@@ -67,7 +68,7 @@ pub(crate) fn push_kind(number: u16, name: &[u8], out: &mut Vec<u8>) -> Result<(
     )
 }
 
-/// Appends `item NAME weight WEIGHT`, with the weight in the form `form`.
+/// Appends the line `item NAME weight WEIGHT`, with the weight in the form `form`.
 #[tactic(auto, unfolding(crate::specs::Lines::item_line))]
 fn push_line(
     form: WeightForm,
@@ -91,7 +92,8 @@ fn push_line(
     )
 }
 
-/// Appends the line of an item of a bucket, with the weight that the item stores.
+/// Appends the line of an item of a bucket. The line has the weight that the item stores, in the
+/// form `form`.
 fn push_item<A: Allocator>(
     form: WeightForm,
     node: &Node<A>,
@@ -122,7 +124,7 @@ fn push_items<A: Allocator>(
     Ok(())
 }
 
-/// Appends `id -N class CLASS`.
+/// Appends the line `id -N class CLASS`, with the comment that follows each id of a bucket.
 #[tactic(auto, unfolding(crate::specs::Lines::class_id_line))]
 fn push_class_id<A: Allocator>(id: &ShadowId<A>, out: &mut Vec<u8>) -> Result<(), AllocError>
     ensures { OnOk result (out.new.items ≡ out.old.items ++ class_id_line (shadow_data id.now)) }
@@ -151,7 +153,7 @@ fn push_class_ids<A: Allocator>(ids: &[ShadowId<A>], out: &mut Vec<u8>) -> Resul
     Ok(())
 }
 
-/// Appends `TYPE NAME {` and the line of the bucket's id.
+/// Appends the line `TYPE NAME {`, and then the line of the bucket's id.
 #[tactic(auto, unfolding(crate::specs::Lines::bucket_head))]
 fn push_head<A: Allocator>(
     kind: &[u8],
@@ -174,7 +176,7 @@ fn push_head<A: Allocator>(
     )
 }
 
-/// Appends three lines of a bucket: its weight, which is a comment, its algorithm, and its hash.
+/// Appends three lines of a bucket: its weight (as a comment), its algorithm, and its hash.
 #[tactic(auto, unfolding(crate::specs::Lines::bucket_choice))]
 fn push_choice<A: Allocator>(
     form: WeightForm,

@@ -1,4 +1,4 @@
-//! The devices and the buckets of a map, in the order in which its text has them.
+//! Lists the devices and the buckets of a map, in the order in which the map's text has them.
 
 ghost use Rattle.std.specs.Prelude.{◌≡◌, List, [], ◌∷◌, ◌++◌, None, OnOk, IfOk, flat_map, map};
 ghost use Rattle.crush_model.specs.ItemRows.{device_row};
@@ -95,7 +95,7 @@ fn find_devices<'a, A: Allocator>(
     Ok(())
 }
 
-/// Returns all buckets of the forest, in the order in which [`buckets`] returns them.
+/// Returns all buckets of the forest, in the order in which [`buckets`] returns their ids.
 pub(crate) fn buckets_in_order<A: Allocator>(
     alloc: Global,
     forest: &Forest<A>,

@@ -25,8 +25,8 @@ use std::alloc::{AllocError, Allocator, Global};
 pub struct TreePart {
     /// The item at the top of the part; `None` for the whole tree.
     pub under: Option<ItemId>,
-    /// A type of buckets: the items below buckets of this type aren't in the part. If this is
-    /// `None`, no items are left out.
+    /// A type of buckets. If a bucket of the part has this type, the items below this bucket aren't
+    /// in the part. If this is `None`, no items are left out.
     pub down_to: Option<TypeId>,
 }
 
@@ -44,11 +44,11 @@ impl TreePart {
 
 /// Returns the items of a part of a map, in the order of the map's tree.
 ///
-/// If `under` is an item, these are this item, with the depth 0, and all items below it; if the map
-/// doesn't have the item, there are none. If `under` is `None`, these are the items that [`walk`]
-/// returns. If `down_to` is a type, the items below buckets of this type are left out. The function
-/// fails only if memory runs out. With `under`, it visits only the siblings of this item and the
-/// items below it.
+/// If `under` is the id of an item, the result has this item, with the depth 0, and all items below
+/// it. If the map doesn't have this item, the result is empty. If `under` is `None`, the result has
+/// the items that [`walk`] returns. If `down_to` is a type, the result leaves out the items below
+/// those of its buckets that have this type. The function fails only if memory runs out. If `under`
+/// is an id, the function visits only this item, its siblings and the items below it.
 #[tactic(auto, unfolding(crate::specs::TreePart::part_steps))]
 pub fn walk_part<A: Allocator>(
     alloc: Global,
@@ -98,7 +98,7 @@ fn walk_item<'a, A: Allocator>(
     }
 }
 
-/// Returns the siblings of the item, and the item itself among them if the map has it.
+/// Returns the siblings of the item with this id. If the map has the item, it is among them.
 pub(crate) fn beside<'a, A: Allocator>(map: &'a CrushMap<A>, id: &ItemId) -> &'a [Node<A>]
     ensures few { size_of (items_of result.now) < 2 ^ 31 }
     ensures steps { (t : List Row) → Stands map.now.forest t
@@ -173,7 +173,8 @@ pub(crate) fn place_of<A: Allocator>(nodes: &[Node<A>], id: &ItemId) -> Option<u
     None
 }
 
-/// Returns the steps, except for those below a bucket of the type `kind`.
+/// Returns the steps, except for those below a bucket of the type `kind`. If `kind` is `None`,
+/// returns all steps.
 fn cut<A: Allocator>(
     alloc: Global,
     steps: Vec<WalkStep<'_, A>>,
@@ -204,8 +205,8 @@ fn steps_down_to<'a, A: Allocator>(
 }
 
 /// Appends the step to `kept`, unless the step is below a bucket of the type `kind`. `closed` is
-/// the depth of the last such bucket, or `None` if the step can't be below one. Returns `closed`
-/// for the next step.
+/// the depth of the last step in `kept` if its item has the type `kind`, and otherwise `None`.
+/// Returns the value of `closed` for the next step.
 fn keep_step<'a, A: Allocator>(
     step: &WalkStep<'a, A>,
     kind: TypeId,
@@ -235,7 +236,8 @@ fn copy_of<'a, A: Allocator>(step: &WalkStep<'a, A>) -> WalkStep<'a, A>
     }
 }
 
-/// Whether the step is deeper than `closed`, which means that it is below the bucket at this depth.
+/// Whether the step is deeper than `closed`. If it is, it is below the bucket that has this depth.
+/// If `closed` is `None`, the result is false.
 pub(crate) fn is_closed<A: Allocator>(closed: Option<u32>, step: &WalkStep<'_, A>) -> bool
     ensures { result ≡ is_closed closed (walk_step_data step.now) }
 {

@@ -1,4 +1,4 @@
-//! The printer of a map's text. Each submodule appends one section of it.
+//! The printer of a map's text. Each submodule appends one section of this text.
 
 ghost use Rattle.std.specs.Prelude.{IfOk, ◌≡◌, List, ◌++◌, OnOk};
 ghost use Rattle.std.specs.Io.KnownBytes.{Keeps};
@@ -28,8 +28,8 @@ use tunables::push_tunables;
 /// fixed lines between them. `form` is the form of all weights. docs/user/FORMATS.md describes the
 /// text.
 ///
-/// If a step of a rule takes a bucket, the step names the bucket by its present name. The whole
-/// text is created in memory of `alloc` before anything is written. If this fails with
+/// If a step of a rule takes a bucket, the printed step has the name that the bucket has now. The
+/// whole text is created in memory of `alloc` before anything is written. If this fails with
 /// `OutOfMemory`, nothing is written. After any other fault, a proper prefix of the text has been
 /// written: the text from its beginning up to some byte before its end.
 pub fn write_map<A: Allocator, W: Write>(
@@ -68,8 +68,9 @@ const USUAL_DEVICE: usize = 56;
 /// How many bytes a typical bucket adds to the text.
 const USUAL_BUCKET: usize = 112;
 
-/// Returns the text of the map, with weights in the form `form`. Memory is allocated once, for a
-/// text of the typical length; only a longer text needs more allocations.
+/// Returns the text of the map, with weights in the form `form`. The memory for the text is
+/// allocated once, for the length that is typical for a map with so many devices and buckets. Only
+/// a longer text needs more memory.
 fn map_text<A: Allocator>(
     alloc: Global,
     map: &CrushMap<A>,

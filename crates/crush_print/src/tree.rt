@@ -56,8 +56,8 @@ pub fn write_tree<A: Allocator, W: Write>(
 }
 
 /// Writes a part of the tree of a map as text: a heading, and a line for each item in the order of
-/// [`walk_part`]. After `OutOfMemory` nothing has been written. After any other fault, a proper
-/// prefix of the text has been written, as by [`write_tree`].
+/// [`walk_part`]. After the fault `OutOfMemory`, nothing has been written. After any other fault, a
+/// proper prefix of the text has been written (see [`write_tree`]).
 pub fn write_tree_part<A: Allocator, W: Write>(
     alloc: Global,
     map: &CrushMap<A>,
@@ -78,9 +78,9 @@ pub fn write_tree_part<A: Allocator, W: Write>(
 
 /// Writes a part of the tree of a map as [`write_tree_part`] does, but counts only the devices of
 /// one class. The weight in an item's line is the sum of the weights of all devices of the class
-/// that are the item itself or below it. An item without such a device has no line. After
-/// `OutOfMemory` nothing has been written. After any other fault, a proper prefix of the text has
-/// been written, as by [`write_tree`].
+/// that are the item itself or below it. An item without such a device has no line. After the fault
+/// `OutOfMemory`, nothing has been written. After any other fault, a proper prefix of the text has
+/// been written (see [`write_tree`]).
 pub fn write_tree_of_class<A: Allocator, W: Write>(
     alloc: Global,
     map: &CrushMap<A>,
@@ -213,8 +213,9 @@ fn push_line(
     )
 }
 
-/// Returns the id at the right end of a column of this width in bytes. An id that is longer than
-/// the column is returned whole. Fails only if memory runs out.
+/// Returns spaces and then the printed id, so that both together fill a column of this width in
+/// bytes. If the id is longer than the column, returns the whole id without spaces. Fails only if
+/// memory runs out.
 pub fn id_column(alloc: Global, width: usize, id: ItemId) -> Result<Vec<u8>, AllocError>
     ensures { IfOk result (λ column. column.items ≡ at_right width (id_text id)) }
 {
@@ -244,7 +245,8 @@ fn weight_column(alloc: Global, width: usize, weight: Weight) -> Result<Vec<u8>,
     Ok(column)
 }
 
-/// Returns the words of the last column: the indent, the type of a bucket, and the name.
+/// Returns the words of the last column: the indent, the name of the type if the item is a bucket,
+/// and the name of the item.
 fn name_column(
     alloc: Global,
     setting: &Setting,

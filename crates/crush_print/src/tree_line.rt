@@ -41,9 +41,9 @@ pub(crate) fn lines_of<'a, A: Allocator>(
     Ok(lines)
 }
 
-/// Returns a line for each step that has a weight in `weights`, and shows this weight instead of
-/// the item's own weight. The weight of a step is at the same position in `weights` as the step is
-/// in `steps`. Steps below a bucket of the type `kind` have no line.
+/// Returns a line for each step that has a weight in `weights`. The line shows this weight instead
+/// of the item's own weight. The weight of a step is at the same position in `weights` as the step
+/// is in `steps`. If `kind` is a type, the steps below buckets of this type have no lines.
 pub(crate) fn weighed_lines<'a, A: Allocator>(
     alloc: Global,
     steps: &[WalkStep<'a, A>],
@@ -94,9 +94,10 @@ fn lines_down_to<'a, A: Allocator>(
     Ok(lines)
 }
 
-/// Appends the line of the step to `lines`, unless the step is below a bucket of the type `kind`.
-/// `closed` is the depth of the last such bucket, or `None` if the step can't be below one. Returns
-/// `closed` for the next step.
+/// Appends the line of the step to `lines`, unless the step is below a bucket of the type `kind`. A
+/// step without a weight has no line. `closed` is the depth of the last step that wasn't below such
+/// a bucket, if the item of that step has the type `kind`; otherwise it is `None`. Returns the
+/// value of `closed` for the next step.
 fn push_open<'a, A: Allocator>(
     step: &WalkStep<'a, A>,
     weight: Option<Weight>,

@@ -1,4 +1,4 @@
-//! Appends the words of a line of a tree. Each function fails only if memory runs out.
+//! Appends the words of a line of a tree. A function here fails only if memory runs out.
 
 ghost use Rattle.std.specs.Prelude.{◌≡◌, [], ◌++◌, OnOk, flat_map, unwrap_or};
 ghost use Rattle.std.specs.Option.{option_map};
@@ -47,7 +47,8 @@ pub fn bytes_of<'a>(text: Option<&'a str>) -> &'a [u8]
     }
 }
 
-/// Appends the weight to `out` with five decimals.
+/// Appends the weight to `out`, rounded to five digits after the point. In the text, 1.0 is 65536
+/// units of weight.
 pub fn push_weight(weight: Weight, out: &mut Vec<u8>) -> Result<(), AllocError>
     ensures { OnOk result (out.new.items ≡ out.old.items ++ weight_text weight) }
 {
@@ -90,7 +91,8 @@ pub fn push_kind(
     }
 }
 
-/// Appends a line of these four columns to `out`, with two spaces between them.
+/// Appends a line with these four columns to `out`. Two spaces separate neighbouring columns, and a
+/// line feed ends the line.
 pub fn push_row(
     id: &[u8],
     class: &[u8],

@@ -15,7 +15,8 @@ use itoa::Buffer;
 use std::alloc::{AllocError, Allocator, Global};
 
 /// Appends the heading of the section of the rules, and then the rules in the order in which they
-/// were declared. A step that takes a bucket has the name that this bucket has in the map `from`.
+/// were declared. If a step takes a bucket, the printed step has the name that this bucket has in
+/// the map `from`.
 #[tactic(auto, unfolding(crate::specs::MapText::rule_section))]
 pub(crate) fn push_rules<A: Allocator>(
     setting: &Setting,
@@ -81,7 +82,8 @@ fn push_head(rule: &KeptRule, out: &mut Vec<u8>) -> Result<(), AllocError>
     )
 }
 
-/// Appends the line `key size`, or nothing if the rule doesn't have this size.
+/// Appends a line with the word `key` and the number `size`. Appends nothing if `size` is `None`,
+/// which means that the rule doesn't have this size.
 #[tactic(auto, unfolding(crate::specs::RuleLines::size_line))]
 fn push_size(key: &[u8], size: Option<u32>, out: &mut Vec<u8>) -> Result<(), AllocError>
     ensures { OnOk result (out.new.items ≡ out.old.items ++ size_line key.now size) }
