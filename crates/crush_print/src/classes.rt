@@ -63,8 +63,8 @@ fn is_in<A: Allocator>(node: &Node<A>, class: &[u8]) -> bool
 
 /// Returns a weight for each item of the map, in the order of the map's tree. The weight is the sum
 /// of the weights of all devices of the class that are the item itself or below it. If there is no
-/// such device, it is `None`. The function visits each item once, and fails only if memory runs
-/// out.
+/// such device, the weight is `None`. The function visits each item once, and fails only if memory
+/// runs out.
 pub fn class_weights<A: Allocator>(
     alloc: Global,
     map: &CrushMap<A>,
