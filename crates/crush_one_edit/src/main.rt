@@ -24,8 +24,8 @@ use std::alloc::Global;
 use std::io::Write;
 use thiserror::Error;
 
-/// The text of the map that is edited. The program prints maps in a longer form. For example, the
-/// printed text has comment lines, and a line `hash 0` in each bucket.
+/// The text of the map that is edited. The program prints an edited map in a longer form than this
+/// text. For example, the printed text has comment lines, and a line `hash 0` in each bucket.
 const MAP: &[u8] = b"device 0 osd.0
 device 1 osd.1
 type 1 host
@@ -73,9 +73,10 @@ fn print_edited(rt: &HostRuntime, text: &[u8], asked: &Edit) -> anyhow::Result<(
     Ok(())
 }
 
-/// Reads the map of a text, applies the edit `asked` to this map, and writes the text of the edited
-/// map to `out`. Returns what the edit has changed. If the text has a fault, or if the edit is
-/// refused or fails, nothing is written. If a write fails, a part of the text may be written.
+/// Reads a map from `text`, applies the edit `asked` to this map, and writes the text of the edited
+/// map to `out`. Returns whether the edit changed the map, and how many buckets it created. If the
+/// text has a fault, or if the edit is refused or fails, nothing is written. If a write fails, a
+/// part of the text may be written.
 ///
 /// The clauses of the contract say what a caller can rely on. They describe a map by its setting
 /// (types, tunables and rules) and its table (a row for each device and each bucket):
