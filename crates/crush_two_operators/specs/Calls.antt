@@ -5,7 +5,7 @@ use Rattle.crush_history.specs.History.{EntryData, of_operator}
 use Rattle.crush_history.specs.Turns.{calls_of}
 use Rattle.crush_editor.specs.Seat.{SeatData}
 
--- the calls that the operator with the number k has to make: the list `first` for 0, the list `second` for 1, and no calls for any other number
+-- the calls that the operator with the number k has to make. For operator 0, these are the calls of the list `first`. For operator 1, these are the calls of the list `second`. Any other operator has no calls to make
 abbrev pub calls_by : List Call → List Call → ℕ → List Call
 calls_by first second zero = first
 calls_by first second (suc zero) = second

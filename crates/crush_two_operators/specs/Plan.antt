@@ -1,4 +1,4 @@
--- A plan is a list of edits, which are its steps. The first change of the map must be the first step, the second change must be the second step, and so on.
+-- A plan is a list of edits, which are called its steps. The first change of the map must be the first step, the second change must be the second step, and so on.
 use Rattle.std.specs.Prelude.{ℕ, ◌≡◌, ◌+◌, ◌≤◌, List, [], ◌∷◌, Some, length, map, filter}
 use Rattle.std.specs.List.{All, slice_get}
 use Rattle.crush_edits.specs.declared.edit.Edit.{Edit}
@@ -7,7 +7,7 @@ use Rattle.crush_history.specs.declared.call.Call.TheVariants.{Guarded}
 use Rattle.crush_history.specs.History.{EntryData, AnsweredData, is_change, changes}
 use Rattle.crush_editor.specs.Seat.{SeatData}
 
--- the call for the step e with the number n, counted from 0: a guarded batch with only this edit, which is made only if the map has exactly n changes
+-- the call for the step e with the number n, counted from 0: a guarded batch with only this edit. The batch is made only if exactly n calls have changed the map before it
 abbrev pub step : ℕ → Edit → Call
 step n e = Guarded n (e ∷ [])
 

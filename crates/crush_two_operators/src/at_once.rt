@@ -14,16 +14,16 @@ use std::thread::Threads;
 /// Lets two operators make their calls at the same time. Operator 0 makes the calls of the list
 /// `first`, and operator 1 makes the calls of the list `second`. Returns the map, the history, and
 /// the later one of the two operators' last readings. A *reading* has two numbers: how many calls
-/// have changed the map so far, and the map's total weight. The function fails if memory runs out
-/// or the history is full.
+/// have changed the map so far, and the map's total weight. The function fails if memory runs out,
+/// or if the history is full.
 ///
 /// The contract says two things about a success:
 ///
 /// - `all`: the history is legal for the map that was given, which means that each reply is right
 /// for the map after all earlier calls. The returned map is the map after this history.
 /// - `calls`: the calls of operator 0 in the history are exactly the calls of `first`, in the same
-/// order. Those of operator 1 are exactly the calls of `second`, in the same order. The history has
-/// no other calls.
+/// order. The calls of operator 1 in the history are exactly the calls of `second`, in the same
+/// order. The history has no other calls.
 pub fn edit_at_once<R: Threads + Wait + Sync>(
     rt: &R,
     alloc: Global,
@@ -36,7 +36,7 @@ pub fn edit_at_once<R: Threads + Wait + Sync>(
 {
     // Prepares an editor for two operators. The editor will own the map.
     //
-    // In contracts, a type `N` stands for one editor. Through this type, contracts refer to three
+    // In contracts, a type `N` represents one editor. This type gives contracts access to three
     // things of the editor: its gauge (the word that is read without a lock), its opening map (the
     // map before the first call), and its ledger (which counts the calls of all seats). So
     // `work_together` is generic over `N`. The code passes the placeholder type `Brand` for `N`.
@@ -46,8 +46,8 @@ pub fn edit_at_once<R: Threads + Wait + Sync>(
     work_together::<Brand, R, Call>(rt, alloc, started, first, second)
 }
 
-/// The work on a list of calls is to make these calls in order. The work fails if memory runs out
-/// or the history is full.
+/// The work on a list of calls is to make these calls in order. The work fails if memory runs out,
+/// or if the history is full.
 impl Work for Call {
     ghost use Rattle.crush_two_operators.specs.Calls.{HasMade};
 

@@ -1,6 +1,6 @@
 //! An example of a program with threads that uses the library. It reads a job from standard input:
-//! the text of a map, and three scripts. Each of two operators runs one of the first two scripts,
-//! at the same time as the other operator, in a thread of its own ([`at_once`]). Then both
+//! the text of a map, and three scripts. Two operators run the first two scripts at the same time
+//! ([`at_once`]). Each operator runs one of these scripts, in a thread of its own. Then both
 //! operators work through one plan, which is the batch of the third script ([`plan`]). Each step of
 //! the plan is made once, by the operator that is the first to submit it.
 //!
@@ -113,8 +113,8 @@ fn print_changes(rt: &HostRuntime, history: &[Entry]) -> anyhow::Result<()> {
     Ok(())
 }
 
-/// Prints a reading: the number of changes so far, and the total weight of all placed devices in
-/// units of 1/65536.
+/// Prints a reading: the number of calls that have changed the map so far, and the total weight of
+/// all devices that are in buckets. The unit of this weight is 1/65536 TiB.
 fn print_reading(rt: &HostRuntime, reading: Reading) -> anyhow::Result<()> {
     println!(rt; "# changes {} weight {}", reading.changes, reading.weight)?;
     Ok(())

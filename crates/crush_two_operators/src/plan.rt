@@ -17,8 +17,8 @@ use std::thread::Threads;
 
 /// Lets two operators work through one plan at the same time. The edits of `plan` are the plan's
 /// steps. The steps are made in order, and each step is made once, by the operator that is the
-/// first to submit it. Before an operator submits a step, it reads how many changes the map has.
-/// The step is only made if the map still has this number of changes. Returns the map and the
+/// first to submit it. Before an operator submits a step, it reads how many calls have changed the
+/// map so far. The step is only made if this number is still the same. Returns the map and the
 /// history. Fails if memory runs out, if the history is full, or if a step is refused or changes
 /// nothing.
 ///

@@ -11,8 +11,8 @@ use std::alloc::Global;
 use std::sync::Wait;
 use std::thread::{Threads, join};
 
-/// The type of the elements of a list that an operator works through. There are two such types: a
-/// call, and an edit as a step of a plan.
+/// The type of the elements of a list that an operator works through. Two types implement this
+/// trait: `Call`, and `Edit`, which is a step of a plan.
 pub(crate) trait Work {
     ghost use Rattle.std.specs.Prelude.{◌≡◌, IfSome, List};
     ghost use Rattle.crush_editor.specs.Seat.{SeatData};
@@ -54,7 +54,8 @@ pub(crate) struct Worked<N: Desk> {
 /// history.
 /// - `seats`: for each operator, the relation `done` holds between the operator's list, a new seat,
 /// and the operator's seat after its work. In the history, each operator has exactly the calls and
-/// replies that this last seat has (its *slips*).
+/// replies that the operator's seat after its work has. (In a seat, a call with its reply is called
+/// a *slip*.)
 pub(crate) fn work_together<N: Desk + Send + Sync, R: Threads + Wait + Sync, W: Work + Sync>(
     rt: &R,
     alloc: Global,
@@ -71,7 +72,7 @@ pub(crate) fn work_together<N: Desk + Send + Sync, R: Threads + Wait + Sync, W: 
         × W.done first.now (seat_data 0 [] []) one × W.done second.now (seat_data 1 [] []) two
         × IsHistoryOfSeats N.opening r.0.map r.0.history.items (one ∷ two ∷ [])) }
 {
-    // `open` returns the editor with a seat for each operator. An operator needs its seat for each
+    // `open` returns the editor, and a seat for each operator. An operator needs its seat for each
     // call and each reading.
     let (editor, mut seats) = Editor::<N>::open(alloc, started)?;
     let two = seats.pop().context("no seat")?;
@@ -105,7 +106,8 @@ pub(crate) fn work_together<N: Desk + Send + Sync, R: Threads + Wait + Sync, W: 
     Ok((editor.close(seats), last))
 }
 
-/// Returns the reading with more changes, which is the later one.
+/// Returns the later one of two readings, which is the reading with more changes. If both have the
+/// same number of changes, returns the first one.
 fn later(a: Reading, b: Reading) -> Reading {
     if a.changes < b.changes { b } else { a }
 }
