@@ -18,8 +18,9 @@ mod map;
 mod refusing;
 mod run;
 
-/// Runs the job of each record, in both ways. Prints the job's name before the runs of the job, and
-/// prints the result after them. Fails if a record lacks a part, or if a job doesn't pass.
+/// Runs the job of each record, in both ways. Prints the name of a job before the runs of the job,
+/// and prints the result after these runs. Fails if a record lacks a part, or if the runs of a job
+/// fail ([`run_each`]).
 pub fn run_growths(rt: &HostRuntime, records: &[u8]) -> anyhow::Result<()> {
     for record in records.split(|byte| *byte == RECORD_SEPARATOR) {
         let parts = read_parts(record).context("a part is missing")?;
@@ -31,9 +32,10 @@ pub fn run_growths(rt: &HostRuntime, records: &[u8]) -> anyhow::Result<()> {
     Ok(())
 }
 
-/// Runs a job many times ([`run_each`]), and counts the runs that report that memory ran out. Let N
-/// be a number of requests for memory that each run makes at least. The function fails if there are
-/// fewer than N such runs. It also fails if a run ends with another output.
+/// Runs a job many times ([`run_each`]), and counts the runs that report that memory ran out. Each
+/// run makes at least a certain number of requests for memory, which `run_each` returns. The
+/// function fails if fewer runs than this number report that memory ran out. It also fails if a run
+/// ends with another output.
 fn run_record(rt: &HostRuntime, parts: &Parts, maker: Maker) -> anyhow::Result<()> {
     let memory = Refusing::new(rt.alloc());
     let (told, fewest) = run_each(rt.alloc(), &memory, parts, maker)?;

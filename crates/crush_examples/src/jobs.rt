@@ -53,7 +53,7 @@ fn run_files(
 }
 
 /// Runs each line as a command line, without the program's name. Prints for each line whether its
-/// run ended as expected. If the run didn't, also prints what the run has written.
+/// run ended as expected. If the run didn't end as expected, also prints what the run has written.
 fn run_lines(
     rt: &HostRuntime,
     workers: &(impl AllocGlobal + RandomSource + Threads + Wait + Sync),
@@ -103,8 +103,9 @@ fn run_line(
     write_end(words, &ending, written)
 }
 
-/// Runs the jobs of `records`, between which there are record separators. Prints how many of these
-/// runs end as expected, and prints what each other run has written.
+/// Runs the jobs of `records`. A record separator follows each job, except for the last job. Prints
+/// how many of these runs end as expected. If a run doesn't end as expected, prints what this run
+/// has written.
 fn run_records(
     rt: &HostRuntime,
     workers: &(impl AllocGlobal + RandomSource + Threads + Wait + Sync),
@@ -128,6 +129,8 @@ fn run_records(
     println!(rt; "{same} records: as expected")
 }
 
+/// Runs the scripts of one job, one after the other. Appends the output of the run to `written`:
+/// the text of the map, and then the lines of the history.
 fn run_record(
     workers: &(impl AllocGlobal + RandomSource + Threads + Wait + Sync),
     job: &[u8],

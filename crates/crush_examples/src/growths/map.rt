@@ -1,5 +1,5 @@
-//! Makes the calls of a job on a map. The map's allocator refuses one request. The parameter
-//! `answers` counts the operations that report that memory ran out.
+//! Makes the calls of a job on a map. The map's allocator refuses one request for memory. The
+//! parameter `answers` counts the operations that report that memory ran out.
 
 use anyhow::ensure;
 use crush_history::{Call, Line, Reply, Script, is_change, make_call};
@@ -29,9 +29,9 @@ pub fn run_on_map<A: Allocator + Clone>(
 }
 
 /// Returns how many requests for memory a run makes at least, if it ends with this map: one for the
-/// items of each bucket, and one for the table of devices, if the map has devices. The number is
-/// right for the jobs of these tests. It isn't right for every map, because an empty bucket needs
-/// no memory for items.
+/// items of each bucket, and one for the table of devices, if the map has devices. This is true for
+/// the jobs of these tests. For other maps the number can be too large, because an empty bucket
+/// needs no memory for items.
 pub fn fewest_requests<A: Allocator>(map: &CrushMap<A>) -> usize {
     let counts = map.counts();
     counts.buckets as usize + usize::from(counts.devices > 0)

@@ -4,9 +4,9 @@ use std::alloc::{AllocError, Allocator};
 use std::cell::Cell;
 
 /// An allocator that refuses one request, whose number a test sets. It passes all other requests on
-/// to another allocator. All collections share this allocator by reference, so their requests are
-/// counted together. A collection that grows makes one request for its new block. Freeing a block
-/// isn't a request.
+/// to another allocator. All collections of a map have a reference to the same allocator, so the
+/// requests of all collections are counted together. A collection that grows makes one request for
+/// its new block. Freeing a block isn't a request.
 #[derive(Drop)]
 pub struct Refusing<M: Allocator> {
     memory: M,

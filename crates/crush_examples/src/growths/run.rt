@@ -27,8 +27,9 @@ pub enum Maker {
 /// Not every refused request leads to such a report. A list may request a smaller block for the
 /// same items. If this request is refused, the list keeps its larger block.
 ///
-/// Fails if a run doesn't end with the known output, or if more than one operation of a run reports
-/// that memory ran out.
+/// Fails if a run doesn't end with the known output. Also fails if more than one operation of a run
+/// reports that memory ran out, or if an operation reports it in the last run, which refuses no
+/// request.
 pub fn run_each(
     alloc: Global,
     memory: &Refusing<Global>,
