@@ -1,6 +1,6 @@
 //! The files that a run of the program opens. A *verb* is the word `apply`, `diff`, `plan` or
-//! `tree` at the beginning of a command line. A command line with a verb may name standard input as
-//! a file. The files with the verb's maps are read before the run.
+//! `tree` at the beginning of a command line. On a command line with a verb, the file name `-`
+//! means standard input. The files with the verb's maps are read before the run.
 
 use crush_input::{Opens, VerbMap};
 use std::fs::File;
@@ -33,7 +33,8 @@ pub(crate) struct ProgramFiles<'a> {
 pub(crate) enum Opened<'a> {
     File(File),
     Input(Stdin),
-    /// The bytes of a file that was read before the run: those that the run hasn't read yet.
+    /// A file that was read before the run. These are the bytes of the file that the run hasn't
+    /// read yet.
     Kept(&'a [u8]),
 }
 

@@ -51,7 +51,8 @@ fn end_without_run(rt: &HostRuntime, fault: &OptionsFault) -> u8 {
     status
 }
 
-/// Runs what the command line selects, and returns the exit status.
+/// Runs what the options of the command line ask for, and returns the exit status. If `--output`
+/// names a file, the output replaces this file. Otherwise it is written to standard output.
 fn run(
     rt: &HostRuntime,
     workers: &(impl AllocGlobal + RandomSource + Threads + Wait + Sync),
@@ -86,10 +87,10 @@ fn is_verb(options: &Options) -> bool {
 /// reads nothing, because the run itself then reads the files.
 ///
 /// A map that the verb may be able to use isn't parsed here, because the run parses it. If the run
-/// fails, [`check_maps`] finds the map that is the reason. The exception is a command line by which
-/// a script or the other map is read from standard input. Then the first map is parsed before
-/// anything is read from standard input. So a person who types a script learns of a fault of the
-/// map before typing, and no byte of the input is lost.
+/// fails, [`check_maps`] finds the map that is the reason. There is one exception: the command line
+/// may say that a script or the other map is read from standard input. Then the first map is parsed
+/// before anything is read from standard input. So a person who types a script learns of a fault in
+/// the map before typing, and no byte of the input is lost.
 ///
 /// If the first map can't be read, returns no maps. The run then tries to read this map once more,
 /// and reports the error. If the other map is refused, the first map is parsed too. If the verb
@@ -264,8 +265,8 @@ fn report_write_fault(
     }
 }
 
-/// Runs what the command line selects, and keeps the output in memory. If the run succeeds,
-/// replaces the file `name` by the output. Returns the exit status.
+/// Runs what the options of the command line ask for, and keeps the output in memory. If the run
+/// succeeds, replaces the file `name` by the output. Returns the exit status.
 fn run_to_file(
     rt: &HostRuntime,
     workers: &(impl AllocGlobal + RandomSource + Threads + Wait + Sync),
@@ -298,7 +299,8 @@ fn run_to_file(
 }
 
 /// Reports that the output couldn't be written, and returns the exit status. `name` is the name of
-/// the output's file. If the options ask for reasons, also reports the error of the system.
+/// the output's file. If the options ask for reasons, also reports the error that the operating
+/// system returned.
 fn report_unwritten(
     rt: &HostRuntime,
     options: &Options,

@@ -1,5 +1,5 @@
-//! Writes to standard output. Keeps the error of a failed write. If standard output leads to a
-//! file, waits until the system has stored this file.
+//! Writes to standard output, and remembers the error of a failed write. If standard output leads
+//! to a regular file, a call of [`store`] waits until the system has stored this file.
 
 use std::fs::{self, OpenOptions};
 use std::io::{self, ErrorKind, Write};
@@ -48,8 +48,9 @@ impl<W: Write> Write for Remembering<W> {
     }
 }
 
-/// Returns an error with the same error code of the system. If the error has no such code, returns
-/// an error of the same kind. This function is needed because an `io::Error` can't be copied.
+/// Returns a new error that has the same error code of the operating system. If the given error has
+/// no such code, returns an error of the same kind. This function is needed because an `io::Error`
+/// can't be copied.
 fn same_error(error: &io::Error) -> io::Error {
     match error.raw_os_error() {
         Some(code) => io::Error::from_raw_os_error(code),
