@@ -1,6 +1,6 @@
 //! Laws about the pairs of two maps. Each law is the contract of a function that does nothing. The
-//! laws speak of tables: a table is the list of a map's items, with a row for each, and it is
-//! lawful if it meets the definition `Lawful` of crush_model.
+//! laws are about tables. A table is a list with one row for each item of a map. A table is lawful
+//! if it meets the definition `Lawful` of crush_model.
 
 ghost use Rattle.crush_compare.specs.Columns.{SomeColumnOfOtherItems};
 ghost use Rattle.crush_compare.specs.IdPairs.{DifferencesOfIds, EachIdOnce, EachItemOnceByIds, KeysOfAllIds};
@@ -8,7 +8,8 @@ ghost use Rattle.crush_compare.specs.NamedPairs.{PartOfPairs};
 ghost use Rattle.crush_compare.specs.Pairs.{OneAnswer};
 ghost use Rattle.crush_compare.specs.Parts.{RunIsPart, StepsArePart};
 
-/// For two lists of places, at most one list of pairs meets the definition `ArePairsOf`.
+/// For two lists of places, at most one list of pairs meets the definition `ArePairsOf`. (A place
+/// consists of the position of an item and the key of the item's id.)
 pub fn two_lists_have_one_list_of_pairs()
     ensures { OneAnswer }
 {}
@@ -58,8 +59,10 @@ pub fn a_run_is_a_part()
     ensures { RunIsPart }
 {}
 
-/// If two tables are matched by names, the pairs of a part are exactly the pairs whose item is in
-/// the part in at least one of the tables. They are in the same order as in the list of all pairs.
+/// This law is about tables that are matched by names. In each table, a part consists of the item
+/// with a certain name and of all items below it. The pairs of the part are exactly those pairs of
+/// the whole tables of which at least one item is in the part of its table. They are in the same
+/// order as in the list of all pairs.
 pub fn pairs_of_a_part_are_those_in_the_part()
     ensures { PartOfPairs }
 {}
