@@ -31,11 +31,11 @@ of_row t i line = option_map_or line (row_of t i) []
 unfoldable pub kind_text : SettingData → ℕ → List ℕ
 kind_text s n = unwrap_or (kind_name s n) []
 
--- the lines of the items of the bucket b, in their order. The weight in a line is a device's own weight, or a bucket's sum
+-- the lines of the items of the bucket b, in their order. The weight in a line is the device's own weight. For a bucket, it is the sum of the weights of all devices below the bucket
 unfoldable pub kids_lines : WeightForm → List Row → ℕ → List ℕ
 kids_lines form t b = flat_map (λ i. of_row t i (λ (r : Row). item_line form r.name (item_weight t i r.weight))) (kids t b)
 
--- the text of the bucket b: its row, its sum and the lines of its items
+-- the text of the bucket b. It shows the bucket's row, the sum of the weights of all devices below the bucket, and the lines of the bucket's items
 unfoldable pub bucket_text : WeightForm → SettingData → List Row → ℕ → List ℕ
 bucket_text form s t b = of_row t (Bucket b) (λ (r : Row). bucket_lines form (kind_text s r.kind) r (sum_below t b) (kids_lines form t b))
 

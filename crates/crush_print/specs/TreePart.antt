@@ -25,17 +25,17 @@ is_closed (Some depth) s = nat_lt depth s.depth
 abbrev pub closed_by : ℕ → WalkStepData → Option ℕ
 closed_by kind s = if s.item.kind == kind then Some s.depth else None
 
--- the steps, except for those below an item of this type. `closed` is the depth of the last step that was kept, if its item has the type
+-- the steps, except for those below an item of this type. `closed` is the depth of the last step that was kept, if its item has the type, and otherwise none
 abbrev pub down_to : ℕ → Option ℕ → List WalkStepData → List WalkStepData
 down_to kind closed [] = []
 down_to kind closed (s ∷ rest) = if is_closed closed s then down_to kind closed rest else s ∷ down_to kind (closed_by kind s) rest
 
--- the steps down to the type if there is one, otherwise all steps
+-- the steps without those below an item of the given type; all steps if no type is given
 abbrev pub cut : Option ℕ → List WalkStepData → List WalkStepData
 cut None steps = steps
 cut (Some kind) steps = down_to kind None steps
 
--- PART STEPS: the steps under the part's item, down to the part's type
+-- PART STEPS: the steps of the part's item and of all items below it (the steps of the whole tree if no item is given), without the steps below an item of the part's type
 unfoldable pub part_steps : TreePart → List Row → List WalkStepData
 part_steps p t = cut p.down_to (steps_under p.under t)
 

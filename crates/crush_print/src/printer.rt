@@ -50,14 +50,16 @@ pub fn write_map<A: Allocator, W: Write>(
     put(out, text.as_slice())
 }
 
-/// Proves that two maps with the same setting and the same rows have the same text, even if their
-/// rows are in different orders. Does nothing at run time.
+/// Proves that two lawful tables with the same rows have the same text for each setting, even if
+/// their rows are in different orders. (A table is a list with one row for each item of a map. A
+/// setting consists of types, tunables and rules.) Does nothing at run time.
 pub fn same_tables_print_alike()
     ensures { SameTablesPrintAlike }
 {}
 
-/// Proves that if a rule takes a bucket and the setting fits the table, then the rule is printed
-/// with the name that the bucket has in the table. Does nothing at run time.
+/// Proves a law about a setting that fits a table (the definition `Fits` of crush_edits). If a rule
+/// of the setting takes a bucket, then the table has this bucket, and the rule is printed with the
+/// name that the bucket has in the table. Does nothing at run time.
 pub fn taken_buckets_are_named()
     ensures { TakenBucketsAreNamed }
 {}

@@ -105,8 +105,9 @@ pub fn whole_tree_is_a_part()
     ensures { WholeTreeIsAPart }
 {}
 
-/// Proves that two maps with the same setting and the same rows have the same tree, even if their
-/// rows are in different orders. Does nothing at run time.
+/// Proves that two lawful tables with the same rows have the same tree text for each setting, even
+/// if their rows are in different orders. (A table is a list with one row for each item of a map.)
+/// Does nothing at run time.
 pub fn same_tables_have_one_tree()
     ensures { SameTablesHaveOneTree }
 {}
