@@ -47,8 +47,9 @@ pub(crate) struct Worked<N: Desk> {
 /// history, and the later one of the two operators' last readings. Fails if memory runs out, or if
 /// an operator couldn't finish its work.
 ///
-/// The contract requires that `started` has two seats, and that its gauge, its opening map and its
-/// ledger are those of `N`. It says two things about a success:
+/// The contract requires that `started` has two seats. The gauge (the word that is read without a
+/// lock), the opening map (the map before the first call) and the ledger (which counts the calls of
+/// all seats) of `started` must be those of `N`. The contract says two things about a success:
 ///
 /// - `all`: the history is legal for the opening map, and the returned map is the map after this
 /// history.
