@@ -16,7 +16,7 @@ use Rattle.crush_plan.specs.Part.{HasPartBelow, IsAllowed, WeighsPart}
 abbrev pub Allows : {A B : _} → PlanGoal A B → List Row → Edit → Type 0
 Allows goal v e = (t u : List Row) → Stands goal.before.now.forest t → Stands goal.wanted.now.forest u → IsAllowed t u (option_map (λ name. name.now) goal.under) v e
 
--- `MayWeigh`: if the edit e sets all weights below a bucket, then no item below the bucket is outside the part. `MayWeighBelow`: no item below the item i is outside the part. The table v is that of the map to which the edit is applied
+-- `MayWeigh`: if the edit e sets all weights below a bucket, then each item below this bucket is one that the plan may change (`WeighsPart`). `MayWeighBelow`: each item below the item i is one that the plan may change (`HasPartBelow`). The table v is that of the map to which the edit is applied
 abbrev pub MayWeigh : {A B : _} → PlanGoal A B → List Row → Edit → Type 0
 MayWeigh goal v e = (t u : List Row) → Stands goal.before.now.forest t → Stands goal.wanted.now.forest u → WeighsPart t u (option_map (λ name. name.now) goal.under) v e
 

@@ -31,7 +31,7 @@ called (Rename from to) = record { before = from; behind = Some to } ∷ []
 called (SetClass n c) = keeps_name n
 called (RemoveClass n) = keeps_name n
 
--- `was_in_part`: whether the table t has an item with this name, and the item's id was in the part of the old table. `will_be_in_part`: whether the new table has an item with this name, and this item is in the part of the new table
+-- `was_in_part`: whether the table t has an item with this name, and the part of the old table has an item with the same id. If no part is selected, each id counts as one of the old table. `will_be_in_part`: whether the new table has an item with this name, and this item is in the part of the new table
 abbrev pub was_in_part : List Row → Option (List ℕ) → List Row → List ℕ → Bool
 was_in_part old under t name = option_map_or (is_in under old) (id_named t name) false
 
@@ -41,12 +41,12 @@ will_be_in_part new under name = option_map_or (is_in under new) (id_named new n
 abbrev pub is_called_in : List Row → List Row → Option (List ℕ) → List Row → Called → Bool
 is_called_in old new under t c = was_in_part old under t c.before || option_map_or (will_be_in_part new under) c.behind false
 
--- CONCERNS: if a part is selected, then for each item that the edit is about, at least one of two statements is true. First, the item's id was in the part of the old table. Second, the name that the item has after the edit is the name of an item in the part of the new table. Here t is the table to which the edit is applied
+-- CONCERNS: if a part is selected, then for each item that the edit is about, at least one of two statements is true. First, the part of the old table has an item with the item's id. Second, the part of the new table has an item with the name that the item has after the edit. Here t is the table to which the edit is applied
 abbrev pub concerns : List Row → List Row → Option (List ℕ) → List Row → Edit → Bool
 concerns old new None t e = true
 concerns old new (Some part) t e = list_all (is_called_in old new (Some part) t) (called e)
 
--- whether the item's id i was in the part of the old table, or the item's name in the table t is the name of an item in the part of the new table
+-- whether the part of the old table has an item with the id i, or the part of the new table has an item with the name that the item i has in the table t. If no part is selected, each id counts as one of the old table
 abbrev pub is_item_in_part : List Row → List Row → Option (List ℕ) → List Row → ItemId → Bool
 is_item_in_part old new under t i = is_in under old i || option_map_or (will_be_in_part new under) (name_of t i) false
 
@@ -86,7 +86,7 @@ location_of (RemoveClass n) = []
 abbrev pub are_there : List Row → List Pair → Bool
 are_there t l = list_all (λ (p : Pair). is_some (id_named t p.name)) l
 
--- ALLOWED: a line of a script can express the edit, the edit creates no bucket that its location names, and the edit is only about items of the part. If the edit sets all weights below a bucket, each item below the bucket is in the part too
+-- ALLOWED: a line of a script can express the edit, the edit creates no bucket that its location names, and the edit is only about items of the part. If the edit sets all weights below a bucket, then each item below this bucket meets the test `is_item_in_part`
 pub record IsAllowed (old new : List Row) (under : Option (List ℕ)) (t : List Row) (e : Edit) : Type 0 where
   pub said : IsSaid e
   pub there : are_there t (location_of e) ≡ true

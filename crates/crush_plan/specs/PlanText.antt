@@ -14,7 +14,7 @@ use Rattle.crush_plan.specs.Plan.{PlanData}
 abbrev pub script_line : Edit → List ℕ
 script_line e = edit_text e ++ codes "\n"
 
--- `commented`: the bytes of a text, with `# ` before each line. The argument `at_head` says whether the first byte is the first of a line. `mark` is what comes before a single byte: `# ` or nothing
+-- `commented`: the bytes of a text, with `# ` before each line. The argument `at_head` says whether the first byte is the first of a line. `mark` is the text before a single byte: `# ` if the byte is the first of a line, and otherwise nothing
 abbrev pub mark : Bool → List ℕ
 mark at_head = if at_head then codes "# " else []
 
@@ -34,7 +34,7 @@ stay_text (line ∷ lines) = stay_heading (length (line ∷ lines)) ++ commented
 abbrev pub tail_text : PlanData → List ℕ
 tail_text plan = stay_text plan.rest ++ commented true (aside_text plan.aside)
 
--- PLAN TEXT as a script: the number of edits, a line for each edit, and the lines of `tail_text`
+-- PLAN TEXT as a script: a line with the number of edits, a line for each edit, and the lines of `tail_text`
 unfoldable pub plan_text : PlanData → List ℕ
 plan_text plan = ceph_heading (length plan.edits) ++ flat_map script_line plan.edits ++ tail_text plan
 

@@ -12,8 +12,8 @@ use crush_print::WalkStep;
 use crush_units::{DeviceId, ItemId};
 use std::alloc::{AllocError, Allocator, Global};
 
-/// A class, and the position of the first device that has the class in the list of all items of the
-/// wanted map.
+/// A class of the wanted map, and the first device that has this class. `at` is the position of
+/// this device in the list of all items of the wanted map.
 #[derive(Clone, Copy)]
 struct FirstUse<'a> {
     class: &'a str,
@@ -26,8 +26,8 @@ struct FirstUse<'a> {
 struct ClassStep {
     device: DeviceId,
     kind: StepKind,
-    /// The position of the first device that has the device's new class, in the list of all items
-    /// of the wanted map.
+    /// The position of a device in the list of all items of the wanted map. Of all devices of the
+    /// wanted map that have the new class, this is the first one.
     first_use: usize,
 }
 
@@ -36,14 +36,14 @@ struct ClassStep {
 enum StepKind {
     /// The edit removes the old class. A device that still has a class can't get another class.
     Remove,
-    /// The edit gives the device the class that the device has in the wanted map.
+    /// The edit sets the class of the device to its class in the wanted map.
     Set,
 }
 
 impl ClassStep {
-    /// Returns the number by which the edits are sorted, the lowest first. All edits for devices
-    /// that get the same class come together. Of these edits, those that remove old classes come
-    /// before those that set the class.
+    /// Returns the number by which the edits are sorted, the lowest first. After the edits are
+    /// sorted, all edits for devices that get the same class are next to each other. Of these
+    /// edits, those that remove old classes are before those that set the class.
     fn rank(&self) -> u128
         ensures { result ≡ rank self.now }
     {
@@ -135,9 +135,10 @@ fn first_at(uses: &[FirstUse<'_>], class: &str) -> Option<usize> {
     }
 }
 
-/// A device may get another class in the wanted map. Returns the position, in the items of the
-/// wanted map, of the first device that has this class there. Returns `None` if the class of the
-/// device doesn't change, or if the device has no class in the wanted map.
+/// If the device has to get another class, returns a position in the list of all items of the
+/// wanted map: the position of the first device that has this class in the wanted map. Returns
+/// `None` if the class of the device doesn't change, or if the device has no class in the wanted
+/// map.
 fn first_use_of<B: Allocator>(
     wanted: &ItemTable<'_, B>,
     uses: &[FirstUse<'_>],
@@ -190,8 +191,8 @@ fn make_steps<A: Allocator + Clone, B: Allocator>(
     Ok(())
 }
 
-/// Gives the draft the edit of this step, if the draft's map has the device under the name that the
-/// device has in the wanted map.
+/// Calls [`Draft::set_class`] or [`Draft::remove_class`] for the device of this step, if the
+/// draft's map has this device, with the same name as in the wanted map.
 fn make_step<A: Allocator + Clone, B: Allocator>(
     draft: &mut Draft<A>,
     goal: &PlanGoal<'_, A, B>,
@@ -228,7 +229,7 @@ fn remove_classes<A: Allocator + Clone, B: Allocator>(
 }
 
 /// Removes the class of the device, if the device has no class in the wanted map, and if the
-/// draft's map has the device under the same name as the wanted map.
+/// draft's map has the device, with the same name as in the wanted map.
 fn remove_class<A: Allocator + Clone, B: Allocator>(
     draft: &mut Draft<A>,
     goal: &PlanGoal<'_, A, B>,

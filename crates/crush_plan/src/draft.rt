@@ -112,8 +112,8 @@ impl<A: Allocator + Clone> Draft<A> {
         is_expressible(edit) && is_located(&self.map, edit) && goal.concerns(&self.map, edit)
     }
 
-    /// Applies the edit to the draft's map. If the edit isn't refused and changes the map, adds it
-    /// to the edits of the draft.
+    /// Applies an allowed edit to the draft's map. If the edit isn't refused and changes the map,
+    /// adds it to the edits of the draft.
     fn make<B: Allocator>(
         &mut self,
         goal: &PlanGoal<'_, A, B>,
@@ -129,7 +129,8 @@ impl<A: Allocator + Clone> Draft<A> {
         }
     }
 
-    /// Adds the edit to the edits if `changed` says that it has changed the map.
+    /// Appends the edit to the draft's edits if `changed` is true. `changed` says whether the edit
+    /// has changed the map, to which it has been applied already.
     fn keep(&mut self, edit: Edit, changed: bool) -> Result<(), AllocError>
         ensures map { self.new.map ≡ self.old.map }
         ensures edits { OnOk result (self.new.edits.items
@@ -163,8 +164,9 @@ impl<A: Allocator + Clone> Draft<A> {
         }
     }
 
-    /// Gives the draft an edit that removes the item with this name. As for all edits that are
-    /// given to a draft, [`Draft::give`] decides whether the edit is applied.
+    /// Calls [`Draft::give`] with an edit that removes the item with this name. The functions below
+    /// call [`Draft::give`] with edits of other kinds. In each case, [`Draft::give`] applies the
+    /// edit only if it is allowed.
     pub(crate) fn remove<B: Allocator>(
         &mut self,
         goal: &PlanGoal<'_, A, B>,
@@ -176,7 +178,7 @@ impl<A: Allocator + Clone> Draft<A> {
         self.give(goal, Edit::Remove { name })
     }
 
-    /// Gives the draft an edit that swaps the two buckets with these names.
+    /// Calls [`Draft::give`] with an edit that swaps the two buckets with these names.
     pub(crate) fn swap<B: Allocator>(
         &mut self,
         goal: &PlanGoal<'_, A, B>,
@@ -190,7 +192,7 @@ impl<A: Allocator + Clone> Draft<A> {
         self.give(goal, Edit::Swap { a, b })
     }
 
-    /// Gives the draft an edit that renames the bucket `from` to `to`.
+    /// Calls [`Draft::give`] with an edit that renames the bucket `from` to `to`.
     pub(crate) fn rename_bucket<B: Allocator>(
         &mut self,
         goal: &PlanGoal<'_, A, B>,
@@ -204,8 +206,8 @@ impl<A: Allocator + Clone> Draft<A> {
         self.give(goal, Edit::Rename { from, to })
     }
 
-    /// Gives the draft an edit that creates an empty bucket with this name. `kind` is the name of
-    /// the bucket's type.
+    /// Calls [`Draft::give`] with an edit that creates an empty bucket with this name. `kind` is
+    /// the name of the bucket's type.
     pub(crate) fn add_bucket<B: Allocator>(
         &mut self,
         goal: &PlanGoal<'_, A, B>,
@@ -219,8 +221,8 @@ impl<A: Allocator + Clone> Draft<A> {
         self.give(goal, Edit::AddBucket { name, kind })
     }
 
-    /// Gives the draft an edit that moves the item with the name `name` into a bucket. `bucket` and
-    /// `bucket_name` are the id and the name of this bucket in the draft's map.
+    /// Calls [`Draft::give`] with an edit that moves the item with the name `name` into a bucket.
+    /// `bucket` and `bucket_name` are the id and the name of this bucket in the draft's map.
     pub(crate) fn relocate<B: Allocator>(
         &mut self,
         goal: &PlanGoal<'_, A, B>,
@@ -235,7 +237,7 @@ impl<A: Allocator + Clone> Draft<A> {
         self.give(goal, Edit::Move { name, at })
     }
 
-    /// Gives the draft an edit that sets the weight of the device with this name.
+    /// Calls [`Draft::give`] with an edit that sets the weight of the device with this name.
     pub(crate) fn reweight<B: Allocator>(
         &mut self,
         goal: &PlanGoal<'_, A, B>,
@@ -248,8 +250,8 @@ impl<A: Allocator + Clone> Draft<A> {
         self.give(goal, Edit::Reweight { name, weight })
     }
 
-    /// Gives the draft an edit that sets the weight of each device below the bucket to `weight`.
-    /// Does nothing if the draft's map doesn't have the bucket.
+    /// Calls [`Draft::give`] with an edit that sets the weight of each device below the bucket to
+    /// `weight`. Does nothing if the draft's map doesn't have the bucket.
     pub(crate) fn reweight_below<B: Allocator>(
         &mut self,
         goal: &PlanGoal<'_, A, B>,
@@ -265,8 +267,8 @@ impl<A: Allocator + Clone> Draft<A> {
         self.give(goal, Edit::ReweightSubtree { name, weight })
     }
 
-    /// Gives the draft an edit that adds the device to a bucket. `bucket` and `bucket_name` are the
-    /// id and the name of this bucket in the draft's map.
+    /// Calls [`Draft::give`] with an edit that adds the device to a bucket. `bucket` and
+    /// `bucket_name` are the id and the name of this bucket in the draft's map.
     pub(crate) fn insert<B: Allocator>(
         &mut self,
         goal: &PlanGoal<'_, A, B>,
@@ -288,7 +290,7 @@ impl<A: Allocator + Clone> Draft<A> {
         self.give(goal, edit)
     }
 
-    /// Gives the draft an edit that removes the class of the device with this name.
+    /// Calls [`Draft::give`] with an edit that removes the class of the device with this name.
     pub(crate) fn remove_class<B: Allocator>(
         &mut self,
         goal: &PlanGoal<'_, A, B>,
@@ -300,7 +302,7 @@ impl<A: Allocator + Clone> Draft<A> {
         self.give(goal, Edit::RemoveClass { name })
     }
 
-    /// Gives the draft an edit that sets the class of the device with this name.
+    /// Calls [`Draft::give`] with an edit that sets the class of the device with this name.
     pub(crate) fn set_class<B: Allocator>(
         &mut self,
         goal: &PlanGoal<'_, A, B>,
@@ -315,7 +317,7 @@ impl<A: Allocator + Clone> Draft<A> {
     }
 }
 
-/// A device that an edit adds to the map, with the weight that it gets.
+/// A device that an edit adds to the map, with the weight that the device gets.
 #[derive(Drop)]
 pub(crate) struct NewDevice<'a> {
     pub id: DeviceId,

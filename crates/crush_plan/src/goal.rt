@@ -36,8 +36,8 @@ pub(crate) struct PlanGoal<'a, A: Allocator, B: Allocator> {
 }
 
 impl<A: Allocator, B: Allocator> PlanGoal<'_, A, B> {
-    /// Whether the item of this id was in the part of the map before the plan's first edit. True
-    /// for every id if the part is the whole map.
+    /// Whether the part of the map before the plan's first edit has an item of this id. If the part
+    /// is the whole map, the result is true for every id.
     pub(crate) fn was_in_part(&self, id: ItemId) -> bool
         ensures { (t : List Row) → Stands self.now.before.now.forest t
             → result ≡ is_in (option_map (λ n. n.now) self.now.under) t id }
@@ -57,16 +57,21 @@ impl<A: Allocator, B: Allocator> PlanGoal<'_, A, B> {
         }
     }
 
-    /// Whether the plan may change this item. `name` is the item's name after the change.
+    /// Whether an edit that doesn't remove this item may change it. `name` is the item's name after
+    /// the edit. [`PlanGoal::concerns`] explains the conditions.
     pub(crate) fn is_in_part(&self, id: ItemId, name: &str) -> bool {
         self.under.is_none() || self.was_in_part(id) || self.will_be_in_part(name)
     }
 
-    /// Whether each item that the edit is about was in the part of the map before the plan's first
-    /// edit, or has after the edit the name of an item in the part of the wanted map. A swap is
-    /// about two buckets, and any other edit is about one item. The buckets of a location aren't
-    /// tested. If the part is the whole map, every edit passes. `map` is the map to which the edit
-    /// is to be applied.
+    /// Whether the edit is only about items that the plan may change. A swap is about two buckets,
+    /// and any other edit is about one item. The buckets of a location don't count. `map` is the
+    /// map to which the edit is to be applied.
+    ///
+    /// If the part is the whole map, every edit passes. Otherwise, each item that the edit is about
+    /// must meet at least one of two conditions. First, the part of the map before the plan's first
+    /// edit has an item with the item's id. Second, the part of the wanted map has an item with the
+    /// name that the item has after the edit. An edit that removes an item passes only if the item
+    /// meets the first condition.
     pub(crate) fn concerns(&self, map: &CrushMap<A>, edit: &Edit) -> bool
         ensures { (t u v : List Row) → Stands self.now.before.now.forest t
             → Stands self.now.wanted.now.forest u → Stands map.now.forest v
@@ -117,13 +122,16 @@ impl<A: Allocator, B: Allocator> PlanGoal<'_, A, B> {
         self.was_called_in(map, before) || self.will_be_in_part(behind.as_str())
     }
 
-    /// Whether the edit sets no weight outside the part. Only an edit that sets all weights below a
-    /// bucket needs this test, because any other edit sets at most the weight of an item that it
-    /// names, and [`PlanGoal::concerns`] tests this item. An edit that sets all weights below a
-    /// bucket passes if each item below this bucket was in the part of the map before the plan's
-    /// first edit, or has the name of an item in the part of the wanted map.
+    /// Whether the edit sets no weight outside the part. Only an edit `reweight-subtree`, which
+    /// sets the weights of all devices below a bucket, needs this test. Any other edit sets at most
+    /// the weight of an item that it names, and [`PlanGoal::concerns`] tests this item.
     ///
-    /// The call returns an error only if memory runs out.
+    /// If the part is the whole map, every edit passes. Otherwise, an edit `reweight-subtree`
+    /// passes if each item below the bucket that it names meets at least one of two conditions.
+    /// First, the part of the map before the plan's first edit has an item with the item's id.
+    /// Second, the part of the wanted map has an item with the item's name.
+    ///
+    /// The call fails only if memory runs out.
     pub(crate) fn weighs_part(
         &self,
         alloc: Global,
@@ -192,9 +200,8 @@ impl<A: Allocator, B: Allocator> PlanGoal<'_, A, B> {
         }
     }
 
-    /// Whether all items below the bucket are in the part of the map before the plan's first edit,
-    /// or have names of items in the part of the wanted map. To test this, the function lists the
-    /// items below the bucket.
+    /// Whether each item below the bucket meets at least one of the two conditions of
+    /// [`PlanGoal::weighs_part`]. To test this, the function lists the items below the bucket.
     fn has_listed_below(
         &self,
         alloc: Global,

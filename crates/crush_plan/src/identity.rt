@@ -1,7 +1,8 @@
 //! Matches the buckets of the map with the buckets of the wanted map. If two buckets are matched,
 //! the plan changes the map's bucket until it agrees with the wanted map's bucket, as far as edits
-//! can do this. If a bucket of the map isn't matched, the plan removes it if it can. If a bucket of
-//! the wanted map isn't matched, the plan creates it if it can.
+//! can do this. The search tries to remove each bucket of the map that isn't matched. For each
+//! bucket of the wanted map that isn't matched, the search tries to create a bucket of the same
+//! name and type.
 
 use crate::item_table::ItemTable;
 use crush_edits::Setting;
@@ -15,9 +16,10 @@ pub enum Identity {
     /// For two maps of one cluster. Two buckets of the same id are matched if they have the same
     /// name, or if their types have the same name. Any other bucket is matched with the wanted
     /// map's bucket of the same name, unless that bucket is matched by its id. If two matched
-    /// buckets have different names, the search also tries to match all buckets by their names. It
-    /// then chooses the edits after which fewer differences remain. If equally many differences
-    /// remain, it chooses the fewer edits.
+    /// buckets have different names, the search also tries to match all buckets by their names. The
+    /// search then chooses the list of edits after which fewer differences remain. If equally many
+    /// differences remain, the search chooses the shorter list. If both lists are also equally
+    /// long, the search chooses the list for which it has matched buckets by their ids.
     Ids,
     /// For maps of two clusters, which may have different ids for the same buckets. Two buckets are
     /// matched if they have the same name.
@@ -31,8 +33,8 @@ pub(crate) struct BucketPair {
     pub target: BucketId,
 }
 
-/// The pairs of matched buckets. All pairs are stored twice, in two orders. The pairs whose bucket
-/// has to be renamed are stored once more.
+/// The pairs of matched buckets. All pairs are stored twice, in two orders. The pairs whose two
+/// buckets have different names are stored once more.
 #[derive(Drop)]
 pub(crate) struct BucketPairs {
     /// All pairs, in the order of the ids in the map, from -1 downward.

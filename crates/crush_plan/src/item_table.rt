@@ -7,8 +7,8 @@ use crush_tree::View;
 use crush_units::{BucketId, ItemId};
 use std::alloc::{AllocError, Allocator, Global};
 
-/// The key of an item, which is the number that [`key_of`] gives for its id, and the position of
-/// the item in the list of all items.
+/// The key and the position of an item. The key is the number that [`key_of`] returns for the
+/// item's id. The position is the item's index in the list of all items, from 0.
 #[derive(Clone, Copy)]
 struct Key {
     key: u64,
@@ -38,7 +38,7 @@ fn key_of(id: ItemId) -> u64 {
     }
 }
 
-/// Appends the key and the position of each item.
+/// Appends the key and the position of each item to `keys`. `steps` is the list of all items.
 fn push_keys<A: Allocator>(
     steps: &[WalkStep<'_, A>],
     keys: &mut Vec<Key>,

@@ -1,4 +1,5 @@
-//! The items of two maps for which a plan may need an edit.
+//! The items of two maps for which a plan may need an edit. The search for a plan has one or more
+//! rounds ([`crate::search`]). In this file, *the map* is the map from which the round starts.
 
 use crate::identity::BucketPairs;
 use crate::item_table::ItemTable;
@@ -19,7 +20,8 @@ pub(crate) struct CurrentItems {
     /// The devices that both maps have and whose weight may have to be set. A device is left out if
     /// a bucket holds it in both maps, with weights that are at most one unit (1/65536 TiB) apart.
     pub reweighed: Vec<DeviceId>,
-    /// The devices among `reweighed` whose weight has to become lower by more than one unit.
+    /// The devices among `reweighed` whose weight is lower in the wanted map, by more than one
+    /// unit.
     pub lowered: Vec<DeviceId>,
 }
 
@@ -55,10 +57,10 @@ pub(crate) struct Placed {
 #[derive(Clone, Copy)]
 pub(crate) struct SetDevice {
     pub id: DeviceId,
-    /// Whether the device has a class in the map from which the round starts.
+    /// Whether the device has a class in the map.
     pub has_class: bool,
-    /// Whether the device's class in the wanted map differs from its class in the map from which
-    /// the round starts. A device that a map doesn't have counts as a device without a class.
+    /// Whether the device has different classes in the map and in the wanted map. If the map
+    /// doesn't have the device, the device counts as one without a class in the map.
     pub differs: bool,
 }
 
@@ -151,8 +153,9 @@ impl CurrentItems {
         Ok(())
     }
 
-    /// Appends the device, which both maps have, unless a bucket holds it in both maps with nearly
-    /// the same weight.
+    /// Appends the device to `reweighed`, unless [`weigh_alike`] is true for it. If the device's
+    /// weight is lower in the wanted map by more than one unit, also appends the device to
+    /// `lowered`. `item` is the device in the map, and `target` is the device in the wanted map.
     fn push_reweighed(
         &mut self,
         device: DeviceId,

@@ -41,8 +41,9 @@ fn place_buckets<A: Allocator + Clone, B: Allocator>(
     Ok(())
 }
 
-/// Creates the bucket if it isn't matched with any bucket of the map, and then moves it to its
-/// place. No other edit comes between the two edits, so that Ceph can do both with one command.
+/// Creates the bucket if it isn't matched with any bucket of the map, and then moves the bucket to
+/// the place that it has in the wanted map. If the plan gets both edits, the `move` follows
+/// directly after the `add-bucket`, so that one command of Ceph can do both.
 fn place_bucket<A: Allocator + Clone, B: Allocator>(
     draft: &mut Draft<A>,
     goal: &PlanGoal<'_, A, B>,
@@ -69,8 +70,9 @@ fn make_if_new<A: Allocator + Clone, B: Allocator>(
 }
 
 /// `bucket` is a bucket of the wanted map. Moves the map's bucket of the same name to the place
-/// that `bucket` has in the wanted map, unless the map's bucket already has this place. If `bucket`
-/// is a root of the wanted map, does nothing.
+/// that `bucket` has in the wanted map, unless the map's bucket already has this place. Does
+/// nothing if no bucket of the wanted map holds `bucket`, or if the map has no bucket of the same
+/// name.
 fn move_bucket<A: Allocator + Clone, B: Allocator>(
     draft: &mut Draft<A>,
     goal: &PlanGoal<'_, A, B>,
@@ -102,7 +104,8 @@ fn move_devices<A: Allocator + Clone, B: Allocator>(
     Ok(())
 }
 
-/// Moves the device, if the map has it under the name that it has in the wanted map.
+/// Moves the device to the place that it has in the wanted map, if the draft's map has the device,
+/// with the same name as in the wanted map.
 fn move_device<A: Allocator + Clone, B: Allocator>(
     draft: &mut Draft<A>,
     goal: &PlanGoal<'_, A, B>,

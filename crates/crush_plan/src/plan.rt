@@ -70,15 +70,16 @@ fn copy_lines(alloc: Global, lines: &[Vec<u8>]) -> Result<Vec<Vec<u8>>, AllocErr
 ///
 /// `identity` says how the buckets of the two maps are matched. If `under` is a name, the plan is
 /// only for a part of the maps: the item of this name, and all items below it. If a map has no item
-/// of this name, its part is empty. Each item that an edit names then meets one of two conditions,
-/// except for the bucket into which the edit puts an item. Either an item with the same id is in
-/// the part of `map` before the plan's first edit, or the item has after the edit the name of an
-/// item in the part of `wanted`. If an edit sets the weights of all devices below a bucket, each
-/// item below this bucket also meets one of these conditions.
+/// of this name, its part is empty. Each item that an edit names then meets at least one of two
+/// conditions, except for the bucket into which the edit puts an item. First, the part of `map` has
+/// an item with the item's id. Second, the part of `wanted` has an item with the name that the item
+/// has after the edit. If an edit sets the weights of all devices below a bucket, each item below
+/// this bucket also meets at least one of these conditions.
 ///
 /// A line of a script can express each edit. No edit creates a bucket that its location names. No
 /// edit is refused, and each edit changes the map. If the plan has edits, fewer differences remain
-/// after them than there are before them. Ids of buckets that differ don't count as differences.
+/// after these edits than there are between `map` and `wanted`. If a bucket has different ids in
+/// the two maps, this doesn't count as a difference.
 ///
 /// The call fails only if memory runs out.
 pub fn find_plan<A: Allocator + Clone, B: Allocator>(

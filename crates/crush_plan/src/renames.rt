@@ -356,8 +356,8 @@ fn may_break<A: Allocator + Clone, B: Allocator>(
 
 /// Renames all buckets of the cycle to which this bucket belongs. This bucket first gets a free
 /// name. No item of the wanted map has this name, so the plan may give it only to a bucket that was
-/// in the part of the map before the plan's first edit. If this bucket wasn't, or has been renamed
-/// already, the function does nothing.
+/// in the part of the map before the plan's first edit. The function does nothing if this bucket
+/// wasn't in this part, if the bucket has been renamed already, or if there is no free name.
 fn break_cycle<A: Allocator + Clone, B: Allocator>(
     draft: &mut Draft<A>,
     goal: &PlanGoal<'_, A, B>,

@@ -30,8 +30,8 @@ pub(crate) fn swap_all<A: Allocator + Clone, B: Allocator>(
     Ok(())
 }
 
-/// Swaps the bucket with its partner, if it has a partner and the swap saves moves. Does nothing if
-/// the two buckets have been swapped already.
+/// Swaps the bucket with its [`partner`], if it has a partner and [`is_worth`] is true for the two
+/// buckets. Does nothing if the two buckets have been swapped already.
 fn swap_one<A: Allocator + Clone, B: Allocator>(
     draft: &mut Draft<A>,
     goal: &PlanGoal<'_, A, B>,

@@ -45,14 +45,14 @@ struct NewWeight {
 
 /// Sets those weights of these devices that `which` selects.
 ///
-/// If all devices below a bucket get the same weight, and at least two of them have another weight
-/// now, one edit sets the weights of all of them. [`subtrees`] finds these buckets. Every other
-/// weight is set by an edit of its own.
+/// First, the function sets all weights below some buckets, with one edit for each of these
+/// buckets. [`subtrees`] finds the buckets for which this is possible. Each weight that then still
+/// has to be set is set by an edit of its own.
 ///
-/// A later call sets the weights of the devices `later`. So this call doesn't count these devices,
-/// and gives them no edits of their own. But if it sets all weights below a bucket, it also sets
-/// the weights of those devices `later` that are below this bucket. `later` must be sorted by the
-/// ids of the devices.
+/// A later call sets the weights of the devices `later`. So in this call, no edit sets only the
+/// weight of such a device. But if an edit of this call sets all weights below a bucket, this edit
+/// also sets the weights of those devices `later` that are below this bucket. `later` must be
+/// sorted by the ids of the devices.
 pub(crate) fn set_weights<A: Allocator + Clone, B: Allocator>(
     draft: &mut Draft<A>,
     goal: &PlanGoal<'_, A, B>,
@@ -71,7 +71,7 @@ pub(crate) fn set_weights<A: Allocator + Clone, B: Allocator>(
     set_one_by_one(draft, goal, changes.as_slice())
 }
 
-/// Sets the weights of all devices below each of these buckets.
+/// For each of these buckets, sets the weights of all devices below the bucket.
 fn set_below<A: Allocator + Clone, B: Allocator>(
     draft: &mut Draft<A>,
     goal: &PlanGoal<'_, A, B>,
