@@ -130,7 +130,7 @@ pub record HaveConflict (words : List Text) (why : Text) : Type 0 where
   pub right : fault_of program words ≡ []
   pub much : IsConflict (matches_of program words) why
 
--- the fault is possible for a plain command line: `Help` if a word asks for the help or the version; a refusal if the parser finds an error in the words, or if there is a reason of `IsConflict`; or out of memory, which is always possible
+-- the fault is possible for a plain command line. `Help` is possible if a word asks for the help or the version. A refusal is possible if the parser finds an error in the words, or if there is a reason that `IsConflict` allows. Out of memory is always possible
 abbrev pub IsFaultIn : List Text → OptionsFault → Type 0
 IsFaultIn words (Help text) = HasFault (fault_of program words) (Help text)
 IsFaultIn words (Refused text) = HasFault (fault_of program words) (Refused text) ⊎ HaveConflict words text.bytes.items

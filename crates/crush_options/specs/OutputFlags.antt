@@ -114,7 +114,7 @@ json_of_levels flags = flags.json && is_some flags.since && is_some flags.down_t
 abbrev pub exact_of_other : OutputFlagsData → Bool
 exact_of_other flags = flags.exact && ((flags.tree || is_some flags.since || flags.as_ceph || is_some flags.to) || flags.json)
 
--- WORDS THAT CAN'T BE GIVEN TOGETHER: the line of an error if some words can't be given together, or if a word needs another that isn't given. If several of the conditions are true, this is the line of the first of them. If no condition is true, there is no line, and the words can be given together
+-- WORDS THAT CAN'T BE GIVEN TOGETHER: the line of an error if some words can't be given together, or if a word needs another word that isn't given. If several of the conditions are true, this is the line of the first of them. If no condition is true, there is no line, and the words can be given together
 abbrev pub complaint : OutputFlagsData → Option Text
 complaint flags =
     if ask_for_two flags then Some (codes "error: use only one of --tree, --since, --as-ceph and --to, or --tree with --since, or --to with --as-ceph\n") else (

@@ -165,7 +165,7 @@ since_of_apply w = if w.dry_run then w.map else None
 abbrev pub tree_words : List Text
 tree_words = word_if true (codes "--no-history") ++ word_if true (codes "--tree")
 
--- the words of the plain command line for a verb that are different for each verb: words that the verb always has, and words that depend on its flags and on the file of the old or wanted map
+-- the first words of the plain command line for which a verb's command line is short. Each verb has its own list of these words: some of them are always in the list, and the others depend on the flags of the verb and on the name of the file with the old or the wanted map
 abbrev pub own_words : Verb → VerbData → List Text
 own_words Apply w =
     word_if true (codes "--in-turn") ++ (word_if true (codes "--strict") ++ (word_if (not w.make) (codes "--no-make")
@@ -178,7 +178,7 @@ own_words Tree w = tree_words
 abbrev pub words_of_verb : Verb → VerbData → List Text
 words_of_verb verb w = own_words verb w ++ (word_if true (codes "--explain") ++ (shown_words w ++ file_words w))
 
--- whether a name is `-`, which stands for standard input
+-- whether a name is `-`, which means standard input
 abbrev pub is_dash : Text → Bool
 is_dash name = bytes_eq name (codes "-")
 
@@ -195,7 +195,7 @@ dashes w = (dashes_of w.map + dashes_of w.other) + count_by is_dash w.scripts
 abbrev pub shows_without_dry_run : VerbData → Bool
 shows_without_dry_run w = not w.dry_run && ((w.tree || w.json || w.exit_code) || (is_some w.under || is_some w.down_to))
 
--- the line of an error if some words of `apply` can't be given together, or if a word needs `--dry-run`, which isn't given; none if there is no such error
+-- the line of an error if some words of `apply` can't be given together, or if a word needs `--dry-run`, but `--dry-run` isn't given; none if there is no such error
 abbrev pub apply_complaint : VerbData → Option Text
 apply_complaint w =
     if w.dry_run && is_some w.output then Some (codes "error: --output can't be used with --dry-run\n") else (
@@ -210,7 +210,7 @@ own_complaint verb w = None
 abbrev pub verb_complaint : Verb → VerbData → Option Text
 verb_complaint verb w = if nat_lt 1 (dashes w) then Some (codes "error: only one file can be -, which is standard input\n") else own_complaint verb w
 
--- what the files of a verb must contain: maps without scripts, which must be whole except if the verb is `tree`
+-- what the files MAP, OLD, NEW and WANTED of a verb must contain: maps without scripts. The last line that isn't blank must be `# end crush map`, except if the verb is `tree`
 abbrev pub maps_of_verb : Verb → MapForm
 maps_of_verb Tree = form.Map
 maps_of_verb verb = form.WholeMap
@@ -263,12 +263,12 @@ abbrev pub AreOptionsBy : Option Verb → List Text → Options → Type 0
 AreOptionsBy None words options = AreOptionsOf words options
 AreOptionsBy (Some verb) words options = AreOptionsOfVerb verb (drop 1 words) options
 
--- the fault is possible for a command line: if its first word is a verb, for the words after the verb; otherwise for a plain command line
+-- the fault is possible for a command line. If the first word is a verb, the fault must be possible for the words after the verb (`IsFaultOfVerb`). Otherwise the fault must be possible for a plain command line (`IsFaultIn`)
 abbrev pub IsFaultBy : Option Verb → List Text → OptionsFault → Type 0
 IsFaultBy None words fault = IsFaultIn words fault
 IsFaultBy (Some verb) words fault = IsFaultOfVerb verb (drop 1 words) fault
 
--- the verb of a command line; none if its first word isn't a verb
+-- the verb of a command line; none if the first word isn't a verb, or if there is no word
 abbrev pub verb_of_words : List Text → Option Verb
 verb_of_words [] = None
 verb_of_words (word ∷ words) = verb_named word

@@ -45,8 +45,9 @@ Examples:
 
 A command line without a verb is for programs, and for tasks that no verb does:";
 
-/// The version of the program. In brackets follows the *logic* of the Rattle toolchain that checked
-/// the proofs. The logic is the version of the prover's rules. `rt version` prints the logic too.
+/// The version of the program. The text in brackets is the *logic* of the Rattle toolchain that
+/// checked the proofs. The logic is the version of the prover's rules. `rt version` prints the
+/// logic too.
 const VERSION: &str = "0.2.0 (rattle logic dac8208d650f15bf)";
 
 /// The part of the help after the list of options. The lines of the help have at most 80 columns.
@@ -206,8 +207,8 @@ const JSON_LEVELS: &str = "error: --json with --since can't be used with --down-
 
 const EXACT_OTHER: &str = "error: --exact can be used only when the text of the map is printed\n";
 
-/// A text about the verbs. If a plain command line has a second file, this text follows after the
-/// error.
+/// A text about the verbs. [`with_verbs`] appends this text to the error for a second file on a
+/// plain command line.
 const VERBS: &str = "
 Commands that take several files:
     crushedit apply MAP SCRIPT ..    the map after scripts
@@ -364,9 +365,10 @@ pub(crate) fn refused(alloc: Global, text: &str) -> OptionsFault
     }
 }
 
-/// The flags and options of a plain command line that say what is printed. Each `bool` field stands
-/// for one flag, and is true if the flag is given. Each other field stands for one option, and has
-/// the option's value if the option is given.
+/// The flags and options of a plain command line that say what is printed. A field of type `bool`
+/// says whether the flag of the same name is given: for example, `as_ceph` says whether `--as-ceph`
+/// is given. Any other field has the value of the option of the same name, or is `None` if the
+/// option isn't given.
 #[derive(Clone, Copy)]
 struct OutputFlags<'a> {
     tree: bool,
@@ -442,8 +444,8 @@ fn exact_of_other(flags: OutputFlags<'_>) -> bool
 }
 
 /// Returns the line of an error if some of these flags and options can't be given together, or if
-/// one of them needs another that isn't given. If several errors apply, returns the first of them
-/// in the order of the code. Returns `None` if there is no such error.
+/// one of them needs another flag or option that isn't given. If there are several such errors,
+/// returns the line for which the code below tests first. Returns `None` if there is no such error.
 fn complaint(flags: OutputFlags<'_>) -> Option<&'static str>
     ensures { option_map (λ text. text.now) result ≡ complaint (flags_data flags.entry) }
 {
@@ -611,8 +613,8 @@ fn output_of(alloc: Global, matches: &ArgMatches<'_>) -> Result<Option<String>, 
     copy_of(alloc, matches.get_str("output"))
 }
 
-/// Returns how the job is run. `json` and `exact` say whether `--json` and `--exact` are given. The
-/// run of a plain command line never looks for lost changes, so the field `conflicts` is false.
+/// Returns how the job is run. `json` and `exact` say whether `--json` and `--exact` are given. A
+/// plain command line never asks for a search for lost changes, so the field `conflicts` is false.
 fn mode_of(matches: &ArgMatches<'_>, json: bool, exact: bool) -> Mode
     requires json { IsFlag (one_of (codes "json") (rows_of (found_of matches.now))) json }
     requires exact { IsFlag (one_of (codes "exact") (rows_of (found_of matches.now))) exact }
@@ -669,9 +671,9 @@ pub(crate) fn fault_of(alloc: Global, error: &Error) -> OptionsFault
     }
 }
 
-/// If the fault is the refusal of a second file, appends a text about the verbs, because the user
-/// may have forgotten a verb. If memory runs out, returns `Memory`. Returns any other fault
-/// unchanged.
+/// If the fault is the refusal of a second file ([`is_of_second_file`]), appends a text about the
+/// verbs to the fault's text, because the user may have forgotten a verb. If memory runs out,
+/// returns `Memory`. Returns any other fault unchanged.
 fn with_verbs(fault: OptionsFault) -> OptionsFault
     ensures { (kind : ErrorKind) → IsFaultOf kind fault → IsFaultOf kind result }
 {
@@ -682,8 +684,8 @@ fn with_verbs(fault: OptionsFault) -> OptionsFault
     }
 }
 
-/// Returns the fault for an error of `clap` on a plain command line. This fault is that of
-/// [`fault_of`], except that a text about the verbs follows after the error for a second file.
+/// Returns the fault for an error of `clap` on a plain command line. This is the fault that
+/// [`fault_of`] returns, changed by [`with_verbs`].
 fn plain_fault_of(alloc: Global, error: &Error) -> OptionsFault
     ensures { IsFaultOf (kind_of error.now) result }
 {

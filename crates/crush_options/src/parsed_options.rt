@@ -105,7 +105,8 @@ pub struct Target {
     /// (`--by-name`). Otherwise the plan may also match buckets by their ids.
     pub by_name: bool,
     /// The name of an item (`--under`). The commands change only this item, and items that are
-    /// below it in one of the two maps. If the field is `None`, the commands may change all items.
+    /// below it in at least one of the two maps. But the bucket into which a command puts such an
+    /// item may be any bucket. If the field is `None`, the commands may change all items.
     pub under: Option<String>,
 }
 

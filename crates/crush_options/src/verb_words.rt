@@ -147,8 +147,9 @@ fn apply_complaint(words: VerbWords<'_>) -> Option<&'static str>
 }
 
 /// Returns the line of an error if some words of a verb's command line can't be given together, or
-/// if one of them needs another that isn't given. Returns `None` if there is no such error. Each
-/// verb refuses a second file `-`, because there is only one standard input.
+/// if one of them needs another word that isn't given. Returns `None` if there is no such error. No
+/// verb accepts two files `-`, because `-` means standard input, and there is only one standard
+/// input.
 pub(crate) fn verb_complaint(verb: Verb, words: VerbWords<'_>) -> Option<&'static str>
     ensures { option_map (λ text. text.now) result
         ≡ verb_complaint verb (verb_data words.entry) }

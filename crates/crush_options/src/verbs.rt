@@ -273,8 +273,8 @@ fn short_for(alloc: Global, verb: Verb, words: VerbWords<'_>) -> Result<Options,
     Ok(options)
 }
 
-/// Returns the options of [`short_for`]. If some words of the verb can't be given together, returns
-/// a refusal instead.
+/// Fails if [`verb_complaint`] finds an error in the words of the verb. Otherwise returns what
+/// [`short_for`] returns.
 fn checked(alloc: Global, verb: Verb, words: VerbWords<'_>) -> Result<Options, OptionsFault>
     ensures together { IfOk result (λ _. verb_complaint verb (verb_data words.entry) ≡ None) }
     ensures read { IfOk result (AreShortFor verb (verb_data words.entry)) }
